@@ -7,6 +7,7 @@ use Rattle.std.proofs.lemmas.Nat.{ones-le, or_disjoint}
 use Rattle.std.proofs.lemmas.List.Sums.{sum_by-set}
 use Rattle.scf_facts.proofs.Common.{IsPowerOfTwo, and_pow}
 use Rattle.scf_facts.proofs.MaskLaws.{under_power}
+use Rattle.scf_facts.proofs.Ones.{more_ones, one_more}
 use Rattle.scf_compare.proofs.Common.{Bits, HasBits, ap, trailing_ones, bit_at-trailing_ones, one_shl, w32, le_or_l, pow_pos, ◌≡◌, ◌+◌, ◌*◌, ◌/◌, ◌%◌, ◌<◌, ◌≤◌, ◌-◌, ◌^◌, ℕ, List, arith, bit_and, bit_or, cases_eq, common_steps, eq-eqb, eqb, false, inl, inr, length, suc, zero, refl, slice_index}
 use Rattle.scf_compare.specs.internal.FixedBits.{HaveBits, bits_at}
 use Rattle.scf_compare.specs.Splits.{open_bits}
@@ -27,22 +28,6 @@ pub have_set : (fixed : List Bits) (word : ℕ) (new : Bits) (words : List ℕ) 
     → HaveBits fixed words → HasBits new (slice_index words word) → HaveBits (slice_set fixed word new) words
 have_set fixed word new words lt have this = λ k. grind (arith, common_steps, have k, this)
 
--- A number with further bits has as many ones as before only where it is the same.
-more_ones : (digits a b : ℕ) → bit_or a b ≤ digits → (count_ones a ≤ count_ones (bit_or a b))
-    × (count_ones a ≡ count_ones (bit_or a b) → a ≡ bit_or a b)
-more_ones zero a b within =
-    let same : a ≡ bit_or a b = omega (arith, le_or_l a b) in
-    (omega (arith, ap count_ones same), λ ones. same)
-more_ones (suc digits) a b within =
-    let joined = bit_or a b in
-    let step = or_step a b in
-    let half = more_ones digits (a / 2) (b / 2) (omega arith) in
-    let high : joined / 2 ≡ bit_or (a / 2) (b / 2) = omega arith in
-    let of_a = ones_step a in
-    let of_joined = ones_step joined in
-    let of_high = ap count_ones high in
-    (omega (arith, half.0), λ same. omega (arith, half.0, half.1 (omega (arith, half.0))))
-
 -- more bits of a word leave no more to fix
 pub lacking_bits : (fixed : List Bits) (word : ℕ) (new : Bits) (m : ℕ) → word < length fixed
     → new.mask ≡ bit_or (bits_at fixed word).mask m → open_bits (slice_set fixed word new) ≤ open_bits fixed
@@ -61,15 +46,8 @@ pub lacking_bit : (fixed : List Bits) (word : ℕ) (new : Bits) (m : ℕ) → wo
     → new.mask < 2 ^ 32 → open_bits (slice_set fixed word new) < open_bits fixed
 lacking_bit fixed word new m lt more one apart fits =
     let old = (bits_at fixed word).mask in
-    let joined = or_disjoint old m apart in
-    let ones = more_ones _ old m (le_refl _) in
-    let some : 0 < m = omega (arith, one.1, pow_pos one.0) in
     let most : count_ones new.mask ≤ 32 = ones-le 32 new.mask fits in
-    let fewer : count_ones old < count_ones new.mask = rw more (
-    elim (cases_eq (count_ones old) (count_ones (bit_or old m))) [
-      | inl same ↦ absurd (omega (arith, ones.1 same))
-      | inr other ↦ omega (arith, ones.0)
-    ]) in
+    let fewer : count_ones old < count_ones new.mask = rw more (one_more old m one apart) in
     omega (
       arith,
       sum_by-set (λ bits. 32 - count_ones bits.mask) fixed word new (record { mask = 0; value = 0 }) lt,

@@ -25,7 +25,7 @@ pub record HasOpened {F K N : Type 0} (store : Store F) (old new : Frontier F K 
   pub branches : new.branches.items ≡ old.branches.items ++ b ∷ []
   pub marks : store.level new.facts ≡ store.level old.facts + 1
   pub levels : (index : ℕ) → index ≤ store.level old.facts
-      → IsSameLevel store.allows store.is_exact old.facts index new.facts index
+      → IsSameLevel store.allows store.is_exact store.refutes_among old.facts index new.facts index
   pub known : (words : List ℕ)
       → store.allows new.facts (store.level new.facts) words
       ↔ (store.allows old.facts (store.level old.facts) words × GivesAnswer b.asked true words)
@@ -110,7 +110,7 @@ pub record HasTaken {F K N : Type 0} (store : Store F) (old new : Frontier F K N
   pub branches : old.branches.items ≡ new.branches.items ++ b ∷ []
   pub marks : store.level new.facts + 1 ≡ store.level old.facts
   pub levels : (index : ℕ) → index < store.level new.facts
-      → IsSameLevel store.allows store.is_exact old.facts index new.facts index
+      → IsSameLevel store.allows store.is_exact store.refutes_among old.facts index new.facts index
   pub known : (words : List ℕ)
       → store.allows new.facts (store.level new.facts) words
       ↔ (store.allows old.facts (store.level new.facts) words × GivesAnswer b.asked false words)

@@ -65,7 +65,7 @@ fn learn_answer<F: WordFacts>(
     requires { IsAsked asked }
     ensures marks { F.level facts.new ≡ F.level facts.old }
     ensures at_marks { (index : ℕ) → index < F.level facts.old
-        → IsSameLevel F.allows F.is_exact facts.old index facts.new index }
+        → IsSameLevel F.allows F.is_exact F.refutes_among facts.old index facts.new index }
     ensures learned { OnOk result ((words : List ℕ) → F.allows facts.new (F.level facts.old) words
         ↔ (F.allows facts.old (F.level facts.old) words × GivesAnswer asked answer words)) }
     ensures exact { OnOk result (LearnsExactly asked answer

@@ -7,4 +7,5 @@ pub mod LeastNumber
 pub mod Levels
 pub mod LowestBit
 pub mod MaskLaws
+pub mod Ones
 pub mod StoreLaws

@@ -46,6 +46,13 @@ pub beyond_rest : (m k : ℕ) → beyond m k + bit_and m k ≡ m
 beyond_rest m k = sym (or_disjoint (beyond m k) (bit_and m k) (same_from_bits _ _ (λ i. grind (arith, each_bit))))
     ∙ same_from_bits _ _ (λ i. grind (arith, each_bit))
 
+-- they are among those of the mask, and apart from the others
+pub beyond_among : (m k : ℕ) → bit_and m (beyond m k) ≡ beyond m k
+beyond_among m k = same_from_bits _ _ (λ i. grind (arith, each_bit))
+
+pub beyond_apart : (m k : ℕ) → bit_and k (beyond m k) ≡ 0
+beyond_apart m k = same_from_bits _ _ (λ i. grind (arith, each_bit))
+
 -- a number under one bit is nothing or the bit
 pub under_power : (x m : ℕ) → IsPowerOfTwo m → (bit_and x m ≡ 0) ⊎ (bit_and x m ≡ m)
 under_power x m (k, e) = grind (arith, and_pow x k, bit_at-lt x k, cases_eq (bit_at x k) 0)
@@ -88,4 +95,4 @@ is_one n false e = (
   λ p. absurd (eqb-false (count_ones n) 1 (sym e) (ap count_ones p.1 ∙ one_bit_of_power p.0)),
 )
 
-pub ruleset beyond_laws = (one_beyond, beyond_rest, and_twice)
+pub ruleset beyond_laws = (one_beyond, beyond_rest, beyond_among, beyond_apart, and_twice)

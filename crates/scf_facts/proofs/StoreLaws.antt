@@ -1,6 +1,7 @@
 -- What facts of each word say of lists of words.
 use Rattle.scf_insn.proofs.CallWords.{word_below}
 use Rattle.scf_facts.proofs.Common.{◌-◌, recursion_from_All, All-from_recursion, common_steps, ◌≡◌, ◌≢◌, ℕ, suc, ◌<◌, ◌^◌, ◌↔◌, List, [], ◌∷◌, refl, sym, ap, subst, ◌∙◌, arith, length, get_or, All, Bool, IsTrue, slice_index, slice_set, replicate, list_all, AllByRecursion, and_zero_r, cases_eq, get_or-set_same, get_or_read, get_or-replicate, length-set, length-replicate, All-set, AllPass-from_list_all, list_all-from_AllPass, IsWords, Atom, answer_at, atom_answer, word_of, NumberFacts, AllowsNumber, EachNumber, SomeNumber, AllowsWords, no_facts, is_exact_set}
+use Rattle.scf_facts.specs.Masks.{EachRefutesAmong, RefutesAmong}
 
 all_numbers : (x : ℕ) → x < 2 ^ 32 → AllowsNumber no_facts x
 all_numbers x fits = grind (arith, and_zero_r x)
@@ -45,11 +46,21 @@ module _ (sets : List NumberFacts) (index : ℕ) (old : NumberFacts)
   exact_word all =
       subst (λ s. IsTrue (is_exact_set s)) (sym read) (AllPass-from_list_all is_exact_set sets all index old lt)
 
+  pub among_word : (masks : ℕ) → EachRefutesAmong masks sets → RefutesAmong masks old
+  unfolding EachRefutesAmong
+  among_word masks all = subst (RefutesAmong masks) (sym read) (all index old lt)
+
   pub exact_set : (new : NumberFacts) → (IsTrue (is_exact_set old) → IsTrue (is_exact_set new))
       → IsTrue (list_all is_exact_set sets) → IsTrue (list_all is_exact_set (slice_set sets index new))
   exact_set new exact all = list_all-from_AllPass is_exact_set (slice_set sets index new)
       (All-set (λ s. IsTrue (is_exact_set s)) sets index new (exact (exact_word all))
       (AllPass-from_list_all is_exact_set sets all))
+
+  pub among_set : (masks : ℕ) (new : NumberFacts) → (RefutesAmong masks old → RefutesAmong masks new)
+      → EachRefutesAmong masks sets → EachRefutesAmong masks (slice_set sets index new)
+  unfolding EachRefutesAmong
+  among_set masks new keeps all =
+      All-set (RefutesAmong masks) sets index new (keeps (among_word masks all)) all
 
   -- what each number of the word has, its number has in each list
   pub each_word : (P : ℕ → Type 0) → EachNumber old P → (words : List ℕ)
@@ -101,15 +112,25 @@ some_words (s ∷ sets) some =
       λ k d lt. grind (arith, common_steps, cases_eq k 0, here.2, rest.3 (k - 1) d),
     )
 
-pub ruleset set_laws = (allows_set, exact_set)
+-- where nothing is known, nothing is refuted
+pub nothing_refuted : (n masks : ℕ) → EachRefutesAmong masks (replicate n no_facts)
+unfolding EachRefutesAmong
+nothing_refuted n masks = λ k d lt. rw (get_or-replicate n k no_facts d (omega (arith, lt, length-replicate n no_facts)))
+    (λ j e none. absurd (omega arith))
 
-pub ruleset word_laws = (number_set, each_word, exact_word)
+-- what each word does, one does
+pub refutes_at : (sets : List NumberFacts) (masks : ℕ) → EachRefutesAmong masks sets → All (RefutesAmong masks) sets
+unfolding EachRefutesAmong
+refutes_at sets masks each = each
 
--- so where none is, exact facts of some word allow no number
-pub some_allowed : (sets : List NumberFacts) → length sets ≡ 16 → ((k : ℕ) (d : NumberFacts) → k < length sets
-    → IsTrue (is_exact_set (get_or sets k d)) → (x : ℕ) × (x < 2 ^ 32) × AllowsNumber (get_or sets k d) x)
-    → IsTrue (list_all is_exact_set sets) → ((words : List ℕ) → AllowsWords sets words → ⊥) → ⊥
-some_allowed sets sixteen some exact none =
-    let each = AllPass-from_list_all is_exact_set sets exact in
-    let r = some_words sets (λ k d lt. some k d lt (each k d lt)) in
+pub ruleset set_laws = (allows_set, exact_set, among_set)
+
+pub ruleset word_laws = (number_set, each_word, exact_word, among_word)
+
+-- so where none is, some word allows no number
+pub some_allowed : (sets : List NumberFacts) → length sets ≡ 16
+    → All (λ s. (x : ℕ) × (x < 2 ^ 32) × AllowsNumber s x) sets
+    → ((words : List ℕ) → AllowsWords sets words → ⊥) → ⊥
+some_allowed sets sixteen some none =
+    let r = some_words sets some in
     none r.0 (record { sixteen = record { count = r.1 ∙ sixteen; each = r.2 }; each = r.3 })

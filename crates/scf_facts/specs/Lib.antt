@@ -4,5 +4,6 @@ pub mod Exactness
 pub mod HighMask
 pub mod Intervals
 pub mod Levels
+pub mod Masks
 pub mod WordSets
 pub mod internal

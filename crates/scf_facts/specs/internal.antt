@@ -3,3 +3,4 @@ pub mod Bits
 pub mod Intervals
 pub mod Learned
 pub mod WordSets
+pub mod Searches

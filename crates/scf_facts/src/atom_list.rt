@@ -29,6 +29,8 @@ impl WordFacts for AtomList {
 
     ghost is_exact = { λ _ _. false };
 
+    ghost refutes_among = { λ _ _ _. ⊥ };
+
     ghost starts_exact = { false };
 
     fn all(alloc: Global) -> Result<Self, Memory>

@@ -69,6 +69,7 @@ impl Bits {
         ensures both { IfSome result (λ bits. (x : ℕ) → HasBits bits x ↔ (HasBits self x × HasBits other x)) }
         ensures shown { IfSome result (λ bits. HasBits self bits.value × HasBits other bits.value) }
         ensures none { IfNone result ((x : ℕ) → HasBits self x → HasBits other x → ⊥) }
+        ensures mask { IfSome result (λ bits. bits.mask ≡ bit_or self.mask other.mask) }
     {
         let bits = self.union(other);
         (self.are_in(bits.value) && other.are_in(bits.value)).then_some(bits)
@@ -92,6 +93,8 @@ impl Bits {
         ensures one { IsPowerOfTwo self.mask → (result.mask ≡ 0) ⊎ IsPowerOfTwo result.mask }
         ensures none { self.mask ≡ 0 → result.mask ≡ 0 }
         ensures rest { result.mask + bit_and self.mask known.mask ≡ self.mask }
+        ensures among { bit_and self.mask result.mask ≡ result.mask }
+        ensures apart { bit_and known.mask result.mask ≡ 0 }
     {
         let mask = self.mask ^ (self.mask & known.mask);
         Bits {
@@ -105,7 +108,8 @@ impl Bits {
     pub(crate) fn flipped(self) -> Bits
         requires one { IsPowerOfTwo self.mask }
         requires within { bit_and self.value self.mask ≡ self.value }
-        ensures { (x : ℕ) → HasBits result x ↔ LacksBits self x }
+        ensures other { (x : ℕ) → HasBits result x ↔ LacksBits self x }
+        ensures mask { result.mask ≡ self.mask }
     {
         Bits {
             mask: self.mask,

@@ -1,7 +1,9 @@
 //! The search for a value without refuted bits.
 
-ghost use Rattle.std.specs.Prelude.{◌≡◌, ◌<◌, ◌≤◌, ◌^◌, ℕ, All, IsTrue, false, IfSome, IfNone};
+ghost use Rattle.std.specs.Prelude.{◌≡◌, ◌+◌, ◌<◌, ◌≤◌, ◌^◌, ℕ, All, IsTrue, false, IfSome, IfNone, bit_or, count_ones};
 ghost use Rattle.scf_facts.specs.Bits.{HasBits, LacksBits};
+ghost use Rattle.scf_facts.specs.Masks.{IsAmong};
+ghost use Rattle.scf_facts.specs.internal.Searches.{IsSearchOf};
 ghost use Rattle.scf_facts.specs.Intervals.{LiesInOne};
 ghost use Rattle.scf_facts.specs.internal.Bits.{SomeLack};
 ghost use Rattle.scf_facts.specs.internal.Intervals.{AreApart};
@@ -40,6 +42,9 @@ pub(crate) fn free_number(
         → ⊥ }
     ensures gave_up { result ≡ Searched.GaveUp → tries.new ≡ 0 }
     ensures fewer { tries.new ≤ tries.old }
+    ensures ends { (masks count : ℕ) → All (λ bits. IsAmong bits.mask masks) refuted.now
+        → let fixed = bit_or known.mask more.mask in
+        count_ones (bit_or masks fixed) ≤ count + count_ones fixed → IsSearchOf count tries.old result tries.new }
 {
     let Some(bits) = known.join(more) else {
         return Searched::Nothing;
@@ -75,6 +80,8 @@ pub(crate) fn refutes(refuted: &[Bits], bits: Bits) -> bool
 fn refuted_in(refuted: &[Bits], x: u32) -> Option<Bits>
     ensures some { IfSome result (λ bits. HasBits bits x) }
     ensures one { IfSome result (λ bits. (y : ℕ) → All (λ other. LacksBits other y) refuted.now → LacksBits bits y) }
+    ensures among { IfSome result (λ bits. (masks : ℕ)
+        → All (λ other. IsAmong other.mask masks) refuted.now → IsAmong bits.mask masks) }
     ensures none { IfNone result (All (λ bits. LacksBits bits x) refuted.now) }
 {
     refuted.iter().find(|bits| bits.are_in(x)).copied()

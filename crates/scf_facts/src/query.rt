@@ -1,7 +1,7 @@
 //! An atom's question about the value of its word, as an interval or as bits.
 
-ghost use Rattle.std.specs.Prelude.{◌≡◌};
-ghost use Rattle.scf_facts.specs.internal.Query.{Asks, AsksSimply};
+ghost use Rattle.std.specs.Prelude.{◌≡◌, ℕ};
+ghost use Rattle.scf_facts.specs.internal.Query.{Asks, AsksAmong, AsksSimply};
 
 use crate::atom::Atom;
 use crate::bits::Bits;
@@ -24,6 +24,7 @@ impl Query {
     pub(crate) fn of(atom: Atom) -> Query
         ensures asks { Asks atom result }
         ensures simple { AsksSimply atom result }
+        ensures among { (masks : ℕ) → AsksAmong masks atom result }
     {
         match atom {
             Atom::Gt { value, .. } => Query::within(0, value, false),

@@ -7,6 +7,7 @@ ghost use Rattle.scf_facts.specs.Atoms.{answer_at};
 ghost use Rattle.scf_facts.specs.Bits.{HasBits, LacksBits};
 ghost use Rattle.scf_facts.specs.Exactness.{KeepsExact};
 ghost use Rattle.scf_facts.specs.Intervals.{LiesIn, LiesInOne};
+ghost use Rattle.scf_facts.specs.Masks.{AreFew, IsAmong, KeepsAmong, RefutesAmong};
 ghost use Rattle.scf_facts.specs.WordSets.{AllowsNumber};
 ghost use Rattle.scf_facts.specs.internal.Intervals.{AreApart};
 ghost use Rattle.scf_facts.specs.internal.WordSets.{EachNumber, SomeNumber, is_exact_set, no_facts};
@@ -64,6 +65,8 @@ impl WordSet {
             → AllowsNumber kept x ↔ (AllowsNumber self.now x × (answer_at atom x ≡ holds))) }
         ensures exact { IfOk result (λ kept. KeepsExact atom holds
             → IsTrue (is_exact_set self.now) → IsTrue (is_exact_set kept)) }
+        ensures among { IfOk result (λ kept. (masks : ℕ) → KeepsAmong masks atom holds
+            → RefutesAmong masks self.now → RefutesAmong masks kept) }
     {
         match Query::of(atom) {
             Query::Within { range, answer } if answer == holds => {
@@ -119,6 +122,9 @@ impl WordSet {
             → AllowsNumber kept x ↔ (AllowsNumber self.now x × LacksBits bits x)) }
         ensures refuted { IfOk result (λ kept. (bits.mask ≡ 0) ⊎ IsPowerOfTwo bits.mask
             → kept.refuted ≡ self.now.refuted) }
+        ensures among { IfOk result (λ kept. (masks : ℕ)
+            → (bits.mask ≡ 0) ⊎ IsPowerOfTwo bits.mask ⊎ IsAmong bits.mask masks
+            → RefutesAmong masks self.now → RefutesAmong masks kept) }
     {
         let Some(_) = self.known.join(bits) else {
             return self.copy(alloc);
@@ -262,6 +268,8 @@ impl WordSet {
         ensures empty { IsTrue result → EachNumber self.now (λ _. ⊥) }
         ensures some { IsTrue (is_exact_set self.now) → result ≡ false
             → (x : ℕ) × (x < 2 ^ 32) × AllowsNumber self.now x }
+        ensures some_among { (masks : ℕ) → AreFew masks → RefutesAmong masks self.now → result ≡ false
+            → (x : ℕ) × (x < 2 ^ 32) × AllowsNumber self.now x }
     {
         self.has_none(Interval::ALL, self.known) || matches!(self.free_number(), Searched::Nothing)
     }
@@ -300,6 +308,8 @@ impl WordSet {
     pub(crate) fn pick(&self) -> Option<u32>
         ensures allowed { IfSome result (λ x. AllowsNumber self.now x) }
         ensures found { IsTrue (is_exact_set self.now)
+            → (x : ℕ) → x < 2 ^ 32 → AllowsNumber self.now x → IsSome result }
+        ensures found_among { (masks : ℕ) → AreFew masks → RefutesAmong masks self.now
             → (x : ℕ) → x < 2 ^ 32 → AllowsNumber self.now x → IsSome result }
     {
         let first = first_number(&self.intervals, Interval::ALL, self.known)?;
@@ -357,7 +367,9 @@ impl WordSet {
     /// Searches a possible value bit by bit.
     fn free_number(&self) -> Searched
         ensures found { (x : ℕ) → result ≡ Searched.Found x → AllowsNumber self.now x }
+        ensures fits { (x : ℕ) → result ≡ Searched.Found x → x < 2 ^ 32 }
         ensures nothing { result ≡ Searched.Nothing → EachNumber self.now (λ _. ⊥) }
+        ensures ends { (masks : ℕ) → AreFew masks → RefutesAmong masks self.now → result ≡ Searched.GaveUp → ⊥ }
     {
         let mut tries = MOST_TRIES;
         free_number(

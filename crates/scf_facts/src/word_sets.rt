@@ -3,6 +3,7 @@
 ghost use Rattle.std.specs.Prelude.{◌≡◌, ◌<◌, ℕ, List, All, IsTrue, length, slice_index_or, true, false};
 ghost use Rattle.std.specs.List.{list_all};
 ghost use Rattle.scf_facts.specs.Atoms.{atom_answer, word_of};
+ghost use Rattle.scf_facts.specs.Masks.{EachRefutesAmong};
 ghost use Rattle.scf_facts.specs.WordSets.{AllowsWords};
 ghost use Rattle.scf_facts.specs.internal.WordSets.{is_exact_set};
 
@@ -41,6 +42,9 @@ impl WordFacts for WordSets {
 
     ghost is_exact = { λ facts level. list_all is_exact_set
         (slice_index_or facts.saved.items level facts.sets).items };
+
+    ghost refutes_among = { λ facts level masks.
+        EachRefutesAmong masks (slice_index_or facts.saved.items level facts.sets).items };
 
     ghost starts_exact = { true };
 

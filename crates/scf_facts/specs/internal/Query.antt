@@ -8,6 +8,7 @@ use Rattle.scf_facts.specs.Atoms.{answer_at}
 use Rattle.scf_facts.specs.Bits.{HasBits}
 use Rattle.scf_facts.specs.Intervals.{LiesIn}
 use Rattle.scf_facts.specs.Exactness.{KeepsExact}
+use Rattle.scf_facts.specs.Masks.{IsAmong, KeepsAmong}
 
 -- the answer of the atom by where the number lies, or by bits whose value lies within their mask
 abbrev pub Asks : Atom → Query → Type 0
@@ -21,3 +22,10 @@ abbrev pub AsksSimply : Atom → Query → Type 0
 AsksSimply atom (Within range answer) = Unit {0}
 AsksSimply atom (Masked bits) =
     (holds : Bool) → KeepsExact atom holds → IsTrue holds ⊎ (bits.mask ≡ 0) ⊎ IsPowerOfTwo bits.mask
+
+-- or of a mask whose bits are among those of another, as far as an answer may refute under these alone
+abbrev pub AsksAmong : ℕ → Atom → Query → Type 0
+AsksAmong masks atom (Within range answer) = Unit {0}
+AsksAmong masks atom (Masked bits) =
+    (holds : Bool) → KeepsAmong masks atom holds
+    → IsTrue holds ⊎ (bits.mask ≡ 0) ⊎ IsPowerOfTwo bits.mask ⊎ IsAmong bits.mask masks

@@ -11,4 +11,4 @@ returns-clause-at_marks c = λ index le.
       c.in_ok-push.ensures.items,
       opened {B = List Learned} (λ known. known.items) facts.saved.items facts.learned
           c.in_ok-learned.learned index same,
-    ) (λ words. (λ h. h, λ h. h), refl)
+    ) (λ words. (λ h. h, λ h. h), refl, λ masks. (λ h. h, λ h. h))

@@ -25,3 +25,9 @@ returns-in-Masked-2-clause-learned c =
     let says = other _ true c.args.holds _ (grind (arith, c.if-holds.false)) (c.in-Masked-2.ensures.asks.1 x) in
     grind (arith, is x, says))
     c.without_bits.ensures.kept
+
+pub returns-in-Masked-2-clause-among : goal.returns-in-Masked-2-clause-among
+returns-in-Masked-2-clause-among c =
+    IfOk-weaker c.without_bits.result _ _
+    (λ kept is masks keeps. grind (arith, c.in-Masked-2.ensures.among masks c.args.holds keeps, c.if-holds.false, is masks))
+    c.without_bits.ensures.among

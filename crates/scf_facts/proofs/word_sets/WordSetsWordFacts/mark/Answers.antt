@@ -11,4 +11,4 @@ returns-clause-at_marks c = λ index le.
       c.in_ok-push.ensures.items,
       opened {B = List NumberFacts} (λ known. known.items) facts.saved.items facts.sets
           c.in_ok-sets.sets index same,
-    ) (λ words. (λ h. h, λ h. h), refl)
+    ) (λ words. (λ h. h, λ h. h), refl, λ masks. (λ h. h, λ h. h))
