@@ -1,14 +1,12 @@
 -- The bits that splits have fixed.
 use Rattle.std.specs.Prelude.{count_ones, slice_set}
 use Rattle.std.proofs.Common.{le_refl}
-use Rattle.std.specs.Int.Bits.{or_step}
-use Rattle.std.specs.Int.Count.{ones_step}
-use Rattle.std.proofs.lemmas.Nat.{ones-le, or_disjoint}
+use Rattle.std.proofs.lemmas.Nat.{ones-le}
 use Rattle.std.proofs.lemmas.List.Sums.{sum_by-set}
 use Rattle.scf_facts.proofs.Common.{IsPowerOfTwo, and_pow}
 use Rattle.scf_facts.proofs.MaskLaws.{under_power}
 use Rattle.scf_facts.proofs.Ones.{more_ones, one_more}
-use Rattle.scf_compare.proofs.Common.{Bits, HasBits, ap, trailing_ones, bit_at-trailing_ones, one_shl, w32, le_or_l, pow_pos, ◌≡◌, ◌+◌, ◌*◌, ◌/◌, ◌%◌, ◌<◌, ◌≤◌, ◌-◌, ◌^◌, ℕ, List, arith, bit_and, bit_or, cases_eq, common_steps, eq-eqb, eqb, false, inl, inr, length, suc, zero, refl, slice_index}
+use Rattle.scf_compare.proofs.Common.{Bits, HasBits, trailing_ones, bit_at-trailing_ones, one_shl, w32, ◌≡◌, ◌+◌, ◌*◌, ◌%◌, ◌<◌, ◌≤◌, ◌-◌, ◌^◌, ℕ, List, arith, bit_and, bit_or, common_steps, eq-eqb, eqb, false, inl, inr, length, refl, slice_index}
 use Rattle.scf_compare.specs.internal.FixedBits.{HaveBits, bits_at}
 use Rattle.scf_compare.specs.Splits.{open_bits}
 

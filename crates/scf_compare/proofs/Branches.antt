@@ -1,5 +1,5 @@
 -- Open branches, as one is opened and one is taken.
-use Rattle.scf_compare.proofs.Common.{◌≡◌, ℕ, zero, suc, ◌+◌, ◌<◌, ◌≤◌, ◌↔◌, ◌⊎◌, inl, inr, List, [], ◌∷◌, ◌++◌, length, refl, ap, ◌∙◌, arith, length-append, Option, None, Some, true, false, cases_Bool, cases_lt, Atom, Branch, GoesOver, atom_answer, IsTrue, slice_get, slice_get_within, sum_by-append, AreWordsIn, Store, IsSameLevel, Frontier, Compared, GivesAnswer, LearnsExactly, IsFrontier, open_size, Tree}
+use Rattle.scf_compare.proofs.Common.{◌≡◌, ℕ, zero, suc, ◌+◌, ◌<◌, ◌≤◌, ◌↔◌, ◌⊎◌, inl, inr, List, [], ◌∷◌, ◌++◌, length, refl, ap, ◌∙◌, arith, length-append, Option, None, Some, true, false, cases_Bool, cases_lt, Atom, Branch, GoesOver, atom_answer, slice_get, slice_get_within, sum_by-append, AreWordsIn, Store, IsSameLevel, Frontier, Compared, GivesAnswer, LearnsAmong, IsFrontier, open_size, Tree}
 use Rattle.scf_machine.proofs.Indices.{index_before, index_cases, index_last}
 use Rattle.scf_compare.specs.declared.frontier.OpenBranch.{OpenBranch}
 use Rattle.scf_compare.specs.internal.Trees.{GoesEither, IsStep, KeepsAsked}
@@ -29,8 +29,9 @@ pub record HasOpened {F K N : Type 0} (store : Store F) (old new : Frontier F K 
   pub known : (words : List ℕ)
       → store.allows new.facts (store.level new.facts) words
       ↔ (store.allows old.facts (store.level old.facts) words × GivesAnswer b.asked true words)
-  pub exact : LearnsExactly b.asked true → IsTrue (store.is_exact old.facts (store.level old.facts))
-      → IsTrue (store.is_exact new.facts (store.level new.facts))
+  pub among : (masks : ℕ) → LearnsAmong masks b.asked true
+      → store.refutes_among old.facts (store.level old.facts) masks
+      → store.refutes_among new.facts (store.level new.facts) masks
 
 -- words that go either way give one of the answers, and come on with it
 either : (atom : Option Atom) (words : List ℕ) (first second : Type 0) → GoesEither atom words first second
@@ -39,12 +40,13 @@ either None words first second (inl one) = inl (tt, one)
 either None words first second (inr other) = inr (tt, other)
 either (Some atom) words first second goes = grind (arith, cases_Bool (atom_answer atom words))
 
--- where an atom is asked that keeps facts exact, each answer does, and the words come on with theirs
-by_answer : (atom : Option Atom) → KeepsAsked atom
-    → LearnsExactly atom true × LearnsExactly atom false
+-- where an atom is asked with which facts still refute under bits of the masks alone, they do with each answer, and the
+-- words come on with theirs
+by_answer : (masks : ℕ) (atom : Option Atom) → KeepsAsked masks atom
+    → LearnsAmong masks atom true × LearnsAmong masks atom false
     × ((words : List ℕ) (first second : Type 0) → GoesEither atom words first second
     → (GivesAnswer atom true words → first) × (GivesAnswer atom false words → second))
-by_answer atom keeps = grind arith
+by_answer masks atom keeps = grind arith
 
 pub opened : {F K N : Type 0} (store : Store F) (compared : Compared) (tree : K → Tree N) (old new : Frontier F K N)
     (known : K) (atom : Option Atom) (if_true if_false : N)
@@ -91,19 +93,43 @@ opened {K = K} {N = N} store compared tree old new known atom if_true if_false f
         ]
       ]);
       size = omega (arith, size_more tree old new b h.branches, step.costs);
-      exact = λ all.
-          let plain = step.plain all.plain in
-          let by = by_answer atom plain.0 in
+      exact = λ masks all.
+          let plain = step.plain masks all.plain in
+          let by = by_answer masks atom plain.0 in
           let comes = λ (words : List ℕ) (allowed : store.allows old.facts (store.level old.facts) words).
           by.2 words _ _ (step.leads words allowed (all.reached words allowed)) in
           record {
             branches = λ index branch stands.
                 grind (arith, cases index branch stands, f.marks, h.levels index, all.branches index branch, comes, by.1, plain.2);
-            facts = h.exact by.0 all.facts;
+            facts = h.among masks by.0 all.facts;
             plain = plain.1;
             reached = λ words allowed. let was = (h.known words).0 allowed in (comes words was.0).0 was.1;
           };
     }
+
+-- after an undone mark and a learned answer what is known is what was known at the mark, with the answer
+pub after_undo : {F : Type 0} (store : Store F) (asked : Option Atom) (old undone new : F)
+    → store.level undone + 1 ≡ store.level old
+    → ((index : ℕ) → index < store.level undone + 1
+    → IsSameLevel store.allows store.is_exact store.refutes_among old index undone index)
+    → store.level new ≡ store.level undone
+    → ((words : List ℕ) → store.allows new (store.level undone) words
+    ↔ (store.allows undone (store.level undone) words × GivesAnswer asked false words))
+    → ((masks : ℕ) → LearnsAmong masks asked false → store.refutes_among undone (store.level undone) masks
+    → store.refutes_among new (store.level undone) masks)
+    → ((words : List ℕ) → store.allows new (store.level new) words
+    ↔ (store.allows old (store.level new) words × GivesAnswer asked false words))
+    × ((masks : ℕ) → LearnsAmong masks asked false → store.refutes_among old (store.level new) masks
+    → store.refutes_among new (store.level new) masks)
+after_undo store asked old undone new closed law marks learned among =
+    let same = law (store.level undone) (omega arith) in
+    rw marks (
+      λ words. (
+        λ now. let was = (learned words).0 now in ((same.0 words).0 was.0, was.1),
+        λ was. (learned words).1 ((same.0 words).1 was.0, was.1),
+      ),
+      λ masks keeps was. among masks keeps ((same.2 masks).1 was),
+    )
 
 -- The newest branch was taken: its mark was undone, and what leads into it was learned.
 pub record HasTaken {F K N : Type 0} (store : Store F) (old new : Frontier F K N) (b : OpenBranch K N) : Type 0 where
@@ -114,8 +140,9 @@ pub record HasTaken {F K N : Type 0} (store : Store F) (old new : Frontier F K N
   pub known : (words : List ℕ)
       → store.allows new.facts (store.level new.facts) words
       ↔ (store.allows old.facts (store.level new.facts) words × GivesAnswer b.asked false words)
-  pub exact : LearnsExactly b.asked false → IsTrue (store.is_exact old.facts (store.level new.facts))
-      → IsTrue (store.is_exact new.facts (store.level new.facts))
+  pub among : (masks : ℕ) → LearnsAmong masks b.asked false
+      → store.refutes_among old.facts (store.level new.facts) masks
+      → store.refutes_among new.facts (store.level new.facts) masks
 
 pub taken : {F K N : Type 0} (store : Store F) (compared : Compared) (tree : K → Tree N) (old new : Frontier F K N)
     (b : OpenBranch K N)
@@ -157,13 +184,13 @@ taken {K = K} {N = N} store compared tree old new b f h here from costs =
         | inr at ↦ inl at
       ];
       size = omega (arith, size_more tree new old b h.branches, costs);
-      exact = λ all.
+      exact = λ masks all.
           let newest = all.branches (store.level new.facts) b last in
           record {
             branches = λ index branch stands.
                 let within = slice_get_within new.branches.items index branch stands in
                 grind (arith, marks, within, h.levels index, all.branches index branch (before index branch stands));
-            facts = h.exact newest.keeps newest.facts;
+            facts = h.among masks newest.keeps newest.facts;
             plain = newest.plain;
             reached = λ words allowed. let known = (h.known words).0 allowed in newest.reached words known.0 known.1;
           };

@@ -79,7 +79,7 @@ pub use Rattle.scf_compare.specs.declared.verdict.Verdict.{Verdict}
 pub use Rattle.scf_compare.specs.internal.Leaves.{AreWordsIn, IsFirstUndecided, IsSideLeaf, WereSeen, side_leaves}
 pub use Rattle.scf_compare.specs.internal.Filters.{ComesTo, EndsWith, IsFilterEnd, IsStepOf, filter_size, filter_tree}
 pub use Rattle.scf_compare.specs.internal.ControlFlow.{IsInside, UsesScratch, control_flow_at, size_of_flow}
-pub use Rattle.scf_compare.specs.internal.Frontier.{GivesAnswer, IsAhead, IsExact, IsFrontier, LearnsExactly, open_size}
+pub use Rattle.scf_compare.specs.internal.Frontier.{GivesAnswer, IsAhead, IsExact, IsFrontier, LearnsAmong, open_size}
 pub use Rattle.scf_compare.specs.internal.Laws.{paths_count, scaled_costs, side_size_counts, spread_counts}
 pub use Rattle.scf_compare.specs.internal.NumberedProfiles.{IsNumbered, NumberedProfile}
 pub use Rattle.scf_compare.specs.internal.KnownBits.{IsLowEnd}
@@ -87,4 +87,4 @@ pub use Rattle.scf_compare.specs.internal.Profiles.{IsAtCondition, IsAtRule, IsF
 pub use Rattle.scf_compare.specs.internal.Stacks.{IsStackLeaf, stack_is_node, stack_is_plain, stack_reaches, stack_size}
 pub use Rattle.scf_compare.specs.internal.Stages.{GoesOver, finding_of_all}
 pub use Rattle.scf_compare.specs.internal.Trees.{GoesOn, Tree}
-pub use Rattle.scf_compare.specs.internal.Values.{Decides, Describes, IsPlainValue}
+pub use Rattle.scf_compare.specs.internal.Values.{Decides, Describes, IsMaskedValue}

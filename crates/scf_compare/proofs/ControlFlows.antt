@@ -1,6 +1,8 @@
 -- What follows from how an instruction goes on.
-use Rattle.scf_compare.proofs.Common.{All-contains, IsSimpleMask, Constant, CommonBit, IsPlainProgram, IsPlainInsn, ◌≡◌, ℕ, zero, suc, ◌+◌, ◌-◌, ◌<◌, ◌/◌, ◌==◌, List, [], ◌∷◌, Option, None, Some, length, drop, slice_index_or, if◌then◌else◌, refl, sym, ap, subst, ◌∙◌, arith, zero-add, slice_get, slice_get_within, eq-or-lt_of_le, Insn, A, Operation, LoadWord, operation_of, bpf_memwords, State, Outcome, Goes, Ends, sets, jumps_to, holds, operand_of, effect, Stands, IsFine, IsValidList, IsReturn, fine_of, same_insn, ControlFlow, FallThrough, Jump, ConditionalJump, DivideByIndex, ReturnConstant, ReturnAccumulator, size_of_insn, tree_sizes, tree_size, control_flow_at, UsesScratch, IsInside, size_of_flow, slice_get-get_or}
-use Rattle.scf_compare.proofs.Rules.{contains_here}
+use Rattle.scf_compare.proofs.Common.{Bool, true, ◌⊎◌, Constant, ◌≡◌, ℕ, zero, suc, ◌+◌, ◌-◌, ◌<◌, ◌/◌, ◌==◌, List, [], ◌∷◌, Option, None, Some, length, drop, slice_index_or, if◌then◌else◌, refl, sym, ap, subst, ◌∙◌, arith, zero-add, slice_get, slice_get_within, eq-or-lt_of_le, Insn, A, Operation, LoadWord, operation_of, bpf_memwords, State, Outcome, Goes, Ends, sets, jumps_to, holds, operand_of, effect, Stands, IsFine, IsValidList, IsReturn, fine_of, same_insn, ControlFlow, FallThrough, Jump, ConditionalJump, DivideByIndex, ReturnConstant, ReturnAccumulator, size_of_insn, tree_sizes, tree_size, control_flow_at, UsesScratch, IsInside, size_of_flow, slice_get-get_or}
+use Rattle.scf_insn.specs.declared.operation.Arithmetic.TheVariants.{And}
+use Rattle.scf_insn.specs.declared.operation.Operation.TheVariants.{Compute}
+use Rattle.scf_compare.specs.Masked.{GoesUnder, IsMaskOf, IsMaskedOperation, IsMaskedProgram, IsMaskedTest}
 
 -- ---- indices inside the program
 
@@ -68,23 +70,31 @@ pub size_by_flow : (insns : List Insn) (index : ℕ) (i : Insn) (operation : Ope
 size_by_flow insns index i operation stands =
     rw (size_here insns index i stands.here, stands.known) (grind (arith, size_later insns (suc index)))
 
--- ---- plain programs
+-- ---- masked programs
 
--- a plain instruction loads a word, tests against a constant, with a simple mask, divides nothing and returns no
+-- a masked instruction loads a word, takes it under a mask, tests it against a constant, divides nothing and returns no
 -- register
-abbrev pub IsPlainFlow : Operation → Insn → ControlFlow → Type 0
-IsPlainFlow operation i (FallThrough next) = operation ≡ LoadWord
-IsPlainFlow operation i (ConditionalJump test operand if_true if_false) =
-    (operand ≡ Constant) × (test ≡ CommonBit → IsSimpleMask i.k)
-IsPlainFlow operation i (DivideByIndex next) = ⊥
-IsPlainFlow operation i ReturnAccumulator = ⊥
-IsPlainFlow operation i control_flow = Unit {0}
+abbrev pub IsMaskedFlow : ℕ → (ℕ → Bool) → ℕ → Operation → Insn → ControlFlow → Type 0
+IsMaskedFlow masks under at operation i (FallThrough next) =
+    (operation ≡ LoadWord) ⊎ ((operation ≡ Compute And Constant) × IsMaskOf masks i.k × (under next ≡ true))
+IsMaskedFlow masks under at operation i (Jump target) = GoesUnder under at target
+IsMaskedFlow masks under at operation i (ConditionalJump test operand if_true if_false) =
+    (operand ≡ Constant) × IsMaskedTest masks (under at) test i.k × GoesUnder under at if_true × GoesUnder under at if_false
+IsMaskedFlow masks under at operation i (DivideByIndex next) = ⊥
+IsMaskedFlow masks under at operation i ReturnConstant = Unit {0}
+IsMaskedFlow masks under at operation i ReturnAccumulator = ⊥
 
--- so an instruction of a plain program goes on
-pub plain_flow : (insns : List Insn) (index : ℕ) (i : Insn) (operation : Operation) → IsPlainProgram insns
-    → Stands insns index i operation → IsPlainFlow operation i (control_flow_at operation i index)
-plain_flow insns index i operation plain stands =
-    let insn = All-contains IsPlainInsn insns i plain (contains_here insns index i stands.here) in grind arith
+-- so an instruction of a masked program goes on
+masked_flow : (masks : ℕ) (under : ℕ → Bool) (at : ℕ) (operation : Operation) (i : Insn)
+    → IsMaskedOperation masks under at operation i
+    → IsMaskedFlow masks under at operation i (control_flow_at operation i at)
+masked_flow masks under at operation i is = grind arith
+
+pub masked_at : {insns : List Insn} {at : ℕ} {i : Insn} {operation : Operation} (masks : ℕ)
+    (program : IsMaskedProgram masks insns) → Stands insns at i operation
+    → IsMaskedFlow masks program.under at operation i (control_flow_at operation i at)
+masked_at {at = at} {i = i} {operation = operation} masks program stands =
+    masked_flow masks program.under at operation i (program.each at i operation stands)
 
 -- the instruction that is read has an operation, and leads to indices inside the program
 pub ruleset reads = (has_operation, slice_get-get_or, inside_at, size_by_flow)

@@ -9,6 +9,7 @@ pub mod ControlFlows
 pub mod Halves
 pub mod BitSlices
 pub mod KnownBits
+pub mod MaskedSides
 pub mod Numbered
 pub mod Relations
 pub mod Rules

@@ -1,13 +1,13 @@
 -- The tree of several profiles: its steps are those of the profile that is asked, and at an answer to a call of another
 -- architecture the next profile begins.
 use Rattle.std.specs.Prelude.{IfNone}
-use Rattle.scf_compare.proofs.Common.{◌≡◌, ◌≢◌, ℕ, ◌+◌, ◌*◌, ◌<◌, ◌≤◌, List, Option, None, Some, IfSome, All, All-contains, Contains, arith, drop, get_or, length, refl, sym, ap, ◌∙◌, inl, inr, slice_get, slice_get-get_or, get_or_from_slice_get, take_all, AreNumbersOf, Answer, Atom, CallRecord, HaveNoConflict, IsOf, IsPlainRule, IsRecord, NumberRules, NumberedProfile, Profile, ProfileAnswers, SideLeaf, Step, Branch, call_of, one_answer, profile_behavior, row_of, side_leaves}
+use Rattle.scf_compare.proofs.Common.{◌≡◌, ◌≢◌, ℕ, ◌+◌, ◌*◌, ◌<◌, ◌≤◌, List, Option, None, Some, IfSome, All, All-contains, Contains, arith, drop, get_or, length, refl, sym, ap, ◌∙◌, inl, inr, slice_get, slice_get-get_or, get_or_from_slice_get, take_all, AreNumbersOf, Answer, Atom, CallRecord, HaveNoConflict, IsOf, IsRecord, NumberRules, NumberedProfile, Profile, ProfileAnswers, SideLeaf, Step, Branch, call_of, one_answer, profile_behavior, row_of, side_leaves}
 use Rattle.scf_profile.proofs.Common.{cases_order, get_or_default}
-use Rattle.scf_profile.specs.PlainProfile.{IsPlainProfile}
 use Rattle.scf_profile.specs.Profile.{AreOfApart}
 use Rattle.scf_profile.specs.ProfileAnswers.{IsOfNone, ProfilesAnswer, by_none, by_profile}
 use Rattle.scf_profile.specs.declared.reason.Reason.TheVariants.{Default, Entry, Foreign, Stub}
 use Rattle.scf_compare.specs.Effort.{spread, spread_of_all}
+use Rattle.scf_compare.specs.Masked.{IsMaskedProfile}
 use Rattle.scf_compare.specs.Sides.{AnswersFrom, ProfileGives, ProfilesGive, profiles_behavior}
 use Rattle.scf_compare.specs.declared.origin.Origin.{Origin}
 use Rattle.scf_compare.specs.declared.origin.Origin.TheVariants.{Filter, Profile as OfReason}
@@ -23,7 +23,7 @@ use Rattle.scf_compare.proofs.Numbered.{numbers_spread}
 use Rattle.scf_compare.proofs.Rules.{all_more, drop_here}
 
 -- what goes either way goes on by either
-on_either : (atom : Option Atom) (words : List ℕ) {a b c d : Type 0} → (a → c) → (b → d) → GoesEither atom words a b
+pub on_either : (atom : Option Atom) (words : List ℕ) {a b c d : Type 0} → (a → c) → (b → d) → GoesEither atom words a b
     → GoesEither atom words c d
 on_either None words f g (inl first) = inl (f first)
 on_either None words f g (inr second) = inr (g second)
@@ -42,8 +42,8 @@ module _ (profiles : List Profile) (numbers : List NumberRules) (index : ℕ) (i
   has : Contains profiles (profile_at profiles index)
   has = (index, inside, get_or_from_slice_get profiles index _ _ stands)
 
-  plain_here : All IsPlainProfile profiles → All IsPlainRule (profile_at profiles index).rules
-  plain_here all = all index no_profile inside
+  masked_here : (masks : ℕ) → All (IsMaskedProfile masks) profiles → IsMaskedProfile masks (profile_at profiles index)
+  masked_here masks all = all index no_profile inside
 
   -- an answer to a call of the profile's architecture is the answer of all profiles
   answer_of_all : (origin : Origin) (words : List ℕ) (answer : ℕ) → origin ≢ OfReason Foreign
@@ -88,7 +88,7 @@ module _ (profiles : List Profile) (numbers : List NumberRules) (index : ℕ) (i
       proper = (inside, are, step.proper);
       leads = λ words is r. (r.0, step.leads words is r.1);
       costs = step.costs;
-      plain = λ all. all;
+      plain = λ masks all. all;
     }
 
     pub to_branch : (atom : Option Atom) (if_true if_false : ProfileNode) → IsInner (Branch atom if_true if_false)
@@ -98,7 +98,7 @@ module _ (profiles : List Profile) (numbers : List NumberRules) (index : ℕ) (i
       leads = λ words is r.
           on_either atom words (λ first. (r.0, first)) (λ second. (r.0, second)) (step.leads words is r.1);
       costs = step.costs;
-      plain = λ all. ((step.plain (plain_here all)).0, all, all);
+      plain = λ masks all. ((step.plain masks (masked_here masks all)).0, all, all);
     }
 
     pub to_leaf : (leaf : SideLeaf) → leaf.origin ≢ OfReason Foreign → IsInner (Leaf leaf)
@@ -107,7 +107,7 @@ module _ (profiles : List Profile) (numbers : List NumberRules) (index : ℕ) (i
       proper = step.proper;
       leads = λ words is r. tells_of_all leaf.answer leaf.origin words own (step.leads words is r.1);
       costs = step.costs;
-      plain = λ all. step.plain (plain_here all);
+      plain = λ masks all. step.plain masks (masked_here masks all);
     }
 
     -- a call of another architecture goes on to the next profile
@@ -124,7 +124,7 @@ module _ (profiles : List Profile) (numbers : List NumberRules) (index : ℕ) (i
           (all_more (λ (p : Profile). IsOf p.architecture (call_of words) → ⊥) profiles index _ stands r.0
           (of_another leaf.answer leaf.origin words foreign step.proper.1 (step.leads words is r.1)));
       costs = omega (arith, size, counts);
-      plain = λ all. all;
+      plain = λ masks all. all;
     }
 
 -- the profile that is read at an index, with the numbers that are known there

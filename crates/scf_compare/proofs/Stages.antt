@@ -11,14 +11,14 @@ all_related compared found none seen = λ call is_record in_scope.
     grind (arith, seen (words_of call) within)
 
 -- what is explored once all was seen
-pub of_all : (compared : Compared) (given : Type 0) (steps limit effort : ℕ) (first : Option (Which × ℕ))
-    → IfSome first (IsFirstUndecided compared) → (first ≡ None → AllRelated compared) → (given → first ≡ None)
+pub of_all : (compared : Compared) (given : ℕ → Type 0) (steps limit effort : ℕ) (first : Option (Which × ℕ))
+    → IfSome first (IsFirstUndecided compared) → (first ≡ None → AllRelated compared) → ((masks : ℕ) → given masks → first ≡ None)
     → 0 < steps → steps ≤ limit → steps ≤ effort
     → IsExplored compared given limit effort steps (finding_of_all steps first)
 of_all compared given steps limit effort first index all known some within_limit within_effort = grind arith
 
 -- and once a difference was found
-pub of_found : (compared : Compared) (given : Type 0) (steps limit effort : ℕ) (finding : Finding)
+pub of_found : (compared : Compared) (given : ℕ → Type 0) (steps limit effort : ℕ) (finding : Finding)
     → IsFound compared finding → 0 < steps → steps ≤ limit → steps ≤ effort
     → IsExplored compared given limit effort steps finding
 of_found compared given steps limit effort finding found some within_limit within_effort = grind arith

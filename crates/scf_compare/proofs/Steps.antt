@@ -22,7 +22,7 @@ followed leaves given here between there from next first second one decided othe
       proper = other.proper;
       leads = λ words is reached. other.leads words is (decided.reached words is (one.leads words is reached));
       costs = omega (arith, other.costs, decided.size, within);
-      plain = λ plain. other.plain (decided.plain (one.plain plain));
+      plain = λ masks plain. other.plain masks (decided.plain masks (one.plain masks plain));
     }
 
 pub followed_pending : {N E : Type 0} (leaves : Leaves E) (given : List ℕ → Type 0) (here there : Tree N) (pending : Step N E)
@@ -34,7 +34,7 @@ followed_pending leaves given here there pending next second decided other = rec
   proper = other.proper;
   leads = λ words is reached. other.leads words is (decided.reached words is reached);
   costs = omega (arith, other.costs, decided.size);
-  plain = λ plain. other.plain (decided.plain plain);
+  plain = λ masks plain. other.plain masks (decided.plain masks plain);
 }
 
 pub later : {N E : Type 0} (leaves : Leaves E) (given : List ℕ → Type 0) (first : Tree (Step N E)) (here there : Tree N)
@@ -50,5 +50,16 @@ later leaves given first here there from between next to one decided other =
       reached = λ words is reached.
           other.leads words is (decided.reached words is (one.reached words is reached));
       size = omega (arith, within, decided.size, one.size);
-      plain = λ plain. other.plain (decided.plain (one.plain plain));
+      plain = λ masks plain. other.plain masks (decided.plain masks (one.plain masks plain));
     }
+
+-- and two later nodes, one after the other
+pub later_both : {N : Type 0} (given : List ℕ → Type 0) (first between last : Tree N) (from next to : N)
+    → IsLaterNode given first from between next → IsLaterNode given between next last to
+    → IsLaterNode given first from last to
+later_both given first between last from next to one two = record {
+  node = two.node;
+  reached = λ words is reached. two.reached words is (one.reached words is reached);
+  size = omega (arith, one.size, two.size);
+  plain = λ masks plain. two.plain masks (one.plain masks plain);
+}

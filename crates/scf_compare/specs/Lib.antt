@@ -2,6 +2,7 @@ pub mod Effort
 pub mod Findings
 pub mod Headline
 pub mod Limits
+pub mod Masked
 pub mod Paths
 pub mod Regions
 pub mod SideLaws

@@ -25,6 +25,7 @@ use Rattle.scf_compare.specs.declared.origin.Origin.TheVariants.{Filter, Profile
 use Rattle.scf_compare.specs.declared.side.Side.{Side}
 use Rattle.scf_compare.specs.declared.side.Side.TheVariants.{Stack, Profile as OfProfile, Profiles as OfProfiles}
 use Rattle.scf_compare.specs.Effort.{spread, spread_of_all, stack_paths}
+use Rattle.scf_compare.specs.Masked.{IsMaskedProfile, IsMaskedProgram}
 
 -- A run of the program can end at this instruction: a return, or a division by the index register, which may be 0.
 pub record CanEndAt (insns : List Insn) (at : ℕ) : Type 0 where
@@ -96,14 +97,14 @@ ProfilesGive profiles (OfReason reason) words = HasReasonAmong profiles (call_of
 
 -- What a side is to a comparison: what it answers to the words of a call, from which origin it gives them an answer, at
 -- which instructions it ends, and at which of them its answer may be unknown, how many steps its whole tree takes, and
--- whether a complete store decides it.
+-- by which masks it is decided.
 pub record Behavior : Type 1 where
   pub answers : List ℕ → ℕ → Type 0
   pub gives : Origin → List ℕ → ℕ → Type 0
   pub ends_at : ℕ → Type 0
   pub is_open_at : ℕ → Type 0
   pub size : ℕ
-  pub is_plain : Type 0
+  pub is_masked : ℕ → Type 0
 
 -- a stack: its size is the product of the sizes of its filters' trees of paths
 abbrev pub stack_behavior : List (List Insn) → Behavior
@@ -113,7 +114,7 @@ stack_behavior filters = record {
   ends_at = StackCanEndAt filters;
   is_open_at = StackIsOpenAt filters;
   size = stack_paths filters;
-  is_plain = All IsPlainProgram filters;
+  is_masked = λ masks. All (IsMaskedProgram masks) filters;
 }
 
 -- a profile, which has no instructions and always knows its answer: its size is its spread
@@ -124,10 +125,10 @@ profile_behavior p = record {
   ends_at = λ at. at ≡ 0;
   is_open_at = λ at. ⊥;
   size = spread p;
-  is_plain = IsPlainProfile p;
+  is_masked = λ masks. IsMaskedProfile masks p;
 }
 
--- several profiles, each for an architecture: they are plain where each is
+-- several profiles, each for an architecture
 abbrev pub profiles_behavior : List Profile → Behavior
 profiles_behavior profiles = record {
   answers = λ words answer. ProfilesAnswer profiles (call_of words) answer;
@@ -135,7 +136,7 @@ profiles_behavior profiles = record {
   ends_at = λ at. at ≡ 0;
   is_open_at = λ at. ⊥;
   size = spread_of_all profiles;
-  is_plain = All IsPlainProfile profiles;
+  is_masked = λ masks. All (IsMaskedProfile masks) profiles;
 }
 
 -- a side answers the words so, from this origin
@@ -152,8 +153,15 @@ abbrev pub AreOneStack : Side → Side → Type 0
 AreOneStack (Stack left) (Stack right) = left.now ≡ right.now
 AreOneStack left right = ⊥
 
+-- the tests of a side are of words, halves of arguments and single bits
 abbrev pub IsPlainSide : Side → Type 0
-IsPlainSide side = (behavior_of side).is_plain
+IsPlainSide (Stack filters) = All IsPlainProgram filters.now
+IsPlainSide (OfProfile p) = IsPlainProfile p.now
+IsPlainSide (OfProfiles profiles) = All IsPlainProfile profiles.now
+
+-- or under masks whose bits are among these
+abbrev pub IsMaskedSide : ℕ → Side → Type 0
+IsMaskedSide masks side = (behavior_of side).is_masked masks
 
 -- the effort of a comparison of two sides: the product of their sizes
 abbrev pub effort_of_sides : Side → Side → ℕ

@@ -4,9 +4,9 @@ ghost use Rattle.std.specs.Prelude.{◌≡◌, ◌==◌, ◌↔◌, ◌-◌, ◌
 ghost use Rattle.std.specs.Prelude.{slice_index};
 ghost use Rattle.scf_facts.specs.Bits.{HasBits};
 ghost use Rattle.scf_facts.specs.HighMask.{IsHighMask};
-ghost use Rattle.scf_insn.specs.SimpleMask.{IsSimpleMask};
 ghost use Rattle.scf_insn.specs.Words.{IsWords};
-ghost use Rattle.scf_compare.specs.internal.BitSlices.{IsBitSlice, IsWhole, bit_slice_value};
+ghost use Rattle.scf_compare.specs.Masked.{IsMaskOf};
+ghost use Rattle.scf_compare.specs.internal.BitSlices.{IsBitSlice, IsMaskedSlice, IsWhole, bit_slice_value};
 ghost use Rattle.scf_compare.specs.internal.AffineTerms.{is_within};
 ghost use Rattle.scf_compare.specs.internal.Values.{IsValue, Abstracts, IsTestDecision, Decides, IsPlainDecision};
 ghost use Rattle.scf_compare.specs.internal.Values.{IsComputedNumber};
@@ -73,6 +73,7 @@ impl BitSlice {
         ensures bit_slice { IsBitSlice result }
         ensures number { (words : List ℕ) → bit_and (bit_slice_value self words) v ≡ bit_slice_value result words }
         ensures mask { IsWhole self → result.mask ≡ v }
+        ensures masked { (masks : ℕ) → IsMaskedSlice masks self → IsMaskOf masks v → IsMaskedSlice masks result }
     {
         BitSlice {
             mask: self.mask & (v >> self.left << self.right),
@@ -130,7 +131,7 @@ impl BitSlice {
         requires { IsBitSlice self }
         ensures asks { IsTestDecision result }
         ensures decides { (words : List ℕ) → Decides result words (bit_slice_value self words == v) }
-        ensures plain { IsSimpleMask self.mask → IsPlainDecision result }
+        ensures plain { (masks : ℕ) → IsMaskOf masks self.mask → IsPlainDecision masks result }
     {
         let value = v >> self.left;
         if value > self.mask >> self.right || value << self.left != v {
@@ -151,7 +152,7 @@ impl BitSlice {
         ensures asks { IsTestDecision result }
         ensures decides { (words : List ℕ) → IsWords words
             → Decides result words (nat_lt v (bit_slice_value self words)) }
-        ensures plain { IsWhole self → IsPlainDecision result }
+        ensures plain { (masks : ℕ) → IsWhole self → IsPlainDecision masks result }
     {
         let value = v >> self.left;
         if value > self.mask >> self.right {

@@ -1,6 +1,6 @@
 //! Comparisons: of two sides, and of a filter with a profile.
 
-ghost use Rattle.std.specs.Prelude.{◌≡◌, All, IsTrue, IfOk, OnErr, min};
+ghost use Rattle.std.specs.Prelude.{◌≡◌, ℕ, All, IsTrue, IfOk, OnErr, min};
 ghost use Rattle.scf_machine.specs.Machine.{RunAnswers};
 ghost use Rattle.scf_machine.specs.Plain.{IsPlainProgram};
 ghost use Rattle.scf_machine.specs.Precedence.{StackAnswers};
@@ -19,7 +19,8 @@ ghost use Rattle.scf_compare.specs.Findings.{
   compared_sides,
 };
 ghost use Rattle.scf_compare.specs.Limits.{LeavesStepsBelow};
-ghost use Rattle.scf_compare.specs.Sides.{AreOneStack, IsPlainSide, behavior_of, effort_of_sides};
+ghost use Rattle.scf_facts.specs.Masks.{AreFew};
+ghost use Rattle.scf_compare.specs.Sides.{AreOneStack, IsMaskedSide, IsPlainSide, behavior_of, effort_of_sides};
 ghost use Rattle.scf_compare.specs.Verdicts.{IsDecided, IsTrueOf, IsTrueOfStack, IsWithin};
 ghost use Rattle.scf_compare.specs.internal.Comparers.{IsComparison};
 ghost use Rattle.scf_compare.specs.internal.Pairs.{pair_tree};
@@ -52,8 +53,9 @@ use std::slice;
 /// the limit is below the exact effort; the steps of `Holds` are within both.
 ///
 /// A store that starts exact decides plain sides: with a limit of at least the effort the finding is `Holds` exactly if
-/// the relation holds of the answers to every record of the scope, else `Fails`. If the splits have no limit, any two
-/// sides are decided so, by every store.
+/// the relation holds of the answers to every record of the scope, else `Fails`. It decides sides so that also test
+/// words under masks of several bits, if these masks have at most 8 bits together, without a split. If the splits have
+/// no limit, any two sides are decided so, by every store.
 pub fn compare_sides<F: WordFacts>(
     alloc: Global,
     left: &Side<'_>,
@@ -65,6 +67,10 @@ pub fn compare_sides<F: WordFacts>(
     ensures holds { IfOk result (IsTrueFinding (compared_sides by over left.now right.now)) }
     ensures within { IfOk result (IsFindingWithin limit.steps (effort_of_sides left.now right.now)) }
     ensures decided { IsTrue F.starts_exact → IsPlainSide left.now → IsPlainSide right.now
+        → IfOk result (IsFindingDecided (AllRelated (compared_sides by over left.now right.now))
+        limit.steps (effort_of_sides left.now right.now)) }
+    ensures by_masks { IsTrue F.starts_exact → (masks : ℕ) → AreFew masks
+        → IsMaskedSide masks left.now → IsMaskedSide masks right.now
         → IfOk result (IsFindingDecided (AllRelated (compared_sides by over left.now right.now))
         limit.steps (effort_of_sides left.now right.now)) }
     ensures settled { limit.splits ≡ Splits.NoLimit
@@ -107,6 +113,10 @@ pub fn compare_sides_within<F: WordFacts>(
     ensures within { IfOk result (IsFindingWithin
         (min limit.steps left_over.old) (effort_of_sides left.now right.now)) }
     ensures decided { IsTrue F.starts_exact → IsPlainSide left.now → IsPlainSide right.now
+        → IfOk result (IsFindingDecided (AllRelated (compared_sides by over left.now right.now))
+        (min limit.steps left_over.old) (effort_of_sides left.now right.now)) }
+    ensures by_masks { IsTrue F.starts_exact → (masks : ℕ) → AreFew masks
+        → IsMaskedSide masks left.now → IsMaskedSide masks right.now
         → IfOk result (IsFindingDecided (AllRelated (compared_sides by over left.now right.now))
         (min limit.steps left_over.old) (effort_of_sides left.now right.now)) }
     ensures settled { limit.splits ≡ Splits.NoLimit

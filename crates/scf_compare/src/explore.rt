@@ -2,6 +2,7 @@
 
 ghost use Rattle.std.specs.Prelude.{◌≡◌, ◌↔◌, ℕ, List, IsTrue, false, IfOk, IfSome, IfNone, IsSome};
 ghost use Rattle.scf_insn.specs.Words.{IsRecord, words_of};
+ghost use Rattle.scf_facts.specs.Masks.{AreFew};
 ghost use Rattle.scf_compare.specs.Findings.{WordsRelated};
 ghost use Rattle.scf_compare.specs.internal.Leaves.{AreWordsIn, IsFirstUndecided, IsLeaf, IsUndecidedLeaf, WereSeen};
 ghost use Rattle.scf_compare.specs.internal.Leaves.{KnowsBoth, Tells};
@@ -79,7 +80,7 @@ pub(crate) fn judge<C: Comparison, F: WordFacts>(
         → AreWordsIn (C.compared comparison.now) words }
     ensures judged { IsJudged (C.compared comparison.now)
         (λ words. F.allows facts.now (F.level facts.now) words × Tells (C.compared comparison.now) leaf words) result }
-    ensures exact { IsTrue (F.is_exact facts.now (F.level facts.now)) → KnowsBoth leaf
+    ensures exact { (masks : ℕ) → AreFew masks → F.refutes_among facts.now (F.level facts.now) masks → KnowsBoth leaf
         → ((words : List ℕ) → F.allows facts.now (F.level facts.now) words
         → Tells (C.compared comparison.now) leaf words)
         → result ≡ Judged.Open → ⊥ }
@@ -116,7 +117,8 @@ fn advance<C: Comparison, F: WordFacts>(
     ensures index { IfSome first_undecided.new (IsFirstUndecided (C.compared comparison.now)) }
     ensures still { IsSome first_undecided.old → IsSome first_undecided.new }
     ensures exact { let here = C.tree comparison.now known.old in
-        IsExact F.WordFacts (C.tree comparison.now) frontier.old (here.is_plain node) (here.reaches node)
+        (masks : ℕ) → AreFew masks
+        → IsExact F.WordFacts (C.tree comparison.now) masks frontier.old (here.is_plain masks node) (here.reaches node)
         → first_undecided.new ≡ first_undecided.old }
 {
     match comparison.step(&frontier.facts, known, &node) {
@@ -154,7 +156,8 @@ pub(crate) fn explore<C: Comparison, F: WordFacts>(
     requires reached { (words : List ℕ) → AreWordsIn (C.compared comparison.now) words
         → (C.tree comparison.now start).reaches root words }
     ensures { let tree = C.tree comparison.now start in
-        IfOk result (IsExplored (C.compared comparison.now) (IsTrue (F.is_exact facts 0) × tree.is_plain root)
+        IfOk result (IsExplored (C.compared comparison.now)
+        (λ masks. AreFew masks × F.refutes_among facts 0 masks × tree.is_plain masks root)
         limit (tree.size root) taken.new) }
 {
     let mut frontier = Frontier::new(alloc, facts);

@@ -2,7 +2,7 @@
 
 ghost use Rattle.std.specs.Prelude.{◌≡◌, ℕ, List};
 ghost use Rattle.scf_insn.specs.Words.{IsWords};
-ghost use Rattle.scf_machine.specs.Plain.{IsPlainProgram};
+ghost use Rattle.scf_compare.specs.Masked.{IsMaskedProgram};
 ghost use Rattle.scf_compare.specs.Paths.{tree_size};
 ghost use Rattle.scf_compare.specs.internal.Filters.{IsStepOf, leaves_of_filter, filter_is_node, filter_is_plain};
 ghost use Rattle.scf_compare.specs.internal.Filters.{filter_reaches, filter_size, filter_tree};
@@ -39,7 +39,8 @@ pub(crate) fn start_in_filter(
     ensures node { filter_is_node program.now result.0 result.1 }
     ensures reached { (words : List ℕ) → filter_reaches program.now result.0 result.1 words }
     ensures size { filter_size program.now result.1 ≡ tree_size program.now 0 }
-    ensures plain { IsPlainProgram program.now → filter_is_plain program.now result.0 result.1 }
+    ensures plain { (masks : ℕ) → IsMaskedProgram masks program.now
+        → filter_is_plain program.now result.0 masks result.1 }
 {
     let _insns = program.insns();
     (KnownRegisters::at_start(open), FilterNode::At(0))

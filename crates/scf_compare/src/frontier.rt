@@ -1,9 +1,9 @@
 //! The open branches of a walk.
 
-ghost use Rattle.std.specs.Prelude.{◌≡◌, ◌<◌, ◌↔◌, ◌⊎◌, [], ℕ, Option, List, IsTrue, OnOk, IfOk, length};
+ghost use Rattle.std.specs.Prelude.{◌≡◌, ◌<◌, ◌↔◌, ◌⊎◌, [], ℕ, Option, List, OnOk, IfOk, length};
 ghost use Rattle.scf_facts.specs.Levels.{IsSameLevel};
 ghost use Rattle.scf_compare.specs.internal.Leaves.{AreWordsIn, IsLeaf, pair_leaves};
-ghost use Rattle.scf_compare.specs.internal.Frontier.{GivesAnswer, LearnsExactly, IsFrontier, IsWhole, StaysWhole};
+ghost use Rattle.scf_compare.specs.internal.Frontier.{GivesAnswer, LearnsAmong, IsFrontier, IsWhole, StaysWhole};
 ghost use Rattle.scf_compare.specs.internal.Frontier.{first_open_after};
 ghost use Rattle.scf_compare.specs.internal.Stages.{FindsNothing, GoesOver, IsStageAfter, IsWholeStage};
 ghost use Rattle.scf_compare.specs.internal.Trees.{IsAsked, IsProper, IsStep};
@@ -68,8 +68,8 @@ fn learn_answer<F: WordFacts>(
         → IsSameLevel F.allows F.is_exact F.refutes_among facts.old index facts.new index }
     ensures learned { OnOk result ((words : List ℕ) → F.allows facts.new (F.level facts.old) words
         ↔ (F.allows facts.old (F.level facts.old) words × GivesAnswer asked answer words)) }
-    ensures exact { OnOk result (LearnsExactly asked answer
-        → IsTrue (F.is_exact facts.old (F.level facts.old)) → IsTrue (F.is_exact facts.new (F.level facts.old))) }
+    ensures among { OnOk result ((masks : ℕ) → LearnsAmong masks asked answer
+        → F.refutes_among facts.old (F.level facts.old) masks → F.refutes_among facts.new (F.level facts.old) masks) }
 {
     match asked {
         Some(atom) => facts.learn(atom, answer),

@@ -122,8 +122,8 @@ impl<L: SideTree, R: SideTree> Pair<L, R> {
             ≡ (L.behavior pair.left).size * (R.behavior pair.right).size }
         ensures plain { let pair = self.now in
             let compared = compared_in pair.by pair.over (L.behavior pair.left) (R.behavior pair.right) in
-            (L.behavior pair.left).is_plain → (R.behavior pair.right).is_plain
-            → (pair_tree compared (L.tree pair.left) (R.tree pair.right) result.0).is_plain result.1 }
+            (masks : ℕ) → (L.behavior pair.left).is_masked masks → (R.behavior pair.right).is_masked masks
+            → (pair_tree compared (L.tree pair.left) (R.tree pair.right) result.0).is_plain masks result.1 }
     {
         let (left, start) = self.left.start();
         let (right, right_start) = self.right.start();

@@ -3,8 +3,8 @@
 ghost use Rattle.std.specs.Prelude.{◌≡◌, ◌+◌, ◌*◌, ◌<◌, ◌^◌, ℕ};
 ghost use Rattle.scf_insn.specs.Kernel.{seccomp_data_args};
 ghost use Rattle.scf_facts.specs.Atoms.{word_of};
-ghost use Rattle.scf_profile.specs.NumberTests.{IsPlainTest, test_of};
-ghost use Rattle.scf_profile.specs.PlainProfile.{IsPlainCondition};
+ghost use Rattle.scf_profile.specs.NumberTests.{test_of};
+ghost use Rattle.scf_compare.specs.Masked.{IsMaskedCondition};
 ghost use Rattle.scf_compare.specs.internal.Conditions.{CostsAt, IsAtTest, Splits, asks_of_zero, successor_at_zero, word_asked};
 ghost use Rattle.scf_compare.specs.internal.Asking.{KeepsEither};
 
@@ -80,7 +80,7 @@ fn ask(atom: Atom, if_true: Successor, if_false: Successor) -> Question
 }
 
 /// The question of one part of a condition.
-#[tactic(auto, using(scf_profile::proofs::NumberTests::plain_of))]
+#[tactic(auto, using(crate::proofs::MaskedSides::masked_test))]
 pub(crate) fn question_of(condition: Condition, part: ConditionPart) -> Question
     requires { condition.index < seccomp_data_args }
     ensures within { word_of result.atom < 16 }
@@ -88,7 +88,7 @@ pub(crate) fn question_of(condition: Condition, part: ConditionPart) -> Question
     ensures splits { let test = test_of condition in
         (n : ℕ) → n < 2 ^ 64 → IsAtTest test.0 part n → Splits test part result n }
     ensures costs { CostsAt part result }
-    ensures keeps { IsPlainCondition condition → KeepsEither result.atom }
+    ensures keeps { (masks : ℕ) → IsMaskedCondition masks condition → KeepsEither masks result.atom }
 {
     let (test, expected) = condition.test();
     let low = 2 * condition.index + 4;

@@ -1,6 +1,7 @@
 //! Regions: the records that come to one leaf of a side's tree.
 
 ghost use Rattle.std.specs.Prelude.{◌≡◌, ℕ, List, IfNone, IfOk, IfSome, IsTrue, true};
+ghost use Rattle.scf_facts.specs.Masks.{AreFew};
 ghost use Rattle.scf_compare.specs.internal.Regions.{IsRegionOf};
 
 use crate::origin::Origin;
@@ -36,7 +37,8 @@ pub(crate) fn region_of<F: Snapshots>(
     ensures none { IfOk result (λ found. IfNone found (
         (words : List ℕ) → F.allows facts.now (F.level facts.now) words → ⊥)) }
     ensures exact { IfOk result (λ found. IfSome found (λ region.
-        IsTrue (F.is_exact facts.now (F.level facts.now)) → IsTrue is_whole → IsTrue region.is_exact)) }
+        (masks : ℕ) → AreFew masks → F.refutes_among facts.now (F.level facts.now) masks
+        → IsTrue is_whole → IsTrue region.is_exact)) }
 {
     let example = match facts.pick() {
         Some(words) => Some(CallRecord::from_words(&words)),

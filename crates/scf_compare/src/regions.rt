@@ -4,7 +4,8 @@ ghost use Rattle.std.specs.Prelude.{◌≡◌, ◌<◌, ◌↔◌, ℕ, List, Al
 ghost use Rattle.std.specs.Prelude.{IsSome, OnOk};
 ghost use Rattle.scf_profile.specs.Scope.{IsInScope};
 ghost use Rattle.scf_compare.specs.Regions.{AreRegions, IsCovered, IsDecidedRegion};
-ghost use Rattle.scf_compare.specs.Sides.{IsPlainSide, behavior_of};
+ghost use Rattle.scf_facts.specs.Masks.{AreFew};
+ghost use Rattle.scf_compare.specs.Sides.{IsMaskedSide, IsPlainSide, behavior_of};
 ghost use Rattle.scf_compare.specs.internal.Leaves.{AreWordsIn};
 ghost use Rattle.scf_compare.specs.internal.Frontier.{IsExact, IsFrontier, IsWhole, first_open_after, first_open_left};
 ghost use Rattle.scf_compare.specs.internal.Regions.{AreRegionsAt, AreRegionsSoFar, IsAdded};
@@ -36,7 +37,8 @@ pub struct Regions {
 /// What a side answers to the records of a scope. Each of them lies in a region, and exact regions don't overlap. None
 /// if that takes more than `limit` steps; a walk takes at most as many as the side's size.
 ///
-/// With a store that starts exact, a plain side has exact regions with known answers alone.
+/// With a store that starts exact, a plain side has exact regions with known answers alone, and so has one whose masks
+/// have few bits together.
 pub fn regions_of<F: Snapshots>(
     alloc: Global,
     side: &Side<'_>,
@@ -47,6 +49,8 @@ pub fn regions_of<F: Snapshots>(
         (AreRegions (behavior_of side.now) (IsInScope scope) limit)) }
     ensures unfinished { IfOk result (λ found. IfNone found (limit < (behavior_of side.now).size)) }
     ensures decided { IsTrue F.starts_exact → IsPlainSide side.now
+        → IfOk result (λ found. IfSome found (λ regions. All IsDecidedRegion regions.list.items)) }
+    ensures by_masks { IsTrue F.starts_exact → (masks : ℕ) → AreFew masks → IsMaskedSide masks side.now
         → IfOk result (λ found. IfSome found (λ regions. All IsDecidedRegion regions.list.items)) }
 {
     match *side {
@@ -75,7 +79,7 @@ fn regions_of_tree<F: Snapshots, L: SideTree + Drop>(
     ensures regions { IfOk result (λ found. IfSome found
         (AreRegions (L.behavior left) (IsInScope over) limit)) }
     ensures unfinished { IfOk result (λ found. IfNone found (limit < (L.behavior left).size)) }
-    ensures decided { IsTrue F.starts_exact → (L.behavior left).is_plain
+    ensures decided { IsTrue F.starts_exact → (masks : ℕ) → AreFew masks → (L.behavior left).is_masked masks
         → IfOk result (λ found. IfSome found (λ regions. All IsDecidedRegion regions.list.items)) }
 {
     let right = StackSide { filters: &[] };
@@ -108,7 +112,8 @@ fn regions_of_pair<C: Comparison, F: Snapshots>(
     ensures regions { let compared = C.compared comparison.now in IfOk result (λ found. IfSome found
         (AreRegions compared.left compared.in_scope limit)) }
     ensures unfinished { IfOk result (λ found. IfNone found (limit < (C.compared comparison.now).left.size)) }
-    ensures decided { IsTrue (F.is_exact facts 0) → (C.tree comparison.now start).is_plain root
+    ensures decided { (masks : ℕ) → AreFew masks → F.refutes_among facts 0 masks
+        → (C.tree comparison.now start).is_plain masks root
         → IfOk result (λ found. IfSome found (λ regions. All IsDecidedRegion regions.list.items)) }
 {
     let mut frontier = Frontier::new(alloc, facts);
@@ -163,8 +168,8 @@ fn region_step<C: Comparison, F: Snapshots>(
         → IsCovered (C.compared comparison.now).left regions.new.items words) }
     ensures regions { IfOk result (AreRegionsAt F.WordFacts (C.compared comparison.now) (C.tree comparison.now)
         frontier.new first_open.new regions.new.items (C.tree comparison.now known.new)) }
-    ensures decided { let here = C.tree comparison.now known.old in OnOk result (
-        IsExact F.WordFacts (C.tree comparison.now) frontier.old (here.is_plain node) (here.reaches node)
+    ensures decided { let here = C.tree comparison.now known.old in OnOk result ((masks : ℕ) → AreFew masks
+        → IsExact F.WordFacts (C.tree comparison.now) masks frontier.old (here.is_plain masks node) (here.reaches node)
         → first_open.old ≡ None → (first_open.new ≡ None)
         × (All IsDecidedRegion regions.old.items → All IsDecidedRegion regions.new.items)) }
     ensures nothing { IfOk result FindsNothing }
@@ -214,7 +219,8 @@ fn add_region<F: Snapshots>(
 ) -> Result<(), Memory>
     ensures added { OnOk result (IsAdded (F.allows facts.now (F.level facts.now)) leaf is_whole
         regions.old.items regions.new.items) }
-    ensures decided { OnOk result (IsTrue (F.is_exact facts.now (F.level facts.now)) → IsTrue is_whole
+    ensures decided { OnOk result ((masks : ℕ) → AreFew masks
+        → F.refutes_among facts.now (F.level facts.now) masks → IsTrue is_whole
         → IsSome leaf.answer → All IsDecidedRegion regions.old.items → All IsDecidedRegion regions.new.items) }
 {
     if let Some(region) = region_of(facts, leaf, is_whole)? {

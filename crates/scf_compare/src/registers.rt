@@ -1,12 +1,13 @@
 //! What is known of the registers and scratch words on a path through a filter.
 
-ghost use Rattle.std.specs.Prelude.{◌≡◌, ℕ, ◌<◌, List, IfSome};
+ghost use Rattle.std.specs.Prelude.{◌≡◌, ℕ, ◌<◌, List, Bool, true, IfSome};
 ghost use Rattle.scf_insn.specs.Kernel.{bpf_memwords};
 ghost use Rattle.scf_insn.specs.Words.{IsWords};
 ghost use Rattle.scf_machine.specs.Machine.{State, start, sets, stores, operand_of, operand_in_computation};
 ghost use Rattle.scf_machine.specs.Machine.{effect, Goes};
+ghost use Rattle.scf_compare.specs.Masked.{IsMaskOf};
 ghost use Rattle.scf_compare.specs.internal.ControlFlow.{UsesScratch};
-ghost use Rattle.scf_compare.specs.internal.Values.{IsValue, Abstracts, IsPlainValue, AreValues, Describes};
+ghost use Rattle.scf_compare.specs.internal.Values.{IsValue, Abstracts, IsMaskedValue, AreValues, Describes};
 
 use crate::bit_slice::BitSlice;
 use crate::computed::Computed;
@@ -31,7 +32,7 @@ impl KnownRegisters {
     pub(crate) fn at_start(open: Option<OpenTest>) -> KnownRegisters
         ensures values { AreValues result }
         ensures describes { (words : List ℕ) → Describes result words start }
-        ensures plain { IsPlainValue result.a }
+        ensures plain { (masks : ℕ) (under : Bool) → IsMaskedValue masks under result.a }
     {
         KnownRegisters {
             a: Value::Known(0),
@@ -97,6 +98,7 @@ impl KnownRegisters {
         ensures stands { (words : List ℕ) (s : State) → F.allows facts.now (F.level facts.now) words
             → Describes self.now words s
             → Abstracts result words (operand_in_computation arithmetic operand insn s) }
+        ensures constant { operand ≡ Operand.Constant → result ≡ Value.Known insn.k }
     {
         match (operand, arithmetic) {
             (Operand::Index, Arithmetic::Lsh | Arithmetic::Rsh) => self.x.low_five_bits(facts),
@@ -142,7 +144,11 @@ impl KnownRegisters {
             → Describes self.old words s
             → effect operation insn words s ≡ Goes t
             → Describes self.new words t }
-        ensures plain { operation ≡ Operation.LoadWord → IsPlainValue self.new.a }
+        ensures loaded { operation ≡ Operation.LoadWord
+            → (masks : ℕ) (under : Bool) → IsMaskedValue masks under self.new.a }
+        ensures masked { operation ≡ Operation.Compute Arithmetic.And Operand.Constant
+            → (masks : ℕ) (under : Bool) → IsMaskOf masks insn.k → IsMaskedValue masks under self.old.a
+            → IsMaskedValue masks true self.new.a }
     {
         match operation {
             Operation::LoadWord => {

@@ -18,7 +18,7 @@ pub(crate) fn facts_of<F: WordFacts>(alloc: Global, scope: Scope) -> Result<F, M
     ensures unmarked { IfOk result (λ facts. F.level facts ≡ 0) }
     ensures scope { IfOk result (λ facts. (words : List ℕ)
         → F.allows facts 0 words ↔ (IsWords words × IsInScope scope (call_of words))) }
-    ensures exact { IfOk result (λ facts. IsTrue F.starts_exact → IsTrue (F.is_exact facts 0)) }
+    ensures among { IfOk result (λ facts. IsTrue F.starts_exact → (masks : ℕ) → F.refutes_among facts 0 masks) }
 {
     match scope {
         Scope::All => F::all(alloc),
@@ -70,7 +70,7 @@ fn facts_of_architecture<F: WordFacts>(
     ensures unmarked { IfOk result (λ facts. F.level facts ≡ 0) }
     ensures scope { IfOk result (λ facts. (words : List ℕ)
         → F.allows facts 0 words ↔ (IsWords words × IsOf architecture (call_of words))) }
-    ensures exact { IfOk result (λ facts. IsTrue F.starts_exact → IsTrue (F.is_exact facts 0)) }
+    ensures among { IfOk result (λ facts. IsTrue F.starts_exact → (masks : ℕ) → F.refutes_among facts 0 masks) }
 {
     let reaches_first = number_from(architecture.first());
     let last = architecture.last();
@@ -89,7 +89,7 @@ fn facts_of_audit<F: WordFacts>(alloc: Global, audit: u32) -> Result<F, Memory>
     ensures unmarked { IfOk result (λ facts. F.level facts ≡ 0) }
     ensures scope { IfOk result (λ facts. (words : List ℕ)
         → F.allows facts 0 words ↔ (IsWords words × (slice_index words 1 ≡ audit))) }
-    ensures exact { IfOk result (λ facts. IsTrue F.starts_exact → IsTrue (F.is_exact facts 0)) }
+    ensures among { IfOk result (λ facts. IsTrue F.starts_exact → (masks : ℕ) → F.refutes_among facts 0 masks) }
 {
     let mut facts = F::all(alloc)?;
     facts.learn(word_is(1, audit), true)?;
@@ -107,7 +107,7 @@ fn facts_of_numbers<F: WordFacts>(
     ensures scope { IfOk result (λ facts. (words : List ℕ)
         → F.allows facts 0 words
         ↔ (IsWords words × IsInScope (Scope.NumbersOf architecture first last) (call_of words))) }
-    ensures exact { IfOk result (λ facts. IsTrue F.starts_exact → IsTrue (F.is_exact facts 0)) }
+    ensures among { IfOk result (λ facts. IsTrue F.starts_exact → (masks : ℕ) → F.refutes_among facts 0 masks) }
 {
     let is_past_last = Atom::Gt {
         word: 0,

@@ -36,7 +36,8 @@ pub(crate) trait SideTree {
         ensures node { (tree self.now result.0).is_node result.1 }
         ensures reached { (words : List ℕ) → (tree self.now result.0).reaches result.1 words }
         ensures size { (tree self.now result.0).size result.1 ≡ (behavior self.now).size }
-        ensures plain { (behavior self.now).is_plain → (tree self.now result.0).is_plain result.1 };
+        ensures plain { (masks : ℕ) → (behavior self.now).is_masked masks
+            → (tree self.now result.0).is_plain masks result.1 };
 
     /// The step from a node, for the words that the store allows, and what is known after it.
     fn step<F: WordFacts>(

@@ -1,12 +1,12 @@
 //! Abstract values: what is known of a register or a scratch word on a path through a filter.
 
-ghost use Rattle.std.specs.Prelude.{◌≡◌, ℕ, ◌%◌, ◌^◌, ◌<◌, List, Bool, not, IfSome};
-ghost use Rattle.scf_insn.specs.SimpleMask.{IsSimpleMask};
+ghost use Rattle.std.specs.Prelude.{◌≡◌, ℕ, ◌%◌, ◌^◌, ◌<◌, List, Bool, false, true, not, IfSome, IsSome};
 ghost use Rattle.scf_insn.specs.Words.{IsWords};
 ghost use Rattle.scf_machine.specs.Machine.{holds, value_computed};
-ghost use Rattle.scf_compare.specs.internal.BitSlices.{IsBitSlice, IsWhole, bit_slice_value};
+ghost use Rattle.scf_compare.specs.Masked.{IsMaskOf, IsMaskedTest};
+ghost use Rattle.scf_compare.specs.internal.BitSlices.{IsBitSlice, IsMaskedSlice, IsWhole, bit_slice_value};
 ghost use Rattle.scf_compare.specs.internal.AffineTerms.{IsAffineTerm, affine_value};
-ghost use Rattle.scf_compare.specs.internal.Values.{IsValue, Abstracts, IsPlainValue, IsTestDecision, Decides};
+ghost use Rattle.scf_compare.specs.internal.Values.{IsValue, Abstracts, IsMaskedValue, IsTestDecision, Decides};
 ghost use Rattle.scf_compare.specs.internal.Values.{IsPlainDecision, IsComputedNumber};
 
 use crate::affine_term::AffineTerm;
@@ -70,6 +70,8 @@ impl Value {
             → Abstracts self words a
             → Abstracts other words v
             → Abstracts result words (value_computed arithmetic a v) }
+        ensures masked { (masks v : ℕ) (under : Bool) → IsMaskedValue masks under self → other ≡ Value.Known v
+            → arithmetic ≡ Arithmetic.And → IsMaskOf masks v → IsMaskedValue masks true result }
     {
         if let Some(value) = self.bit_slice_result(arithmetic, other) {
             return value;
@@ -83,8 +85,8 @@ impl Value {
         }
     }
 
-    /// The abstract result of `self op other`, if one of them is a bit slice, the other a constant, and the result a
-    /// bit slice or a constant.
+    /// The abstract result of `self op other`, if one of them is a bit slice or a constant, the other a constant, and
+    /// the result a bit slice or a constant.
     #[tactic(auto, using(std::proofs::lemmas::Nat::and_comm))]
     fn bit_slice_result(self, arithmetic: Arithmetic, other: Value) -> Option<Value>
         requires value { IsValue self }
@@ -93,10 +95,18 @@ impl Value {
         ensures stands { IfSome result (λ value. (words : List ℕ) (a v : ℕ) → Abstracts self words a
             → Abstracts other words v
             → Abstracts value words (value_computed arithmetic a v)) }
+        ensures some { (masks v : ℕ) (under : Bool) → IsMaskedValue masks under self → other ≡ Value.Known v
+            → arithmetic ≡ Arithmetic.And → IsSome result }
+        ensures masked { IfSome result (λ value. (masks v : ℕ) (under : Bool) → IsMaskedValue masks under self
+            → other ≡ Value.Known v → arithmetic ≡ Arithmetic.And → IsMaskOf masks v
+            → IsMaskedValue masks true value) }
     {
         match (arithmetic, self, other) {
-            (Arithmetic::And, Value::Slice(bit_slice), Value::Known(v))
-            | (Arithmetic::And, Value::Known(v), Value::Slice(bit_slice)) => {
+            (Arithmetic::And, Value::Known(a), Value::Known(v)) => Some(Value::Known(a & v)),
+            (Arithmetic::And, Value::Slice(bit_slice), Value::Known(v)) => {
+                Some(Value::Slice(bit_slice.and(v)))
+            }
+            (Arithmetic::And, Value::Known(v), Value::Slice(bit_slice)) => {
                 Some(Value::Slice(bit_slice.and(v)))
             }
             (Arithmetic::Lsh, Value::Slice(bit_slice), Value::Known(v)) if v < 32 => {
@@ -169,9 +179,8 @@ impl Value {
             → Abstracts self words a
             → Abstracts other words v
             → Decides result words (holds test a v) }
-        ensures plain { (v : ℕ) → IsPlainValue self → other ≡ Value.Known v
-            → (test ≡ Test.CommonBit → IsSimpleMask v)
-            → IsPlainDecision result }
+        ensures plain { (masks v : ℕ) (under : Bool) → IsMaskedValue masks under self → other ≡ Value.Known v
+            → IsMaskedTest masks under test v → IsPlainDecision masks result }
     {
         match self.decide_by_atoms(test, other) {
             Decision::Open(_) => self.decide_by_bits(facts, test, other),
@@ -209,9 +218,8 @@ impl Value {
             → Abstracts self words a
             → Abstracts other words v
             → Decides result words (holds test a v) }
-        ensures plain { (v : ℕ) → IsPlainValue self → other ≡ Value.Known v
-            → (test ≡ Test.CommonBit → IsSimpleMask v)
-            → IsPlainDecision result }
+        ensures plain { (masks v : ℕ) (under : Bool) → IsMaskedValue masks under self → other ≡ Value.Known v
+            → IsMaskedTest masks under test v → IsPlainDecision masks result }
     {
         match (self, other) {
             (_, Value::Known(v)) => self.decide_against(test, v),
@@ -232,7 +240,8 @@ impl Value {
         ensures decides { (words : List ℕ) (a : ℕ) → IsWords words
             → Abstracts self words a
             → Decides result words (holds test a v) }
-        ensures plain { IsPlainValue self → (test ≡ Test.CommonBit → IsSimpleMask v) → IsPlainDecision result }
+        ensures plain { (masks : ℕ) (under : Bool) → IsMaskedValue masks under self
+            → IsMaskedTest masks under test v → IsPlainDecision masks result }
     {
         match self {
             Value::Known(a) => Decision::Known(holds_of(test, a, v)),
@@ -250,7 +259,7 @@ impl Decision {
         ensures asks { IsTestDecision result }
         ensures decides { (words : List ℕ) (outcome : Bool) → Decides self words outcome
             → Decides result words (not outcome) }
-        ensures plain { IsPlainDecision self → IsPlainDecision result }
+        ensures plain { (masks : ℕ) → IsPlainDecision masks self → IsPlainDecision masks result }
     {
         match self {
             Decision::Known(outcome) => Decision::Known(!outcome),
@@ -288,7 +297,8 @@ fn decide_bit_slice(bit_slice: BitSlice, test: Test, v: u32) -> Decision
     ensures asks { IsTestDecision result }
     ensures decides { (words : List ℕ) → IsWords words
         → Decides result words (holds test (bit_slice_value bit_slice words) v) }
-    ensures plain { IsWhole bit_slice → (test ≡ Test.CommonBit → IsSimpleMask v) → IsPlainDecision result }
+    ensures plain { (masks : ℕ) (under : Bool) → IsMaskedSlice masks bit_slice → (under ≡ false → IsWhole bit_slice)
+        → IsMaskedTest masks under test v → IsPlainDecision masks result }
 {
     match test {
         Test::Equal => bit_slice.is(v),

@@ -1,5 +1,6 @@
 -- What a filter takes of one word of the record by masks and shifts.
 use Rattle.std.specs.Prelude.{◌≡◌, ◌*◌, ◌-◌, ◌/◌, ◌<◌, ◌^◌, ℕ, List, slice_index, bit_and}
+use Rattle.scf_compare.specs.Masked.{IsMaskOf}
 use Rattle.scf_compare.specs.declared.bit_slice.BitSlice.{BitSlice}
 
 -- a word under a mask, shifted to the right and then to the left
@@ -20,3 +21,9 @@ pub record IsWhole (bit_slice : BitSlice) : Type 0 where
   pub right : bit_slice.right ≡ 0
   pub left : bit_slice.left ≡ 0
   pub mask : bit_slice.mask ≡ 2 ^ 32 - 1
+
+-- a word under one of the masks, unshifted
+pub record IsMaskedSlice (masks : ℕ) (bit_slice : BitSlice) : Type 0 where
+  pub right : bit_slice.right ≡ 0
+  pub left : bit_slice.left ≡ 0
+  pub mask : IsMaskOf masks bit_slice.mask

@@ -7,11 +7,17 @@ use Rattle.scf_facts.specs.Atoms.{answer_at}
 use Rattle.scf_profile.specs.declared.number_test.NumberTest.{NumberTest}
 use Rattle.scf_profile.specs.declared.number_test.NumberTest.TheVariants.{Masked, Greater, GreaterOrEqual}
 use Rattle.scf_profile.specs.NumberTests.{comes_to}
+use Rattle.scf_compare.specs.Masked.{IsMaskOf}
 use Rattle.scf_compare.specs.declared.question.ConditionPart.{ConditionPart}
 use Rattle.scf_compare.specs.declared.question.ConditionPart.TheVariants.{High, Above, Low}
 use Rattle.scf_compare.specs.declared.question.Successor.{Successor}
 use Rattle.scf_compare.specs.declared.question.Successor.TheVariants.{Decided, Then}
 use Rattle.scf_compare.specs.declared.question.Question.{Question}
+
+-- both halves of the mask of a test are simple, or have bits among those of the masks
+abbrev pub HasMasksOf : ℕ → NumberTest → Type 0
+HasMasksOf masks (Masked mask value) = IsMaskOf masks (high mask) × IsMaskOf masks (low mask)
+HasMasksOf masks test = Unit {0}
 
 -- the half of a number that a part asks of
 abbrev pub half_asked : ConditionPart → ℕ → ℕ

@@ -4,7 +4,6 @@ use Rattle.scf_insn.specs.declared.answer.Answer.{Answer}
 use Rattle.scf_insn.specs.declared.insn.Insn.{Insn}
 use Rattle.scf_insn.specs.declared.operation.Operation.{Operation}
 use Rattle.scf_machine.specs.Machine.{State, start, IsChain, RunAnswers}
-use Rattle.scf_machine.specs.Plain.{IsPlainProgram}
 use Rattle.scf_machine.specs.Rules.{Stands}
 use Rattle.scf_compare.specs.declared.filter.FilterLeaf.{FilterLeaf}
 use Rattle.scf_compare.specs.declared.filter.FilterNode.{FilterNode}
@@ -16,10 +15,11 @@ use Rattle.scf_compare.specs.declared.step.Step.{Step}
 use Rattle.scf_compare.specs.declared.step.Step.TheVariants.{Next, Branch}
 use Rattle.scf_compare.specs.declared.value.Decision.{Decision}
 use Rattle.scf_compare.specs.declared.value.Decision.TheVariants.{Known as Decided, Asks, Open}
+use Rattle.scf_compare.specs.Masked.{IsMaskedProgram}
 use Rattle.scf_compare.specs.Paths.{tree_size}
 use Rattle.scf_compare.specs.internal.ControlFlow.{control_flow_at}
 use Rattle.scf_compare.specs.internal.Trees.{Leaves, Tree}
-use Rattle.scf_compare.specs.internal.Values.{AreValues, IsPlainValue, Describes}
+use Rattle.scf_compare.specs.internal.Values.{AreValues, IsMaskedValue, Describes}
 
 -- The run over the words comes to an index with registers that the values abstract.
 pub record ComesTo (insns : List Insn) (index : ℕ) (registers : KnownRegisters) (words : List ℕ) : Type 0 where
@@ -56,10 +56,12 @@ abbrev pub filter_size : List Insn → FilterNode → ℕ
 filter_size insns (At index) = tree_size insns index
 filter_size insns (Stopped answer at) = 1
 
--- a plain program has a plain value in its accumulator, and divides nothing
-abbrev pub filter_is_plain : List Insn → KnownRegisters → FilterNode → Type 0
-filter_is_plain insns registers (At index) = IsPlainProgram insns × IsPlainValue registers.a
-filter_is_plain insns registers (Stopped answer at) = ⊥
+-- a masked program has a word or constant in its accumulator, or a word under a mask where it may be under one, and
+-- divides nothing
+abbrev pub filter_is_plain : List Insn → KnownRegisters → ℕ → FilterNode → Type 0
+filter_is_plain insns registers masks (At index) =
+    (program : IsMaskedProgram masks insns) × IsMaskedValue masks (program.under index) registers.a
+filter_is_plain insns registers masks (Stopped answer at) = ⊥
 
 -- the tree, for what is known of the registers at its nodes
 abbrev pub filter_tree : List Insn → KnownRegisters → Tree FilterNode

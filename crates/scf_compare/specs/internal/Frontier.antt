@@ -1,9 +1,9 @@
 -- The open branches of a tree, and where the words are that are still to be seen.
-use Rattle.std.specs.Prelude.{◌≡◌, ◌<◌, ◌≤◌, ◌⊎◌, ℕ, List, Bool, false, true, IfSome, IsSome, IsTrue, Option, Some, None, if◌then◌else◌, length, nat_lt, slice_get, sum_by}
+use Rattle.std.specs.Prelude.{◌≡◌, ◌<◌, ◌≤◌, ◌⊎◌, ℕ, List, Bool, false, true, IfSome, IsSome, Option, Some, None, if◌then◌else◌, length, nat_lt, slice_get, sum_by}
 use Rattle.scf_facts.specs.declared.word_facts.WordFacts.{Ghosts as Store}
 use Rattle.scf_facts.specs.declared.atom.Atom.{Atom}
 use Rattle.scf_facts.specs.Atoms.{atom_answer}
-use Rattle.scf_facts.specs.Exactness.{KeepsExact}
+use Rattle.scf_facts.specs.Masks.{KeepsAmong}
 use Rattle.scf_compare.specs.declared.frontier.OpenBranch.{OpenBranch}
 use Rattle.scf_compare.specs.declared.frontier.Frontier.{Frontier}
 use Rattle.scf_compare.specs.internal.Trees.{IsAsked, Tree}
@@ -13,10 +13,10 @@ abbrev pub GivesAnswer : Option Atom → Bool → List ℕ → Type 0
 GivesAnswer None answer words = Unit {0}
 GivesAnswer (Some atom) answer words = atom_answer atom words ≡ answer
 
--- exact facts stay exact where this answer is learned
-abbrev pub LearnsExactly : Option Atom → Bool → Type 0
-LearnsExactly None answer = Unit {0}
-LearnsExactly (Some atom) answer = KeepsExact atom answer
+-- facts still refute under bits of the masks alone where this answer is learned
+abbrev pub LearnsAmong : ℕ → Option Atom → Bool → Type 0
+LearnsAmong masks None answer = Unit {0}
+LearnsAmong masks (Some atom) answer = KeepsAmong masks atom answer
 
 -- A branch stands at a node of the tree, and what is asked is about some of the sixteen words.
 pub record IsOpenBranch {K N : Type 0} (tree : K → Tree N) (branch : OpenBranch K N) : Type 0 where
@@ -51,29 +51,29 @@ module _ {F K N : Type 0} (store : Store F) (tree : K → Tree N) where
     pub within : (level : ℕ) → level ≤ length frontier.branches.items
         → (words : List ℕ) → store.allows frontier.facts level words → scope words
 
-  -- An open branch has exact facts at its mark, which stay so with the answer no, and its node is plain: all that is
-  -- allowed there and gives that answer comes to it.
-  pub record IsExactBranch (frontier : Frontier F K N) (index : ℕ) (branch : OpenBranch K N) : Type 0 where
-    pub facts : IsTrue (store.is_exact frontier.facts index)
-    pub keeps : LearnsExactly branch.asked false
-    pub plain : (tree branch.known).is_plain branch.node
+  -- An open branch has facts at its mark that refute under bits of the masks alone, as they still do with the answer no,
+  -- and its node is plain: all that is allowed there and gives that answer comes to it.
+  pub record IsExactBranch (masks : ℕ) (frontier : Frontier F K N) (index : ℕ) (branch : OpenBranch K N) : Type 0 where
+    pub facts : store.refutes_among frontier.facts index masks
+    pub keeps : LearnsAmong masks branch.asked false
+    pub plain : (tree branch.known).is_plain masks branch.node
     pub reached : (words : List ℕ) → store.allows frontier.facts index words → GivesAnswer branch.asked false words
         → (tree branch.known).reaches branch.node words
 
   -- each open branch is so
-  abbrev pub AreExact : Frontier F K N → Type 0
-  AreExact frontier =
+  abbrev pub AreExact : ℕ → Frontier F K N → Type 0
+  AreExact masks frontier =
       (index : ℕ) (branch : OpenBranch K N) → slice_get frontier.branches.items index ≡ Some branch
-      → IsExactBranch frontier index branch
+      → IsExactBranch masks frontier index branch
 
-  -- So is each open branch, the facts are exact now, what comes is plain, and all that is allowed now comes on from
-  -- here.
-  pub record IsExact (frontier : Frontier F K N) (is_plain : Type 0) (comes_on : List ℕ → Type 0) : Type 0 where
-    pub branches : AreExact frontier
-    pub facts : IsTrue (store.is_exact frontier.facts (store.level frontier.facts))
-    pub plain : is_plain
-    pub reached : (words : List ℕ) → store.allows frontier.facts (store.level frontier.facts) words
-        → comes_on words
+  -- So is each open branch, the facts do so now, what comes is plain, and all that is allowed now comes on from here.
+  pub record IsExact (masks : ℕ) (frontier : Frontier F K N) (is_plain : Type 0) (comes_on : List ℕ → Type 0) : Type 0
+    where
+      pub branches : AreExact masks frontier
+      pub facts : store.refutes_among frontier.facts (store.level frontier.facts) masks
+      pub plain : is_plain
+      pub reached : (words : List ℕ) → store.allows frontier.facts (store.level frontier.facts) words
+          → comes_on words
 
 -- how many branches were open at the first test of a path that nothing decides, behind a branch on an atom, or on none
 abbrev pub first_open_after : Option ℕ → Option Atom → ℕ → Option ℕ

@@ -25,7 +25,7 @@ module _ {M B : Type 0} (compared : Compared) (right : M → Tree B) where
     reaches = λ step words. IsWords words × SideTells (AnswersFrom compared.left) leaf words
         × (right_tree known).reaches step words;
     size = (right_tree known).size;
-    is_plain = λ step. KnowsAnswer leaf × (right_tree known).is_plain step;
+    is_plain = λ masks step. KnowsAnswer leaf × (right_tree known).is_plain masks step;
   }
 
 module _ {K M A B : Type 0} (compared : Compared) (left : K → Tree A) (right : M → Tree B) where
@@ -47,9 +47,11 @@ module _ {K M A B : Type 0} (compared : Compared) (left : K → Tree A) (right :
   pair_size known (AtLeft node) = (left known.left).size node * (ahead_tree known).size known.ahead
   pair_size known (AtRight leaf node) = (right known.right).size node
 
-  abbrev pub pair_is_plain : PairKnown K M B → PairNode A B → Type 0
-  pair_is_plain known (AtLeft node) = (left known.left).is_plain node × (ahead_tree known).is_plain known.ahead
-  pair_is_plain known (AtRight leaf node) = (tree_behind compared right known.right leaf).is_plain (Next node)
+  abbrev pub pair_is_plain : PairKnown K M B → ℕ → PairNode A B → Type 0
+  pair_is_plain known masks (AtLeft node) =
+      (left known.left).is_plain masks node × (ahead_tree known).is_plain masks known.ahead
+  pair_is_plain known masks (AtRight leaf node) =
+      (tree_behind compared right known.right leaf).is_plain masks (Next node)
 
   -- the tree, for what is known at the nodes of both sides
   abbrev pub pair_tree : PairKnown K M B → Tree (PairNode A B)

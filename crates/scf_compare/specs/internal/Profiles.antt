@@ -7,7 +7,7 @@ use Rattle.scf_profile.specs.declared.condition.Condition.{Condition}
 use Rattle.scf_profile.specs.declared.number_rules.NumberRules.{NumberRules}
 use Rattle.scf_profile.specs.NumberTests.{test_of}
 use Rattle.scf_profile.specs.Rule.{all_hold, meets}
-use Rattle.scf_profile.specs.PlainProfile.{IsPlainRule}
+use Rattle.scf_compare.specs.Masked.{IsMaskedRule}
 use Rattle.scf_profile.specs.Profile.{Profile}
 use Rattle.scf_profile.specs.ProfileAnswers.{ProfileAnswers}
 use Rattle.scf_profile.specs.declared.reason.Reason.TheVariants.{Foreign}
@@ -123,13 +123,13 @@ profile_size s others (OfCondition at part) = part_size part (size_of_rest s.num
 profile_size s others (Answers answer Foreign) = others
 profile_size s others (Answers answer reason) = 1
 
--- all of a plain profile's nodes are plain
+-- all of a masked profile's nodes are plain
 abbrev pub profile_tree : NumberedProfile → ℕ → Tree ProfileNode
 profile_tree s others = record {
   is_node = profile_is_node s;
   reaches = profile_reaches s;
   size = profile_size s others;
-  is_plain = λ _. All IsPlainRule s.profile.rules;
+  is_plain = λ masks _. All (IsMaskedRule masks) s.profile.rules;
 }
 
 -- the step is the answer to a call of another architecture

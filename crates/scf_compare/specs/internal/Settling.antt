@@ -25,7 +25,7 @@ settling_tree effort tree = record {
   is_node = λ at. tree.is_node at.node;
   reaches = λ at words. tree.reaches at.node words × HaveBits at.fixed.words words;
   size = λ at. tree.size at.node * weight effort at.fixed.words;
-  is_plain = λ at. ⊥;
+  is_plain = λ masks at. ⊥;
 }
 
 -- the trees of a comparison, given what is known at their nodes, with these bits, and a root

@@ -7,7 +7,7 @@ use Rattle.scf_insn.specs.declared.record.CallRecord.{CallRecord}
 use Rattle.scf_insn.specs.Words.{call_of}
 use Rattle.scf_profile.specs.declared.number_rules.NumberRules.{NumberRules}
 use Rattle.scf_profile.specs.NumberRules.{AreNumbersOf}
-use Rattle.scf_profile.specs.PlainProfile.{IsPlainProfile}
+use Rattle.scf_compare.specs.Masked.{IsMaskedProfile}
 use Rattle.scf_profile.specs.Profile.{Profile}
 use Rattle.scf_profile.specs.ProfileAnswers.{IsOfNone}
 use Rattle.scf_compare.specs.declared.profiles.ProfilesNode.{ProfilesNode}
@@ -59,5 +59,5 @@ profiles_tree profiles numbers = record {
   is_node = profiles_is_node profiles numbers;
   reaches = profiles_reaches profiles numbers;
   size = profiles_size profiles numbers;
-  is_plain = λ _. All IsPlainProfile profiles;
+  is_plain = λ masks _. All (IsMaskedProfile masks) profiles;
 }

@@ -4,7 +4,6 @@ use Rattle.scf_insn.specs.declared.answer.Answer.{Answer}
 use Rattle.scf_insn.specs.declared.insn.Insn.{Insn}
 use Rattle.scf_insn.specs.Kernel.{seccomp_ret_allow}
 use Rattle.scf_machine.specs.Machine.{RunAnswers}
-use Rattle.scf_machine.specs.Plain.{IsPlainProgram}
 use Rattle.scf_machine.specs.Precedence.{StackAnswers}
 use Rattle.scf_compare.specs.declared.origin.Origin.{Origin}
 use Rattle.scf_compare.specs.declared.origin.Origin.TheVariants.{Filter, Profile as OfReason}
@@ -13,6 +12,7 @@ use Rattle.scf_compare.specs.declared.registers.KnownRegisters.{KnownRegisters}
 use Rattle.scf_compare.specs.declared.stack.StackNode.{StackNode}
 use Rattle.scf_compare.specs.declared.stack.StackNode.TheVariants.{Empty, At}
 use Rattle.scf_compare.specs.Effort.{stack_paths}
+use Rattle.scf_compare.specs.Masked.{IsMaskedProgram}
 use Rattle.scf_compare.specs.Sides.{StackGives, filter_at}
 use Rattle.scf_compare.specs.internal.Leaves.{KnowsAnswer, SideTells}
 use Rattle.scf_compare.specs.internal.Filters.{IsFilterEnd, filter_is_node, filter_reaches, filter_size, filter_is_plain}
@@ -65,10 +65,11 @@ stack_size filters Empty = 1
 stack_size filters (At index older node) =
     filter_size (filter_at filters index) node * stack_paths (drop (index + 1) filters)
 
-abbrev pub stack_is_plain : List (List Insn) → KnownRegisters → StackNode → Type 0
-stack_is_plain filters registers Empty = Unit {0}
-stack_is_plain filters registers (At index older node) =
-    All IsPlainProgram filters × IfSome older KnowsAnswer × filter_is_plain (filter_at filters index) registers node
+abbrev pub stack_is_plain : List (List Insn) → KnownRegisters → ℕ → StackNode → Type 0
+stack_is_plain filters registers masks Empty = Unit {0}
+stack_is_plain filters registers masks (At index older node) =
+    All (IsMaskedProgram masks) filters × IfSome older KnowsAnswer
+    × filter_is_plain (filter_at filters index) registers masks node
 
 -- the tree, for what is known of the registers at its nodes
 abbrev pub stack_tree : List (List Insn) → KnownRegisters → Tree StackNode

@@ -25,13 +25,14 @@ abbrev pub DecidesIfKnown : Type 0 → ℕ → ℕ → Finding → Type 0
 DecidesIfKnown claim limit effort (Undecided side at) = Unit {0}
 DecidesIfKnown claim limit effort finding = IsFindingDecided claim limit effort finding
 
--- A finding of so many steps is true, within a limit and an effort, and decides if it is known, or if this is given.
-pub record IsExplored (compared : Compared) (given : Type 0) (limit effort taken : ℕ) (finding : Finding)
+-- A finding of so many steps is true, within a limit and an effort, and decides if it is known, or if this is given of
+-- some masks.
+pub record IsExplored (compared : Compared) (given : ℕ → Type 0) (limit effort taken : ℕ) (finding : Finding)
     : Type 0 where
   pub holds : IsTrueFinding compared finding
   pub within : IsFindingWithin limit effort finding
   pub steps : AreSteps limit effort finding taken
-  pub decided : given → IsFindingDecided (AllRelated compared) limit effort finding
+  pub decided : (masks : ℕ) → given masks → IsFindingDecided (AllRelated compared) limit effort finding
   pub known : DecidesIfKnown (AllRelated compared) limit effort finding
 
 -- the finding once all was seen, in so many steps
@@ -56,8 +57,8 @@ module _ {F K N : Type 0} (store : Store F) (compared : Compared) (tree : K → 
     pub words : (words : List ℕ) → IsAhead store tree old (here.reaches from) words
         → was_seen words ⊎ IsAhead store tree new (there.reaches next) words
     pub size : open_size tree new + there.size next + 1 ≤ open_size tree old + here.size from
-    pub exact : IsExact store tree old (here.is_plain from) (here.reaches from)
-        → IsExact store tree new (there.is_plain next) (there.reaches next)
+    pub exact : (masks : ℕ) → IsExact store tree masks old (here.is_plain masks from) (here.reaches from)
+        → IsExact store tree masks new (there.is_plain masks next) (there.reaches next)
 
   -- what a stage says that comes after a node
   abbrev pub IsStageAfter : Stage N → Type 0

@@ -7,12 +7,12 @@ use Rattle.scf_compare.specs.declared.step.Step.TheVariants.{Next, Branch, Leaf}
 use Rattle.scf_compare.specs.internal.Asking.{KeepsEither}
 
 -- A tree by its nodes: which there are, which words come to one, how many steps it takes to see all from one on, and
--- which are plain: exact facts decide all from one of these on.
+-- which are plain but for masks: facts that refute under few bits of these decide all from one of these on.
 pub record Tree (N : Type 0) : Type 1 where
   pub is_node : N → Type 0
   pub reaches : N → List ℕ → Type 0
   pub size : N → ℕ
-  pub is_plain : N → Type 0
+  pub is_plain : ℕ → N → Type 0
 
 -- what is asked, if anything is, is about some of the sixteen words
 abbrev pub IsAsked : Option Atom → Type 0
@@ -25,10 +25,10 @@ GoesEither None words first second = first ⊎ second
 GoesEither (Some atom) words first second =
     (atom_answer atom words ≡ true → first) × (atom_answer atom words ≡ false → second)
 
--- something is asked, and exact facts stay exact with either answer
-abbrev pub KeepsAsked : Option Atom → Type 0
-KeepsAsked None = ⊥
-KeepsAsked (Some atom) = KeepsEither atom
+-- something is asked, and facts still refute under bits of the masks alone with either answer
+abbrev pub KeepsAsked : ℕ → Option Atom → Type 0
+KeepsAsked masks None = ⊥
+KeepsAsked masks (Some atom) = KeepsEither masks atom
 
 -- A step leads to nodes of the tree, and asks of some of the sixteen words.
 abbrev pub IsProper : {N E : Type 0} → Tree N → (E → Type 0) → Step N E → Type 0
@@ -53,13 +53,13 @@ step_size tree (Leaf leaf) = 0
 abbrev pub Costs : {N E : Type 0} → Tree N → Step N E → ℕ → Type 0
 Costs tree step size = step_size tree step + 1 ≤ size
 
--- The step of a plain node: an atom decides, and complete facts stay complete with its answer; the next nodes are
--- plain, and a leaf tells all.
-abbrev pub StaysPlain : {N E : Type 0} → Tree N → (E → Type 0) → Step N E → Type 0
-StaysPlain tree tells_all (Next next) = tree.is_plain next
-StaysPlain tree tells_all (Branch atom if_true if_false) =
-    KeepsAsked atom × tree.is_plain if_true × tree.is_plain if_false
-StaysPlain tree tells_all (Leaf leaf) = tells_all leaf
+-- The step of a plain node: an atom decides, and facts still refute under bits of the masks alone with its answer; the
+-- next nodes are plain, and a leaf tells all.
+abbrev pub StaysPlain : {N E : Type 0} → Tree N → (E → Type 0) → ℕ → Step N E → Type 0
+StaysPlain tree tells_all masks (Next next) = tree.is_plain masks next
+StaysPlain tree tells_all masks (Branch atom if_true if_false) =
+    KeepsAsked masks atom × tree.is_plain masks if_true × tree.is_plain masks if_false
+StaysPlain tree tells_all masks (Leaf leaf) = tells_all leaf
 
 -- Which leaves a tree has, what one tells of the words that come to it, and which tell all that is asked.
 pub record Leaves (E : Type 0) : Type 1 where
@@ -75,7 +75,7 @@ pub record IsStep {M N E : Type 0} (leaves : Leaves E) (given : List ℕ → Typ
   pub proper : IsProper there leaves.is_leaf step
   pub leads : (words : List ℕ) → given words → here.reaches node words → GoesOn there leaves.tells step words
   pub costs : Costs there step (here.size node)
-  pub plain : here.is_plain node → StaysPlain there leaves.tells_all step
+  pub plain : (masks : ℕ) → here.is_plain masks node → StaysPlain there leaves.tells_all masks step
 
 -- how many steps it takes to see all from a step on that isn't gone on from yet
 abbrev pub pending_size : {N E : Type 0} → Tree N → Step N E → ℕ
@@ -98,4 +98,4 @@ pub record IsLaterNode {N : Type 0} (given : List ℕ → Type 0) (here : Tree N
   pub node : there.is_node to
   pub reached : (words : List ℕ) → given words → here.reaches from words → there.reaches to words
   pub size : there.size to ≤ here.size from
-  pub plain : here.is_plain from → there.is_plain to
+  pub plain : (masks : ℕ) → here.is_plain masks from → there.is_plain masks to

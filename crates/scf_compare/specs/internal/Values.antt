@@ -1,5 +1,5 @@
 -- What is known of the numbers that a filter computes from the words of a record.
-use Rattle.std.specs.Prelude.{◌≡◌, ◌<◌, ◌↔◌, ◌^◌, ℕ, List, Bool, true, Some, All, slice_index_or}
+use Rattle.std.specs.Prelude.{◌≡◌, ◌<◌, ◌↔◌, ◌^◌, ℕ, List, Bool, false, true, Some, All, slice_index_or}
 use Rattle.scf_facts.specs.Atoms.{atom_answer, word_of}
 use Rattle.scf_facts.specs.Bits.{HasBits}
 use Rattle.scf_insn.specs.Kernel.{bpf_memwords}
@@ -11,7 +11,7 @@ use Rattle.scf_compare.specs.declared.value.Decision.{Decision}
 use Rattle.scf_compare.specs.declared.value.Decision.TheVariants.{Known as Decided, Asks, Open}
 use Rattle.scf_compare.specs.declared.registers.KnownRegisters.{KnownRegisters}
 use Rattle.scf_compare.specs.internal.Asking.{KeepsEither}
-use Rattle.scf_compare.specs.internal.BitSlices.{IsBitSlice, IsWhole, bit_slice_value}
+use Rattle.scf_compare.specs.internal.BitSlices.{IsBitSlice, IsMaskedSlice, IsWhole, bit_slice_value}
 use Rattle.scf_compare.specs.internal.AffineTerms.{IsAffineTerm, affine_value}
 
 -- a number of 32 bits has the known bits of a computed value
@@ -44,18 +44,18 @@ Decides (Decided outcome) words test = test ≡ outcome
 Decides (Asks atom holds) words test = (test ≡ true) ↔ (atom_answer atom words ≡ holds)
 Decides (Open open_test) words test = Unit {0}
 
--- a known number, or a whole word of the record
-abbrev pub IsPlainValue : Value → Type 0
-IsPlainValue (Known value) = Unit {0}
-IsPlainValue (Slice bit_slice) = IsWhole bit_slice
-IsPlainValue (Affine term) = ⊥
-IsPlainValue (Computed computed) = ⊥
+-- a known number, a whole word of the record, or where it may be under a mask a word under one
+abbrev pub IsMaskedValue : ℕ → Bool → Value → Type 0
+IsMaskedValue masks under (Known value) = Unit {0}
+IsMaskedValue masks under (Slice bit_slice) = IsMaskedSlice masks bit_slice × (under ≡ false → IsWhole bit_slice)
+IsMaskedValue masks under (Affine term) = ⊥
+IsMaskedValue masks under (Computed computed) = ⊥
 
--- a decision that isn't left open, and that keeps exact facts exact
-abbrev pub IsPlainDecision : Decision → Type 0
-IsPlainDecision (Decided outcome) = Unit {0}
-IsPlainDecision (Asks atom holds) = KeepsEither atom
-IsPlainDecision (Open open_test) = ⊥
+-- a decision that isn't left open, and with which facts still refute under bits of the masks alone
+abbrev pub IsPlainDecision : ℕ → Decision → Type 0
+IsPlainDecision masks (Decided outcome) = Unit {0}
+IsPlainDecision masks (Asks atom holds) = KeepsEither masks atom
+IsPlainDecision masks (Open open_test) = ⊥
 
 pub record AreValues (registers : KnownRegisters) : Type 0 where
   pub a : IsValue registers.a

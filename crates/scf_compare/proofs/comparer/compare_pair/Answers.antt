@@ -1,5 +1,6 @@
 use Rattle.std.specs.Prelude.{IfNone, unwrap_or}
 use Rattle.scf_compare.proofs.Common.{◌≡◌, ℕ, Compared, Finding, IfSome, None, Option, Some, Which, arith, inl, refl, rules}
+use Rattle.scf_facts.specs.Masks.{AreFew}
 use Rattle.scf_compare.proofs.Budgets.{settled_below, undecided_below}
 use Rattle.scf_compare.specs.declared.budget.Limit.{Limit}
 use Rattle.scf_compare.specs.internal.Budgets.{LeavesSteps}
@@ -11,21 +12,28 @@ use Rattle.scf_compare.specs.internal.Walks.{IfUndecided}
 use Rattle.scf_compare.proofs.comparer.compare_pair.Goals as goal
 
 -- what a second walk makes of a comparison that the first one leaves undecided
-settled_comparison : (compared : Compared) (is_complete given are_one : Type 0) (limit taken left_below at : ℕ) (budget : Limit)
+settled_comparison : (compared : Compared) (given : ℕ → Type 0) (is_complete are_one : Type 0) (limit taken left_below at : ℕ) (budget : Limit)
     (side : Which) (settled : Option Finding)
     → IsExplored compared given limit (effort_between compared) taken (Undecided side at)
-    → (is_complete × compared.left.is_plain × compared.right.is_plain → given)
+    → ((masks : ℕ) → AreFew masks × is_complete × compared.left.is_masked masks × compared.right.is_masked masks
+    → given masks)
     → (are_one → (settled ≡ None → ⊥))
     → IfSome settled (IsSettled compared taken)
     → LeavesSteps budget.splits settled budget.steps left_below
     → IsComparison compared is_complete are_one limit budget (unwrap_or settled (Undecided side at)) taken left_below
-settled_comparison compared is_complete given are_one limit taken left_below at budget side None first to one is left = record {
-  explored = grind arith;
+settled_comparison compared given is_complete are_one limit taken left_below at budget side None first to one is left = record {
+  explored = record {
+    holds = first.holds;
+    within = first.within;
+    steps = first.steps;
+    decided = λ masks all. first.decided masks (to masks all);
+    known = first.known;
+  };
   of_one = λ own. absurd (one own refl);
   settled = λ unlimited. absurd (rw unlimited at left);
   below = undecided_below budget.splits budget.steps left_below side at left;
 }
-settled_comparison compared is_complete given are_one limit taken left_below at budget side (Some finding) first to one is left =
+settled_comparison compared given is_complete are_one limit taken left_below at budget side (Some finding) first to one is left =
     record {
       explored = grind arith;
       of_one = λ _. grind arith;
@@ -56,7 +64,7 @@ returns-in_ok-settled-in-Undecided-2-clause-comparison g c =
     rw (c.unwrap_or.ensures, undecided.is) (settled_comparison _ _ _ _ c.args.limit c.explore.new.taken
     c.settle.new.budget.steps undecided.at c.args.budget.now undecided.side second.settled
     (rw (undecided.is, c.start.ensures.size) at c.in_ok-finding.ensures)
-    (λ given. (c.in_ok-facts.ensures.exact given.0, c.start.ensures.plain given.1 given.2))
+    (λ masks all. (all.0, c.in_ok-facts.ensures.among all.1 masks, c.start.ensures.plain masks all.2 all.3))
     (λ own. search rules)
     second.ensures.settled second.ensures.steps)
 
@@ -66,6 +74,6 @@ returns-in-Undecided-clause-comparison g c =
     settled_comparison _ _ _ _ c.args.limit c.explore.new.taken c.args.budget.now.steps undecided.at c.args.budget.now
     undecided.side (Some (Holds c.explore.new.taken))
     (rw (undecided.is, c.start.ensures.size) at c.in_ok-finding.ensures)
-    (λ given. (c.in_ok-facts.ensures.exact given.0, c.start.ensures.plain given.1 given.2))
+    (λ masks all. (all.0, c.in_ok-facts.ensures.among all.1 masks, c.start.ensures.plain masks all.2 all.3))
     (λ own none. grind arith)
     (inl (refl, c.requires c.if-is_same.true)) (grind arith)

@@ -9,7 +9,7 @@ loop-steps-init g c = record {
   index = tt;
   words = λ words within. grind (arith, c.requires.scope words, c.requires.reached words within);
   size = grind arith;
-  exact = λ exact plain. grind (arith, c.requires.scope, c.requires.reached);
+  exact = λ masks few among plain. grind (arith, c.requires.scope, c.requires.reached);
 }
 
 pub returns-in-AllSeen : goal.returns-in-AllSeen
@@ -23,7 +23,8 @@ returns-in-AllSeen g c =
     all_related compared c.advance.new.first_undecided none
     (λ words within. grind (arith, so_far.words words within, seen words, after.still)) in
     rw c.seen_in.ensures (of_all compared _ (c.loop-steps.steps + 1) c.args.limit _ c.advance.new.first_undecided
-    after.index all (λ given. let before = so_far.exact given.0 given.1 in after.exact before.1 ∙ before.0)
+    after.index all (λ masks given. let before = so_far.exact masks given.0 given.1 given.2 in
+    after.exact masks given.0 before.1 ∙ before.0)
     (omega arith) (omega arith) (omega (arith, so_far.size, counts)))
 
 pub returns-in-Found : goal.returns-in-Found
@@ -47,6 +48,7 @@ loop-steps-preserved g c =
             | inr ahead ↦ over.words words ahead
           ];
       size = omega (arith, over.size, so_far.size);
-      exact = λ exact plain.
-          let before = so_far.exact exact plain in (after.exact before.1 ∙ before.0, over.exact before.1);
+      exact = λ masks few among plain.
+          let before = so_far.exact masks few among plain in
+          (after.exact masks few before.1 ∙ before.0, over.exact masks before.1);
     }

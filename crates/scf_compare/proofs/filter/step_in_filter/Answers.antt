@@ -1,6 +1,7 @@
 -- The successors of an instruction follow the runs that come to it, and their sizes are within its size.
-use Rattle.scf_compare.proofs.Common.{IsPlainValue, refl, subst, arith, rules, common_steps, IfSome_then, Answer, RunAnswers, filter_tree}
-use Rattle.scf_compare.proofs.ControlFlows.{plain_flow}
+use Rattle.scf_compare.proofs.Common.{inl, inr, refl, subst, arith, rules, common_steps, IfSome_then, Answer, RunAnswers, filter_tree}
+use Rattle.scf_compare.proofs.ControlFlows.{masked_at}
+use Rattle.scf_compare.proofs.MaskedSides.{by_decision, carried, proper_by}
 use Rattle.scf_compare.proofs.Successors.{comes_noted, leads, step_leads}
 use Rattle.scf_compare.proofs.filter.step_in_filter.Goals as goal
 
@@ -8,15 +9,16 @@ pub returns-in-FallThrough : goal.returns-in-FallThrough
 returns-in-FallThrough g c =
     let here = rw (c.insns.ensures.same, c.in-FallThrough.is) at c.at-operation.ensures in
     rw c.in-At.is (record {
-      proper = search rules;
+      proper = (here.inside.1, c.apply.ensures.values);
       leads = λ words w r.
           leads here.stands r (c.insns.ensures.safe words) _ here.control_flow _
           (λ t. c.apply.ensures.describes words r.state t w.0 w.1 r.describes);
       costs = omega (arith, here.size);
-      plain = λ plain. (
-        plain.0,
-        c.apply.ensures.plain (rw here.control_flow at (plain_flow _ _ _ _ plain.0 here.stands)),
-      );
+      plain = λ masks plain.
+          elim (rw here.control_flow at (masked_at masks plain.0 here.stands)) [
+            | inl load ↦ (plain.0, c.apply.ensures.loaded load masks _)
+            | inr under ↦ (plain.0, rw under.2 (c.apply.ensures.masked under.0 masks _ under.1 plain.1))
+          ];
     })
 
 pub returns-in-Jump : goal.returns-in-Jump
@@ -26,7 +28,9 @@ returns-in-Jump g c =
       proper = search rules;
       leads = λ words w r. leads here.stands r (c.insns.ensures.safe words) _ here.control_flow;
       costs = omega (arith, here.size);
-      plain = search rules;
+      plain = λ masks plain.
+          let goes = rw here.control_flow at (masked_at masks plain.0 here.stands) in
+          (plain.0, carried masks _ _ _ goes plain.1);
     })
 
 pub returns-then-if_true-if_false : goal.returns-then-if_true-if_false
@@ -37,7 +41,9 @@ returns-then-if_true-if_false g c =
       leads = λ words w r.
           let on = leads here.stands r (c.insns.ensures.safe words) _ here.control_flow in grind (arith, common_steps, on);
       costs = omega (arith, here.size);
-      plain = search rules;
+      plain = λ masks plain.
+          let flow = rw here.control_flow at (masked_at masks plain.0 here.stands) in
+          (plain.0, carried masks _ _ _ flow.2 plain.1);
     })
 
 pub returns-else-if_true-if_false : goal.returns-else-if_true-if_false
@@ -54,20 +60,26 @@ returns-else-if_true-if_false g c =
           c.step_by.result _ c.step_by.ensures decides (λ holds. comes_noted noted (on.0 holds))
           (λ holds. comes_noted noted (on.1 holds));
       costs = grind (arith, here.size);
-      plain = λ plain.
-          let branch = rw here.control_flow at (plain_flow _ _ _ _ plain.0 here.stands) in
+      plain = λ masks plain.
+          let flow = rw here.control_flow at (masked_at masks plain.0 here.stands) in
           let decided =
-          c.decide-decision.ensures.plain c.at-operation.result.0.k plain.1 (c.operand.ensures.constant branch.0)
-          branch.1 in
-          let accumulator : IsPlainValue c.note_open.new.self.a = rw c.note_open.ensures.accumulator plain.1 in
-          grind (arith, common_steps, c.step_by.ensures);
+          c.decide-decision.ensures.plain masks c.at-operation.result.0.k _ plain.1
+          (c.operand.ensures.constant flow.0) flow.1 in
+          let accumulator = rw (← c.note_open.ensures.accumulator) at plain.1 in
+          by_decision (filter_tree c.args.program.now c.note_open.new.self) _ masks c.decide-decision.result _ _
+          c.step_by.result c.step_by.ensures decided (plain.0, carried masks _ _ _ flow.2 accumulator)
+          (plain.0, carried masks _ _ _ flow.3 accumulator);
     })
 
 pub returns-in-DivideByIndex : goal.returns-in-DivideByIndex
 returns-in-DivideByIndex g c =
     let here = rw (c.insns.ensures.same, c.in-DivideByIndex.is) at c.at-operation.ensures in
     rw c.in-At.is (record {
-      proper = search rules;
+      proper = proper_by (filter_tree c.args.program.now c.apply-in-DivideByIndex.new.self) _
+          c.decide-decision-in-DivideByIndex.result _ _ c.step_by-in-DivideByIndex.result
+          c.step_by-in-DivideByIndex.ensures c.decide-decision-in-DivideByIndex.ensures.asks
+          (record { insn = _; operation = _; stands = here.stands; ends = rw here.control_flow refl })
+          (here.inside.1, c.apply-in-DivideByIndex.ensures.values);
       leads = λ words w r.
           let on =
           leads here.stands r (c.insns.ensures.safe words) _ here.control_flow _
@@ -78,7 +90,8 @@ returns-in-DivideByIndex g c =
           c.step_by-in-DivideByIndex.ensures
           (c.decide-decision-in-DivideByIndex.ensures.decides words r.state.x 0 w.0 w.1 r.describes.x refl) on.0 on.1;
       costs = grind (arith, here.size);
-      plain = λ plain. absurd (rw here.control_flow at (plain_flow _ _ _ _ plain.0 here.stands));
+      plain = λ masks plain.
+          absurd (rw here.control_flow at (masked_at masks plain.0 here.stands));
     })
 
 pub returns-in-ReturnConstant : goal.returns-in-ReturnConstant
@@ -101,5 +114,6 @@ returns-in-ReturnAccumulator g c =
           IfSome_then c.answer.result (c.answer.ensures words r.state w.1 r.describes)
           (λ (answer : Answer) same. subst (RunAnswers c.args.program.now words) same answered);
       costs = omega (arith, here.size);
-      plain = λ plain. absurd (rw here.control_flow at (plain_flow _ _ _ _ plain.0 here.stands));
+      plain = λ masks plain.
+          absurd (rw here.control_flow at (masked_at masks plain.0 here.stands));
     })

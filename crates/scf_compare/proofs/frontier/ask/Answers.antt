@@ -15,7 +15,7 @@ returns-clause-goes g c = λ before from.
       marks = learned.marks ∙ marked.opened;
       levels = λ index up_to. grind (arith, marked.opened, marked.at_marks index, learned.at_marks index);
       known = λ words. grind (arith, marked.opened, marked.known, learned.marks, learned.learned words);
-      exact = λ keeps was. grind (arith, marked.opened, marked.known, learned.marks, learned.exact keeps);
+      among = λ masks keeps was. grind (arith, marked.opened, marked.known, learned.marks, learned.among masks keeps);
     })
     (tree before) from
 
@@ -50,7 +50,7 @@ returns-clause-whole g c = λ before from.
       marks = learned.marks ∙ marked.opened;
       levels = λ index up_to. grind (arith, marked.opened, marked.at_marks index, learned.at_marks index);
       known = λ words. grind (arith, marked.opened, marked.known, learned.marks, learned.learned words);
-      exact = λ keeps was. grind (arith, marked.opened, marked.known, learned.marks, learned.exact keeps);
+      among = λ masks keeps was. grind (arith, marked.opened, marked.known, learned.marks, learned.among masks keeps);
     })
     (tree before)
     from

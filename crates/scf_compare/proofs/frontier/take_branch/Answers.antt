@@ -1,5 +1,5 @@
 use Rattle.scf_compare.proofs.Common.{length, arith}
-use Rattle.scf_compare.proofs.Branches.{taken, taken_whole}
+use Rattle.scf_compare.proofs.Branches.{after_undo, taken, taken_whole}
 use Rattle.scf_machine.proofs.Indices.{index_last}
 use Rattle.scf_compare.proofs.frontier.take_branch.Goals as goal
 
@@ -14,14 +14,17 @@ returns-clause-stage g c = λ before from.
     let closed = c.undo.ensures.closed in
     let undone = c.undo.ensures.law_undo in
     let learned = c.in_ok-learn_answer.ensures in
+    let known =
+    after_undo g.F.WordFacts c.in-Some.branch.asked c.args.frontier.now.facts _ c.learn_answer.new.facts closed
+    (λ index below. undone index (omega (arith, closed))) learned.marks learned.learned learned.among in
     taken g.F.WordFacts (g.C.Comparison.compared c.args.comparison.now) tree c.args.frontier.now
     (record { facts = c.learn_answer.new.facts; branches = c.pop.new.self }) c.in-Some.branch c.requires
     (record {
       branches = c.in-Some.ensures.items;
       marks = omega (arith, closed, learned.marks);
       levels = λ index below. grind (arith, closed, undone index, learned.at_marks index);
-      known = λ words. grind (arith, closed, undone, learned.marks, learned.learned words);
-      exact = λ keeps was. grind (arith, closed, undone, learned.marks, learned.exact keeps);
+      known = known.0;
+      among = known.1;
     })
     (tree before) from (g.met.C.Comparison.counts c.args.comparison.now before from)
 
@@ -31,13 +34,16 @@ returns-clause-whole g c = λ before from.
     let closed = c.undo.ensures.closed in
     let undone = c.undo.ensures.law_undo in
     let learned = c.in_ok-learn_answer.ensures in
+    let known =
+    after_undo g.F.WordFacts c.in-Some.branch.asked c.args.frontier.now.facts _ c.learn_answer.new.facts closed
+    (λ index below. undone index (omega (arith, closed))) learned.marks learned.learned learned.among in
     taken_whole g.F.WordFacts (g.C.Comparison.compared c.args.comparison.now) tree c.args.frontier.now
     (record { facts = c.learn_answer.new.facts; branches = c.pop.new.self }) c.in-Some.branch c.requires
     (record {
       branches = c.in-Some.ensures.items;
       marks = omega (arith, closed, learned.marks);
       levels = λ index below. grind (arith, closed, undone index, learned.at_marks index);
-      known = λ words. grind (arith, closed, undone, learned.marks, learned.learned words);
-      exact = λ keeps was. grind (arith, closed, undone, learned.marks, learned.exact keeps);
+      known = known.0;
+      among = known.1;
     })
     (tree before) from

@@ -1,5 +1,28 @@
+use Rattle.std.proofs.lemmas.Nat.{ones_le_self}
+use Rattle.scf_facts.specs.Masks.{AreFew}
+use Rattle.scf_compare.proofs.Common.{arith}
+use Rattle.scf_compare.proofs.MaskedSides.{plain_side}
+use Rattle.scf_compare.specs.declared.side.Side.TheVariants.{Stack, Profile as OfProfile, Profiles as OfProfiles}
 use Rattle.scf_compare.proofs.regions.regions_of.Goals as goal
+
+none_few : AreFew 0
+none_few = omega (arith, ones_le_self 0)
+
+pub returns-in-Stack-clause-decided : goal.returns-in-Stack-clause-decided
+returns-in-Stack-clause-decided g c = rw c.in-Stack.is (λ exact plain.
+    c.regions_of_tree.ensures.decided exact 0 none_few (plain_side 0 (Stack c.in-Stack.filters) plain))
 
 pub returns-in-Profile-clause-decided : goal.returns-in-Profile-clause-decided
 returns-in-Profile-clause-decided g c =
+    let decided = rw c.new-tree.ensures.profile at c.regions_of_tree-in-Profile.ensures.decided in
+    rw c.in-Profile.is
+    (λ exact plain. decided exact 0 none_few (plain_side 0 (OfProfile c.in-Profile.profile) plain))
+
+pub returns-in-Profile-clause-by_masks : goal.returns-in-Profile-clause-by_masks
+returns-in-Profile-clause-by_masks g c =
     rw c.in-Profile.is (rw c.new-tree.ensures.profile at c.regions_of_tree-in-Profile.ensures.decided)
+
+pub returns-in-Profiles-clause-decided : goal.returns-in-Profiles-clause-decided
+returns-in-Profiles-clause-decided g c = rw c.in-Profiles.is (λ exact plain.
+    c.regions_of_tree-in-Profiles.ensures.decided exact 0 none_few
+    (plain_side 0 (OfProfiles c.in-Profiles.profiles) plain))

@@ -15,7 +15,7 @@ loop-steps-init g c = record {
   };
   regions = grind arith;
   size = grind arith;
-  decided = λ exact plain. (refl, grind arith, grind (arith, c.requires.scope, c.requires.reached));
+  decided = λ masks few among plain. (refl, grind arith, grind (arith, c.requires.scope, c.requires.reached));
 }
 
 pub returns-in-AllSeen-clause-regions : goal.returns-in-AllSeen-clause-regions
@@ -40,9 +40,9 @@ returns-in-AllSeen-clause-regions g c =
     }
 
 pub returns-in-AllSeen-clause-decided : goal.returns-in-AllSeen-clause-decided
-returns-in-AllSeen-clause-decided g c = λ exact plain.
-    let before = c.loop-steps.invariant.decided exact plain in
-    (c.in_ok-next.ensures.decided before.2 before.0).1 before.1
+returns-in-AllSeen-clause-decided g c = λ masks few among plain.
+    let before = c.loop-steps.invariant.decided masks few among plain in
+    (c.in_ok-next.ensures.decided masks few before.2 before.0).1 before.1
 
 pub loop-steps-preserved : goal.loop-steps-preserved
 loop-steps-preserved g c =
@@ -59,7 +59,7 @@ loop-steps-preserved g c =
       whole = regions.1;
       regions = regions.0;
       size = omega (arith, c.loop-steps.invariant.size, over.size);
-      decided = λ exact plain.
-          let before = c.loop-steps.invariant.decided exact plain in
-          let now = after.decided before.2 before.0 in (now.0, now.1 before.1, over.exact before.2);
+      decided = λ masks few among plain.
+          let before = c.loop-steps.invariant.decided masks few among plain in
+          let now = after.decided masks few before.2 before.0 in (now.0, now.1 before.1, over.exact masks before.2);
     }

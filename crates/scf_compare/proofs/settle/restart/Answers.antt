@@ -25,5 +25,5 @@ returns-clause-stage g c = λ before.
         weighs_less effort ((tree before).size c.args.from.node) c.args.fixed.words c.args.from.fixed.words
             c.requires.less counts,
       );
-      plain = λ plain. absurd plain;
+      plain = λ masks plain. absurd plain;
     }))

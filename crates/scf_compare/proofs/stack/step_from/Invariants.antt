@@ -8,8 +8,8 @@ invariant-loop-next g l = record {
       → stack_reaches l.filters l.initial.registers (At l.fn.first l.fn.decided l.fn.begun) words
       → stack_reaches l.filters l.registers (At l.index l.older l.node) words;
   size : stack_size l.filters (At l.index l.older l.node) ≤ stack_size l.filters (At l.fn.first l.fn.decided l.fn.begun);
-  plain : stack_is_plain l.filters l.initial.registers (At l.fn.first l.fn.decided l.fn.begun)
-      → stack_is_plain l.filters l.registers (At l.index l.older l.node);
+  plain : (masks : ℕ) → stack_is_plain l.filters l.initial.registers masks (At l.fn.first l.fn.decided l.fn.begun)
+      → stack_is_plain l.filters l.registers masks (At l.index l.older l.node);
 }
 
 abbrev pub decreases-loop-next : goal.decreases-loop-next

@@ -1,7 +1,8 @@
-use Rattle.scf_compare.proofs.Common.{◌≡◌, ◌<◌, ◌∙◌, ℕ, Bool, true, false, List, Some, get_or, sym, ap, arith, rules, length, slice_get, slice_get-get_or, All, All-contains, IsWords, IsPlainRule, IsPlainCondition, Condition, ArgumentBits, argument, row_of, taken_of, call_of, own_conditions}
+use Rattle.scf_compare.proofs.Common.{◌≡◌, ◌<◌, ◌∙◌, ℕ, Bool, true, false, List, Some, get_or, sym, ap, arith, rules, length, slice_get, slice_get-get_or, All, All-contains, IsWords, Condition, ArgumentBits, argument, row_of, taken_of, call_of, own_conditions}
 use Rattle.scf_profile.specs.NumberTests.{test_of}
 use Rattle.scf_compare.proofs.Halves.{answer_there, argument_fits, half_is_zero}
 use Rattle.scf_compare.proofs.Numbered.{at_index, no_condition}
+use Rattle.scf_compare.specs.Masked.{IsMaskedCondition, IsMaskedRule}
 use Rattle.scf_compare.specs.internal.Conditions.{Splits, asks_of_zero}
 use Rattle.scf_compare.specs.internal.Profiles.{KnowsPart}
 use Rattle.scf_compare.proofs.by_number.ByNumber.ask_condition.Goals as goal
@@ -34,10 +35,11 @@ module _ (c : After-asks_of_zero) where
       let one : r.condition ≡ condition = cc (r.here, here) in
       c.question_of-question.ensures.splits (taken words) (argument_fits bits words condition.index w) (rw one at r.known)
 
-  plain_condition : All IsPlainRule c.args.self.now.profile.rules → IsPlainCondition condition
-  plain_condition plain =
-      let plain_rule = All-contains IsPlainRule c.args.self.now.profile.rules _ plain c.rule_at.ensures.known in
-      at_index IsPlainCondition _ c.args.at.condition condition plain_rule.conditions
+  masked_condition : (masks : ℕ) → All (IsMaskedRule masks) c.args.self.now.profile.rules
+      → IsMaskedCondition masks condition
+  masked_condition masks all =
+      let rule = All-contains (IsMaskedRule masks) c.args.self.now.profile.rules _ all c.rule_at.ensures.known in
+      at_index (IsMaskedCondition masks) _ c.args.at.condition condition rule.conditions
       (rw (← c.rule_at.ensures.conditions) at here)
 
   asked : (answer : Bool) → c.asks_of_zero.result ≡ answer
@@ -59,7 +61,7 @@ returns-then-asks_of_zero c =
             let ways = rw zero at (ways shared words w r) in
             c.follow.ensures.reached words (condition shared) w (here shared) r.at_condition (grind (arith, ways));
         costs = grind (arith, c.question_of-question.ensures.costs, c.follow.ensures.size others);
-        plain = λ plain. plain;
+        plain = λ masks plain. plain;
       };
     }
 
@@ -82,6 +84,6 @@ returns-else-asks_of_zero c =
               λ e. if_false.reached words (condition shared) w (here shared) r.at_condition (ways.1 (sym there ∙ e)),
             );
         costs = omega (arith, question.ensures.costs, if_true.size others, if_false.size others);
-        plain = λ plain. (question.ensures.keeps (plain_condition shared plain), plain, plain);
+        plain = λ masks plain. (question.ensures.keeps masks (masked_condition shared masks plain), plain, plain);
       };
     }

@@ -28,7 +28,7 @@ returns-in-Never g c =
             (c.first_possible-from.ensures.possible words given.0 given.1 r.1)
             (below _ _ (rw c.number_from.ensures at (c.tell.ensures.law_never c.in-Never.is words given.1)))));
         costs = omega arith;
-        plain = λ plain. refl;
+        plain = λ masks plain. refl;
       };
     })
 

@@ -12,7 +12,7 @@ returns-in_default g c = rw c.in_default.is (rw c.leaf_by.ensures (record {
   proper = (refl, tt);
   leads = λ words given none. (by_none none, none);
   costs = omega arith;
-  plain = λ plain. refl;
+  plain = λ masks plain. refl;
 }))
 
 pub returns-in-Next : goal.returns-in-Next

@@ -1,5 +1,5 @@
 -- What an instruction that goes on does to what is known.
-use Rattle.scf_compare.proofs.Common.{◌≡◌, ℕ, Bool, true, false, Option, None, Some, refl, subst, arith, Register, State, Fault, Goes, unless, loads, sets, Describes}
+use Rattle.scf_compare.proofs.Common.{◌≡◌, ℕ, Bool, true, false, Option, None, Some, And, Constant, refl, subst, arith, Register, State, Fault, Goes, unless, loads, sets, Describes}
 use Rattle.scf_compare.proofs.registers.KnownRegisters.apply.Goals as goal
 
 pub returns-in-LoadWord-clause-describes : goal.returns-in-LoadWord-clause-describes
@@ -54,3 +54,11 @@ returns-in-CopyToIndex-clause-describes g c = λ words s t w allowed d e.
 pub returns-in-CopyToAccumulator-clause-describes : goal.returns-in-CopyToAccumulator-clause-describes
 returns-in-CopyToAccumulator-clause-describes g c = λ words s t w allowed d e.
     let set = c.set-in-CopyToAccumulator.ensures.describes words s _ d d.x in grind arith
+
+pub returns-in-Compute-clause-masked : goal.returns-in-Compute-clause-masked
+returns-in-Compute-clause-masked g c = λ compute masks under of_mask is.
+    let here = c.in-Compute.is in
+    let and : c.in-Compute.arithmetic ≡ And = grind arith in
+    let constant : c.in-Compute.operand ≡ Constant = grind arith in
+    rw (c.set-in-Compute.ensures.accumulator refl) (c.computed-computed.ensures.masked masks c.args.insn.k under is
+    (c.operand_in_computation-value.ensures.constant constant) and of_mask)
