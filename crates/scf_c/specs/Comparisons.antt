@@ -3,6 +3,7 @@ use Rattle.std.specs.Prelude.{◌≡◌, ◌*◌, ◌⊎◌, ℕ, Bool, true, fa
 use Rattle.std.specs.Option.{option_map_or, option_or}
 use Rattle.scf_profile.specs.declared.relation.Relation.{Relation}
 use Rattle.scf_profile.specs.declared.scope.Scope.{Scope}
+use Rattle.scf_facts.specs.Masks.{AreFew}
 use Rattle.scf_compare.specs.declared.budget.Limit.{Limit}
 use Rattle.scf_compare.specs.declared.finding.Finding.{Finding}
 use Rattle.scf_compare.specs.declared.finding.Finding.TheVariants.{Holds, Fails, Undecided, Unfinished}
@@ -38,12 +39,12 @@ use Rattle.scf_c.specs.Sides.{refusal_of_right, tables_in_scope}
 -- ---- findings
 
 -- A finding is true of two sides over the records of a scope, and within the limit and the effort. It decides between
--- plain sides.
+-- sides whose masks have few bits together, as of plain ones.
 pub record IsFound (relation : Relation) (left right : Behavior) (scope : Scope) (limit : Limit) (finding : Finding)
     : Type 0 where
   pub holds : IsTrueFinding (compared_in relation scope left right) finding
   pub within : IsFindingWithin limit.steps (left.size * right.size) finding
-  pub decided : left.is_plain → right.is_plain
+  pub decided : (masks : ℕ) → AreFew masks → left.is_masked masks → right.is_masked masks
       → IsFindingDecided (AllRelated (compared_in relation scope left right)) limit.steps (left.size * right.size)
       finding
 

@@ -1,6 +1,7 @@
 -- What findings say of two sides that are compared, over the calls of a scope or call by call of a table.
 use Rattle.std.specs.Prelude.{◌≡◌, ◌==◌, ◌*◌, ◌-◌, ◌^◌, ℕ, List, [], ◌∷◌, min, if◌then◌else◌}
 use Rattle.scf_insn.specs.declared.architecture.Architecture.{Architecture}
+use Rattle.scf_facts.specs.Masks.{AreFew}
 use Rattle.scf_compare.specs.declared.budget.Limit.{Limit}
 use Rattle.scf_compare.specs.declared.budget.Splits.{Splits}
 use Rattle.scf_compare.specs.declared.budget.Splits.TheVariants.{AtMost, NoLimit}
@@ -30,12 +31,13 @@ abbrev pub limit_of : Limits → Limit
 limit_of limits = record { steps = limits.each; splits = splits_of limits.splits }
 
 -- A finding on a relation is true of two sides over the calls of a scope, and within the limit and the effort. It
--- decides between plain sides, and between any two if there is no limit of splits.
+-- decides between sides whose masks have few bits together, as of plain ones, and between any two if there is no limit
+-- of splits.
 pub record IsFound (relation : Relation) (left right : Behavior) (scope : Scope) (limit : Limit) (finding : Finding)
     : Type 0 where
   pub holds : IsTrueFinding (compared_in relation scope left right) finding
   pub within : IsFindingWithin limit.steps (left.size * right.size) finding
-  pub decided : left.is_plain → right.is_plain
+  pub decided : (masks : ℕ) → AreFew masks → left.is_masked masks → right.is_masked masks
       → IsFindingDecided (AllRelated (compared_in relation scope left right)) limit.steps (left.size * right.size)
       finding
   pub settled : limit.splits ≡ NoLimit

@@ -5,6 +5,7 @@ use Rattle.scf_insn.specs.declared.architecture.Architecture.{Architecture}
 use Rattle.scf_profile.specs.Profile.{Profile}
 use Rattle.scf_profile.specs.Scope.{IsInScope}
 use Rattle.scf_profile.specs.declared.scope.Scope.{Scope}
+use Rattle.scf_facts.specs.Masks.{AreFew}
 use Rattle.scf_compare.specs.Regions.{AreRegions, IsDecidedRegion}
 use Rattle.scf_compare.specs.Sides.{Behavior, profile_behavior}
 use Rattle.scf_compare.specs.declared.regions.Regions.{Regions}
@@ -15,11 +16,11 @@ use Rattle.scf_tool.specs.declared.reply.Reply.TheVariants.{Compared}
 use Rattle.scf_tool.specs.declared.status.Status.{Status}
 use Rattle.scf_tool.specs.declared.status.Status.TheVariants.{Well, Open}
 
--- These are the regions of a side over a scope, within a limit of steps. Those of a plain side are exact and have an
--- answer.
+-- These are the regions of a side over a scope, within a limit of steps. Those of a side whose masks have few bits
+-- together, as of a plain one, are exact and have an answer.
 pub record AreListed (side : Behavior) (scope : Scope) (limit : ℕ) (regions : Regions) : Type 0 where
   pub are_regions : AreRegions side (IsInScope scope) limit regions
-  pub decided : side.is_plain → All IsDecidedRegion regions.list.items
+  pub decided : (masks : ℕ) → AreFew masks → side.is_masked masks → All IsDecidedRegion regions.list.items
 
 -- what a walk over a side comes to: its regions, or none, only if the limit is below its size
 abbrev pub ExploresSide : Behavior → Scope → ℕ → Option (List Regions) → Type 0
