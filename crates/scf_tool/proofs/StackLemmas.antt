@@ -1,5 +1,5 @@
 -- Readers of filters, one after another.
-use Rattle.scf_tool.proofs.Common.{◌≡◌, ℕ, ◌+◌, ◌<◌, ◌≤◌, List, [], ◌∷◌, ◌++◌, length, take, drop, set, get_or, map, Option, Some, Ok, Err, refl, sym, ap, ◌∙◌, arith, add-one, length-drop, drop_more, take_more, take_more_set, set_split, drop-set-lt, take-append-drop, map-append, sum_by_push, AllZip, Insn, max_insns_per_path, IsPush, cost_of, PartReader, HasEnded, IsAcceptedFilter, HasStack, HasNoStack, IsNotPushed, HaveStopped, NoReadFailed, VerifyFault, FilterRead, rest_of}
+use Rattle.scf_tool.proofs.Common.{◌≡◌, ℕ, ◌+◌, ◌<◌, ◌≤◌, List, [], ◌∷◌, ◌++◌, length, take, drop, set, get_or, map, Option, Some, Ok, refl, sym, ap, ◌∙◌, arith, add-one, length-drop, drop_more, take_more, take_more_set, set_split, drop-set-lt, take-append-drop, map-append, sum_by_push, AllZip, Insn, max_insns_per_path, IsPush, cost_of, PartReader, HasEnded, IsAcceptedFilter, HasStack, HasNoStack, IsNotPushed, HaveStopped, NoReadFailed, VerifyFault, FilterRead, rest_of}
 use Rattle.std.proofs.lemmas.Slice.Zip.{all_zipped_more}
 use Rattle.scf_tool.specs.declared.verify_fault.VerifyFault.TheVariants.{ProfileRead, TableRead}
 use Rattle.scf_tool.specs.FilterStacks.{HaveStoppedBy}
