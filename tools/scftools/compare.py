@@ -160,6 +160,8 @@ class Comparison:
 
     def calls_of(self, name: str, relation: str | None = None) -> list[NamedCall]:
         """The syscalls in the table of an architecture of which the relation isn't proved. Raises Refusal."""
+        if not self.tables.of[name].numbers():
+            return []
         return list(self._report_on(name, SCOPES[CALLS], relation or self.relation, is_by_call=True).calls)
 
     def of_calls(self, relation: str | None = None) -> list[NamedCall]:

@@ -62,8 +62,8 @@ ROWS = (
     # Numbers by their order, and not by that of their digits or lines.
     ("--limit 0", [OWN, ALL, a_table("d 100\nc 10\nb 9\na 0")],
      "unfinished\n0 a unfinished\n9 b unfinished\n10 c unfinished\n100 d unfinished\n", 4),
-    # A table without names, and what is left out of the profile behind the lines of the calls.
-    ("", [OTHER_ENDS, ERRNOS, NO_TABLE], "same\nskipped read\nskipped write\nskipped close\n", 0),
+    # A table without names of the profile, and what is left out of that behind the lines of the calls.
+    ("", [OTHER_ENDS, ERRNOS, a_table("other 100")], "same\nskipped read\nskipped write\nskipped close\n", 0),
     ("",
      [ALLOW,
       a_profile('''{"defaultAction":"SCMP_ACT_ERRNO","architectures":["SCMP_ARCH_X86","SCMP_ARCH_X86_64",
@@ -120,11 +120,14 @@ REFUSED = (
     ([ALL, NO_TABLE], "fault bundle Parts\n", 3),
     ([ALLOW, ALL, ALL, NO_TABLE], "fault bundle Parts\n", 3),
     ([ALLOW, ALL], "fault bundle Parts\n", 3),
-    ([a_filter(""), ALL, NO_TABLE], "fault filter Empty\n", 1),
+    ([a_filter(""), ALL, READ_WRITE_TABLE], "fault filter Empty\n", 1),
     ([a_table("9p 1"), a_profile("{}"), ALLOW, a_filter("ld #0")], "fault filter LastNotReturn\n", 1),
     ([ALLOW, a_profile("{}"), a_table("read 0\n9p 1")], "fault table Name line 2\n", 1),
-    ([ALLOW, a_profile("{}"), NO_TABLE], "fault profile Missing\n", 1),
+    ([ALLOW, a_profile("{}"), READ_WRITE_TABLE], "fault profile Missing\n", 1),
 )
+# Tables that name no call; and parts of which none is looked at where the table is one of these.
+WITHOUT_CALLS = tuple(map(a_table, ("", "\n", "# read 0\n", " \t\n\n  # read 0")))
+UNREAD = ([ALLOW, ALL], [a_filter(""), ALL], [ALLOW, a_profile("{}")], [a_filter(""), a_profile("")])
 # Words that are refused, and what is printed of them.
 WRONG = (
     (["--calls", "--native"], "fault command Flags\n"),
@@ -179,6 +182,20 @@ class Calls(OnProgram):
         for parts, text, status in REFUSED:
             for options in ([], ["--calls"], ["--calls", "--limit", "0"]):
                 self.prints(["compare", *options], bundle(parts), text, status)
+
+    def test_a_table_without_a_call(self):
+        """Nothing is compared, so nothing is said to be the same, and what else is wrong isn't looked for."""
+        for table in WITHOUT_CALLS:
+            for parts in UNREAD:
+                for options in ([], ["--no-more"], ["--limit", "0"], ["--reading=runc"]):
+                    self.prints(["compare", "--calls", *options], bundle([*parts, table]), "fault command Calls\n", 2)
+            beside = part("filter", b"") + part("beside", b"") + bundle([table])
+            self.prints(["compare", "--beside", "--calls"], beside, "fault command Calls\n", 2)
+        # one call is enough, and a table that is none is refused as ever
+        for parts, text, status in (([ALLOW, ALL, a_table("# none\nread 0")], "same\n", 0),
+                                    ([ALLOW, ALL, a_table("# none\nread")], "fault table Form line 2\n", 1),
+                                    ([a_filter(""), ALL, a_table("read")], "fault filter Empty\n", 1)):
+            self.prints(["compare", "--calls"], bundle(parts), text, status)
 
     def test_a_limit_of_all_calls_together(self):
         """Each call takes what it takes alone, in the order of their numbers, until nothing is left."""

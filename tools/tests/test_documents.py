@@ -75,7 +75,7 @@ class Faults(Case):
                     printed.setdefault((source, kind), fields)
         self.assertEqual(set(enums()) & set(SOURCES), set(SOURCES))
         printed["bundle", "Parts"] = []
-        for kind in ("Flags", "Range", "Reading"):
+        for kind in ("Calls", "Flags", "Range", "Reading"):
             printed["command", kind] = []
         for source in ("answers", "compare", "command"):
             printed[source, "Memory"] = []
@@ -173,6 +173,8 @@ class Faults(Case):
             (["compare", "--limit", "0x"], b"", "fault number limit"),
             (["compare", "--native", "--calls"], b"", "fault command Flags"),
             (["compare", "--nr-from", "5", "--nr-to", "4"], b"", "fault command Range"),
+            (["compare", "--calls"], part("filter", b"") + part("profile", b"") + part("table", b""),
+             "fault command Calls"),
             (["compare", "--reading", "youki"], b"", "fault command Reading"),
         ]
         cases += [(["compare", "--beside"], part("beside", given), line.replace("fault filter", "fault beside", 1))

@@ -112,6 +112,55 @@ const ROWS: &[Row] = &[
         end: "",
         status: 1,
     },
+    // A table that names no call: nothing else is looked at.
+    Row {
+        words: &["scf", "compare", "--architectures", "--calls"],
+        tables: &[Part::TableX32(" \t\n# none\n")],
+        begin: "fault command Calls\n",
+        end: "",
+        status: 2,
+    },
+    // No table's architecture has a number in the range: x32's have bit 30.
+    Row {
+        words: &["scf", "compare", "--architectures", "--nr-to", "0x3fffffff"],
+        tables: &[X32_TABLE],
+        begin: "fault command Range\n",
+        end: "",
+        status: 2,
+    },
+    Row {
+        words: &[
+            "scf",
+            "compare",
+            "--architectures",
+            "--nr-from",
+            "0x40000000",
+        ],
+        tables: &[X86_64_TABLE],
+        begin: "fault command Range\n",
+        end: "",
+        status: 2,
+    },
+    Row {
+        words: &["scf", "compare", "--architectures", "--nr-to", "0x40000000"],
+        tables: &[X32_TABLE],
+        begin: "same\n",
+        end: "same\nskipped gone\nother SCMP_ARCH_X86_64\nother SCMP_ARCH_X86\nother SCMP_ARCH_ARM\n",
+        status: 0,
+    },
+    Row {
+        words: &[
+            "scf",
+            "compare",
+            "--architectures",
+            "--nr-from",
+            "0x3fffffff",
+        ],
+        tables: &[X86_64_TABLE],
+        begin: "same\n",
+        end: "same\nskipped gone\nother SCMP_ARCH_X86\nother SCMP_ARCH_X32\nother SCMP_ARCH_ARM\n",
+        status: 0,
+    },
     // A range of numbers, as records have them.
     Row {
         words: &["scf", "compare", "--architectures", "--nr-to", "3"],

@@ -1,12 +1,12 @@
 -- Scopes that have records.
 use Rattle.scf_request.proofs.Common.{ℕ, ◌<◌, ◌≤◌, ◌^◌, List, [], ◌∷◌, refl, arith, Architecture, X8664, X86, row_of}
-use Rattle.std.proofs.Common.{IsTrue, leb, min}
+use Rattle.std.proofs.Common.{IsTrue, leb, max, min}
 use Rattle.std.proofs.lemmas.Bool.{leb-true, le-leb}
-use Rattle.scf_insn.proofs.Architectures.{reach}
+use Rattle.scf_insn.proofs.Architectures.{reach, some_number}
 use Rattle.scf_insn.proofs.CallWords.{IsRecord-call_of}
 use Rattle.scf_insn.specs.Words.{IsWords, call_of}
 use Rattle.scf_profile.specs.Scope.{IsInScope}
-use Rattle.scf_profile.specs.declared.scope.Scope.TheVariants.{Numbers, NumbersOf}
+use Rattle.scf_profile.specs.declared.scope.Scope.TheVariants.{All, Call, Native, NumbersOf, Of}
 use Rattle.scf_request.specs.Requests.{HasRecord}
 
 -- the words of a record with this number and this architecture
@@ -35,20 +35,44 @@ numbered a first last nr from to above below =
       is_one = (record { arch = refl; first = from; last = to }, above, below);
     }
 
--- a range and x86-64's numbers, which begin at 0, meet
-pub natives : (first last : ℕ)
-    → (IsTrue (leb first (min last (row_of X8664).last)) → HasRecord (IsInScope (Numbers first last)))
-    × (HasRecord (IsInScope (Numbers first last)) → IsTrue (leb first (min last (row_of X8664).last)))
-natives first last = (
+-- a range and an architecture's numbers meet
+pub numbers_meet : (a : Architecture) (first last : ℕ)
+    → (IsTrue (leb (max first (row_of a).first) (min last (row_of a).last)) → HasRecord (IsInScope (NumbersOf a first last)))
+    × (HasRecord (IsInScope (NumbersOf a first last)) → IsTrue (leb (max first (row_of a).first) (min last (row_of a).last)))
+numbers_meet a first last = (
   λ is.
-      let order = leb-true first (min last (row_of X8664).last) is in
-      numbered X8664 first last first (omega arith) (omega arith) (omega arith) (omega arith),
+      let order = leb-true (max first (row_of a).first) (min last (row_of a).last) is in
+      numbered a first last (max first (row_of a).first) (omega arith) (omega arith) (omega arith) (omega arith),
   λ has.
+      let from = has.is_one.0.first in
       let to = has.is_one.0.last in
       let above = has.is_one.1 in
       let below = has.is_one.2 in
-      le-leb first (min last (row_of X8664).last) (omega arith),
+      le-leb (max first (row_of a).first) (min last (row_of a).last) (omega arith),
 )
+
+-- every architecture has a record
+pub some_of : (a : Architecture) → HasRecord (IsInScope (Of a))
+some_of a =
+    let order = some_number a in
+    let own = numbered a (row_of a).first (row_of a).first (row_of a).first (omega arith) order (omega arith) (omega arith) in
+    record { call = own.call; is_record = own.is_record; is_one = own.is_one.0 }
+
+pub some_native : HasRecord (IsInScope Native)
+some_native =
+    let own = some_of X8664 in record { call = own.call; is_record = own.is_record; is_one = own.is_one }
+
+pub some_record : HasRecord (IsInScope All)
+some_record = let own = some_of X8664 in record { call = own.call; is_record = own.is_record; is_one = tt }
+
+-- and so has each number of x86-64
+pub some_call : (number : ℕ) → number < 2 ^ 32 → HasRecord (IsInScope (Call number))
+some_call number small = record {
+  call = call_of (words_with number (row_of X8664).audit);
+  is_record = IsRecord-call_of (words_with number (row_of X8664).audit)
+      (are_words number (row_of X8664).audit small (reach X8664).audit);
+  is_one = (refl, refl);
+}
 
 -- every number is one of i386's
 pub of_any : (first last : ℕ) → last < 2 ^ 32

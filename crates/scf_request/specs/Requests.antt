@@ -110,12 +110,11 @@ pub record HasRecord (IsOne : CallRecord → Type 0) : Type 0 where
   pub is_record : IsRecord call
   pub is_one : IsOne call
 
--- a range of numbers has a record; the other scopes that can be asked for always have one
+-- a scope has a record
 abbrev pub HasRecordIn : Scope → Type 0
-HasRecordIn (scopes.Numbers first last) = HasRecord (IsInScope (scopes.Numbers first last))
-HasRecordIn scope = Unit {0}
+HasRecordIn scope = HasRecord (IsInScope scope)
 
--- a range of each architecture has a record of one of them
+-- a range of each architecture has a record of one of them; for which there are tables isn't known before the input
 abbrev pub HasRecordOfOne : Scope → Type 0
 HasRecordOfOne (scopes.Numbers first last) =
     (architecture : Architecture) × HasRecord (IsInScope (scopes.NumbersOf architecture first last))

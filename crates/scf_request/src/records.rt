@@ -1,4 +1,4 @@
-//! Whether a range of numbers has call records.
+//! Whether scopes have call records.
 
 ghost use Rattle.std.specs.Prelude.{◌↔◌, IsTrue};
 ghost use Rattle.scf_insn.specs.declared.architecture.Architecture.{Architecture};
@@ -15,14 +15,22 @@ use crate::request::{Request, Scopes};
 use scf_insn::Architecture;
 use scf_profile::Scope;
 
-/// Whether some record of x86-64's has a number from `first` to `last`.
-fn has_native(first: u32, last: u32) -> bool
-    ensures { IsTrue result ↔ HasRecord (IsInScope (Scope.Numbers first last)) }
+/// Whether some record of an architecture has a number from `first` to `last`.
+fn has_numbers(architecture: Architecture, first: u32, last: u32) -> bool
+    ensures { IsTrue result ↔ HasRecord (IsInScope (Scope.NumbersOf architecture first last)) }
 {
-    first <= last.min(Architecture::X8664.last())
+    first.max(architecture.first()) <= last.min(architecture.last())
 }
 
-/// Whether some record of an architecture has a number from `first` to `last`: every number is one of i386's.
+/// Whether some record of x86-64 has this number: each has one.
+fn has_call(number: u32) -> bool
+    ensures { IsTrue result ↔ HasRecord (IsInScope (Scope.Call number)) }
+{
+    let _number = number;
+    true
+}
+
+/// Whether some record of any architecture has a number from `first` to `last`: every number is one of i386's.
 fn has_any(first: u32, last: u32) -> bool
     ensures { IsTrue result ↔ ((architecture : Architecture)
         × HasRecord (IsInScope (Scope.NumbersOf architecture first last))) }
@@ -31,12 +39,19 @@ fn has_any(first: u32, last: u32) -> bool
 }
 
 /// Whether a scope has a record.
-fn has_record(scope: Scope) -> bool
+#[tactic(auto, using(crate::proofs::RecordLemmas::some_record, crate::proofs::RecordLemmas::some_native, crate::proofs::RecordLemmas::some_of))]
+pub fn has_record(scope: Scope) -> bool
     ensures { IsTrue result ↔ HasRecordIn scope }
 {
     match scope {
-        Scope::Numbers { first, last } => has_native(first, last),
-        _ => true,
+        Scope::All | Scope::Native | Scope::Of(_) => true,
+        Scope::Call(number) => has_call(number),
+        Scope::Numbers { first, last } => has_numbers(Architecture::X8664, first, last),
+        Scope::NumbersOf {
+            architecture,
+            first,
+            last,
+        } => has_numbers(architecture, first, last),
     }
 }
 

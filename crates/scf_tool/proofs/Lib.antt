@@ -7,6 +7,7 @@ pub mod ExplorationLemmas
 mod FaultLemmas
 mod InputLemmas
 mod RunLemmas
+mod ScopeLemmas
 mod SideLemmas
 pub mod StackLemmas
 pub mod TableLemmas

@@ -40,7 +40,7 @@ use Rattle.scf_tool.specs.declared.reply.Reply.TheVariants.{Accepted, Ran, Decid
 use Rattle.scf_request.specs.declared.request.Comparison.{Comparison}
 use Rattle.scf_request.specs.declared.request.Exploration.{Exploration}
 use Rattle.scf_compare.specs.Sides.{profile_behavior, stack_behavior}
-use Rattle.scf_tool.specs.ArchitectureScopes.{scope_of}
+use Rattle.scf_tool.specs.ArchitectureScopes.{HasRecordAmong, NameNoCall, scope_of}
 use Rattle.scf_tool.specs.Explorations.{ExploresEach, ExploresSide, ListsWalks}
 use Rattle.scf_tool.specs.declared.commands.parts.BesideProfile.{BesideProfile}
 use Rattle.scf_tool.specs.declared.commands.parts.BesideProfile.TheVariants as besides
@@ -319,11 +319,33 @@ ComparesSides native comparison by left right tables (Ok reply) = (verified : Si
     × IsReport comparison.relation verified reply
 ComparesSides native comparison by left right tables ending = ⊥
 
+-- Under the tables of a bundle the scope of a comparison has a record: call by call the only table names one. Other
+-- scopes than those of architectures have one whatever the tables are.
+abbrev pub GoesOverTables : BundleForm → Scopes → List (Architecture × List ℕ) → Type 0
+GoesOverTables form EachCall tables = NameNoCall tables → ⊥
+GoesOverTables forms.Architectures (AtOnce scope) tables = HasRecordAmong tables scope
+GoesOverTables form (AtOnce scope) tables = Unit {0}
+
+-- it has none
+abbrev pub GoesOverNone : BundleForm → Scopes → List (Architecture × List ℕ) → Fault → Type 0
+GoesOverNone form EachCall tables faults.Calls = NameNoCall tables
+GoesOverNone forms.Architectures (AtOnce scope) tables faults.Range = HasRecordAmong tables scope → ⊥
+GoesOverNone form over tables fault = ⊥
+
+-- What a comparison of the sides that parts are ends with: there is no record, or there is one, and this is the report.
+abbrev pub ComparesHeld : BundleForm → Reading → Comparison → Held → Result Reply Fault → Type 0
+ComparesHeld form reading comparison held (Err faults.Calls) =
+    GoesOverNone form comparison.scopes held.tables faults.Calls
+ComparesHeld form reading comparison held (Err faults.Range) =
+    GoesOverNone form comparison.scopes held.tables faults.Range
+ComparesHeld form reading comparison held ending = GoesOverTables form comparison.scopes held.tables
+    × (left right : SideBytes) × AreSidesOf form held left right
+    × ComparesSides (is_native form) comparison (interpretation_of reading held) left right held.tables ending
+
 -- `compare`: the report of the comparison of the sides that the bundle holds
 abbrev pub Compares : BundleForm → Reading → Comparison → Option (List ℕ) → Result Reply Fault → Type 0
-Compares form reading comparison input = EndsOnBundle form input (TakesSides form comparison.scopes)
-    (λ held ending. (left right : SideBytes) × AreSidesOf form held left right
-    × ComparesSides (is_native form) comparison (interpretation_of reading held) left right held.tables ending)
+Compares form reading comparison input =
+    EndsOnBundle form input (TakesSides form comparison.scopes) (ComparesHeld form reading comparison)
 
 -- ---- several architectures
 
@@ -384,13 +406,16 @@ ListsProfile exploration by profile table (Err (faults.Verify fault)) = CantLoad
 ListsProfile exploration by profile table (Err faults.Answers) = Unit {0}
 ListsProfile exploration by profile table ending = ⊥
 
--- what a profile and the tables of several architectures come to
+-- what a profile and the tables of several architectures come to, of which one has a record of the scope
 abbrev pub ListsProfiles : Exploration → Interpretation → List ℕ → List (Architecture × List ℕ) → Result Reply Fault
     → Type 0
-ListsProfiles exploration by profile texts (Ok reply) = (loaded : LoadedProfiles) × AreStated by profile texts loaded
+ListsProfiles exploration by profile texts (Ok reply) = HasRecordAmong texts exploration.scope
+    × (loaded : LoadedProfiles) × AreStated by profile texts loaded
     × ListsWalks exploration (ExploresEach (scope_of exploration.scope) loaded.profiles exploration.limit) reply
-ListsProfiles exploration by profile texts (Err (faults.Verify fault)) = CantLoadEach by profile texts fault
-ListsProfiles exploration by profile texts (Err faults.Answers) = Unit {0}
+ListsProfiles exploration by profile texts (Err (faults.Verify fault)) =
+    HasRecordAmong texts exploration.scope × CantLoadEach by profile texts fault
+ListsProfiles exploration by profile texts (Err faults.Answers) = HasRecordAmong texts exploration.scope
+ListsProfiles exploration by profile texts (Err faults.Range) = HasRecordAmong texts exploration.scope → ⊥
 ListsProfiles exploration by profile texts ending = ⊥
 
 -- `answers`: what filters, or a profile and a table, answer to the records of the scope

@@ -153,6 +153,8 @@ kind_of_fault (faults.Compile fault) = (codes "compile", compile_kind fault)
 kind_of_fault (faults.Verify fault) = verify_kind fault
 kind_of_fault (faults.Sides fault) = beside_kind fault
 kind_of_fault faults.Answers = (codes "answers", (Failed, codes "Memory", []))
+kind_of_fault faults.Range = (codes "command", (CommandLine, codes "Range", []))
+kind_of_fault faults.Calls = (codes "command", (CommandLine, codes "Calls", []))
 
 -- a number behind its name
 abbrev pub number_words : List ℕ × ℕ → List ℕ

@@ -29,6 +29,10 @@ pub(crate) enum Fault {
     Sides(BesideFault),
     /// Out of memory while answers were listed.
     Answers,
+    /// No architecture that has a table has a syscall with a number in the range.
+    Range,
+    /// The table has no syscall to compare by itself.
+    Calls,
 }
 
 impl From<RequestFault> for Fault {

@@ -275,6 +275,8 @@ impl Fault {
             Fault::Verify(fault) => verify_line(fault),
             Fault::Sides(fault) => beside_line(fault),
             Fault::Answers => line("answers", plain(Failed, "Memory")),
+            Fault::Range => line("command", plain(CommandLine, "Range")),
+            Fault::Calls => line("command", plain(CommandLine, "Calls")),
         }
     }
 

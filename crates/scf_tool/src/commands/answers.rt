@@ -5,6 +5,7 @@ ghost use Rattle.scf_request.specs.Contents.{rest_of, rest_of_table};
 ghost use Rattle.scf_tool.specs.Commands.{EndsOnTables, ListsAnswers, ListsProfile, ListsProfiles, ListsStack};
 ghost use Rattle.scf_tool.specs.Statuses.{LeavesWhole};
 
+use crate::architecture_scope::has_record_among;
 use crate::commands::parts::{BesideProfile, are_filters, profile_parts};
 use crate::commands::whole_input;
 use crate::exploration::{list_each, list_side};
@@ -60,6 +61,9 @@ fn list_profiles(
 ) -> Result<Reply, Fault>
     ensures { ListsProfiles exploration by.now profile.now (map rest_of_table tables.now) result }
 {
+    if !has_record_among(tables, exploration.scope) {
+        return Err(Fault::Range);
+    }
     let loaded = load_with_tables(alloc, by, profile, tables)?;
     match list_each(alloc, loaded.profiles.as_slice(), exploration) {
         Ok(reply) => Ok(reply),

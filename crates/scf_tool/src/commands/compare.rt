@@ -1,6 +1,6 @@
 //! The comparison of two sides.
 
-ghost use Rattle.std.specs.Prelude.{◌≡◌, true, length, map, IfOk, IfErr, MatchOption, Ok, Err};
+ghost use Rattle.std.specs.Prelude.{◌≡◌, ◌↔◌, ◌⊎◌, true, length, map, IfOk, IfErr, IsTrue, MatchOption, Ok, Err};
 ghost use Rattle.scf_request.specs.Contents.{held_by, rest_of_table};
 ghost use Rattle.scf_tool.specs.Commands.{
   AreSidesOf,
@@ -8,6 +8,8 @@ ghost use Rattle.scf_tool.specs.Commands.{
   AreWithProfile,
   Compares,
   ComparesSides,
+  GoesOverNone,
+  GoesOverTables,
   IsReport,
   TakesProfile,
   TakesSides,
@@ -18,6 +20,7 @@ ghost use Rattle.scf_tool.specs.Statuses.{LeavesWhole};
 ghost use Rattle.scf_tool.specs.internal.Parts.{AreComparisonParts};
 ghost use Rattle.scf_tool.specs.internal.Sides.{side_bytes};
 
+use crate::architecture_scope::{has_record_among, names_no_call};
 use crate::call_reporting::worst_of_calls;
 use crate::commands::parts::{BesideProfile, only, profile_parts};
 use crate::commands::whole_input;
@@ -31,7 +34,7 @@ use crate::status::Status;
 use crate::verify_fault::BesideFault;
 use scf_compare::Finding;
 use scf_insn::{Memory, Source};
-use scf_profile::{Reading, Relation};
+use scf_profile::{Reading, Relation, Scope};
 use scf_request::{
     BundleFault, BundleForm, Comparison, Contents, Interpretation, PartReader, Scopes, TableReader,
 };
@@ -214,6 +217,43 @@ fn comparison_parts<'a>(
     }
 }
 
+/// Whether a scope has a record under the tables of a bundle.
+fn has_record_under(form: BundleForm, scope: Scope, tables: &[TableReader<PartReader<'_>>]) -> bool
+    ensures { IsTrue result ↔ GoesOverTables form (Scopes.AtOnce scope) (map rest_of_table tables.now) }
+{
+    match form {
+        BundleForm::Architectures => has_record_among(tables, scope),
+        BundleForm::Profile | BundleForm::Beside(_) => true,
+    }
+}
+
+/// That a comparison goes over a record under the tables of a bundle. The error: it goes over none, or out of memory.
+fn over_record(
+    alloc: Global,
+    form: BundleForm,
+    over: Scopes,
+    tables: &[TableReader<PartReader<'_>>],
+) -> Result<(), Fault>
+    requires { over ≡ Scopes.EachCall → length tables.now ≡ 1 }
+    ensures some { IfOk result (λ _. GoesOverTables form over (map rest_of_table tables.now)) }
+    ensures fault { IfErr result (λ fault. GoesOverNone form over (map rest_of_table tables.now) fault
+        ⊎ (fault ≡ Fault.Bundle BundleFault.Memory)) }
+{
+    match over {
+        Scopes::EachCall => {
+            if names_no_call(alloc, tables[0].reader.rest())? {
+                return Err(Fault::Calls);
+            }
+        }
+        Scopes::AtOnce(scope) => {
+            if !has_record_under(form, scope, tables) {
+                return Err(Fault::Range);
+            }
+        }
+    }
+    Ok(())
+}
+
 /// The report on two sides.
 fn compare_parts(
     alloc: Global,
@@ -255,5 +295,6 @@ pub(super) fn compare_bundle<R: Source>(
     let Some(parts) = comparison_parts(alloc, reading, form, comparison.scopes, contents)? else {
         return Err(Fault::Parts);
     };
+    over_record(alloc, form, comparison.scopes, &parts.tables)?;
     Ok(compare_parts(alloc, is_native(form), parts, comparison)?)
 }

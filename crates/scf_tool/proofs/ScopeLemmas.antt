@@ -1,0 +1,140 @@
+-- Whether scopes have records under the tables of a bundle.
+use Rattle.std.proofs.Common.{Bool, HoldsAt, IsTrue, MatchBool, None, Option, Some, false, subst, true, ◌<◌, ◌↔◌}
+use Rattle.std.proofs.lemmas.Bool.{false≢true}
+use Rattle.std.proofs.lemmas.List.{get_or-map, length-map}
+use Rattle.std.proofs.lemmas.List.Elements.{All-contains, All-from_all_within, All-map}
+use Rattle.std.specs.List.{AllWithin}
+use Rattle.std.specs.FinMap.{get}
+use Rattle.scf_insn.specs.declared.architecture.Architecture.{Architecture}
+use Rattle.scf_profile.specs.NamedCalls.{AreCallsOf}
+use Rattle.scf_profile.specs.Scope.{IsInScope}
+use Rattle.scf_profile.specs.Table.{Names, table_of}
+use Rattle.scf_profile.specs.declared.named_call.NamedCall.{NamedCall}
+use Rattle.scf_profile.specs.declared.reading.Reading.{Reading}
+use Rattle.scf_profile.specs.declared.scope.Scope.{Scope}
+use Rattle.scf_request.specs.Bundle.{Held}
+use Rattle.scf_request.specs.Contents.{rest_of_table}
+use Rattle.scf_request.specs.Requests.{HasRecord}
+use Rattle.scf_request.specs.declared.bundle.BundleFault.TheVariants.{Memory}
+use Rattle.scf_request.specs.declared.bundle.BundleForm.{BundleForm}
+use Rattle.scf_request.specs.declared.bundle.BundleForm.TheVariants as forms
+use Rattle.scf_request.specs.declared.contents.TableReader.{TableReader}
+use Rattle.scf_request.specs.declared.request.Comparison.{Comparison}
+use Rattle.scf_request.specs.declared.request.Scopes.{Scopes}
+use Rattle.scf_request.specs.declared.request.Scopes.TheVariants.{AtOnce, EachCall}
+use Rattle.scf_tool.proofs.Common.{Err, Fault, List, Ok, PartReader, [], ap, arith, get_or, inl, inr, length, map, refl, rest_of, sym, ◌∙◌, ◌∷◌, ◌≡◌, ◌⊎◌, ℕ}
+use Rattle.scf_tool.specs.ArchitectureScopes.{HasRecordAmong, NameNoCall, NamesNoCall, scope_of}
+use Rattle.scf_tool.specs.Commands.{Compares, GoesOverNone, HoldsBundle, TakesSides}
+use Rattle.scf_tool.specs.Statuses.{LeavesWhole}
+use Rattle.scf_tool.specs.Verifying.{HasEnded}
+use Rattle.scf_tool.specs.declared.fault.Fault.TheVariants as faults
+use Rattle.scf_tool.specs.declared.reply.Reply.{Reply}
+
+-- ---- architectures
+
+-- the scope has a record of the table's architecture
+abbrev pub HasOne : Scope → TableReader PartReader → Type 0
+HasOne scope table = HasRecord (IsInScope (scope_of scope table.architecture))
+
+some_among : (tables : List (TableReader PartReader)) (scope : Scope) (k : ℕ) → k < length tables
+    → HoldsAt (HasOne scope) tables k → HasRecordAmong (map rest_of_table tables) scope
+some_among [] scope k inside at = absurd (omega (arith, inside))
+some_among (table ∷ tables) scope k inside at =
+    let own = rest_of_table (get_or (table ∷ tables) k table) in
+    let within : k < length (map rest_of_table (table ∷ tables)) =
+    omega (arith, inside, length-map (table ∷ tables) rest_of_table) in
+    (own, (k, within, get_or-map rest_of_table (table ∷ tables) k table own inside), at table)
+
+none_among : (tables : List (TableReader PartReader)) (scope : Scope)
+    → AllWithin (λ table. HasOne scope table → ⊥) tables 0 (length tables)
+    → HasRecordAmong (map rest_of_table tables) scope → ⊥
+none_among tables scope none (table, contained, has) =
+    let each = All-map (λ (own : Architecture × List ℕ). HasRecord (IsInScope (scope_of scope own.0)) → ⊥) rest_of_table
+    tables (All-from_all_within (λ own. HasOne scope own → ⊥) tables none) in
+    All-contains (λ (own : Architecture × List ℕ). HasRecord (IsInScope (scope_of scope own.0)) → ⊥)
+    (map rest_of_table tables) table each contained has
+
+pub among_cases : (r : Bool) (tables : List (TableReader PartReader)) (scope : Scope)
+    → MatchBool r ((k : ℕ) × (k < length tables) × HoldsAt (HasOne scope) tables k)
+    (AllWithin (λ table. HasOne scope table → ⊥) tables 0 (length tables))
+    → IsTrue r ↔ HasRecordAmong (map rest_of_table tables) scope
+among_cases true tables scope cases = (λ is. some_among tables scope cases.0 cases.1 cases.2, λ has. refl)
+among_cases false tables scope none =
+    (λ is. absurd (false≢true is), λ has. absurd (none_among tables scope none has))
+
+-- ---- a table without a call
+
+some_named : (names : Names) (calls : List NamedCall) (name : List ℕ) (found : Option ℕ) → AreCallsOf names calls
+    → length calls ≡ 0 → get names name ≡ found → found ≡ None
+some_named names [] name None are none is = refl
+some_named names [] name (Some number) are none is =
+    let listed = (are.exact number).1 (name, is) in absurd (omega (arith, listed.1))
+some_named names (call ∷ calls) name found are none is = absurd (omega (arith, none))
+
+pub no_calls : (text : List ℕ) (names : Names) (calls : List NamedCall) → table_of text ≡ Ok names
+    → AreCallsOf names calls → length calls ≡ 0 → NamesNoCall text
+no_calls text names calls is are none = (names, is, λ name. some_named names calls name (get names name) are none refl)
+
+pub some_calls : (text : List ℕ) (names : Names) (calls : List NamedCall) → table_of text ≡ Ok names
+    → AreCallsOf names calls → NamesNoCall text → length calls ≡ 0
+some_calls text names [] is are none = refl
+some_calls text names (call ∷ calls) is are (others, states, none) =
+    let named = (are.exact call.number).0 (0, omega arith, refl) in
+    let has = named.1 in
+    let lacks = none named.0 in
+    absurd (cc)
+
+-- the text of the only table
+pub only_names_none : (tables : List (TableReader PartReader)) (default : TableReader PartReader) (text : List ℕ)
+    → length tables ≡ 1 → text ≡ rest_of (get_or tables 0 default).reader
+    → NamesNoCall text ↔ NameNoCall (map rest_of_table tables)
+only_names_none [] default text one is = absurd (omega (arith, one))
+only_names_none (table ∷ []) default text one is = (
+  λ none. (rest_of_table table, refl, subst NamesNoCall is none),
+  λ none.
+      let only = none.1 in
+      let same : rest_of_table table ≡ none.0 = cc in
+      subst NamesNoCall (ap (λ (own : Architecture × List ℕ). own.1) (sym same) ∙ sym is) none.2,
+)
+only_names_none (table ∷ other ∷ tables) default text one is = absurd (omega (arith, one))
+
+-- ---- faults
+
+abbrev IsOther : Fault → Type 0
+IsOther faults.Calls = ⊥
+IsOther faults.Range = ⊥
+IsOther fault = Unit {0}
+
+none_other : (form : BundleForm) (over : Scopes) (tables : List (Architecture × List ℕ)) (fault : Fault)
+    → IsOther fault → GoesOverNone form over tables fault → ⊥
+none_other form EachCall tables faults.Calls other none = other
+none_other forms.Architectures (AtOnce scope) tables faults.Range other none = other
+none_other form over tables fault other none = none
+
+goes_over_none : (form : BundleForm) (reading : Reading) (comparison : Comparison) (input : Option (List ℕ))
+    (held : Held) (fault : Fault) → HoldsBundle form input held → TakesSides form comparison.scopes held
+    → GoesOverNone form comparison.scopes held.tables fault → Compares form reading comparison input (Err fault)
+goes_over_none form reading comparison input held faults.Calls bundle takes none = (held, bundle, takes, none)
+goes_over_none form reading comparison input held faults.Range bundle takes none = (held, bundle, takes, none)
+goes_over_none form reading comparison input held fault bundle takes none =
+    absurd (none_other form comparison.scopes held.tables fault tt none)
+
+-- a comparison that goes over no record, or for which memory is wanting, ends with the fault
+pub ends_over_none : (form : BundleForm) (reading : Reading) (comparison : Comparison) (input : Option (List ℕ))
+    (held : Held) (fault : Fault) → HoldsBundle form input held → TakesSides form comparison.scopes held
+    → GoesOverNone form comparison.scopes held.tables fault ⊎ (fault ≡ faults.Bundle Memory)
+    → Compares form reading comparison input (Err fault)
+ends_over_none form reading comparison input held fault bundle takes (inl none) =
+    goes_over_none form reading comparison input held fault bundle takes none
+ends_over_none form reading comparison input held fault bundle takes (inr is) = rw is (bundle.0, bundle.1, tt)
+
+-- the input has come to its end, since the fault is none of it
+pub ended_over_none : {R : Type 0} (remaining : R → Option (List ℕ)) (failures : R → ℕ) (old new : R)
+    (form : BundleForm) (over : Scopes) (tables : List (Architecture × List ℕ)) (fault : Fault)
+    → HasEnded remaining failures old new
+    → GoesOverNone form over tables fault ⊎ (fault ≡ faults.Bundle Memory)
+    → LeavesWhole {T = Reply} remaining failures old (Err fault) new
+ended_over_none remaining failures old new form over tables (faults.Input fault) ended (inl none) =
+    absurd (none_other form over tables (faults.Input fault) tt none)
+ended_over_none remaining failures old new form over tables (faults.Input fault) ended (inr is) = absurd (cc)
+ended_over_none remaining failures old new form over tables fault ended given = ended
