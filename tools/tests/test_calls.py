@@ -120,10 +120,10 @@ REFUSED = (
     ([ALL, NO_TABLE], "fault bundle Parts\n", 3),
     ([ALLOW, ALL, ALL, NO_TABLE], "fault bundle Parts\n", 3),
     ([ALLOW, ALL], "fault bundle Parts\n", 3),
-    ([a_filter(""), ALL, READ_WRITE_TABLE], "fault filter Empty\n", 1),
+    ([a_filter(""), ALL, a_table(READ_WRITE_TABLE)], "fault filter Empty\n", 1),
     ([a_table("9p 1"), a_profile("{}"), ALLOW, a_filter("ld #0")], "fault filter LastNotReturn\n", 1),
     ([ALLOW, a_profile("{}"), a_table("read 0\n9p 1")], "fault table Name line 2\n", 1),
-    ([ALLOW, a_profile("{}"), READ_WRITE_TABLE], "fault profile Missing\n", 1),
+    ([ALLOW, a_profile("{}"), a_table(READ_WRITE_TABLE)], "fault profile Missing\n", 1),
 )
 # Tables that name no call; and parts of which none is looked at where the table is one of these.
 WITHOUT_CALLS = tuple(map(a_table, ("", "\n", "# read 0\n", " \t\n\n  # read 0")))
