@@ -47,8 +47,8 @@ class Query:
 def add_numbers(parser: Parser) -> None:
     """Adds the options for a record's fields beside its number."""
     parser.add_argument("--arch", metavar="ARCH",
-                        help="the architecture of the syscalls: x86-64, i386, aarch64 or another one, also by its "
-                             "number, as the audit log has it (c000003e) [default: x86-64]")
+                        help="the architecture of the syscalls: a name such as i386 or aarch64, or its number, as the "
+                             "audit log has it (c000003e) [default: x86-64]")
     for name in OPTIONS[2:]:
         takes = "" if name == "ip" else ": a number, or constants such as AF_INET or CLONE_NEWUSER|SIGCHLD"
         parser.add_argument(f"--{name}", metavar="N",
@@ -58,7 +58,7 @@ def add_numbers(parser: Parser) -> None:
 def add_options(parser: Parser) -> None:
     """Adds the options that give records, and --json."""
     parser.add_argument("--nr", metavar="NUMBER|NAME", action="append", default=[],
-                        help="a syscall, by number or by name, or several, joined by commas; may be repeated")
+                        help="a syscall by number or name, or several with commas between; may be repeated")
     parser.add_argument("--calls-from", metavar="FILE",
                         help=f"more syscalls, one a line, at most {MOST_CALLS}: a number or a name, and any arguments "
                              "from the first on; - is standard input")

@@ -45,7 +45,8 @@ def filter_in(name: str, data: bytes) -> Filter:
     form = forms.form_of(data, inputs.label(name))
     if form is None:
         if forms.is_text(data):
-            program.say(f"{inputs.label(name)} is text, in none of the forms that `check --help` names")
+            program.say(f"{inputs.label(name)} is text, in none of the forms of a filter: hexadecimal, a C array, "
+                        "decimals of tcpdump -ddd, scf's assembler")
         return raw
     count = form.count if form.count <= BPF_MAXINSNS else f"more than {BPF_MAXINSNS}"
     program.say(f"{inputs.label(name)} is read as {form.name}, instructions: {count}")

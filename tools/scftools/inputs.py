@@ -14,6 +14,8 @@ from . import output, program
 # only the tools read: an engine's profile, a kernel header, a list of syscalls to try.
 LIMITS = {"bundle": 1 << 24, "filter": 1 << 15, "profile": 1 << 22, "table": 1 << 22, "stub": 1 << 10,
           "engine's profile": 1 << 22, "header": 1 << 22, "list of syscalls": 1 << 16,
+          # an assembler's text; the lines of explain; an object that audit printed
+          "text": 1 << 24, "object": 1 << 24,
           # only for why: of a core what holds its notes
           "core": 1 << 24,
           # only for oci-hook: a container's state

@@ -32,7 +32,7 @@ NEEDS = (f"This needs CAP_SYS_ADMIN and CAP_SYS_PTRACE, which root has outside o
          f"timeout. nanosleep, clock_nanosleep, poll and futex continue by restart_syscall(2) for the remaining time; "
          f"if the thread's filters don't allow that, they restart with their whole time, or return EINTR if the "
          f"filters no longer allow the syscall itself. A thread that waits for a seccomp supervisor isn't stopped "
-         f"before it has its answer, since the supervisor would get the syscall twice.")
+         f"before the supervisor answers, since it would get the syscall twice.")
 
 
 @dataclass

@@ -45,10 +45,10 @@ class Runtime:
 RUNTIMES = {runtime.name: runtime
             for runtime in (Runtime(RUNC, RUNC), Runtime(CRUN, CRUN), Runtime("docker", RUNC, "docker"),
                             Runtime("podman", CRUN, "podman"))}
-RUNTIME_HELP = ("read a profile as this container runtime does: runc and crun take a resolved profile; docker stands "
-                "for Docker's engine (moby), which resolves an engine's profile, with runc, and podman for podman's "
-                "with crun. An entry whose answer is the default's is ignored, of two entries without conditions the "
-                "first counts, and names that this machine's libseccomp doesn't know are left out")
+RUNTIME_HELP = ("read a profile as this container runtime does: runc and crun take a resolved one; docker (moby with "
+                "runc) and podman (with crun) also resolve an engine's own. An entry whose answer is the default's is "
+                "ignored, of two entries without conditions the first counts, and names that this machine's libseccomp "
+                "doesn't know are left out")
 
 
 def add_option(parser: Parser) -> None:
@@ -67,8 +67,8 @@ def add_options(parser: Parser, without_caps: str = "podman for podman, or docke
                              f"sets, as in docker,SYS_ADMIN [default: {without_caps}]")
     parser.add_argument("--kernel", metavar="X.Y", help="the kernel that the engine runs on [default: this one]")
     parser.add_argument("--arch-map", choices=("native", "all"),
-                        help="whether only the machine's own or all architectures of archMap are passed on [default: "
-                             "all, as the engine does]")
+                        help="which architectures of archMap are passed on: the machine's own, or all [default: all, "
+                             "as the engine does]")
     parser.add_argument("--ignore", metavar="MEMBER", action="append",
                         help="ignore a member of entries that no engine reads, which may be a condition")
 

@@ -37,10 +37,11 @@ from .verdicts import UNFINISHED
 def read_words():
     parser = words.Parser(__doc__, command="answers")
     parser.add("--arch")
-    parser.add_argument("--examples", action="store_true", help="show a syscall of each")
+    parser.add_argument("--examples", action="store_true", help="show a syscall of each set")
     parser.add("--limit", help="at most N steps")
-    parser.add("--table", "--json")
-    parser.add_argument("--dot", action="store_true", help="print a picture of them for graphviz")
+    parser.add("--table", help=words.OWN_TABLE)
+    parser.add("--json")
+    parser.add_argument("--dot", action="store_true", help="print the answers as a graph for graphviz")
     parser.add("--architectures", "--nr-from", "--nr-to", "filters")
     options = parser.parse_args()
     if options.json and options.dot:

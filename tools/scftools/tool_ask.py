@@ -1,20 +1,20 @@
-"""Says what a profile answers to syscalls, and why: runs `scf ask`, and shows the entry that decides.
+"""Says what a profile answers to syscalls, and which entry and conditions give the answer.
 
     scf ask [--nr NUMBER|NAME] .. [--calls-from FILE] [--arch ARCH] [--ip N] [--a0 N] ..
             [--a5 N] [--native] [--strict] [--runtime runc|crun|docker|podman] [--table FILE]
             [--caps LIST] [--machine NAME] [--json] PROFILE
 
-PROFILE is a resolved OCI seccomp profile, a whole config.json that holds one, a SeccompProfile of Kubernetes, as JSON
-or YAML, whose spec is one, or a list of LXC, snapd or firejail, whose rules are one: a file, a pipe, or `-` for
-standard input. With --caps it is an engine's own, which is resolved as by `scf resolve-profile --keep-first`, with
---machine for another machine. All tools that take profiles take them so. With --runtime it is read as that runtime
-reads it (RUNTIMES.md), and with runc's ENOSYS for newer syscalls. Syscalls are given as to `scf decide`. For each of
-them scf's line comes first: the answer, and `entry N`, `default`, `foreign` or `stub`, runc's ENOSYS. The lines after
-it are marked by `# `: the syscall, what the answer does, the entry as JSON on one line (N is its index in `syscalls`,
-from 0 on; at most 400 characters are shown), and which of its conditions the syscall meets, with the values of its
-arguments. Syscalls of each architecture that the profile names are answered, as far as scf has a table of it; with
---native x86-64's alone. For another one that the profile names the answer is `undetermined`. With --json one object is
-printed instead. Without a PROFILE standard input is read, a profile or a bundle, and nothing is added to scf's lines.
+PROFILE is a resolved OCI seccomp profile, a config.json that holds one, a SeccompProfile of Kubernetes (JSON or YAML),
+or a list of LXC, snapd or firejail: a file, a pipe, or `-` for standard input. With --caps it is an engine's own, which
+is resolved as by `scf resolve-profile --keep-first`, with --machine for another machine. All tools that take profiles
+take them so. With --runtime it is read as that runtime reads it (RUNTIMES.md), and with runc's ENOSYS for newer
+syscalls. Syscalls are given as to `scf decide`. For each of them scf's line comes first: the answer, and `entry N`,
+`default`, `foreign` or `stub`, runc's ENOSYS. The lines after it are marked by `# `: the syscall, what the answer does,
+the entry as JSON on one line (N is its index in `syscalls`, from 0 on; at most 400 characters are shown), and which of
+its conditions the syscall meets, with the values of its arguments. Syscalls of each architecture that the profile names
+are answered, as far as scf has a table of it; with --native x86-64's alone. For another one that the profile names the
+answer is `undetermined`. With --json one object is printed instead. Without a PROFILE standard input is read, a profile
+or a bundle, and nothing is added to scf's lines.
 
 The exit status is the worst of all syscalls: 0 success, 1 the profile or the table is refused, 2 usage error, 3 an
 input or the output failed, 4 undetermined; 125 scf can't be run.

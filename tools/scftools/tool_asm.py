@@ -44,7 +44,7 @@ def main():
     parser.keep_off_terminal()
     if options.file == "-":
         client.become(["asm"])
-    done = client.run(["asm"], inputs.read(options.file, "bundle"))
+    done = client.run(["asm"], inputs.read(options.file, "text"))
     if done.status == program.SUCCESS:
         output.put(done.out)
     else:

@@ -31,8 +31,9 @@ in lines, in the member `since`, and on the page. --prometheus writes metrics fo
 node_exporter, and --html a page without scripts, which also shows what each distinct stack allows. Both replace FILE at
 once. --watch audits again and again, and after the first time prints a line for each change.
 
-Exit status: 0 nothing is weaker than configured or unconfined; 1 something is, with --allow-unconfined unless it is so
-by configuration; 2 usage error; 3 an input or the output failed; 4 something isn't known or wasn't looked at.
+Exit status: 0 nothing is unconfined or weaker than configured; 1 something is (with --allow-unconfined what is
+unconfined by configuration doesn't count); 2 usage error; 3 an input or the output failed; 4 something isn't known or
+wasn't looked at.
 
 Examples:
 
@@ -54,7 +55,7 @@ def read_words():
     parser.add_argument("--expect", metavar="FILE", help="a resolved profile or a config.json that all should have")
     parser.add_argument("--baseline", metavar="no-more:FILE", help="a resolved profile that no row may exceed")
     parser.add_argument("--allow-unconfined", action="store_true",
-                        help="what is unconfined by configuration doesn't count for the status")
+                        help="don't count what is unconfined by configuration")
     parser.add("--force")
     parser.add_argument("--programs", action="store_true", help="list the programs without a configuration, too")
     parser.add_argument("--runtime-root", metavar="FOLDER", action="append", default=[],
@@ -66,7 +67,7 @@ def read_words():
     parser.add_argument("--prometheus", metavar="FILE", help="write metrics in Prometheus's text format")
     parser.add_argument("--html", metavar="FILE", help="write a page of HTML")
     parser.add_argument("--since", metavar="FILE", help="say what changed since an object that --json printed")
-    parser.add_argument("--watch", metavar="SECONDS", type=words.seconds, help="again and again, with this pause")
+    parser.add_argument("--watch", metavar="SECONDS", type=words.seconds, help="audit again and again, with this pause")
     parser.add("--native", "--limit", "--splits", "--table")
     given = parser.parse_args()
     if given.baseline is not None and not given.baseline.startswith(BASELINE):
@@ -93,7 +94,7 @@ def earlier_in(name):
     if name is None:
         return None
     try:
-        return audit_output.Earlier.of_object(json.loads(inputs.read_whole(name, "bundle")))
+        return audit_output.Earlier.of_object(json.loads(inputs.read_whole(name, "object")))
     except (ValueError, RecursionError) as why:
         raise program.ToolError(f"'{name}' isn't an object that --json printed", program.IO_ERROR) from why
 

@@ -26,10 +26,16 @@ import sys
 from . import bundles, inputs, output, program
 
 USAGE = """usage: {} KIND FILE [KIND FILE ..]
-KIND is filter, profile or table, or for another architecture than x86-64 table-x86, table-aarch64 or the like, after
-its OCI name; beside and beside-profile are of the other side of `scf compare`; stub-table, stub-table-x86 .. is the
-first number of a table's architecture that runc answers with ENOSYS. FILE is a file or a pipe. Prints the parts, each
-after a header `KIND COUNT`.
+
+Prints several files as one bundle: each FILE, a file or a pipe, after a header `KIND COUNT`.
+
+KIND is one of:
+  filter, profile, table     the table is x86-64's
+  table-x86, table-aarch64 .. the table of another architecture, by its OCI name
+  beside, beside-profile     a filter or a profile of the other side of `scf compare`
+  stub-table, stub-table-x86 ..
+                             the first number that runc answers with ENOSYS, of that table's architecture
+
 scf compares a bundle over all records, unless --architectures is given; `scf compare` compares files on each
 architecture that the profile names. So the same filter and profile can be `same` by files and `differs` by a bundle.
 """

@@ -1,4 +1,4 @@
-"""Says whether the kernel accepts filters: runs `scf check` on each, and says what a fault means.
+"""Says whether the kernel accepts filters, and of a fault what it means and what to do.
 
     scf check [--json] FILTER..
 

@@ -1,4 +1,4 @@
-"""Compares filters with a profile: runs `scf compare`, and says what its verdict means.
+"""Says whether filters answer every syscall as a profile says, and if not, which differ and why.
 
     scf compare [--native|--all|--calls] [--no-more|--no-less|--disposition] [--limit N]
                 [--splits N] [--strict] [--runtime runc|crun|docker|podman] [--table FILE]
@@ -7,7 +7,7 @@
     scf compare [--native|--all|--calls] [--no-more|--no-less|--disposition] [--limit N]
                 [--splits N] [--table FILE] [--json] FILTER.. --beside FILTER..
 
-FILTER is a raw filter, or a text as `scf check` takes it; several form a stack, oldest first. PROFILE is a resolved
+FILTER is a filter as `scf check` takes it; several form a stack, oldest first. PROFILE is a resolved
 OCI seccomp profile, or another one as `scf ask` takes it. Each may be a file or a pipe, and one of them `-` for
 standard input. The first lines are scf's; the lines after them are marked by `# `. If the filters and the profile
 differ, these show the syscall, the profile's entry that decides it and which of the entry's conditions it meets, and
@@ -16,13 +16,13 @@ taken; then each syscall in the tables that differs, as with --calls, with its a
 x86-64. With --json one object is printed instead, which says the same; --html also writes it as a page without scripts,
 which replaces FILE at once.
 
-The syscalls of each architecture that the profile names are compared, as far as scf has a table of it: of the
-little-endian ones (`scf call-table -h` names them). A profile without a list is for x86-64. --native compares x86-64's
+The syscalls of each architecture that the profile names are compared, as far as scf has a table of it
+(`scf call-table -h` names those). A profile without a list is for x86-64. --native compares x86-64's
 alone, whatever the profile names, and --calls each syscall that a table names by itself. If the filters allow any i386
 or x32 syscall that isn't compared, a line after the verdict says so. --all compares each possible record, also for
-architectures and numbers that no kernel has. If a syscall decides then whose architecture the profile names and scf has
-no table of, the first line is `undetermined: the profile is for this architecture, too`. --table FILE takes the place
-of x86-64's table.
+architectures and numbers that no kernel has. If it finds a difference on an architecture that the profile names and scf
+has no table of, the first line is `undetermined: the profile is for this architecture, too`. --table FILE takes the
+place of x86-64's table.
 
 Without --limit all comparisons together have 6 seconds of CPU time. What isn't decided by then is `unfinished`. What
 tests leave `undecided` takes more splits: --splits N.
@@ -42,8 +42,8 @@ old release beside a new one, a filter made by hand beside a generated one. The 
 Without files scf answers a bundle on standard input (see `scf bundle` and scf(1)), and nothing is added to its lines.
 Then all records are compared unless --native or --calls, or --architectures, which takes the tables in the bundle.
 
-The exit status is that of `scf compare`: 0 same, no more or no less, 1 differs, more, less or refused, 2 usage error, 3
-an input or the output failed, 4 undecided, undetermined or unfinished; 125 scf can't be run.
+Exit status: 0 same, no more or no less; 1 differs, more, less or refused; 2 usage error; 3 an input or the output
+failed; 4 undecided, undetermined or unfinished; 125 scf can't be run.
 
 Examples:
 

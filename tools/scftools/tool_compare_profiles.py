@@ -38,11 +38,12 @@ def read_words():
     parser.add("--native")
     parser.relation("only check that nothing is {} than OLD")
     runtimes.add_options(parser)
-    parser.add_argument("--keep-first", action="store_true", help="both are an engine's: of two answers to a syscall, "
-                                                                  "both without conditions, keep the first")
+    parser.add_argument("--keep-first", action="store_true",
+                        help="OLD and NEW are an engine's own: if two entries without conditions answer a syscall, "
+                             "keep the first")
     parser.add("--machine", "--limit", "--splits", "--table", "--json")
     parser.add_argument("old", metavar="OLD", help="a profile, or a config.json; - is standard input")
-    parser.add_argument("new", metavar="NEW", help="another one, to compare with it")
+    parser.add_argument("new", metavar="NEW", help="the profile to compare with OLD")
     options = parser.parse_args()
     parser.one_standard_input([options.old, options.new, options.table])
     options.setting = runtimes.setting_of_words(options, parser)

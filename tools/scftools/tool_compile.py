@@ -1,4 +1,4 @@
-"""Prints a filter that answers as a profile does: runs `scf compile`, and says what was left out.
+"""Prints a filter that answers every syscall as a profile says, and says what was left out.
 
     scf compile [--native] [--strict] [--runtime runc|crun|docker|podman] [--json] [--table FILE]
                 [--caps LIST] [--machine NAME] PROFILE >FILTER
@@ -12,8 +12,8 @@ refused. With --runtime the filter answers as the profile that this runtime read
 syscalls whose numbers are above all that the profile names with ENOSYS, as runc's own filter does. Without a PROFILE
 standard input is read: a profile, or a bundle, to whose filter or fault nothing is added.
 
-The exit status is that of `scf compile`: 0 success, 1 the table or the profile is refused or the filter would be too
-long, 2 usage error, 3 an input or the output failed; 125 scf can't be run.
+Exit status: 0 success; 1 the table or the profile is refused, or the filter would be too long; 2 usage error; 3 an
+input or the output failed; 125 scf can't be run.
 
 Examples:
 

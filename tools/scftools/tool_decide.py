@@ -1,4 +1,4 @@
-"""Says what a stack of filters answers to syscalls: runs `scf decide`, and says what the answers mean.
+"""Says what a stack of filters answers to syscalls, what the answers mean, and which filter gives them.
 
     scf decide [--nr NUMBER|NAME] .. [--calls-from FILE] [--arch ARCH] [--ip N] [--a0 N] ..
                [--a5 N] [--table FILE] [--json] FILTER..

@@ -38,7 +38,7 @@ def main():
     if os.isatty(0):
         parser.error("the following arguments are required: LINE")
     is_explained = False
-    for line in inputs.read_whole("-", "bundle").decode("utf-8", "surrogateescape").splitlines():
+    for line in inputs.read_whole("-", "text").decode("utf-8", "surrogateescape").splitlines():
         sentences = meanings.of(line, table)
         is_explained = is_explained or bool(sentences)
         output.put_line(line)

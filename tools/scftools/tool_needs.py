@@ -75,7 +75,9 @@ def read_words():
                         help="print the smallest profile that allows the syscalls of the log")
     parser.add("--arch", help=words.ARCH_HELP.format(" of a log that doesn't say it",
                                                      ", or the first that PROFILE lists"))
-    parser.add("--kubernetes", "--limit", "--splits", "--table", "--caps", "--json")
+    parser.add("--kubernetes", "--limit", "--splits")
+    parser.add("--table", help=words.OWN_TABLE)
+    parser.add("--caps", "--json")
     parser.add_argument("--runtime", choices=tuple(requirements.OF_RUNTIMES),
                         help="add what this container runtime calls itself before it executes the program, and read "
                              "PROFILE as it does")

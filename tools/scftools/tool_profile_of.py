@@ -37,7 +37,7 @@ With --runtime the profile is one that this runtime loads: it is compared as the
 numbers above all that a profile names, which no profile says, is expected of the filters.
 
 Exit status: 0 the profile is proved; 1 a filter or the table is refused; 2 usage error; 3 an input or the output
-failed; 4 there are only profiles on both sides, or scf can't decide.
+failed; 4 no profile answers alike (the nearest ones are printed), or scf can't decide.
 
 Examples:
 
@@ -55,7 +55,8 @@ def read_words():
     parser.add_argument("--runtime", choices=tuple(runtimes.RUNTIMES),
                         help="print a profile for this container runtime; docker stands for runc, podman for crun")
     parser.relation("print the nearest profile that is nowhere {} than the filters")
-    parser.add("--arch", "--json", "--kubernetes", "--limit", "--splits", "--table", "filters")
+    parser.add("--arch", "--json", "--kubernetes", "--limit", "--splits", "filters")
+    parser.add("--table", help=words.OWN_TABLE)
     options = parser.parse_args()
     if options.runtime is not None and options.arch is not None:
         parser.error("give either --arch or --runtime, which confines this machine's syscalls whatever a profile lists")

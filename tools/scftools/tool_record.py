@@ -15,7 +15,7 @@ whatever it has to be able to do.
 A traced program gets no privileges of set-user-ID, set-group-ID or file capabilities, unless root traces it, and it is
 slower.
 
-Exit status: the program's, and the signal's that ended it; 2 usage error; 3 FILE can't be written; 1 BASE is refused;
+Exit status: the program's, or the signal that ended it; 1 BASE is refused; 2 usage error; 3 FILE can't be written;
 125 strace isn't installed or scf can't be run; 126 PROGRAM isn't executable; 127 there is no PROGRAM.
 
 Examples:

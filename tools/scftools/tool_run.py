@@ -1,4 +1,4 @@
-"""Runs a filter on syscalls with `scf run`, and says what the answers mean.
+"""Runs one filter on syscalls, and says what its answers mean and how many instructions ran.
 
     scf run [--nr NUMBER|NAME] .. [--calls-from FILE] [--arch ARCH] [--ip N] [--a0 N] ..
             [--a5 N] [--table FILE] [--path] [--json] FILTER

@@ -9,13 +9,13 @@
 The FILTERs form one stack, oldest first; with --pid it is that of a running process, as the kernel keeps it, and each
 distinct stack of its threads has a block of its own. A profile, as `scf ask` takes it, stands for the filter that scf
 compiles of it. Each syscall in the table is always allowed, always denied, always delegated (to a supervisor or
-tracer), or it depends on the arguments; then an example of each is shown. The first line counts them, behind one of a
-filter that is for another machine. The next lines say whether any syscall of another ABI of the machine is allowed,
-with the same counts of an ABI of which one is, and how many numbers that the table doesn't name are allowed. With
---machine arm64 all this is said of aarch64 and arm, with --arch of that architecture alone. Then come the syscalls by
-purpose (tables/calls.groups), on a terminal as a table, otherwise a line each: the
-group, the disposition, the number, the names, and an answer. --beside shows the syscalls that differ under another
-stack of filters; it stands last. --html writes the same as a page without scripts, which replaces FILE at once.
+tracer), or it depends on the arguments; then an example of each is shown. The first line counts them; a line before it
+names a filter that is for another machine. The next lines say whether any syscall of another ABI of the machine is
+allowed, with the same counts of an ABI of which one is, and how many numbers that the table doesn't name are allowed.
+With --machine arm64 all this is said of aarch64 and arm, with --arch of that architecture alone. Then come the syscalls
+by purpose (tables/calls.groups), on a terminal as a table, otherwise a line each: the group, the disposition, the
+number, the names, and an answer. --beside shows the syscalls that differ under another stack of filters; it stands
+last. --html writes the same as a page without scripts, which replaces FILE at once.
 
 With --conditions a syscall with several answers has them all instead of examples, with the conditions on its arguments:
 
@@ -52,20 +52,22 @@ def read_words():
     parser.add_argument("--conditions", action="store_true",
                         help="say which arguments get which answer, instead of examples")
     parser.add_argument("--beside", metavar="OTHER", nargs="+", default=[],
-                        help="other filters, oldest first: show the syscalls that differ; stands last")
+                        help="show the syscalls that differ under these filters, oldest first; stands last")
     parser.add_argument("--pid", metavar="PID", help="the filters of a process instead of files")
     parser.add("--arch")
     parser.add("--machine", help="the machine whose syscalls are looked at, and for whose containers an engine's "
                                  "profile is resolved [default: this one]")
     parser.add_argument("--examples", action="store_true", help="show a call for each region, with its answer")
-    parser.add("--force", "--limit", "--splits", "--table", "--caps", "--json", "--html")
+    parser.add("--force", "--limit", "--splits")
+    parser.add("--table", help=words.OWN_TABLE)
+    parser.add("--caps", "--json", "--html")
     parser.add_argument("filters", metavar="FILTER", nargs="*",
-                        help="a raw filter, oldest first, or a profile; - is standard input")
+                        help="a filter, of several the oldest first, or a profile; - is standard input")
     options = parser.parse_args()
     if options.pid is None and not options.filters:
         parser.error("give a FILTER or --pid")
     if options.pid is not None and options.filters:
-        parser.error("give either FILTERs or --pid")
+        parser.error("give FILTERs or --pid, not both")
     if options.beside and (options.arch is not None or options.machine not in (None, "amd64")):
         parser.error("give either --arch or --beside, which compares the syscalls of all architectures of this machine")
     if options.conditions and options.examples:
@@ -95,7 +97,7 @@ def filter_in(name, options):
         return filters.Filter(name, client.compile_profile(profile.data, judged))
     except client.Refusal as why:
         sentences = refusals.sentences(why.fault, profile.data, judged, profile.origins) if why.fault else ()
-        raise program.ToolError("; ".join([f"{inputs.label(name)}: {why.line}", *sentences]), why.status) from why
+        raise program.ToolError(" ".join([f"{inputs.label(name)}: {why.line}.", *sentences]), why.status) from why
 
 
 def main():

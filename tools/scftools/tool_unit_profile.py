@@ -47,7 +47,7 @@ def read_words():
     parser.add_argument("--architectures", metavar="LIST", help="with --set: SystemCallArchitectures= [default: none]")
     parser.add_argument("--log", metavar="LIST", nargs="+", help="with --set: assignments of SystemCallLog=")
     parser.add_argument("--arch", metavar="ARCH",
-                        help="the architecture of the syscalls, for which the profile is printed [default: x86-64]")
+                        help="of a unit: the architecture that the profile is for [default: x86-64]")
     parser.add("--json")
     parser.add_argument("unit", metavar="UNIT", nargs="?", help="a unit, as systemctl(1) names it")
     options = parser.parse_args()

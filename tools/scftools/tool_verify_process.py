@@ -12,6 +12,7 @@ The filters are read from the kernel as by `scf filters-of`, for all threads of 
 profile as by `scf compare`, which shows why a syscall differs. Filters belong to threads. Each distinct stack has a
 block of its own, with the threads that have it, the worst first; a thread without a filter isn't confined, and counts
 as one that differs.
+
 With --all these are the threads of all processes in the container of PID: those of the container's control group and of
 the groups in it, in any hierarchy of cgroups, or, if PID is in the root group, those of its PID namespace. The
 container's group is that of PID or one above: the one that a runtime mounts or names for it, or that in which systemd

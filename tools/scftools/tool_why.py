@@ -17,26 +17,25 @@ LINE is what was logged when it happened, and `-` is standard input, with any nu
 --pid takes the records of a process from this machine's kernel log and auditd's; while it runs, and no file is given,
 also its filters. --core takes a core that SIGSYS left, which has the arguments; `-` is standard input.
 
-PROFILE is a resolved OCI seccomp profile, or another one as `scf ask` takes it, whose entries have with --caps the
-numbers that they have in the resolved one, and which --runtime has scf read as that container runtime does, so that a
-container's config.json is no conflict (RUNTIMES.md); the FILTERs are the raw filters of the process, oldest first, as
-`scf filters-of` takes them. One profile and any number of filters may be given, in any order; each may be a pipe. For
-each syscall there are lines marked by `# `: the process, the syscall, the action, and what isn't known of them; scf's
-answer for the profile (`scf ask`) with the entry, and that for the filters (`scf decide`) with the last tests on the
-path; and whether either answers so. If not, another filter of the process gave the answer, since the strictest of all
-counts, or it isn't under this profile. At the end stand changes of the profile that allow the syscall: with the
-arguments that are known, but for addresses, and with all that the entry denies. scf has proved of each that no other
-answer to an x86-64 syscall changes. With --native the profile is judged for x86-64 alone, otherwise for each
-architecture that it names.
+PROFILE is a profile as `scf ask` takes it; with --caps its entries are numbered as in the resolved one. --runtime reads
+it as that container runtime does (RUNTIMES.md), so that a container's config.json is no conflict. The FILTERs are those
+of the process, oldest first, as `scf filters-of` takes them. One profile and any number of filters may be given, in any
+order; each may be a pipe. For each syscall there are lines marked by `# `: the process, the syscall, the action, and
+what isn't known of them; scf's answer for the profile (`scf ask`) with the entry, and that for the filters (`scf
+decide`) with the last tests on the path; and whether either answers so. If not, another filter of the process gave the
+answer, since the strictest of all counts, or it isn't under this profile. At the end stand changes of the profile that
+allow the syscall: with the arguments that are known, but for addresses, and with all that the entry denies. scf has
+proved of each that no other answer to an x86-64 syscall changes. With --native the profile is judged for x86-64 alone,
+otherwise for each architecture that it names.
 
 Of what strace wrote each SIGSYS is judged, and each syscall that failed as PROFILE, or else the FILTERs, answer to it.
 The failed ones are counted by syscall and entry, and the most telling stand first: the last one of a process that ended
 with a failure, then those that were tried least often, since libraries try some again and again and ignore the failure.
 Five are shown, and the others counted; --all shows every one. The changes of the profile are then those that allow what
-all of a count have in common. If the log shows a filter being loaded (seccomp, prctl), only
-processes and threads that loaded it, or were made by one that did, are judged, and from then on. What failed with EPERM
-though PROFILE allows it is named at the end: the kernel itself answers so if a process lacks a capability. If none is
-answered so, the last syscall is judged, if it failed.
+all of a count have in common. If the log shows a filter being loaded (seccomp, prctl), only processes and threads that
+loaded it, or were made by one that did, are judged, and from then on. What failed with EPERM though PROFILE allows it
+is named at the end: the kernel itself answers so if a process lacks a capability. If none is answered so, the last
+syscall is judged, if it failed.
 
 A record doesn't have the arguments. If the profile or the filters test them, all of their values are judged, and a call
 that is answered as the record says is shown as an example. Nor does it have the data of an action: an errno
@@ -48,9 +47,9 @@ the filter was loaded with SECCOMP_FILTER_FLAG_LOG (`flags` of a profile); and e
     ulimit -c unlimited; ./program; scf why --core core profile.json
     strace -f -o log ./program; scf why --all - profile.json <log
 
-Exit status: 0 each syscall is answered so; 1 one isn't, or an input is refused; 2 usage error; 3 an input or the output
-failed, or a record has a value that no kernel writes; 4 it isn't known, or there is no such syscall; 125 scf can't be
-run.
+Exit status: 0 each syscall is answered as it was logged; 1 one isn't, or an input is refused; 2 usage error; 3 an
+input or the output failed, or a record has a value that no kernel writes; 4 it isn't known, or no syscall was logged;
+125 scf can't be run.
 
 Examples:
 

@@ -19,6 +19,8 @@ import argparse  # noqa: E402 pylint: disable=wrong-import-position
 
 ARCH_HELP = ("the architecture of the syscalls{}, and of the table if none is given: "
              f"{', '.join(architectures.names_of(list(JUDGED)))} [default: this machine's{{}}]")
+OWN_TABLE = "the syscall table; - is standard input [default: that of the architecture]"
+FILTER_HELP = "a filter: raw, or text (hexadecimal, a C array, tcpdump -ddd, scf's assembler)"
 # Options that few need, which -h leaves out, and the most others that it shows.
 COMMON, MOST_IN_SHORT = ("--color", "--limit", "--splits", "--strict", "--table", "--version"), 5
 OBJECT_NAME, LONGEST_OBJECT_NAME = Pattern(r"[a-z0-9]([-a-z0-9]*[a-z0-9])?(\.[a-z0-9]([-a-z0-9]*[a-z0-9])?)*"), 253
@@ -45,7 +47,7 @@ SHARED: dict[str, dict[str, Any]] = {
        for name in ("--nr-from", "--nr-to", "--reading", "--total-limit")},
     "--caps": {"metavar": "LIST",
                "help": "PROFILE is an engine's own: resolve it, as resolve-profile does, for a container with these "
-                       "capabilities, such as docker, podman, none or CAP_KILL,SYS_ADMIN"},
+                       "capabilities: docker, podman, none or a list such as CAP_KILL,SYS_ADMIN"},
     "--force": {"action": "store_true",
                 "help": "also stop threads that wait for a seccomp supervisor, which then gets their syscalls a "
                         "second time"},
@@ -54,20 +56,22 @@ SHARED: dict[str, dict[str, Any]] = {
     "--kubernetes": {"metavar": "NAME", "type": _object_name,
                      "help": "print a SeccompProfile of Kubernetes' Security Profiles Operator by this name"},
     "--keep-first": {"action": "store_true",
-                     "help": "of two answers to a syscall, both without conditions, keep the first that isn't the "
-                             "default's, as runc and crun do"},
+                     "help": "if two entries without conditions answer a syscall, keep the first whose answer isn't "
+                             "the default's, as runc and crun do"},
     **{f"--{name}": {"metavar": "N", "help": text} for name, text in client.LIMIT_OPTIONS.items()},
     "--machine": {"choices": tuple(row.machine for row in JUDGED.values() if row.machine), "metavar": "NAME",
-                  "help": "the machine for whose containers an engine's profile is resolved, as Go calls it: "
+                  "help": "resolve an engine's profile for this machine, by Go's name of it: "
                           f"{', '.join(row.machine for row in JUDGED.values() if row.machine)} [default: this one]"},
     "--native": {"action": "store_true", "help": "x86-64 alone, whatever architectures the profile names"},
     "--strict": {"action": "store_true",
                  "help": "refuse a profile with members that nothing reads, which may be misspelt"},
-    "--table": {"metavar": "FILE", "help": "the syscall table; - is standard input [default: tables/x86_64.table]"},
+    "--table": {"metavar": "FILE",
+                "help": "the table of x86-64's syscalls; - is standard input [default: tables/x86_64.table]"},
     "--verbose": {"action": "store_true",
                   "help": "list the names in the profile that were skipped, not only their count"},
-    "filter": {"metavar": "FILTER", "help": "a raw filter; - is standard input"},
-    "filters": {"metavar": "FILTER", "nargs": "+", "help": "a raw filter, oldest first; - is standard input"},
+    "filter": {"metavar": "FILTER", "help": f"{FILTER_HELP}; - is standard input"},
+    "filters": {"metavar": "FILTER", "nargs": "+",
+                "help": f"{FILTER_HELP}; of several the oldest first; - is standard input"},
     "pid": {"metavar": "PID", "help": "a process, or a thread of it"},
     "profile": {"metavar": "PROFILE", "help": "a resolved profile, or a config.json; - is standard input"},
 }
@@ -104,6 +108,14 @@ class ShortHelp(argparse.Action):
         program.finish(program.SUCCESS)
 
 
+class Formatter(argparse.HelpFormatter):
+    """The form of help: paragraphs stay apart."""
+
+    def _fill_text(self, text: str, width: int, indent: str) -> str:
+        return "\n\n".join(super(Formatter, self)._fill_text(paragraph, width, indent)
+                           for paragraph in text.split("\n\n"))
+
+
 class Parser(argparse.ArgumentParser):
     """The command line of a tool, whose docstring has what it does, its usage, its statuses and its examples. `needs`
     says what it needs beside its words; `command` is the program's command that answers standard input if no file is
@@ -119,8 +131,8 @@ class Parser(argparse.ArgumentParser):
         usage = re.sub("(?m)^   ", " " * len("usage:"), usage)
         # (with a fixed width no tool asks the terminal for it at the start)
         super().__init__(prog=name, usage=usage.strip().replace("%", "%%"), description=summary,
-                         epilog=" ".join([needs, *statuses]), allow_abbrev=False, add_help=False,
-                         formatter_class=lambda prog: argparse.HelpFormatter(prog, width=100))
+                         epilog="\n\n".join([*filter(None, [needs]), *statuses]), allow_abbrev=False, add_help=False,
+                         formatter_class=lambda prog: Formatter(prog, width=100))
         self.examples = re.findall(r"(?m)^    (.*)$", examples)
         self.add_argument("-h", action=ShortHelp)
         self.add_argument("--help", action="help", help="show all and exit")
@@ -157,15 +169,18 @@ class Parser(argparse.ArgumentParser):
         raise program.ToolError(self._misspelt(message) or message)
 
     def _misspelt(self, message: str) -> str | None:
-        """The message on an unknown option, with the nearest one, where words are unknown or too few."""
+        """The message on an unknown option, with the nearest one if any is near, where words are unknown or too few."""
         if not message.startswith(("unrecognized arguments: -", "the following arguments are required: ")):
             return None
-        given = (word.partition("=")[0] for word in sys.argv[1:])
+        options = sys.argv[1:sys.argv.index("--")] if "--" in sys.argv else sys.argv[1:]
+        given = (word.partition("=")[0] for word in options)
         flags = [flag for action in self._actions for flag in action.option_strings]
         wrong = next((it for it in given if re.fullmatch("--?[A-Za-z][A-Za-z0-9-]+", it) and it not in flags), None)
         shown = [flag for action in self._actions if action.help != argparse.SUPPRESS for flag in action.option_strings]
-        near = tables.most_like(wrong.lower(), shown) if wrong is not None else None
-        return f"unrecognized arguments: {wrong}; the nearest is {near}" if near else None
+        if wrong is None:
+            return None
+        near = tables.most_like(wrong.lower(), shown)
+        return f"unrecognized arguments: {wrong}" + (f"; the nearest is {near}" if near else "")
 
     def print_help(self, file: Any = None, is_short: bool = False) -> None:
         """Prints the help like any other output."""

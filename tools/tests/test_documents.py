@@ -561,6 +561,12 @@ class ManualOfTools(Case):
             for option in re.findall(r"^  (?:-\w, )?(--[a-z0-9-]+)", shown, re.M):
                 self.assertRegex(page, rf"(?m)^\.B .*{option}\b", name)
 
+    def test_what_a_tool_needs_is_in_its_page(self):
+        for name in TOOLS:
+            notes = self.page(name).partition(".SH NOTES\n")[2].partition(".SH EXIT STATUS\n")[0]
+            self.assertEqual("CAP_SYS_PTRACE" in notes, "CAP_SYS_PTRACE" in self.run_tool(name, "--help")[1], name)
+        self.assertIn("EINTR", self.page("audit"))
+
     def test_lists_and_statuses_are_in_the_pages(self):
         for name, item, printed in (("lint", r"(?m)^    (\S+)", r"\.TP\n\.B (\S+)\n"),
                                     ("needs", r"(?m)^    - (\S+)", r"\.IP \\\(bu 2\n(\S+)")):
