@@ -892,8 +892,10 @@ class Firejail(Case):
 
     def started(self, *words):
         """A process with these words, in place of firejail's, and the sandbox that it started."""
-        child = subprocess.Popen(["sh", "-c", "read x", *words], stdin=subprocess.PIPE)
+        child = subprocess.Popen(["sh", "-c", "echo; read x", *words], stdin=subprocess.PIPE, stdout=subprocess.PIPE)
         self.addCleanup(child.communicate)
+        # (while it is being executed, the kernel has no words of it yet)
+        child.stdout.readline()
         self.file(f"profile/{child.pid}", f"{self.profile}\n")
         return firejail_programs.Sandboxes({child.pid: process(child.pid)}).of_number[child.pid]
 

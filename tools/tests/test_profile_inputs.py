@@ -198,7 +198,8 @@ class Caps(Case):
                                   for more, path in ((("--caps", caps), self.engine), ((), resolved)))
                 self.assertEqual(by_caps.returncode, plain.returncode, words)
                 if words[0] != "ask":
-                    self.assertEqual(by_caps.stdout, plain.stdout, words)
+                    # (lint tells entries by their places in the engine's file)
+                    self.assertEqual(by_caps.stdout.replace(b"entry 3", b"entry 1"), plain.stdout, words)
                 self.assertEqual(by_caps.stderr.decode().split("\n")[0],
                                  f"{words[0]}: '{self.engine}' is resolved as by resolve-profile --keep-first --caps "
                                  f"{caps}, which says what is left out; entries that remain: "
@@ -236,7 +237,7 @@ class Caps(Case):
             files = [path, engine] if command == "compare" else [engine]
             status, out, err = self.run_tool(command, "--machine=arm64", *files)
             self.assertEqual((status, out), (2, ""), command)
-            self.assertIn("--machine is for an engine's profile", err)
+            self.assertIn("--machine goes with an engine's profile", err)
 
     def test_entries_have_their_places_in_the_file(self):
         out = self.run_tool("ask", "--caps=SYS_ADMIN", "--nr=mount", self.engine)[1]

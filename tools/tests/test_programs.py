@@ -184,7 +184,7 @@ class Several(Case):
         self.assertIn("\nALLOW 0\n# the syscall is read (0)\n", out)
 
     def test_many_calls_take_one_tool(self):
-        """scf is started for each call, and for the path of its answer, and nothing else."""
+        """scf is started once for each call, and nothing else."""
         tree = self.made_tree("#!/bin/sh\necho \"$@\" >>\"$KEPT\"\necho ALLOW 0\n")
         path = os.path.join(self.folder, "kept")
         words = [word for number in range(29) for word in ("--nr", str(number))]
@@ -192,8 +192,7 @@ class Several(Case):
                               env={**os.environ, "KEPT": path})
         self.assertEqual(done[0], 0)
         with open(path, encoding="ascii") as file:
-            self.assertEqual(file.read(), "".join(f"decide --nr={number}\nrun --path --nr={number}\n"
-                                                  for number in range(29)))
+            self.assertEqual(file.read(), "".join(f"decide --nr={number} --path\n" for number in range(29)))
 
 
 class WhichFilter(Case):
