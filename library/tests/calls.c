@@ -480,7 +480,7 @@ static void wrong_tables(void) {
         if (i == 1) tables[2].architecture = SCF_TABLE_X86_64;
         if (i == 2) tables[1].architecture = SCF_TABLE_X32;
         if (i == 3) tables[0].architecture = 0;
-        if (i == 4) tables[2].architecture = 6;
+        if (i == 4) tables[2].architecture = SCF_ARCHITECTURES + 1;
         if (i == 5) tables[1].reserved = 1;
         if (i == 6) tables[1].has_stub = 2;
         unset();

@@ -94,7 +94,7 @@ def numbers_of_rust():
 
 
 def numbers_of_cpp():
-    enums = re.findall(r"enum class (\w+) : std::uint32_t { (\w+)( = 1)?(.*?) };", read(LIBRARY, "scf.hpp"))
+    enums = re.findall(r"enum class (\w+) : std::uint32_t {\s+(\w+)( = 1)?(.*?)\s};", read(LIBRARY, "scf.hpp"), re.S)
     return {name: plain(zip([first, *re.findall(r"\w+", rest)], itertools.count(1 if one else 0)))
             for name, first, one, rest in enums if name != "status"}
 
@@ -208,7 +208,7 @@ class Interface(Built):
         header = read(LIBRARY, "scf.h").replace("SCF_AUDIT_X32 SCF_AUDIT_X86_64", "SCF_AUDIT_X32 0xc000003eu")
         wanted = {name: int(number, 16) for name, number in re.findall(r"SCF_AUDIT_(\w+) (0x[0-9a-f]+)u", header)}
         self.assertEqual({member.name: member.audit for member in python_module().Architecture}, wanted)
-        values = re.search(r"audit := .*?{0, (.*?)}", read(LIBRARY, "go", "scf.go"))[1].split(", ")
+        values = re.findall(r'{"\w+", (0x[0-9a-f]+)}', read(LIBRARY, "go", "scf.go"))
         self.assertEqual([int(value, 16) for value in values], [*wanted.values()])
 
     def test_one_file_has_the_version(self):

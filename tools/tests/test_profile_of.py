@@ -608,7 +608,7 @@ class OtherArchitectures(Case):
     def test_drawn_for_several(self):
         """A filter that one profile answers as is read back in each architecture of that, beside the second reading."""
         seen = 0
-        for seed in range(40):
+        for seed in range(400):
             source = random.Random(f"several of {seed}")
             reading = several.draw(source)
             judged = list(reading.rules)
