@@ -70,7 +70,7 @@ static void architectures() {
     const auto each = scf::compare(other, both, tables, {.scope = scf::each_architecture});
     IS(each->verdict() == scf::verdict::fails && each->each.size() == 2);
     const auto all = scf::own_tables();
-    IS(all.size() == 5 && scf::compile(both, all).fault.kind == SCF_KIND_NOT_LISTED);
+    IS(all.size() == SCF_ARCHITECTURES && scf::compile(both, all).fault.kind == SCF_KIND_NOT_LISTED);
     IS(scf::compile({both.text, scf::reading::strict, true}, all)->left_out.not_looked_at == 0);
     IS(scf::compile(both, {}).status == scf::status::wrong_argument);
     IS(scf::table(static_cast<scf::architecture>(99)).at == nullptr);
