@@ -174,8 +174,11 @@ def _refuse_big_endian(name: str | None) -> None:
 
 
 def judged_in(text: str | None) -> Architecture:
-    """The architecture that a word names; without one this machine's own. Raises ToolError if scf doesn't judge it."""
+    """The architecture that a word names, or a number as `number_in` takes it; without one this machine's own. Raises
+    ToolError if scf doesn't judge it."""
     name = of_machine() if text is None else name_in(text)
+    if text is not None and re.fullmatch("(?:0x)?[0-9a-fA-F]+", text):
+        name = profile_name(int(number_in(text), 0))
     _refuse_big_endian(name)
     if name not in JUDGED:
         raise program.ToolError(f"no table of the architecture '{text}': scf has those of "

@@ -18,7 +18,8 @@ import argparse  # noqa: E402 pylint: disable=wrong-import-position
 
 
 ARCH_HELP = ("the architecture of the syscalls{}, and of the table if none is given: "
-             f"{', '.join(architectures.names_of(list(JUDGED)))} [default: this machine's{{}}]")
+             f"{', '.join(architectures.names_of(list(JUDGED)))}, or a number of linux/audit.h, as the audit log has "
+             "it [default: this machine's{}]")
 OWN_TABLE = "the syscall table; - is standard input [default: that of the architecture]"
 FILTER_HELP = "a filter: raw, or text (hexadecimal, a C array, tcpdump -ddd, scf's assembler)"
 # Options that few need, which -h leaves out, and the most others that it shows.

@@ -55,6 +55,18 @@ class Numbers(unittest.TestCase):
                              ("0", 0), ("20", 20)):
             self.assertEqual(int(architectures.number_in(text), 0), number, text)
 
+    def test_the_forms_of_one_that_is_judged(self):
+        """A number of linux/audit.h stands for the architecture too; that of x86-64 and x32 for x86-64."""
+        for text, name in (("x86-64", "x86-64"), ("c000003e", "x86-64"), ("0xC000003E", "x86-64"), ("x32", "x32"),
+                           ("3221225655", "aarch64"), ("0x40000003", "i386"), ("c0000102", "loongarch64")):
+            self.assertEqual(architectures.judged_in(text).name, name, text)
+        for text, says in (("abc", "no table of the architecture 'abc'"), ("0", "no table of the architecture '0'"),
+                           ("i387", "no table of the architecture 'i387'"), ("0x80000016", "S390X is big-endian"),
+                           ("40000003", "is ambiguous")):
+            with self.assertRaises(program.ToolError) as caught:
+                architectures.judged_in(text)
+            self.assertIn(says, str(caught.exception))
+
     def test_what_is_ambiguous_unknown_or_big_endian(self):
         big_endian = "is big-endian: its filters and records have another byte order, which scf doesn't read"
         for text, says in (("40000003", "write 0x40000003 for SCMP_ARCH_X86, as the audit log has it, or 0x2625a03 "
