@@ -5,6 +5,7 @@ import json
 import os
 import re
 import shutil
+import signal
 import subprocess
 import time
 import unittest
@@ -273,7 +274,9 @@ class Runtimes(Containers):
                                          self.name])
             if status:
                 self.skipTest(f"crun creates no container here: {message.strip()}")
-            self.assertEqual(self.said([*call, "start", self.name])[0], 0)
+            # (where a hook kills the container early, crun may write to one that is gone)
+            status, _ = self.said([*call, "start", self.name])
+            self.assertTrue(status == 0 or "--kill" in words and status == -signal.SIGPIPE, status)
             yield int(self.text(f"{self.folder}/pid"))
         finally:
             self.said([*call, "delete", "--force", self.name])
