@@ -1,6 +1,6 @@
 //! The architectures that a profile can name (OCI runtime specification, config-linux.md, seccomp).
 
-ghost use Rattle.std.specs.Prelude.{◌≡◌, ◌↔◌, IsTrue};
+ghost use Rattle.std.specs.Prelude.{◌≡◌, ◌↔◌, ◌-◌, ◌^◌, IsTrue};
 ghost use Rattle.scf_insn.specs.Architectures.{architectures, greatest_argument, row_of, taken_of, IsOf};
 
 use crate::kernel::{
@@ -9,6 +9,7 @@ use crate::kernel::{
     AUDIT_ARCH_X86_64, X32_SYSCALL_BIT,
 };
 use crate::record::CallRecord;
+use ArgumentBits::{Bits32, Bits64};
 
 /// How many bits of a register are an argument: all 64, or the low 32.
 #[derive(Clone, Copy, PartialEq, Eq)]
@@ -66,6 +67,26 @@ struct Row {
     part: &'static str,
 }
 
+/// A row with every number.
+fn whole(audit: u32, bits: ArgumentBits, name: &'static str, part: &'static str) -> Row
+    ensures audit { result.audit ≡ audit }
+    ensures first { result.first ≡ 0 }
+    ensures last { result.last ≡ 2 ^ 32 - 1 }
+    ensures bits { result.bits ≡ bits }
+    ensures name { result.name.now ≡ name.now }
+    ensures part { result.part.now ≡ part.now }
+{
+    let (first, last) = (0, u32::MAX);
+    Row {
+        audit,
+        first,
+        last,
+        bits,
+        name,
+        part,
+    }
+}
+
 /// How many architectures there are.
 pub const ARCHITECTURES: usize = 11;
 
@@ -97,103 +118,60 @@ impl Architecture {
         ensures name { result.name.now ≡ (row_of self).name }
         ensures part { result.part.now ≡ (row_of self).part }
     {
-        let (audit, first, last, bits, name, part) = match self {
-            Architecture::X8664 => (
-                AUDIT_ARCH_X86_64,
-                0,
-                X32_SYSCALL_BIT - 1,
-                ArgumentBits::Bits64,
-                "SCMP_ARCH_X86_64",
-                "table",
-            ),
-            Architecture::X86 => (
-                AUDIT_ARCH_I386,
-                0,
-                u32::MAX,
-                ArgumentBits::Bits32,
-                "SCMP_ARCH_X86",
-                "table-x86",
-            ),
-            Architecture::X32 => (
-                AUDIT_ARCH_X86_64,
-                X32_SYSCALL_BIT,
-                u32::MAX,
-                ArgumentBits::Bits32,
-                "SCMP_ARCH_X32",
-                "table-x32",
-            ),
-            Architecture::Aarch64 => (
+        use Architecture::*;
+        match self {
+            X8664 => Row {
+                last: X32_SYSCALL_BIT - 1,
+                ..whole(AUDIT_ARCH_X86_64, Bits64, "SCMP_ARCH_X86_64", "table")
+            },
+            X86 => whole(AUDIT_ARCH_I386, Bits32, "SCMP_ARCH_X86", "table-x86"),
+            X32 => Row {
+                first: X32_SYSCALL_BIT,
+                ..whole(AUDIT_ARCH_X86_64, Bits32, "SCMP_ARCH_X32", "table-x32")
+            },
+            Aarch64 => whole(
                 AUDIT_ARCH_AARCH64,
-                0,
-                u32::MAX,
-                ArgumentBits::Bits64,
+                Bits64,
                 "SCMP_ARCH_AARCH64",
                 "table-aarch64",
             ),
-            Architecture::Arm => (
-                AUDIT_ARCH_ARM,
-                0,
-                u32::MAX,
-                ArgumentBits::Bits32,
-                "SCMP_ARCH_ARM",
-                "table-arm",
-            ),
-            Architecture::Riscv64 => (
+            Arm => whole(AUDIT_ARCH_ARM, Bits32, "SCMP_ARCH_ARM", "table-arm"),
+            Riscv64 => whole(
                 AUDIT_ARCH_RISCV64,
-                0,
-                u32::MAX,
-                ArgumentBits::Bits64,
+                Bits64,
                 "SCMP_ARCH_RISCV64",
                 "table-riscv64",
             ),
-            Architecture::Ppc64le => (
+            Ppc64le => whole(
                 AUDIT_ARCH_PPC64LE,
-                0,
-                u32::MAX,
-                ArgumentBits::Bits64,
+                Bits64,
                 "SCMP_ARCH_PPC64LE",
                 "table-ppc64le",
             ),
-            Architecture::Mipsel => (
+            Mipsel => whole(
                 AUDIT_ARCH_MIPSEL,
-                0,
-                u32::MAX,
-                ArgumentBits::Bits32,
+                Bits32,
                 "SCMP_ARCH_MIPSEL",
                 "table-mipsel",
             ),
-            Architecture::Mipsel64 => (
+            Mipsel64 => whole(
                 AUDIT_ARCH_MIPSEL64,
-                0,
-                u32::MAX,
-                ArgumentBits::Bits64,
+                Bits64,
                 "SCMP_ARCH_MIPSEL64",
                 "table-mipsel64",
             ),
-            Architecture::Mipsel64n32 => (
+            Mipsel64n32 => whole(
                 AUDIT_ARCH_MIPSEL64N32,
-                0,
-                u32::MAX,
-                ArgumentBits::Bits32,
+                Bits32,
                 "SCMP_ARCH_MIPSEL64N32",
                 "table-mipsel64n32",
             ),
-            Architecture::Loongarch64 => (
+            Loongarch64 => whole(
                 AUDIT_ARCH_LOONGARCH64,
-                0,
-                u32::MAX,
-                ArgumentBits::Bits64,
+                Bits64,
                 "SCMP_ARCH_LOONGARCH64",
                 "table-loongarch64",
             ),
-        };
-        Row {
-            audit,
-            first,
-            last,
-            bits,
-            name,
-            part,
         }
     }
 
