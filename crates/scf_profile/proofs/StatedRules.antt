@@ -3,7 +3,7 @@ use Rattle.scf_profile.proofs.Common.{◌≡◌, ℕ, suc, Bool, ◌+◌, ◌<�
 use Rattle.scf_insn.proofs.Architectures.{number_within}
 use Rattle.scf_profile.specs.declared.entry.Entry.{Entry}
 use Rattle.scf_profile.specs.Loading.{IsClash}
-use Rattle.scf_profile.specs.declared.reading.Reading.TheVariants.{Strict, Runc, Crun}
+use Rattle.scf_profile.specs.Readings.{is_runtime}
 use Rattle.scf_profile.proofs.Answering.{conflicts_both_ways}
 
 -- the rule that an entry at an index states by conditions for a number
@@ -169,9 +169,10 @@ filter_stated p a rules stated =
 
 pub effective_stated : (reading : Reading) (a : Architecture) (rules : List Rule) → AreStatedRules a rules
     → AreStatedRules a (effective_rules reading a rules)
-effective_stated Strict a rules stated = stated
-effective_stated Runc a rules stated = filter_stated (is_effective a rules) a rules stated
-effective_stated Crun a rules stated = filter_stated (is_effective a rules) a rules stated
+effective_stated reading a rules stated = by_test (is_runtime reading) where
+  by_test : (b : Bool) → AreStatedRules a (cond b (filter (is_effective a rules) rules) rules)
+  by_test true = filter_stated (is_effective a rules) a rules stated
+  by_test false = stated
 
 -- ---- conflicts
 

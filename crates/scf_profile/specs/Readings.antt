@@ -1,6 +1,7 @@
 -- In which points a container runtime reads a profile otherwise than its words say. runc (getAction and matchCall of
 -- libcontainer/seccomp) and crun (libcrun_generate_seccomp of src/libcrun/seccomp.c) hand the entries, one after
--- another, to libseccomp (src/db.c). Neither knows an errno by name: podman writes its number before.
+-- another, to libseccomp (src/db.c). Neither knows an errno by name: podman writes its number before. The reading of a
+-- sandbox differs in TRAP's data alone (`takes_data` of StatedProfile.antt).
 use Rattle.std.specs.Prelude.{ℕ, Bool, true, false, ◌&&◌, ◌||◌, ◌==◌, List, [], ◌∷◌, map, take, if◌then◌else◌}
 use Rattle.std.specs.Prelude.{Option, Some, None}
 use Rattle.std.specs.List.{filter, find, list_all, list_any}
@@ -14,14 +15,15 @@ use Rattle.scf_profile.specs.declared.condition.Operator.{Operator}
 use Rattle.scf_profile.specs.declared.condition.Operator.TheVariants.{MaskedEqual}
 use Rattle.scf_profile.specs.declared.condition.Condition.{Condition}
 use Rattle.scf_profile.specs.declared.reading.Reading.{Reading}
-use Rattle.scf_profile.specs.declared.reading.Reading.TheVariants.{Strict, Runc, Crun}
+use Rattle.scf_profile.specs.declared.reading.Reading.TheVariants.{Runc, Crun}
 use Rattle.scf_profile.specs.declared.rule.Rule.{Rule}
 use Rattle.scf_profile.specs.Profile.{Profile}
 
 -- A runtime's reading. Its filter has the machine's own architecture, whether or not that is listed (seccomp_init).
 abbrev pub is_runtime : Reading → Bool
-is_runtime Strict = false
-is_runtime reading = true
+is_runtime Runc = true
+is_runtime Crun = true
+is_runtime reading = false
 
 -- ---- entries
 
@@ -32,8 +34,7 @@ ignores_errno reading = false
 
 -- A runtime leaves out the entries whose answer is the default's: libseccomp takes none of them.
 abbrev pub left_out : Reading → Answer → Option Answer
-left_out Strict default_answer = None
-left_out reading default_answer = Some default_answer
+left_out reading default_answer = if is_runtime reading then Some default_answer else None
 
 -- the conditions of an entry that are read: crun reads the first six
 abbrev pub conditions_read : Reading → List Condition → List Condition
@@ -78,8 +79,8 @@ is_effective architecture rules r =
 -- libseccomp may refuse the second (EEXIST of _db_tree_add): they stay a conflict, but where a rule without conditions
 -- has their calls. A runtime may refuse these, too.
 abbrev pub effective_rules : Reading → Architecture → List Rule → List Rule
-effective_rules Strict architecture rules = rules
-effective_rules reading architecture rules = filter (is_effective architecture rules) rules
+effective_rules reading architecture rules =
+    if is_runtime reading then filter (is_effective architecture rules) rules else rules
 
 abbrev pub effective_profile : Reading → Profile → Profile
 effective_profile reading p = record p { rules = effective_rules reading p.architecture p.rules }

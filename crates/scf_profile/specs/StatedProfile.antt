@@ -30,7 +30,7 @@ use Rattle.scf_profile.specs.declared.load_fault.LoadFault.TheVariants as faults
 use Rattle.scf_profile.specs.declared.loaded.Loaded.{Loaded}
 use Rattle.scf_profile.specs.declared.loaded.LoadedProfiles.{LoadedProfiles}
 use Rattle.scf_profile.specs.declared.reading.Reading.{Reading}
-use Rattle.scf_profile.specs.declared.reading.Reading.TheVariants.{Strict}
+use Rattle.scf_profile.specs.declared.reading.Reading.TheVariants.{Sandbox}
 use Rattle.scf_profile.specs.Profile.{Profile}
 use Rattle.scf_profile.specs.Steps.{◌>>=◌, refused_if}
 use Rattle.scf_profile.specs.JsonMembers.{member, whole_number, unsigned_number, each}
@@ -65,13 +65,21 @@ takes_errno actions.Errno = true
 takes_errno actions.Trace = true
 takes_errno action = false
 
+-- In a sandbox's reading an errno is TRAP's data, too: the kernel hands them to the handler of SIGSYS as si_errno
+-- (seccomp(2)).
+abbrev pub takes_data : Reading → Action → Bool
+takes_data Sandbox actions.Trap = true
+takes_data reading action = takes_errno action
+
 -- an errno that is there; one that is ignored is a number from 0 on all the same
 unfoldable pub errno_of : Reading → Option ℕ → Action → Data → Result ℕ LoadFault
 errno_of reading entry action d = do
   number ← ok_or (whole_number d) (faults.Kind entry)
-  _ ← refused_if (not (takes_errno action || ignores_errno reading)) (faults.Errno entry)
-  errno ← ok_or (number_below (if takes_errno action then max_errno + 1 else 2 ^ 64) number) (faults.ErrnoRange entry)
-  Ok (if takes_errno action then errno else 0)
+  _ ← refused_if (not (takes_data reading action || ignores_errno reading)) (faults.Errno entry)
+  errno ← ok_or
+      (number_below (if takes_data reading action then max_errno + 1 else 2 ^ 64) number)
+      (faults.ErrnoRange entry)
+  Ok (if takes_data reading action then errno else 0)
 
 -- an action with its errno, which is 1 (EPERM) where it takes one and has none
 unfoldable pub answer_in : Reading → Option ℕ → List ℕ → List ℕ → Data → Result Answer LoadFault
@@ -238,8 +246,9 @@ own_architecture tables = if is_some (table_for tables X8664) then X8664 else Aa
 
 -- no names stand for the machine's own; a runtime's filter has that one beside all names
 abbrev pub listed_names : Reading → Tables → List (List ℕ) → List (List ℕ)
-listed_names Strict tables (name ∷ names) = name ∷ names
-listed_names reading tables names = (row_of (own_architecture tables)).name ∷ names
+listed_names reading tables names =
+    if not (is_runtime reading) && nat_lt 0 (length names) then names
+    else (row_of (own_architecture tables)).name ∷ names
 
 -- each table's architecture has to be among the names; the tables begin at this index
 unfoldable pub all_listed : ℕ → List (List ℕ) → Tables → Result ⊤ LoadFault

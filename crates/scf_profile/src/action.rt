@@ -4,7 +4,7 @@ ghost use Rattle.std.specs.Prelude.{◌≡◌, ◌<◌, ◌^◌, ok_or, IfOk};
 ghost use Rattle.serde_json.specs.Find.{as_str};
 ghost use Rattle.serde_json.specs.View.{view};
 ghost use Rattle.scf_profile.specs.declared.load_fault.LoadFault.TheVariants as faults;
-ghost use Rattle.scf_profile.specs.StatedProfile.{required, action_named, takes_errno as errno_taken};
+ghost use Rattle.scf_profile.specs.StatedProfile.{required, action_named, takes_errno as errno_taken, takes_data as data_taken};
 ghost use Rattle.scf_profile.specs.StatedProfile.{errno_of as errno_stated, answer_in};
 ghost use Rattle.scf_profile.specs.Steps.{◌>>=◌ as and_then};
 
@@ -39,6 +39,13 @@ fn takes_errno(action: Action) -> bool
     matches!(action, Action::Errno | Action::Trace)
 }
 
+/// Whether an errno beside the action is its data: that of TRAP is in a sandbox's reading.
+fn takes_data(reading: Reading, action: Action) -> bool
+    ensures { result ≡ data_taken reading action }
+{
+    takes_errno(action) || matches!((reading, action), (Reading::Sandbox, Action::Trap))
+}
+
 /// The action that a member of the object names.
 fn find_action(entry: Option<u32>, name: &str, object: &Value) -> Result<Action, LoadFault>
     ensures { result ≡ and_then (required entry name.now as_str (view object.now))
@@ -63,11 +70,11 @@ fn errno_of(
     if number.is_none() && !value.is_i64() {
         return Err(LoadFault::Kind { entry });
     }
-    if !takes_errno(action) && !reading.ignores_errno() {
+    if !takes_data(reading, action) && !reading.ignores_errno() {
         return Err(LoadFault::Errno { entry });
     }
     match number {
-        Some(_) if !takes_errno(action) => Ok(0),
+        Some(_) if !takes_data(reading, action) => Ok(0),
         Some(errno) if errno <= MAX_ERRNO => Ok(errno as u16),
         _ => Err(LoadFault::ErrnoRange { entry }),
     }

@@ -53,8 +53,8 @@ pub(crate) fn effective_rules(
 ) -> Result<Vec<Rule>, AllocError>
     ensures { IfOk result (λ own. own.items ≡ effective_by reading architecture rules.items) }
 {
-    match reading {
-        Reading::Strict => Ok(rules),
-        Reading::Runc | Reading::Crun => copy_effective(alloc, architecture, &rules),
+    if !reading.is_runtime() {
+        return Ok(rules);
     }
+    copy_effective(alloc, architecture, &rules)
 }

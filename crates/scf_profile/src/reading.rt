@@ -5,7 +5,8 @@ ghost use Rattle.scf_profile.specs.Readings.{ignores_errno as errno_ignored, is_
 
 use scf_insn::Answer;
 
-/// How a profile is read: by its words, or as a container runtime reads it that hands it to libseccomp.
+/// How a profile is read: by its words, as a container runtime reads it that hands it to libseccomp, or as what a
+/// program's own sandbox answers.
 #[derive(Clone, Copy, Debug, PartialEq, Eq)]
 pub enum Reading {
     /// By its words (OCI runtime specification).
@@ -14,6 +15,8 @@ pub enum Reading {
     Runc,
     /// As crun does.
     Crun,
+    /// By its words, with an errno beside SCMP_ACT_TRAP as its data.
+    Sandbox,
 }
 
 impl Reading {
@@ -21,7 +24,7 @@ impl Reading {
     pub(crate) fn is_runtime(self) -> bool
         ensures { result ≡ runtime self }
     {
-        !matches!(self, Reading::Strict)
+        matches!(self, Reading::Runc | Reading::Crun)
     }
 
     /// Whether an errno beside an action that takes none is ignored.
@@ -35,9 +38,10 @@ impl Reading {
     pub(crate) fn left_out(self, default_answer: Answer) -> Option<Answer>
         ensures { result ≡ left_out_by self default_answer }
     {
-        match self {
-            Reading::Strict => None,
-            Reading::Runc | Reading::Crun => Some(default_answer),
+        if self.is_runtime() {
+            Some(default_answer)
+        } else {
+            None
         }
     }
 }
