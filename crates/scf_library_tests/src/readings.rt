@@ -1,5 +1,5 @@
-//! Profiles as runc and crun read them, and runc's stub. The expected values are worked out by hand from the rules of
-//! the runtimes and of libseccomp, whose sources scf_profile's Readings.antt and Stub.antt name.
+//! Profiles as runc and crun read them, and with TRAP's data, and runc's stub. The expected values are worked out by
+//! hand from the rules of the runtimes and of libseccomp, whose sources scf_profile's Readings.antt and Stub.antt name.
 
 use crate::fixtures::{call, holds_at, table};
 use scf_insn::{Architecture, CallRecord};
@@ -7,7 +7,7 @@ use scf_profile::{
     ArchitectureTable, LoadFault, Loaded, LoadedProfiles, Profile, Profiles, Reading, Reason,
     load_as, load_profiles_as,
 };
-use std::alloc::Global;
+use std::alloc::{AllocError, Global};
 use std::process::Abort;
 
 const X86_64: u32 = 0xc000_003e;
@@ -163,7 +163,7 @@ fn conflict(number: u32) -> LoadFault {
     }
 }
 
-fn refused() -> [Refused; 15] {
+fn refused() -> [Refused; 18] {
     let repeated = LoadFault::RepeatedIndex { entry: Some(0) };
     let errno = LoadFault::Errno { entry: Some(0) };
     let range = LoadFault::ErrnoRange { entry: Some(0) };
@@ -180,10 +180,17 @@ fn refused() -> [Refused; 15] {
         (Reading::Strict, SEVEN, repeated),
         (Reading::Strict, ERRNO_UNUSED, errno),
         (Reading::Crun, ERRNO_UNUSED, errno),
+        (Reading::Sandbox, DEFAULT_FIRST, conflict(0)),
+        (Reading::Sandbox, ALTERNATIVES, repeated),
         (Reading::Runc, ERRNO_TOO_GREAT, range),
         (Reading::Crun, ERRNO_TOO_GREAT, range),
         (
             Reading::Strict,
+            I386_LISTED,
+            LoadFault::NoX8664 { entry: None },
+        ),
+        (
+            Reading::Sandbox,
             I386_LISTED,
             LoadFault::NoX8664 { entry: None },
         ),
@@ -202,6 +209,85 @@ fn is_refused(rt: &impl Abort, alloc: Global, row: &Refused) -> bool {
 fn refused_by_reading(rt: HostRuntime) {
     for (i, row) in refused().iter().enumerate() {
         holds_at(&rt, is_refused(&rt, rt.alloc(), row), i);
+    }
+}
+
+/// A reading, the entry that has an errno (`None`: the default), its action, the errno as JSON, and the answer or the
+/// fault.
+type WithErrno = (
+    Reading,
+    Option<u32>,
+    &'static str,
+    &'static str,
+    Result<u32, LoadFault>,
+);
+
+/// TRAP's data have 16 bits (seccomp(2): SECCOMP_RET_DATA), as those of ERRNO and TRACE.
+fn with_errno() -> [WithErrno; 19] {
+    let entry = Some(0);
+    let (range, kind) = (LoadFault::ErrnoRange { entry }, LoadFault::Kind { entry });
+    let (none, none_of_default) = (LoadFault::Errno { entry }, LoadFault::Errno { entry: None });
+    let range_of_default = LoadFault::ErrnoRange { entry: None };
+    [
+        (Reading::Sandbox, entry, "TRAP", "0", Ok(0x0003_0000)),
+        (Reading::Sandbox, entry, "TRAP", "3", Ok(0x0003_0003)),
+        (Reading::Sandbox, entry, "TRAP", "65535", Ok(0x0003_ffff)),
+        (Reading::Sandbox, entry, "TRAP", "null", Ok(0x0003_0000)),
+        (Reading::Sandbox, entry, "TRAP", "65536", Err(range)),
+        (Reading::Sandbox, entry, "TRAP", "-1", Err(range)),
+        (Reading::Sandbox, entry, "TRAP", "\"EPERM\"", Err(kind)),
+        (Reading::Sandbox, entry, "TRAP", "1.5", Err(kind)),
+        (Reading::Sandbox, entry, "TRACE", "3", Ok(0x7ff0_0003)),
+        (Reading::Sandbox, entry, "ERRNO", "65536", Err(range)),
+        (Reading::Sandbox, entry, "ALLOW", "3", Err(none)),
+        (Reading::Sandbox, entry, "KILL", "0", Err(none)),
+        (Reading::Sandbox, None, "TRAP", "3", Ok(0x0003_0003)),
+        (
+            Reading::Sandbox,
+            None,
+            "TRAP",
+            "65536",
+            Err(range_of_default),
+        ),
+        (Reading::Sandbox, None, "LOG", "3", Err(none_of_default)),
+        (Reading::Strict, entry, "TRAP", "3", Err(none)),
+        (Reading::Strict, None, "TRAP", "0", Err(none_of_default)),
+        (Reading::Crun, entry, "TRAP", "3", Err(none)),
+        (Reading::Runc, entry, "TRAP", "3", Ok(0x0003_0000)),
+    ]
+}
+
+fn text_with(
+    alloc: Global,
+    entry: Option<u32>,
+    action: &str,
+    errno: &str,
+) -> Result<String, AllocError> {
+    match entry {
+        Some(_) => format!(in alloc;
+            "{{\"defaultAction\":\"SCMP_ACT_LOG\",\"syscalls\":[{{\"names\":[\"read\"],
+            \"action\":\"SCMP_ACT_{action}\",\"errnoRet\":{errno}}}]}}"
+        ),
+        None => format!(in alloc;
+            "{{\"defaultAction\":\"SCMP_ACT_{action}\",\"defaultErrnoRet\":{errno}}}"
+        ),
+    }
+}
+
+fn is_as_wanted(rt: &impl Abort, alloc: Global, row: &WithErrno) -> bool {
+    let (reading, entry, action, errno, wanted) = *row;
+    let text = text_with(alloc, entry, action, errno).expect(rt, "no fault");
+    match (profile_by(rt, alloc, reading, text.as_str()), wanted) {
+        (Ok(profile), Ok(answer)) => profile.answer(&call(0, X86_64, [0; 6])).0 == answer,
+        (Err(fault), Err(wanted)) => fault == wanted,
+        _ => false,
+    }
+}
+
+#[test]
+fn errno_by_reading(rt: HostRuntime) {
+    for (i, row) in with_errno().iter().enumerate() {
+        holds_at(&rt, is_as_wanted(&rt, rt.alloc(), row), i);
     }
 }
 
