@@ -7,7 +7,7 @@ use Rattle.scf_insn.specs.declared.record.CallRecord.{CallRecord}
 use Rattle.scf_insn.specs.Kernel.{audit_arch_x86_64}
 use Rattle.scf_insn.specs.Numbers.{number_of}
 use Rattle.scf_profile.specs.declared.reading.Reading.{Reading}
-use Rattle.scf_profile.specs.declared.reading.Reading.TheVariants.{Strict, Runc, Crun}
+use Rattle.scf_profile.specs.declared.reading.Reading.TheVariants.{Strict, Runc, Crun, Sandbox}
 use Rattle.scf_profile.specs.declared.relation.Relation.{Relation}
 use Rattle.scf_profile.specs.declared.relation.Relation.TheVariants.{Same, NoMore, NoLess, SameDisposition}
 use Rattle.scf_request.specs.declared.options.NumberFault.{NumberFault}
@@ -99,7 +99,8 @@ abbrev pub reading_option : List ℕ
 reading_option = codes "reading"
 
 abbrev pub readings : List (List ℕ × Reading)
-readings = (codes "strict", Strict) ∷ (codes "runc", Runc) ∷ (codes "crun", Crun) ∷ []
+readings =
+    (codes "strict", Strict) ∷ (codes "runc", Runc) ∷ (codes "crun", Crun) ∷ (codes "sandbox", Sandbox) ∷ []
 
 abbrev pub reading_named : List ℕ → Option Reading
 reading_named name = option_map (λ reading. reading.1) (find (λ reading. bytes_eq name reading.0) readings)

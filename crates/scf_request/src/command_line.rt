@@ -27,7 +27,7 @@ const NATIVE_HELP: &str = "Only calls of x86-64 with numbers below 0x40000000";
 
 /// The help of `--reading`.
 const READING_HELP: &str =
-    "How a profile is read: by its words, as `strict`, or as `runc` or `crun` does [default: strict]";
+    "How a profile is read: by its words (`strict`), as `runc` or `crun` does, or as a `sandbox` [default: strict]";
 
 /// The help of `--architectures` beside a profile alone.
 const TABLES_HELP: &str =

@@ -134,6 +134,7 @@ fn reading_named(name: &str) -> Option<Reading>
         "strict" => Some(Reading::Strict),
         "runc" => Some(Reading::Runc),
         "crun" => Some(Reading::Crun),
+        "sandbox" => Some(Reading::Sandbox),
         _ => None,
     }
 }
