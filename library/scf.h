@@ -248,8 +248,8 @@ struct scf_table {
 /* ---- a profile: OCI's seccomp object in JSON, or a config with one */
 
 /* How a profile is read: by its words, or as a runtime reads it that hands it to libseccomp. Engines write profiles
- * that only their runtime takes. */
-enum scf_reading { SCF_STRICT = 0, SCF_RUNC = 1, SCF_CRUN = 2 };
+ * that only their runtime takes. SCF_SANDBOX is by the words, but errnoRet beside SCMP_ACT_TRAP is its data. */
+enum scf_reading { SCF_STRICT = 0, SCF_RUNC = 1, SCF_CRUN = 2, SCF_SANDBOX = 3 };
 
 /* Without this flag a table of an architecture that the profile doesn't list is refused (SCF_KIND_NOT_LISTED); with it
  * such tables are skipped. */

@@ -29,7 +29,7 @@ enum class architecture : std::uint32_t {
 enum class relation : std::uint32_t { same, no_more, no_less, same_disposition };
 enum class verdict : std::uint32_t { none, holds, fails, undecided, unfinished };
 enum class reason : std::uint32_t { none, by_default, by_entry, foreign, by_stub };
-enum class reading : std::uint32_t { strict, runc, crun };
+enum class reading : std::uint32_t { strict, runc, crun, sandbox };
 
 /* What a call hands out, or why not. Like std::optional it is true if there is a value. */
 template <class T> struct result {

@@ -55,13 +55,15 @@ type Table struct {
 	Stub         uint32
 }
 
-// Reading is how a profile is read: by its words, or as a runtime reads it that hands it to libseccomp.
+// Reading is how a profile is read: by its words, as a runtime reads it that hands it to libseccomp, or, as Sandbox, by
+// its words with errnoRet beside SCMP_ACT_TRAP as its data.
 type Reading uint32
 
 const (
 	Strict Reading = iota
 	Runc
 	Crun
+	Sandbox
 )
 
 // Architecture says whose syscalls a table numbers.
@@ -282,7 +284,9 @@ func (r Relation) String() string {
 	return nameOf("Relation", uint32(r), 0, "same", "no more", "no less", "same disposition")
 }
 
-func (r Reading) String() string { return nameOf("Reading", uint32(r), 0, "strict", "runc", "crun") }
+func (r Reading) String() string {
+	return nameOf("Reading", uint32(r), 0, "strict", "runc", "crun", "sandbox")
+}
 
 func (v Verdict) String() string {
 	return nameOf("Verdict", uint32(v), 1, "holds", "fails", "undecided", "unfinished")

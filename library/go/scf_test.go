@@ -114,6 +114,9 @@ func TestReadings(t *testing.T) {
 		answer, err = Profile{Text: text, Reading: reading}.Ask(write, stubbed)
 		is(t, []any{answer, err}, []any{ProfileAnswer{0x50026, ByStub, 0, LeftOut{}}, nil})
 	}
+	trap := []byte(`{"defaultAction": "SCMP_ACT_TRAP", "defaultErrnoRet": 3}`)
+	answer, err := Profile{Text: trap, Reading: Sandbox}.Ask(write, table)
+	is(t, []any{answer, err}, []any{ProfileAnswer{0x30003, ByDefault, 0, LeftOut{}}, nil})
 }
 
 func TestArchitectures(t *testing.T) {
@@ -220,7 +223,7 @@ func TestNames(t *testing.T) {
 	}{
 		{"ERRNO 1", Answer(retEperm)}, {"UNNAMED 0x7ffe0001", Answer(0x7ffe0001)}, {"ALLOW", Answer(retAllow).Action()},
 		{"fails", Fails}, {"Verdict(0)", Verdict(0)}, {"Verdict(9)", Verdict(9)}, {"same", Same}, {"no less", NoLess},
-		{"entry", ByEntry}, {"stub", ByStub}, {"crun", Crun}, {"arm", Arm}, {"loongarch64", Loongarch64},
+		{"entry", ByEntry}, {"stub", ByStub}, {"sandbox", Sandbox}, {"arm", Arm}, {"loongarch64", Loongarch64},
 		{"Architecture(99)", Architecture(99)}, {"NotListed", KindNotListed},
 		{"Kind(99)", Kind(99)}, {"compare", SourceCompare},
 	} {

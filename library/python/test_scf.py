@@ -89,6 +89,8 @@ class Calls(unittest.TestCase):
             self.assertEqual(scf.ask(profile, NAMES, WRITE), (RET_ALLOW, scf.Reason.ENTRY, 0, NOTHING))
             self.assertEqual(scf.ask(profile, [NATIVE._replace(stub=1)], WRITE),
                              (0x00050026, scf.Reason.STUB, None, NOTHING))
+        trap = scf.Profile(b'{"defaultAction": "SCMP_ACT_TRAP", "defaultErrnoRet": 3}', scf.Reading.SANDBOX)
+        self.assertEqual(scf.ask(trap, NAMES, WRITE), (0x00030003, scf.Reason.DEFAULT, None, NOTHING))
 
     def test_comparisons(self):
         allow = scf.Filters([ALLOW])

@@ -180,6 +180,20 @@ static void readings(void) {
     }
 }
 
+/* TRAP's data stand beside it; any other reading but runc's, which ignores them, refuses them. */
+static void trap_data(void) {
+    static const char trap[] = "{\"defaultAction\": \"SCMP_ACT_TRAP\", \"defaultErrnoRet\": 3}";
+    struct scf_table names = table_of(SCF_TABLE_X86_64, table);
+    struct scf_call read = call_of(0);
+    uint32_t reading;
+    for (reading = SCF_STRICT; reading <= SCF_SANDBOX; reading++) {
+        struct scf_profile own = read_by(trap, reading);
+        int is_taken = reading == SCF_RUNC || reading == SCF_SANDBOX;
+        IS(scf_ask(&own, &names, 1, &read, &reply, &fault) == (is_taken ? SCF_OK : SCF_REFUSED));
+        IS(is_taken ? reply.answer == (reading == SCF_RUNC ? 0x30000 : 0x30003) : fault.kind == SCF_KIND_ERRNO);
+    }
+}
+
 static uint32_t compare(const struct scf_side *left, const struct scf_side *right,
                         const struct scf_question *question) {
     struct scf_table names = table_of(SCF_TABLE_X86_64, table);
@@ -498,7 +512,7 @@ static void wrong_tables(void) {
     }
     set_tables();
     for (i = 0; i < 4; i++) {
-        own = read_by("{", i == 0 ? 3 : SCF_CRUN);
+        own = read_by("{", i == 0 ? 4 : SCF_CRUN);
         if (i == 1) own.flags = 2;
         if (i >= 2) own.reserved[i - 2] = 1;
         IS(scf_ask(&own, tables, 3, &call, &reply, &fault) == SCF_WRONG_ARGUMENT);
@@ -585,6 +599,7 @@ int main(void) {
     texts();
     profiles();
     readings();
+    trap_data();
     comparisons();
     stacks_beside();
     profiles_beside();

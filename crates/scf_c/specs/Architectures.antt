@@ -8,7 +8,7 @@ use Rattle.scf_insn.specs.declared.architecture.Architecture.{Architecture}
 use Rattle.scf_profile.specs.Profile.{Profile}
 use Rattle.scf_profile.specs.StatedProfile.{is_named}
 use Rattle.scf_profile.specs.declared.reading.Reading.{Reading}
-use Rattle.scf_profile.specs.declared.reading.Reading.TheVariants.{Strict}
+use Rattle.scf_profile.specs.declared.reading.Reading.TheVariants.{Strict, Sandbox}
 use Rattle.scf_request.specs.declared.interpretation.Stub.{Stub}
 use Rattle.scf_c.specs.declared.layout.Table.{Table}
 
@@ -72,6 +72,7 @@ own_number tables = if count_for 1 tables == 0 then 4 else 1
 -- A table is that of the machine's own architecture, which a runtime adds to the names, and for which no names stand.
 abbrev pub is_own : Reading → List (List ℕ) → List Table → Table → Bool
 is_own Strict (name ∷ names) tables table = false
+is_own Sandbox (name ∷ names) tables table = false
 is_own reading names tables table = table.architecture == own_number tables
 
 -- the tables of the architectures that a profile with these names lists

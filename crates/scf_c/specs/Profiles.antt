@@ -3,7 +3,7 @@ use Rattle.std.specs.Prelude.{◌≡◌, ◌≢◌, ◌⊎◌, ◌<◌, ◌≤�
 use Rattle.scf_insn.specs.Kernel.{bpf_maxinsns}
 use Rattle.scf_profile.specs.declared.loaded.LoadedProfiles.{LoadedProfiles}
 use Rattle.scf_profile.specs.declared.reading.Reading.{Reading}
-use Rattle.scf_profile.specs.declared.reading.Reading.TheVariants.{Strict, Runc, Crun}
+use Rattle.scf_profile.specs.declared.reading.Reading.TheVariants.{Strict, Runc, Crun, Sandbox}
 use Rattle.scf_profile.specs.declared.reason.Reason.{Reason}
 use Rattle.scf_profile.specs.declared.reason.Reason.TheVariants.{Foreign, Stub, Entry, Default}
 use Rattle.scf_compile.specs.SizeBound.{size_bound_of_each}
@@ -26,6 +26,7 @@ abbrev pub reading_number : Reading → ℕ
 reading_number Strict = 0
 reading_number Runc = 1
 reading_number Crun = 2
+reading_number Sandbox = 3
 
 -- The numbers of a profile ask for this reading.
 pub record IsReadBy (profile : ProfileInput) (reading : Reading) : Type 0 where

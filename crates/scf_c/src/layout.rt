@@ -105,7 +105,7 @@ pub struct Table<'a> {
 #[repr(C)]
 pub struct ProfileInput<'a> {
     pub text: &'a [u8],
-    /// 0 by its words, 1 as runc reads it, 2 as crun does.
+    /// 0 by its words, 1 as runc reads it, 2 as crun does, 3 by its words with TRAP's data.
     pub reading: u32,
     /// 1 to skip the tables of architectures that the profile doesn't list, else 0.
     pub flags: u32,

@@ -49,6 +49,7 @@ fn reading_numbered(number: u32) -> Option<Reading>
         0 => Some(Reading::Strict),
         1 => Some(Reading::Runc),
         2 => Some(Reading::Crun),
+        3 => Some(Reading::Sandbox),
         _ => None,
     }
 }

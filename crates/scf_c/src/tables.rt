@@ -167,7 +167,7 @@ fn is_own(reading: Reading, names: &[String], tables: &[Table], table: &Table) -
     ensures { result ≡ spec.is_own reading (map string_bytes names.now) tables.now table.now }
 {
     match reading {
-        Reading::Strict if !names.is_empty() => false,
+        Reading::Strict | Reading::Sandbox if !names.is_empty() => false,
         _ => table.architecture == own_number(tables),
     }
 }

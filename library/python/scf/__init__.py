@@ -52,9 +52,9 @@ class Reason(enum.IntEnum):
 
 
 class Reading(enum.IntEnum):
-    """How a profile is read: by its words, or as a runtime reads it that hands it to libseccomp."""
+    """How a profile is read: by its words, as a runtime reads it that hands it to libseccomp, or with TRAP's data."""
 
-    STRICT, RUNC, CRUN = range(3)
+    STRICT, RUNC, CRUN, SANDBOX = range(4)
 
 
 class Architecture(enum.IntEnum):

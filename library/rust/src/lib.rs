@@ -58,7 +58,7 @@ pub struct Profile<'a> {
     pub skip_unlisted: bool,
 }
 
-/// How a profile is read: by its words, or as a runtime reads it that hands it to libseccomp.
+/// How a profile is read: by its words, as a runtime reads it that hands it to libseccomp, or with TRAP's data.
 #[derive(Clone, Copy, Debug, PartialEq, Eq, Hash)]
 #[non_exhaustive]
 pub enum Reading {
@@ -68,6 +68,8 @@ pub enum Reading {
     Runc = 1,
     /// As crun does.
     Crun = 2,
+    /// By its words, but `errnoRet` beside SCMP_ACT_TRAP is its data.
+    Sandbox = 3,
 }
 
 impl<'a> Profile<'a> {

@@ -82,6 +82,9 @@ fn readings() {
         let stubbed = [Table { stub: Some(1), ..NATIVE }];
         assert_eq!(ask(&profile, &stubbed, &call(1)), answered(Answer(0x0005_0026), Reason::Stub));
     }
+    let trap = br#"{"defaultAction": "SCMP_ACT_TRAP", "defaultErrnoRet": 3}"#;
+    let profile = Profile { reading: Reading::Sandbox, ..Profile::new(trap) };
+    assert_eq!(ask(&profile, &[NATIVE], &call(1)), answered(Answer(0x0003_0003), Reason::Default));
 }
 
 #[test]
