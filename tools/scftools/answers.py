@@ -127,12 +127,18 @@ class Answer:
 
     @property
     def is_of_profiles(self) -> bool:
-        """Whether a profile can give it."""
+        """Whether a profile can give it by its words."""
         return self.action in ACTIONS_WITH_DATA or self.action != "UNNAMED" and not self.data
+
+    @property
+    def is_of_sandboxes(self) -> bool:
+        """Whether a profile can give it that is read with TRAP's data."""
+        return self.is_of_profiles or self.action == "TRAP"
 
     def members(self, action: str = "action", number: str = "errnoRet") -> dict[str, object]:
         """The members of an entry, or of the default, that give it."""
-        return {action: self.oci, **({number: self.data} if self.action in ACTIONS_WITH_DATA else {})}
+        has_data = self.action in ACTIONS_WITH_DATA or self.action == "TRAP" and self.data
+        return {action: self.oci, **({number: self.data} if has_data else {})}
 
     def default(self) -> dict[str, object]:
         """The members of a profile whose default it is."""

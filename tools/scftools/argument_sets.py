@@ -23,8 +23,9 @@ FIRST_UNTESTED, STEPS, NODE = 64 * ARGUMENT_COUNT, 1 << 19, 2
 # Behind all variables.
 LEAF_VARIABLE = 1 << 32
 # The most alternatives for a set, and for all sets of a table together; the first of a set are tried in so many orders
-# of the arguments, and the later ones in two.
+# of the arguments, and the later ones in two. With more steps than STEPS they may be more, in all as many as scf takes.
 ALTERNATIVES, ALL_ALTERNATIVES, FIRST, ORDERS = 64, 512, 16, 6
+MANY_ALTERNATIVES = 128, 4096
 # Values that follow each other are listed one by one up to so many; and a set's up to so many, if masks say it in fewer
 # alternatives.
 MOST_LISTED_VALUES, ALL_LISTED = 3, 8
@@ -270,13 +271,14 @@ class Sets:
 
 
 class TooManyAlternatives(Exception):
-    """The set needs more alternatives than `ALTERNATIVES`."""
+    """The set needs more alternatives than it may have."""
 
 
 class _Cover:
     """The search for a cover of a set, in which single values are listed, or joined by any mask."""
 
-    def __init__(self, sets: Sets, whole: int, is_listing: bool):
+    def __init__(self, sets: Sets, whole: int, is_listing: bool, most: int = ALTERNATIVES):
+        self.most = most
         self.sets, self.whole, self.outside, self.is_listing = sets, whole, sets.complement(whole), is_listing
         self.indices = sorted({variable // sets.bits for variable in sets.variables(whole)})
 
@@ -341,7 +343,7 @@ class _Cover:
     def find(self) -> list[Alternative]:
         uncovered, alternatives = self.whole, []
         while uncovered != EMPTY_SET:
-            if len(alternatives) == ALTERNATIVES:
+            if len(alternatives) == self.most:
                 raise TooManyAlternatives
             alternatives.append(self._best(uncovered, len(alternatives) >= FIRST))
             uncovered = self.sets.without(uncovered, self.sets.of_conditions(alternatives[-1]))
@@ -367,10 +369,12 @@ class Covers:
 
     def __init__(self, sets: Sets):
         self.sets, self._count = sets, 0
+        self._most, self._most_together = (ALTERNATIVES, ALL_ALTERNATIVES) if sets.steps.most <= STEPS else \
+            MANY_ALTERNATIVES
         self._found: dict[int, list[Alternative] | None] = {FULL_SET: [()]}
 
     def _of(self, arguments: int) -> list[Alternative] | None:
-        if self._count > ALL_ALTERNATIVES:
+        if self._count > self._most_together:
             return None
         alternatives = self._search(arguments, True)
         if alternatives is None or len(alternatives) > ALL_LISTED:
@@ -383,11 +387,11 @@ class Covers:
         steps = Steps(self.sets.steps.left // 2)
         sets = Sets(self.sets.bits, steps)
         try:
-            alternatives = _Cover(sets, sets.copy(arguments, self.sets), is_listing).find()
+            alternatives = _Cover(sets, sets.copy(arguments, self.sets), is_listing, self._most).find()
         except (TooMany, TooManyAlternatives):
             alternatives = None
         self.sets.spend(steps.most - max(steps.left, 0))
-        self._count += ALTERNATIVES if alternatives is None else len(alternatives)
+        self._count += self._most if alternatives is None else len(alternatives)
         return alternatives
 
     def of_set(self, arguments: int) -> list[Alternative] | None:

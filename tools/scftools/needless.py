@@ -17,7 +17,7 @@ from .argument_sets import FULL_SET, Sets, Steps, TooMany
 from .calls import Call
 from .entries import Entry, Object
 from .findings import Owners
-from .profiles import STRICT
+from .profiles import BY_WORDS
 from .tables import Tables
 from .values import dataclass, replace
 from .verdicts import SAME, Verdict
@@ -197,7 +197,7 @@ def _pairs(entries: Sequence[Entry], judged: Tables) -> Iterator[tuple[Entry, En
     """Pairs of entries with different answers to one syscall, and the architectures that have it, in the order of the
     second."""
     having: dict[Syscall, list[Entry]] = {}
-    taken = {call for entry in entries if judged.reading != STRICT and _takes_all(entry)
+    taken = {call for entry in entries if judged.reading not in BY_WORDS and _takes_all(entry)
              for name in entry.names for call in judged.numbers_of(name).items()}
     for entry in entries:
         for name in entry.names:
@@ -214,7 +214,7 @@ def conflicts(judged: Tables, default: Answer, entries: Sequence[Entry], most: i
     """Entries that conflict, each two once, at most so many of them. Raises TooMany."""
     seen: set[tuple[int, int]] = set()
     met = Met()
-    counting = [it for it in entries if judged.reading == STRICT or it.answer != default]
+    counting = [it for it in entries if judged.reading in BY_WORDS or it.answer != default]
     for count, (first, second, name, on) in enumerate(_pairs(counting, judged)):
         if count >= PAIRS or len(seen) >= most:
             return

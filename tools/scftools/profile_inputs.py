@@ -11,7 +11,7 @@ from collections.abc import Sequence
 from . import engines, filters, inputs, output, profiles, program, tables
 from .engines import Refused
 from .kubernetes import KIND
-from .profiles import DerivedProfile, Origin
+from .profiles import SANDBOX, DerivedProfile, Origin
 from .tables import Table, Tables
 from .values import Any, Pattern, dataclass, field, replace
 
@@ -151,6 +151,10 @@ class ProfileInput:
     def places(self) -> list[int] | None:
         """The index of each entry in the user's file, if it was resolved."""
         return None if self.origins is None else [origin.index for origin in self.origins]
+
+    def read_by(self, runtime: str | None) -> ProfileInput:
+        """The same, read with TRAP's data if that is what `--runtime` names."""
+        return self if runtime != SANDBOX else replace(self, data=profiles.read_as(self.data, SANDBOX))
 
     def judged(self, table: Table, is_native: bool) -> Tables:
         """The tables that it is judged by, and how it is read."""

@@ -9,8 +9,8 @@ from __future__ import annotations
 from collections import Counter
 from collections.abc import Iterable, Iterator, Sequence
 
-from . import (answer_sets, architectures, client, constants, engines, other_abis, output, program, questions, regions,
-               runtimes, tables)
+from . import (answer_sets, architectures, client, constants, engines, other_abis, output, profiles, program, questions,
+               regions, runtimes, tables)
 from .answer_sets import FIRST_OPEN, FIRST_UPPER, Answers
 from .answers import DISPOSITIONS, ENOSYS, FIRST_X32, Answer
 from .architectures import JUDGED, NATIVE, Architecture
@@ -19,26 +19,29 @@ from .client import Refusal
 from .compare import Comparison
 from .explanation import join_names
 from .filters import Filter
+from .profiles import SANDBOX, STRICT, TRAP
 from .questions import EVERYTHING, NOTHING, Asker
 from .regions import Numbers, Region
 from .tables import Table
 from .values import dataclass, field, replace
 from .verdicts import NO_LESS, NO_MORE, SAME, NamedCall, Report
 
+TRAP_DATA_TEXT = "errnoRet beside SCMP_ACT_TRAP is its data: --runtime sandbox reads it, and no container runtime"
 UNFINISHED_TEXT = "unfinished: it takes too many steps to follow the filters: --limit N gives more than {}"
 # How far a draft may be from the filters: it says all that a profile can; one answer for all calls of a number that the
 # filters give to some of them; the utmost answer.
 EXACT, CONSTANT, UTMOST = range(3)
 
 
-def nearest(word: int | None, is_permissive: bool) -> Answer:
-    """The answer of a profile that is nearest to a filter's, with the same disposition."""
+def nearest(word: int | None, is_permissive: bool, has_trap_data: bool) -> Answer:
+    """The answer of a profile, which may have TRAP's data, that is nearest to a filter's, with the same disposition."""
     if word is None:
         return EVERYTHING if is_permissive else NOTHING
     answer = Answer.of_word(word)
     if answer.action == "UNNAMED":
         return NOTHING
-    return answer if answer.is_of_profiles else Answer(answer.action, 0)
+    is_said = answer.is_of_sandboxes if has_trap_data else answer.is_of_profiles
+    return answer if is_said else Answer(answer.action, 0)
 
 
 def entry_of(names: Sequence[str], answer: Answer, alternative: Alternative) -> dict[str, object]:
@@ -63,6 +66,8 @@ class FilterAnswers:
     end: int = FIRST_X32
     # whether they weren't followed to their end, and nothing is known
     is_unfinished: bool = False
+    # whether their profile may have TRAP's data
+    has_trap_data: bool = False
     # the parts of answers, and what they depend on, each found once
     known_parts: dict[tuple[Answers, bool], dict[Answer, int]] = field(default_factory=dict)
     known_untested: dict[Answers, str | None] = field(default_factory=dict)
@@ -93,7 +98,7 @@ class FilterAnswers:
         return self.known_parts[answers, is_permissive]
 
     def _parts(self, answers: Answers, is_permissive: bool) -> dict[Answer, int]:
-        order = sorted(((nearest(word, is_permissive), arguments) for word, arguments in answers),
+        order = sorted(((nearest(word, is_permissive, self.has_trap_data), arguments) for word, arguments in answers),
                        key=lambda part: DISPOSITIONS.index(part[0].disposition), reverse=is_permissive)
         remaining, parts = FULL_SET, {}
         for answer, arguments in order:
@@ -104,9 +109,9 @@ class FilterAnswers:
         return parts
 
     def unsaid(self, answers: Answers) -> Answer | None:
-        """An answer to the calls of a number that no profile gives, such as TRAP with data."""
+        """An answer to the calls of a number that no profile gives, such as ALLOW with data."""
         return next((Answer.of_word(word) for word, _ in answers
-                     if word is not None and Answer.of_word(word) != nearest(word, True)), None)
+                     if word is not None and Answer.of_word(word) != nearest(word, True, self.has_trap_data)), None)
 
     def untested(self, answers: Answers) -> str | None:
         """Why the answers to a number depend on something that no condition tests, or None. Raises TooMany."""
@@ -256,6 +261,18 @@ class ProvedProfile:
     def text(self) -> str:
         return engines.printed(self.profile)
 
+    @property
+    def reading_remarks(self) -> list[str]:
+        """How it must be read, if not by its words."""
+        return [] if reading_of(self.profile) == STRICT else [TRAP_DATA_TEXT]
+
+
+def reading_of(profile: dict[str, object]) -> str:
+    """How a profile is read that was drafted: by its words, unless it has TRAP's data."""
+    holders = [(profile["defaultAction"], "defaultErrnoRet" in profile),
+               *((entry["action"], "errnoRet" in entry) for entry in profile["syscalls"])]
+    return SANDBOX if (TRAP, True) in holders else STRICT
+
 
 def own_steps() -> Steps:
     """The steps in which filters are followed: as many as --limit gives, if they are more than without."""
@@ -266,7 +283,8 @@ def own_steps() -> Steps:
 class ProfileRequest:
     """Filters, oldest first, the table of an architecture, the architecture, the name of the runtime that reads the
     profile, the OCI names of other architectures that the profile may list, too, the steps in which profiles are
-    found, the regions of the filters, None if they are unfinished, and whether they begin with runc's stub."""
+    found, the regions of the filters, None if they are unfinished, whether they begin with runc's stub, and whether the
+    profile may have TRAP's data."""
 
     filters: Sequence[Filter]
     table: Table
@@ -276,6 +294,7 @@ class ProfileRequest:
     steps: Steps = field(default_factory=own_steps)
     regions: Sequence[Region] | None = None
     has_stub: bool = False
+    has_trap_data: bool = False
 
     @property
     def data(self) -> list[bytes]:
@@ -284,8 +303,8 @@ class ProfileRequest:
     def comparison(self, profile: dict[str, object], relation: str = SAME) -> Comparison:
         """The comparison of the filters with a profile, which has the stub that they have if the relation is the
         same."""
-        comparison = Comparison(self.filters, engines.to_bytes(profile), self.table, OF_FILTERS[relation],
-                                architecture=self.architecture.oci)
+        comparison = Comparison(self.filters, profiles.read_as(engines.to_bytes(profile), reading_of(profile)),
+                                self.table, OF_FILTERS[relation], architecture=self.architecture.oci)
         if self.runtime is None:
             return comparison
         applied = runtimes.applied(engines.read(comparison.profile), self.runtime)
@@ -328,7 +347,7 @@ class ProfileRequest:
         if is_unfinished:
             by_number = [((None, FULL_SET),)] * len(listed)
         answers = FilterAnswers(architecture, sets, self.table, listed, by_number, Covers(sets),
-                                is_unfinished=is_unfinished)
+                                is_unfinished=is_unfinished, has_trap_data=self.has_trap_data)
         is_runc = self.runtime is not None and runtimes.RUNTIMES[self.runtime].program == runtimes.RUNC
         return answers.with_stub() if is_runc else answers
 
@@ -472,6 +491,7 @@ def _both_sides(request: ProfileRequest, answers: FilterAnswers, bounds: Sequenc
     if request.runtime is None and answers.with_stub().end != answers.end:
         yield "# if runc loaded the filter, --runtime runc expects the ENOSYS that it adds"
     yield from output.notes(_covered(request, [request.architecture.oci], len(bounds)))
+    yield from output.notes(dict.fromkeys(remark for bound in bounds for remark in bound.reading_remarks))
     for bound in bounds:
         yield from output.notes(_differences(request, answers, bound))
         yield bound.text.rstrip("\n")
@@ -495,7 +515,8 @@ def _of_answers(request: ProfileRequest, answers: FilterAnswers, relation: str) 
     same = _same(request, answers)
     if same is not None:
         stub = [runtimes.stub_note(same.stub)] if same.stub else []
-        return Result(program.SUCCESS, same.text, [*_covered(request, same.architectures), *stub], [same])
+        remarks = [*same.reading_remarks, *_covered(request, same.architectures), *stub]
+        return Result(program.SUCCESS, same.text, remarks, [same])
     if relation == SAME:
         bounds = _bounds(request, answers)
         lines = _both_sides(request, answers, bounds)
@@ -506,4 +527,5 @@ def _of_answers(request: ProfileRequest, answers: FilterAnswers, relation: str) 
                       [f"no profile was found that scf proves to be {RELATION_TEXTS[relation]} than the "
                                             f"filters"])
     return Result(program.SUCCESS, bound.text,
-                  [*_differences(request, answers, bound), *_covered(request, bound.architectures)], [bound])
+                  [*_differences(request, answers, bound), *bound.reading_remarks,
+                   *_covered(request, bound.architectures)], [bound])

@@ -23,8 +23,8 @@ LONGEST_NUMBER = 40
 ALLOWING = ("SCMP_ACT_ALLOW", "SCMP_ACT_LOG")
 OCI_ACTIONS = tuple(f"SCMP_ACT_{action}" for action in
                     "ALLOW LOG ERRNO TRACE TRAP NOTIFY KILL KILL_THREAD KILL_PROCESS".split())
-# The actions that take an errno.
-WITH_ERRNO = ("SCMP_ACT_ERRNO", "SCMP_ACT_TRACE")
+# The actions that take an errno; a sandbox's reading has also TRAP's data so.
+WITH_ERRNO, TRAP = ("SCMP_ACT_ERRNO", "SCMP_ACT_TRACE"), "SCMP_ACT_TRAP"
 # What each comparison tests of an argument and its value; for masks the value is the mask.
 HOLDS = {
     "SCMP_CMP_NE": lambda argument, value, two: argument != value,
@@ -57,17 +57,22 @@ CONFIG_MEMBERS = {**SECCOMP, "linux": {"seccomp": SECCOMP}}
 _FOLD = {**{upper: upper + 32 for upper in range(ord("A"), ord("Z") + 1)}, 0x17F: ord("s"), 0x212A: ord("k")}
 
 
-# How a profile is read unless a container runtime reads it (`--reading` of scf).
-STRICT = "strict"
+# How a profile is read unless a container runtime reads it (`--reading` of scf): by its words, or so with TRAP's data.
+STRICT, SANDBOX = BY_WORDS = "strict", "sandbox"
 
 
-class DerivedProfile(bytes):
+class ReadProfile(bytes):
+    """A profile, and how it is read."""
+
+    reading: str = STRICT
+
+
+class DerivedProfile(ReadProfile):
     """A profile that a tool made of another one: no line and no column of it is one of the user's file. `within` is the
-    member of the file that it is, or None if the file has other entries; `reading` is how it is read, and `absent` has
-    by architectures the names of which a runtime's libseccomp makes no rule there, though a table has them."""
+    member of the file that it is, or None if the file has other entries; `absent` has by architectures the names of
+    which a runtime's libseccomp makes no rule there, though a table has them."""
 
     within: str | None = None
-    reading: str = STRICT
     # whether the comment of each entry has the lines of the file that it stands on
     has_comments: bool = False
     absent: dict[str, frozenset[str]] = {}
@@ -75,14 +80,19 @@ class DerivedProfile(bytes):
 
 def reading_of(data: bytes) -> str:
     """How a profile is read."""
-    return data.reading if isinstance(data, DerivedProfile) else STRICT
+    return data.reading if isinstance(data, ReadProfile) else STRICT
 
 
-def read_as(data: bytes, reading: str) -> DerivedProfile:
+def read_as(data: bytes, reading: str) -> ReadProfile:
     """A profile that is read so."""
-    profile = DerivedProfile(data)
-    profile.reading = reading
+    profile = type(data)(data) if isinstance(data, ReadProfile) else ReadProfile(data)
+    profile.__dict__.update(getattr(data, "__dict__", {}), reading=reading)
     return profile
+
+
+def takes_errno(action: str, reading: str) -> bool:
+    """Whether an errno beside an action is its data."""
+    return action in WITH_ERRNO or (action, reading) == (TRAP, SANDBOX)
 
 
 @dataclass(frozen=True)

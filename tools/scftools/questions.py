@@ -8,7 +8,7 @@ from __future__ import annotations
 
 from collections.abc import Iterator, Sequence
 
-from . import bundles, client, tables, verdicts
+from . import bundles, client, profiles, tables, verdicts
 from .answers import ALLOW, KILL_PROCESS, Answer
 from .architectures import JUDGED, NATIVE, Architecture
 from .calls import Call
@@ -44,8 +44,8 @@ class Asker:
     architecture: Architecture = JUDGED[NATIVE]
 
     def _asked(self, profile: bytes, relation: str, words: Sequence[str], table: bytes = b"") -> Report:
-        judged = Tables({self.architecture.oci: Table(table)})
-        return verdicts.compared(self.filters, profile, judged, [*words, *RELATIONS[relation]])
+        judged = Tables({self.architecture.oci: Table(table)}, profiles.reading_of(profile))
+        return verdicts.compared(self.filters, profile, judged, [*words, *judged.reading_words, *RELATIONS[relation]])
 
     def _profile_of(self, question: Question) -> bytes:
         return question.answer.as_profile([self.architecture.oci]) or b""

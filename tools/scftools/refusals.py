@@ -77,9 +77,9 @@ def _word(holder: dict[str, Any], path: Path, name: str, known: tuple[str, ...],
         raise MemberFault(kind, [*path, name], f"is {_shown(value)}, which is none")
 
 
-def _errno(holder: dict[str, Any], path: Path, name: str, action: str) -> None:
+def _errno(holder: dict[str, Any], path: Path, name: str, action: str, reading: str) -> None:
     value = _member(holder, path, name, "a whole number")
-    if value is not None and action not in profiles.WITH_ERRNO:
+    if value is not None and not profiles.takes_errno(action, reading):
         raise MemberFault("Errno", [*path, name], f"is {_shown(value)}, and {action} takes none")
     if value is not None and not 0 <= value <= MOST_ERRNO:
         raise MemberFault("ErrnoRange", [*path, name], f"is {_shown(value)}")
@@ -104,7 +104,7 @@ def _condition(condition: Any, path: Path, seen: set[int]) -> None:
     seen.add(index)
 
 
-def _entry(entry: Any, path: Path) -> None:
+def _entry(entry: Any, path: Path, reading: str) -> None:
     _check(entry, path, "an object")
     for name in ("includes", "excludes"):
         _engine_member(entry, path, name)
@@ -114,17 +114,17 @@ def _entry(entry: Any, path: Path) -> None:
     for at, entry_name in enumerate(names):
         _check(entry_name, [*path, "names", at], "a string")
     _word(entry, path, "action", OCI_ACTIONS, "Action")
-    _errno(entry, path, "errnoRet", entry["action"])
+    _errno(entry, path, "errnoRet", entry["action"], reading)
     seen: set[int] = set()
     for at, condition in enumerate(_member(entry, path, "args", "an array") or ()):
         _condition(condition, [*path, "args", at], seen)
 
 
-def _profile(top: Any, path: Path) -> None:
+def _profile(top: Any, path: Path, reading: str) -> None:
     """Raises the fault of a seccomp object that scf finds first."""
     _check(top, path, "an object")
     _word(top, path, "defaultAction", OCI_ACTIONS, "Action")
-    _errno(top, path, "defaultErrnoRet", top["defaultAction"])
+    _errno(top, path, "defaultErrnoRet", top["defaultAction"], reading)
     listed = _member(top, path, "architectures", "an array") or ()
     for at, listed_name in enumerate(listed):
         _check(listed_name, [*path, "architectures", at], "a string")
@@ -132,7 +132,7 @@ def _profile(top: Any, path: Path) -> None:
         raise MemberFault("NoX8664", [*path, "architectures"], f"lacks {NATIVE}")
     _engine_member(top, path, "archMap")
     for at, entry in enumerate(_member(top, path, "syscalls", "an array") or ()):
-        _entry(entry, [*path, "syscalls", at])
+        _entry(entry, [*path, "syscalls", at], reading)
 
 
 def _root(value: Any) -> tuple[Any, list[str]]:
@@ -182,7 +182,7 @@ def _of_member(fault: Fault, data: bytes) -> Iterator[str]:
         if fault.kind == "Conflict":
             yield from _of_conflict(data, text, path, fault)
         else:
-            _profile(top, path)
+            _profile(top, path, profiles.reading_of(data))
     except MemberFault as first:
         if first.kind == fault.kind and fault.numbers.get("entry") == first.entry:
             yield _line(data, text, first.path, first.says)
@@ -211,7 +211,7 @@ def sentences(fault: Fault, profile: bytes, judged: Tables, origins: Sequence[Or
         yield meaning
         return
     sentences, reading = list(explanation.of_fault(fault)), profiles.reading_of(profile)
-    if (fault.source, fault.kind) == ("profile", "Conflict") and reading != profiles.STRICT:
+    if (fault.source, fault.kind) == ("profile", "Conflict") and reading not in profiles.BY_WORDS:
         sentences[1:] = [CONFLICT_FOR_RUNTIME.format(reading)]
     yield from sentences
     if fault.source == "profile" and len(profile) > inputs.LIMITS["profile"]:

@@ -6,7 +6,7 @@ import json
 import operator
 from collections.abc import Iterator, Sequence
 
-from . import constants, program
+from . import constants, profiles, program
 from .answer_sets import Answers
 from .answers import ERRNOS, Answer
 from .architectures import I386, Architecture
@@ -240,10 +240,10 @@ def _failed(asker: Asker, drafts: Sequence[tuple[Row, Conditions]]) -> set[int]:
     profile = {**drafts[0][1].otherwise.default(),
                "architectures": [asker.architecture.oci],
                "syscalls": [entry for _, conditions in drafts for entry in conditions.entries()]}
-    failed: set[int] = set()
+    data, failed = profiles.read_as(json.dumps(profile).encode(), profiles.SANDBOX), set()
     for relation in (SAME,) if drafts[0][1].is_whole else (NO_MORE, NO_LESS):
         try:
-            failed |= {call.number for call in asker.of_calls(json.dumps(profile).encode(), relation, table).calls}
+            failed |= {call.number for call in asker.of_calls(data, relation, table).calls}
         except Refusal:
             return {row.number for row, _ in drafts}
     return failed
@@ -273,7 +273,7 @@ def add(surface: Surface) -> bool:
     them takes too many steps."""
     asker = surface.asker
     request = ProfileRequest([Filter("", data) for data in asker.filters], surface.table, asker.architecture,
-                      regions=surface.regions)
+                      regions=surface.regions, has_trap_data=True)
     answers = request.answers()
     try:
         drafts = _drafts(answers, surface.rows)

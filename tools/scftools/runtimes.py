@@ -19,7 +19,7 @@ from .engines import Origin, Refused, Setting, answer_of, excerpt, excerpts
 from .explanation import join_names
 from .libseccomp import Library
 from .profile_inputs import ProfileInput
-from .profiles import OCI_ACTIONS
+from .profiles import OCI_ACTIONS, SANDBOX
 from .tables import Tables
 from .values import Any, dataclass, field, replace
 from .words import Parser
@@ -51,14 +51,21 @@ RUNTIME_HELP = ("read a profile as this container runtime does: runc and crun ta
                 "doesn't know are left out")
 
 
-def add_option(parser: Parser) -> None:
-    """Adds `--runtime`."""
-    parser.add_argument("--runtime", choices=tuple(RUNTIMES), help=RUNTIME_HELP)
+def reading_of(name: str | None) -> str:
+    """scf's reading of a profile for what `--runtime` names."""
+    return RUNTIMES[name].program if name in RUNTIMES else name or profiles.STRICT
 
 
-def add_options(parser: Parser, without_caps: str = "podman for podman, or docker") -> None:
+def add_option(parser: Parser, is_sandboxes: bool = False) -> None:
+    """Adds `--runtime`; with the reading of a profile that says what a program's own sandbox answers."""
+    also = ((SANDBOX,), "; sandbox goes by the words, with errnoRet beside SCMP_ACT_TRAP as its data") if is_sandboxes \
+        else ((), "")
+    parser.add_argument("--runtime", choices=(*RUNTIMES, *also[0]), help=RUNTIME_HELP + also[1])
+
+
+def add_options(parser: Parser, without_caps: str = "podman for podman, or docker", is_sandboxes: bool = False) -> None:
     """Adds `--runtime`, and what says how an engine resolves a profile; without `--caps` for which capabilities."""
-    add_option(parser)
+    add_option(parser, is_sandboxes)
     parser.add_argument("--engine", choices=tuple(engines.ENGINES),
                         help="the engine whose rules resolve the profile: Docker since 23.0, Docker 20.10 or podman "
                              "[default: that of --runtime, or all members that one of them reads]")
@@ -81,7 +88,7 @@ def is_engines(options: Any) -> bool:
 
 def setting_of_words(options: Any, parser: Parser) -> Setting:
     """The container that an engine resolves profiles for."""
-    engine = options.engine or (RUNTIMES[options.runtime].engine if options.runtime else None)
+    engine = options.engine or (RUNTIMES[options.runtime].engine if options.runtime in RUNTIMES else None)
     is_podman = engine == "podman"
     try:
         return Setting(engines.capabilities_of(options.caps if options.caps is not None else
@@ -364,8 +371,8 @@ def applied(value: Any, name: str, setting: Setting | None = None, keeps_first: 
 def as_read(value: dict[str, Any], judged: Tables) -> tuple[bytes, Tables]:
     """A resolved profile of this value and its tables as another one was read whose tables are given: with the rules
     and the stub that the same runtime makes."""
-    if judged.reading == profiles.STRICT:
-        return engines.to_bytes(value), judged
+    if judged.reading in profiles.BY_WORDS:
+        return profiles.read_as(engines.to_bytes(value), judged.reading), judged
     given = applied(value, judged.reading)
     return given.data, replace(judged, stub=given.stub)
 
@@ -385,7 +392,7 @@ def applied_in(data: bytes, path: str, name: str, setting: Setting, is_strict: b
 
 def is_made(options: Any) -> bool:
     """Whether an engine or a runtime makes another profile of the one that a command line names."""
-    return options.runtime is not None or options.caps is not None
+    return options.runtime in RUNTIMES or options.caps is not None
 
 
 def text_of(options: Any) -> bytes:
@@ -395,9 +402,11 @@ def text_of(options: Any) -> bytes:
     if options.machine is not None and options.caps is None and (runtime is None or runtime.engine is None):
         raise program.ToolError("--machine goes with an engine's profile: give --caps, or --runtime docker or podman, "
                                 "too")
-    if options.caps is not None and runtime is not None and runtime.engine is None:
-        raise program.ToolError(f"--caps resolves an engine's profile, and --runtime {runtime.name} takes a resolved "
-                                f"one: `scf resolve-profile --runtime {runtime.name} --engine .. --caps ..` makes it")
+    if options.caps is not None and options.runtime is not None and (runtime is None or runtime.engine is None):
+        how = "" if runtime is None else \
+            f": `scf resolve-profile --runtime {runtime.name} --engine .. --caps ..` makes it"
+        raise program.ToolError("--caps resolves an engine's profile, and --runtime "
+                                f"{options.runtime} takes a resolved one{how}")
     return (inputs.read_whole if is_made(options) else inputs.read)(options.profile, "profile")
 
 
@@ -406,7 +415,8 @@ def input_in(data: bytes, options: Any, is_strict: bool | None = False) -> Profi
     be known of that is printed."""
     runtime = RUNTIMES.get(options.runtime)
     if runtime is None:
-        return profile_inputs.profile_in(data, options.profile, options.caps, False, bool(is_strict), options.machine)
+        given = profile_inputs.profile_in(data, options.profile, options.caps, False, bool(is_strict), options.machine)
+        return given.read_by(options.runtime)
     setting = setting_of(runtime)
     try:
         capabilities = setting.capabilities if options.caps is None else engines.capabilities_of(options.caps)

@@ -160,7 +160,7 @@ def of_profile(profile: bytes, table: Table, is_native: bool = False, default: s
     """The tables of the architectures that a profile names, with this one for x86-64's, or another's own; on request
     this one alone. A profile that names none is for this machine's own, and one that a runtime reads for that, too."""
     reading, names = profiles.reading_of(profile), profiles.architectures_of(profile)
-    if not names or reading != profiles.STRICT:
+    if not names or reading not in profiles.BY_WORDS:
         names = (architectures.of_machine(), *names)
     tables = Tables({default: table}) if is_native else of_architectures(names, table, default)
     absent = profile.absent if isinstance(profile, profiles.DerivedProfile) else {}

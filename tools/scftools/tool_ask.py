@@ -1,8 +1,8 @@
 """Says what a profile answers to syscalls, and which entry and conditions give the answer.
 
     scf ask [--nr NUMBER|NAME] .. [--calls-from FILE] [--arch ARCH] [--ip N] [--a0 N] ..
-            [--a5 N] [--native] [--strict] [--runtime runc|crun|docker|podman] [--table FILE]
-            [--caps LIST] [--machine NAME] [--json] PROFILE
+            [--a5 N] [--native] [--strict] [--runtime runc|crun|docker|podman|sandbox]
+            [--table FILE] [--caps LIST] [--machine NAME] [--json] PROFILE
 
 PROFILE is a resolved OCI seccomp profile, a config.json that holds one, a SeccompProfile of Kubernetes (JSON or YAML),
 or a list of LXC, snapd or firejail: a file, a pipe, or `-` for standard input. With --caps it is an engine's own, which
@@ -32,7 +32,7 @@ def main():
     parser = words.Parser(__doc__, command="ask")
     decisions.add_options(parser)
     parser.add("--native", "--strict", "--caps", "--machine", "--architectures", "--reading", "profile")
-    runtimes.add_option(parser)
+    runtimes.add_option(parser, is_sandboxes=True)
     options = parser.parse_args()
     parser.one_standard_input([options.profile, options.table, options.calls_from])
     table = tables.read(options.table)

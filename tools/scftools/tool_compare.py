@@ -1,8 +1,8 @@
 """Says whether filters answer every syscall as a profile says, and if not, which differ and why.
 
     scf compare [--native|--all|--calls] [--no-more|--no-less|--disposition] [--limit N]
-                [--splits N] [--strict] [--runtime runc|crun|docker|podman] [--table FILE]
-                [--caps LIST] [--machine NAME] [--verbose] [--json] [--html FILE]
+                [--splits N] [--strict] [--runtime runc|crun|docker|podman|sandbox]
+                [--table FILE] [--caps LIST] [--machine NAME] [--verbose] [--json] [--html FILE]
                 FILTER.. PROFILE
     scf compare [--native|--all|--calls] [--no-more|--no-less|--disposition] [--limit N]
                 [--splits N] [--table FILE] [--json] FILTER.. --beside FILTER..
@@ -64,7 +64,7 @@ def read_words():
     parser.relation(of_disposition=words.OF_DISPOSITION)
     parser.add("--limit", "--splits", "--strict", "--table", "--verbose", "--caps", "--machine", "--json", "--html")
     parser.add("--architectures", "--reading", "--total-limit", "--nr-from", "--nr-to")
-    runtimes.add_option(parser)
+    runtimes.add_option(parser, is_sandboxes=True)
     parser.add_argument("--beside", metavar="FILTER", nargs="*",
                         help="compare with these filters, oldest first, and not with a profile")
     parser.add("filters")

@@ -1,6 +1,7 @@
 """Says which syscalls differ between an old and a new profile, with both answers and what gives them.
 
-    scf compare-profiles [--native] [--no-more|--no-less] [--runtime runc|crun|docker|podman]
+    scf compare-profiles [--native] [--no-more|--no-less]
+                         [--runtime runc|crun|docker|podman|sandbox]
                          [--engine docker|docker-20.10|podman] [--caps LIST] [--kernel X.Y]
                          [--machine NAME] [--arch-map native|all] [--ignore MEMBER ..]
                          [--keep-first] [--limit N]
@@ -37,7 +38,7 @@ def read_words():
     parser = words.Parser(__doc__)
     parser.add("--native")
     parser.relation("only check that nothing is {} than OLD")
-    runtimes.add_options(parser)
+    runtimes.add_options(parser, is_sandboxes=True)
     parser.add_argument("--keep-first", action="store_true",
                         help="OLD and NEW are an engine's own: if two entries without conditions answer a syscall, "
                              "keep the first")
@@ -45,6 +46,8 @@ def read_words():
     parser.add_argument("old", metavar="OLD", help="a profile, or a config.json; - is standard input")
     parser.add_argument("new", metavar="NEW", help="the profile to compare with OLD")
     options = parser.parse_args()
+    if options.runtime == profiles.SANDBOX and (options.keep_first or runtimes.is_engines(options)):
+        parser.error("--runtime sandbox reads no engine's profile")
     parser.one_standard_input([options.old, options.new, options.table])
     options.setting = runtimes.setting_of_words(options, parser)
     return options
@@ -66,8 +69,9 @@ def resolved(path, options):
 
 def both(options):
     """Both profiles; what an engine or a runtime leaves out of one alone is printed."""
-    if options.runtime is None and not options.keep_first and not runtimes.is_engines(options):
-        return [profile_inputs.read(path, is_runtimes=True) for path in (options.old, options.new)]
+    if options.runtime not in runtimes.RUNTIMES and not options.keep_first and not runtimes.is_engines(options):
+        return [profile_inputs.read(path, is_runtimes=True).read_by(options.runtime)
+                for path in (options.old, options.new)]
     (old, of_old), (new, of_new) = resolved(options.old, options), resolved(options.new, options)
     for side, notes, others in ((changes.OLD, of_old, set(of_new)), (changes.NEW, of_new, set(of_old))):
         for note in notes:

@@ -1,7 +1,7 @@
 """Prints a filter that answers every syscall as a profile says, and says what was left out.
 
-    scf compile [--native] [--strict] [--runtime runc|crun|docker|podman] [--json] [--table FILE]
-                [--caps LIST] [--machine NAME] PROFILE >FILTER
+    scf compile [--native] [--strict] [--runtime runc|crun|docker|podman|sandbox] [--json]
+                [--table FILE] [--caps LIST] [--machine NAME] PROFILE >FILTER
 
 PROFILE is a resolved OCI seccomp profile, or another one as `scf ask` takes it: a file, a pipe, or `-` for standard
 input. The filter answers the syscalls of each architecture that the profile names, as far as scf has a table of it,
@@ -29,7 +29,7 @@ def main():
     parser = words.Parser(__doc__, command="compile")
     parser.add("--native", "--strict", "--json", "--table", "--caps", "--machine")
     parser.add("--architectures", "--reading", "profile")
-    runtimes.add_option(parser)
+    runtimes.add_option(parser, is_sandboxes=True)
     options = parser.parse_args()
     parser.one_standard_input([options.profile, options.table])
     if not options.json:

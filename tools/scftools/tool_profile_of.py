@@ -22,16 +22,20 @@ for one architecture alone; where its arguments have 32 bits, conditions are on 
 
     scf profile-of --arch i386 filter.bpf
 
+TRAP with data, as browsers' filters have it, is written as errnoRet beside SCMP_ACT_TRAP, and a remark says so, since
+--runtime sandbox alone reads that; with --runtime or --kubernetes the data is left out.
+
 Some filters answer as no profile can: by the instruction pointer, by two arguments that they compare with each other,
-or with data that a profile has no place for, as chromium's TRAP. Then the output is two profiles, and not JSON as a
-whole: the nearest that is nowhere stricter than the filters, and the nearest that is nowhere more permissive; or one
-that is both. This is proved. Lines marked by `# ` say which syscalls get another answer, and why, with an example where
-the profile is more permissive or stricter. With --no-less only the first profile is printed, with --no-more the second:
+or with data that a profile has no place for. Then the output is two profiles, and not JSON as a whole: the nearest that
+is nowhere stricter than the filters, and the nearest that is nowhere more permissive; or one that is both. This is
+proved. Lines marked by `# ` say which syscalls get another answer, and why, with an example where the profile is more
+permissive or stricter. With --no-less only the first profile is printed, with --no-more the second:
 
     scf profile-of --no-more filter.bpf >stricter.json
 
 Of filters that take too many steps to follow the output says `unfinished`, and has the profiles that are proved all the
-same; --limit N gives them N steps, if that is more than they have.
+same; --limit N gives them N steps, if that is more than they have. Then profiles may also have up to 4096 rules, as
+those of firefox need (--limit 4000000).
 
 With --runtime the profile is one that this runtime loads: it is compared as the runtime reads it, and runc's ENOSYS for
 numbers above all that a profile names, which no profile says, is expected of the filters.
@@ -72,7 +76,8 @@ def main():
     others = [name for name in architectures.JUDGED if name != architecture.oci] if options.arch is None else []
     request = profile_of.ProfileRequest(filters.read_stack(options.filters), tables.read(options.table, architecture),
                                         architecture,
-                                 options.runtime, others)
+                                 options.runtime, others,
+                                        has_trap_data=options.runtime is None and options.kubernetes is None)
     try:
         result = profile_of.of_request(request, options.relation)
         text = result.text if options.kubernetes is None or result.status != program.SUCCESS else \

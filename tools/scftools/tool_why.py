@@ -1,6 +1,6 @@
 """Says why a syscall was denied, delegated or logged: by which entry of a profile, and which tests of a filter.
 
-    scf why [--native] [--runtime runc|crun|docker|podman] [--limit N] [--splits N]
+    scf why [--native] [--runtime runc|crun|docker|podman|sandbox] [--limit N] [--splits N]
             [--table FILE] [--caps LIST] [--all] [--json] LINE|- [PROFILE|FILTER ..]
     scf why .. --pid PID [PROFILE|FILTER ..]
     scf why .. --core FILE [PROFILE|FILTER ..]
@@ -76,7 +76,7 @@ def read_words():
     parser.add_argument("--all", action="store_true",
                         help="show every denied syscall of a strace log, not the most telling ones alone")
     parser.add("--limit", "--splits", "--native", "--table", "--caps", "--json")
-    runtimes.add_option(parser)
+    runtimes.add_option(parser, is_sandboxes=True)
     parser.add_argument("words", metavar="LINE|PROFILE|FILTER", nargs="*",
                         help="without --pid and --core first what was logged, or - for standard input; then a profile "
                              "and the filters of the process, oldest first")
@@ -99,7 +99,7 @@ def read_words():
 def read_files(names, table, options):
     """The profile and the filters among some files, told apart by their first bytes: a profile is an object."""
     profile, found = None, []
-    reading = profiles.STRICT if options.runtime is None else runtimes.RUNTIMES[options.runtime].program
+    reading = runtimes.reading_of(options.runtime)
     for name in names:
         data = inputs.read(name, "profile")
         if not profile_inputs.looks_like_profile(data):

@@ -16,11 +16,13 @@ sys.path.append(os.path.join(TOP, "tools"))
 
 from scftools import answers  # noqa: E402
 from scftools.calls import Call  # noqa: E402
+from scftools.profile_of import TRAP_DATA_TEXT  # noqa: E402
 
 MOST = (1 << 64) - 1
 TRAP, USER_NOTIF, TRACE, LOG = 0x00030000, 0x7FC00000, 0x7FF00000, 0x7FFC0000
 NAMES = {"read": 0, "write": 1, "ioctl": 16, "socket": 41, "personality": 135}
 OWN = "".join(f"{name} {number}\n" for name, number in NAMES.items())
+SAID, SANDBOX = f"profile-of: {TRAP_DATA_TEXT}\n", ("--runtime", "sandbox")
 HOLDS = {f"SCMP_CMP_{name}": holds for name, holds in several.OPERATORS.items()}
 
 
@@ -41,7 +43,7 @@ def answer_of_profile(profile, name, arguments):
     """The word that a profile answers to a syscall; an answer of two entries is one, since they don't conflict."""
     def word(action, errno):
         action = action.removeprefix("SCMP_ACT_")
-        return several.ACTIONS[action] | (0 if action not in ("ERRNO", "TRACE") else 1 if errno is None else errno)
+        return several.ACTIONS[action] | (errno if errno is not None else 1 if action in ("ERRNO", "TRACE") else 0)
 
     answers = {word(entry["action"], entry.get("errnoRet")) for entry in profile["syscalls"] if name in entry["names"]
              and all(HOLDS[condition["op"]](arguments[condition["index"]], condition["value"],
@@ -49,6 +51,12 @@ def answer_of_profile(profile, name, arguments):
                      for condition in entry.get("args", ()))}
     assert len(answers) < 2, answers
     return answers.pop() if answers else word(profile["defaultAction"], profile.get("defaultErrnoRet"))
+
+
+def has_trap_data(profile):
+    holders = [(profile["defaultAction"], profile.get("defaultErrnoRet")),
+               *((entry["action"], entry.get("errnoRet")) for entry in profile["syscalls"])]
+    return any(action == "SCMP_ACT_TRAP" and errno is not None for action, errno in holders)
 
 
 def rank_of(word):
@@ -175,15 +183,15 @@ class Profiles(Case):
         names = [self.file(f"{at}.bpf", data) for at, data in enumerate(filters)]
         return self.run_tool("profile-of", "--table", self.table, *words, *names, **settings)
 
-    def is_read(self, filters, default, *entries, words=()):
-        """The whole profile of filters, which are answered by it."""
+    def is_read(self, filters, default, *entries, words=(), runtime=(), said=""):
+        """The whole profile of filters, which are answered by it, on request as a runtime reads it."""
         status, out, err = self.run_on(filters, *words)
-        self.assertEqual((status, err), (0, ""))
+        self.assertEqual((status, err), (0, said))
         self.assertEqual(json.loads(out), {**members_of_default(default), "architectures": ["SCMP_ARCH_X86_64"],
                                            "syscalls": list(entries)})
         profile = self.file("printed.json", out)
         names = [self.file(f"{at}.bpf", data) for at, data in enumerate(filters)]
-        self.assertEqual(self.run_tool("compare", "--table", self.table, *names, profile)[:2], (0, "same\n"))
+        self.assertEqual(self.run_tool("compare", *runtime, "--table", self.table, *names, profile)[:2], (0, "same\n"))
 
     def is_judged(self, filters, profile, holds, records):
         """The relation between the words of the filters and of the profile, at each record."""
@@ -201,7 +209,7 @@ class Profiles(Case):
             status, out, err = self.run_on(filters, "--limit", "1000000")
             counts[status] += 1
             profiles, records = profiles_in(out), list(drawn.records(filters))
-            self.assertEqual(err, "")
+            self.assertEqual(err, SAID if status == 0 and has_trap_data(profiles[0]) else "")
             if status == 0:
                 self.is_judged(filters, profiles[0], lambda ours, theirs: ours == theirs, records)
             else:
@@ -289,15 +297,46 @@ class Profiles(Case):
         names = [self.file(f"{at}.bpf", data) for at, data in enumerate(filters)]
         for relation, profile in (("--no-more", profiles[0]), ("--no-less", profiles[-1])):
             path = self.file("bound.json", json.dumps(profile))
-            self.assertEqual(self.run_tool("compare", "--table", self.table, relation, *names, path)[0], 0)
+            words = (*(SANDBOX if has_trap_data(profile) else ()), "--table", self.table, relation)
+            self.assertEqual(self.run_tool("compare", *words, *names, path)[0], 0)
         return profiles
 
     def test_data_that_no_profile_says(self):
         """One profile is on both sides, since only the answer's data differs."""
-        profiles = self.is_bounded([of_numbers({41: ret(TRAP | 9)}, ALLOW)],
+        profiles = self.is_bounded([of_numbers({41: ret(ALLOW | 9)}, EPERM)],
                                 "# proved: nowhere stricter and nowhere more permissive than the filters\n"
-                                "# only other answers, since no profile gives TRAP 9: socket\n")
-        self.assertEqual([given["syscalls"] for given in profiles], [[entry("TRAP", "socket")]])
+                                "# only other answers, since no profile gives ALLOW 9: socket\n")
+        self.assertEqual([given["syscalls"] for given in profiles], [[entry("ALLOW", "socket")]])
+
+    def test_a_browsers_filter(self):
+        """TRAP with data, also as the default, is errnoRet, which a sandbox's reading alone takes as such."""
+        pairs = where(1, "SCMP_CMP_EQ", 2, 0, ret(TRAP | 0xFFFF), ret(EPERM))
+        for filters, default, entries in (
+                ([of_numbers({41: ret(TRAP | 9), 0: ret(ALLOW)}, TRAP | 1)], "TRAP 1",
+                 [entry("ALLOW", "read"), entry("TRAP 9", "socket")]),
+                ([of_numbers({41: pairs, 1: ret(TRAP)}, ALLOW)], "ALLOW",
+                 [entry("TRAP", "write"), entry("TRAP 65535", "socket", index=1, value=2, op="SCMP_CMP_EQ"),
+                  entry("ERRNO 1", "socket", index=1, value=2, op="SCMP_CMP_NE")])):
+            self.is_read(filters, default, *entries, runtime=SANDBOX, said=SAID)
+            for runtime, line in (((), "fault profile Errno"), (("--runtime", "crun"), "crun refuses"),
+                                  (("--runtime", "runc"), "differs")):
+                done = self.run_tool("compare", *runtime, "--table", self.table, self.file("0.bpf", filters[0]),
+                                     self.file("printed.json", self.run_on(filters)[1]))
+                self.assertNotEqual(done[0], 0)
+                self.assertIn(line, done[1] + done[2])
+        # no runtime reads the data, and so not what is for one
+        for words in (("--runtime", "crun"), ("--kubernetes", "x")):
+            status, out, err = self.run_on([of_numbers({41: ret(TRAP | 9)}, ALLOW)], *words)
+            self.assertEqual((status, err), (4, ""))
+            self.assertIn("# only other answers, since no profile gives TRAP 9: socket\n", out)
+            self.assertEqual([given["syscalls"] for given in profiles_in(out)], [[entry("TRAP", "socket")]])
+
+    def test_bounds_with_data(self):
+        """Profiles on both sides have it, too, and a remark."""
+        pointer = load(8) + jeq(7, 0, 1) + ret(ALLOW) + ret(EPERM)
+        profiles = self.is_bounded([of_numbers({41: pointer, 0: ret(TRAP | 9)}, KILL_PROCESS)],
+                                   SAID.replace("profile-of: ", "# "))
+        self.assertEqual([entry("TRAP 9", "read") in given["syscalls"] for given in profiles], [True, True])
 
     def test_the_instruction_pointer_and_two_arguments(self):
         """Between what a call always gets and what it may get."""
@@ -573,7 +612,7 @@ class OtherArchitectures(Case):
 
     def test_both_sides(self):
         """Profiles on both sides are for one architecture, and those of others are told."""
-        data = of_records({NATIVE: tests_of({0: ret(TRAP | 9)}, EPERM), X86: ret(ALLOW)})
+        data = of_records({NATIVE: tests_of({0: ret(ALLOW | 9)}, EPERM), X86: ret(ALLOW)})
         status, out, err = self.printed(data)
         self.assertEqual((status, err), (4, ""))
         self.assertIn("# the profile covers x86-64 syscalls\n# i386: some syscalls are allowed, such as ", out)

@@ -1,6 +1,8 @@
-"""How scf reads a profile: by its words or as runc and crun do, and with the stub of runc's filters. What is wanted
-follows from the runtimes' sources, as crates/scf_profile/specs/Readings.antt names them."""
+"""How scf reads a profile: by its words, with TRAP's data or as runc and crun do, and with the stub of runc's filters.
+What is wanted follows from the runtimes' sources, as crates/scf_profile/specs/Readings.antt names them, and from
+seccomp(2)."""
 import json
+import random
 import subprocess
 import unittest
 
@@ -90,6 +92,72 @@ class TestReadings(unittest.TestCase):
                                      (b"fault command Reading\n", 2))
         # it is tested before the numbers, and before any input is read
         self.assertEqual(core("ask", "--reading=x", "--nr=x", given=b"x"), (b"fault command Reading\n", 2))
+
+
+# By an action and its errno, as JSON, in a sandbox's reading: what `ask` prints of the answer, or the fault.
+WITH_ERRNO = {
+    ("TRAP", "0"): "TRAP 0", ("TRAP", "3"): "TRAP 3", ("TRAP", "65535"): "TRAP 65535", ("TRAP", "null"): "TRAP 0",
+    ("TRAP", "65536"): "ErrnoRange", ("TRAP", "-1"): "ErrnoRange", ("TRAP", '"EPERM"'): "Kind", ("TRAP", "1.0"): "Kind",
+    ("TRACE", "3"): "TRACE 3", ("TRACE", "null"): "TRACE 1", ("ERRNO", "0"): "ERRNO 0",
+    ("ERRNO", "65536"): "ErrnoRange", ("ALLOW", "3"): "Errno", ("ALLOW", "null"): "ALLOW 0",
+    ("KILL_PROCESS", "0"): "Errno", ("LOG", '"EPERM"'): "Kind",
+}
+DATA = ("TRAP", "ERRNO", "TRACE")
+ACTIONS = {"TRAP": 0x30000, "ERRNO": 0x50000, "TRACE": 0x7FF00000, "LOG": 0x7FFC0000, "ALLOW": 0x7FFF0000}
+
+
+class TestTrapData(unittest.TestCase):
+    def test_each_errno(self):
+        """Beside an entry's action, and beside the default's."""
+        for (action, errno), wanted in WITH_ERRNO.items():
+            texts = {"entry 0": '{"defaultAction": "SCMP_ACT_LOG", "syscalls": [{"names": ["read"], '
+                                f'"action": "SCMP_ACT_{action}", "errnoRet": {errno}}}]}}',
+                     "default": f'{{"defaultAction": "SCMP_ACT_{action}", "defaultErrnoRet": {errno}}}'}
+            for where, text in texts.items():
+                fault = f"fault profile {wanted}" + (f" {where}" if where != "default" else "")
+                line, status = (f"{wanted} {where}", 0) if " " in wanted else (fault, 1)
+                given = part("profile", text.encode()) + TABLE
+                with self.subTest(text):
+                    for words in ((), (EACH,)):
+                        self.assertEqual(core("ask", *words, "--reading=sandbox", given=given),
+                                         (f"{line}\n".encode(), status))
+                    for reading in ("strict", "crun") if action == "TRAP" and errno.isdecimal() else ():
+                        fault = f"fault profile Errno{'' if where == 'default' else f' {where}'}\n"
+                        self.assertEqual(core("ask", f"--reading={reading}", given=given), (fault.encode(), 1))
+
+    def test_as_strict_in_all_else(self):
+        for name, (entries, wanted) in READINGS.items():
+            with self.subTest(name):
+                given = profile(*entries) + TABLE
+                self.assertEqual(core("ask", "--a0=7", "--reading=sandbox", given=given),
+                                 (f"{wanted['strict']}\n".encode(), 1))
+        given = profile(architectures=["SCMP_ARCH_X86"]) + TABLE
+        self.assertEqual(core("ask", "--reading=sandbox", given=given), (b"fault profile NoX8664\n", 1))
+
+    def test_drawn(self):
+        """The filter that is compiled answers with the data, and is `same`; with other data it isn't."""
+        for seed in range(12):
+            drawn = random.Random(f"trap {seed}")
+            words = {number: ACTIONS[action] | (drawn.choice((0, 1, 3, 38, 65535)) if action in DATA else 0)
+                     for number, action in ((number, drawn.choice(sorted(ACTIONS))) for number in range(8))}
+            entries = [{"names": [f"call{number}"], "action": f"SCMP_ACT_{action}",
+                        **({"errnoRet": word & 0xFFFF} if action in DATA else {})}
+                       for number, word in words.items() for action in ACTIONS if ACTIONS[action] == word & 0xFFFF0000]
+            table = part("table", "".join(f"call{number} {number}\n" for number in words).encode())
+            given = profile(*entries, architectures=[]) + table
+            compiled, status = core("compile", "--reading=sandbox", given=given)
+            self.assertEqual(status, 0)
+            for number, word in words.items():
+                action = next(action for action in ACTIONS if ACTIONS[action] == word & 0xFFFF0000)
+                decided, _ = core("decide", f"--nr={number}", given=part("filter", compiled))
+                self.assertEqual(decided, f"{action} {word & 0xFFFF}\n".encode())
+            compare = part("filter", compiled) + given
+            self.assertEqual(core("compare", "--reading=sandbox", given=compare), (b"same\n", 0))
+            changed = [{**one, "errnoRet": one["errnoRet"] ^ 1} if one["action"] == "SCMP_ACT_TRAP" else one
+                       for one in entries]
+            if changed != entries:
+                compare = part("filter", compiled) + profile(*changed, architectures=[]) + table
+                self.assertEqual(core("compare", "--reading=sandbox", given=compare)[1], 1)
 
 
 class TestStubs(unittest.TestCase):
