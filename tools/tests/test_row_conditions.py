@@ -7,7 +7,7 @@ import re
 import sys
 
 from support import several
-from support.common import ALLOW, EPERM, TOP, Case, jeq, jge, load, ret
+from support.common import ALLOW, EPERM, KILL_PROCESS, TOP, Case, jeq, jge, load, ret
 from support.stand_in import StandIn
 from test_profile_of import (AARCH64, ARM, FILES, HOLDS, NATIVE, OWN, TRAP, X32_NAME, X86, Drawn, jset, of_numbers,
                              of_records, rank_of, tests_of, where)
@@ -122,9 +122,15 @@ class Lines(Case):
 
     def test_data_that_no_profile_says(self):
         """The dispositions are told, not the answers."""
-        denied = where(1, "SCMP_CMP_EQ", 2, 0, ret(EPERM), ret(TRAP | 9))
+        denied = where(1, "SCMP_CMP_EQ", 2, 0, ret(EPERM), ret(KILL_PROCESS | 9))
         self.is_said(where(0, "SCMP_CMP_EQ", 1, 0, ret(ALLOW), denied),
                      "socket allowed where domain == AF_UNIX, else denied")
+
+    def test_data_of_trap(self):
+        denied = where(1, "SCMP_CMP_EQ", 2, 0, ret(EPERM), ret(TRAP | 9))
+        self.is_said(where(0, "SCMP_CMP_EQ", 1, 0, ret(ALLOW), denied),
+                     "socket allowed where domain == AF_UNIX; denied (EPERM) where domain != AF_UNIX and "
+                     "type == SOCK_DGRAM, else denied (TRAP 9)")
 
     def test_what_no_condition_tests_has_examples(self):
         pointer = load(8) + jeq(7, 0, 1) + ret(ALLOW) + ret(EPERM)
