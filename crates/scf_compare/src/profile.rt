@@ -1,7 +1,7 @@
 //! A profile as a tree of questions about the words of a call record.
 
 ghost use Rattle.std.specs.Prelude.{◌≡◌, ◌≢◌, ◌<◌, ◌≤◌, ℕ, List, All, Contains, Some, length, take, drop};
-ghost use Rattle.std.specs.Prelude.{slice_get};
+ghost use Rattle.std.specs.Prelude.{IfSome, slice_get, slice_index};
 ghost use Rattle.scf_insn.specs.Architectures.{IsOf, argument_in};
 ghost use Rattle.scf_insn.specs.Words.{IsWords, call_of};
 ghost use Rattle.scf_profile.specs.declared.condition.Condition.{Condition};
@@ -236,6 +236,7 @@ impl ByNumber<'_> {
         if index >= numbers.len() {
             return index;
         }
+        let known = known_number(facts);
         let mut least = index;
         let mut first = index + 1;
         let mut last = numbers.len();
@@ -243,7 +244,7 @@ impl ByNumber<'_> {
         while first < last {
             let middle = middle_of(first, last, reach);
             let own = &numbers[middle];
-            match facts.tell(number_from(own.number)) {
+            match tell_from(facts, known, own.number) {
                 Tell::Always => {
                     least = middle;
                     first = middle + 1;
@@ -371,6 +372,32 @@ impl ByNumber<'_> {
             Successor::Decided(false) => self.next_rule(at.number, at.rule + 1),
             Successor::Then(part) => ProfileNode::Condition(at, part),
         }
+    }
+}
+
+/// The syscall number, if the store knows it.
+#[tactic(auto, using(crate::proofs::Bits::whole_words))]
+fn known_number<F: WordFacts>(facts: &F) -> Option<u32>
+    ensures { IfSome result (λ number. (words : List ℕ) → IsWords words
+        → F.allows facts.now (F.level facts.now) words → slice_index words 0 ≡ number) }
+{
+    let bits = facts.known_bits(0);
+    (bits.mask == u32::MAX).then_some(bits.value)
+}
+
+/// Whether the syscall number is at least another one: by itself if it is known, else by the store.
+fn tell_from<F: WordFacts>(facts: &F, known: Option<u32>, least: u32) -> Tell
+    requires { IfSome known (λ number. (words : List ℕ) → IsWords words
+        → F.allows facts.now (F.level facts.now) words → slice_index words 0 ≡ number) }
+    ensures always { result ≡ Tell.Always → (words : List ℕ) → IsWords words
+        → F.allows facts.now (F.level facts.now) words → least ≤ slice_index words 0 }
+    ensures never { result ≡ Tell.Never → (words : List ℕ) → IsWords words
+        → F.allows facts.now (F.level facts.now) words → slice_index words 0 < least }
+{
+    match known {
+        Some(number) if number >= least => Tell::Always,
+        Some(_) => Tell::Never,
+        None => facts.tell(number_from(least)),
     }
 }
 

@@ -1,5 +1,4 @@
-use Rattle.scf_compare.proofs.Common.{◌<◌, length, refl, arith, call_of, slice_index, AreNumbersOf}
-use Rattle.scf_compare.proofs.Bits.{at_least}
+use Rattle.scf_compare.proofs.Common.{◌<◌, length, refl, arith, call_of, AreNumbersOf}
 use Rattle.scf_compare.proofs.Rules.{read_at}
 use Rattle.scf_compare.proofs.Numbered.{from_number}
 use Rattle.scf_compare.proofs.by_number.ByNumber.first_possible.Goals as goal
@@ -20,6 +19,5 @@ loop-first-preserved-in-Always g c =
       told = λ words w allowed _.
           from_number numbers rules are (call_of words) middle own
           (read_at numbers numbers middle own refl inside c.index-numbers-middle.is)
-          (at_least (slice_index words 0) own.number
-          (rw c.number_from.ensures at (c.tell.ensures.law_always c.in-Always.is words allowed)));
+          (c.tell_from.ensures.always c.in-Always.is words w allowed);
     }
