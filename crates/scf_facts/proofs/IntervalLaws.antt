@@ -118,6 +118,13 @@ reached least (i ∷ is) (suc k) x found a below e =
 
 -- ---- from the first interval to the last
 
+-- both ends of the first interval lie in it
+pub lies_first : (is : List Interval) (first : Interval) → AreApart is → slice_get is 0 ≡ Some first
+    → LiesInOne is first.low × LiesInOne is first.high
+lies_first [] first a begin = cc
+lies_first (i ∷ is) first a begin =
+    let same : first ≡ i = cc in rw same (inl (omega arith, a.1), inl (a.1, omega arith))
+
 -- what each number of each interval has, a number in one of them has
 lies_within : (P : ℕ → Type 0) (is : List Interval) (x : ℕ)
     → All (λ i. (y : ℕ) → LiesIn i y → P y) is → LiesInOne is x → P x

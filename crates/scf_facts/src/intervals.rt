@@ -22,6 +22,20 @@ pub(crate) fn hull(intervals: &[Interval]) -> Option<Interval>
     })
 }
 
+/// An end of the first interval that lies outside a range, if one does.
+#[tactic(auto, using(crate::proofs::IntervalLaws::lies_first))]
+pub(crate) fn end_outside(intervals: &[Interval], range: Interval) -> Option<u32>
+    requires { AreApart intervals.now }
+    ensures inside { IfSome result (LiesInOne intervals.now) }
+    ensures outside { IfSome result (λ x. LiesIn range x → ⊥) }
+{
+    let first = intervals.first()?;
+    if first.low < range.low {
+        return Some(first.low);
+    }
+    (range.high < first.high).then_some(first.high)
+}
+
 /// The intervals' parts within a range.
 pub(crate) fn parts_within(
     alloc: Global,

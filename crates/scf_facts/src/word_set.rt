@@ -16,7 +16,7 @@ use crate::atom::{Atom, Tell};
 use crate::bits::Bits;
 use crate::free_number::{Searched, free_number, refutes};
 use crate::interval::Interval;
-use crate::intervals::{hull, lies_in_one, parts_outside, parts_within};
+use crate::intervals::{end_outside, hull, lies_in_one, parts_outside, parts_within};
 use crate::least::first_number;
 use crate::query::Query;
 use scf_insn::Memory;
@@ -151,12 +151,25 @@ impl WordSet {
         if let Some(only) = self.only_value() {
             return Tell::of(atom.answer(only));
         }
-        if self.excludes(atom, true) {
-            Tell::Never
-        } else if self.excludes(atom, false) {
-            Tell::Always
-        } else {
-            Tell::Maybe
+        match Query::of(atom) {
+            Query::Within { range, answer } => {
+                if self.has_none(range, self.known) {
+                    Tell::of(!answer)
+                } else if self.has_none_outside(range) {
+                    Tell::of(answer)
+                } else {
+                    Tell::Maybe
+                }
+            }
+            Query::Masked(bits) => {
+                if self.has_none_with(bits) {
+                    Tell::Never
+                } else if self.has_none_without(bits) {
+                    Tell::Always
+                } else {
+                    Tell::Maybe
+                }
+            }
         }
     }
 
@@ -167,23 +180,6 @@ impl WordSet {
         match self.intervals.as_slice() {
             [only] if only.low == only.high => Some(only.low),
             _ => None,
-        }
-    }
-
-    /// Whether it is known that the atom has this answer for no value.
-    fn excludes(&self, atom: Atom, answer: bool) -> bool
-        ensures none { IsTrue result → EachNumber self.now (λ x. answer_at atom x ≡ answer → ⊥) }
-        ensures some { result ≡ false → IsTrue (is_exact_set self.now)
-            → SomeNumber self.now (λ x. answer_at atom x ≡ answer) }
-    {
-        match Query::of(atom) {
-            Query::Within {
-                range,
-                answer: inside,
-            } if inside == answer => self.has_none(range, self.known),
-            Query::Within { range, .. } => self.has_none_outside(range),
-            Query::Masked(bits) if answer => self.has_none_with(bits),
-            Query::Masked(bits) => self.has_none_without(bits),
         }
     }
 
@@ -245,6 +241,11 @@ impl WordSet {
         ensures all { IsTrue result → EachNumber self.now (LiesIn range) }
         ensures some { result ≡ false → IsTrue (is_exact_set self.now) → SomeNumber self.now (λ x. LiesIn range x → ⊥) }
     {
+        if let Some(end) = end_outside(&self.intervals, range) {
+            if self.known.are_in(end) {
+                return false;
+            }
+        }
         (range.low == 0
             || self.has_none(
                 Interval {
