@@ -3,24 +3,14 @@
 #include <stdio.h>
 #include <string.h>
 
-/* A row: of a source, a kind and the names of its numbers, which is `entry` in brackets if there may be none. */
+/* A row: of a source and a kind, by their numbers and their names, the names of its numbers, which is `entry` in
+ * brackets if there may be none. */
 static const struct row {
-    const char *source, *kind, *numbers, *meaning;
+    uint32_t source, kind;
+    const char *source_name, *kind_name, *numbers, *meaning;
 } rows[] = {
-#define FAULT(source, kind, numbers, meaning) {source, kind, numbers, meaning},
 #include "faults.inc"
 };
-
-/* By their numbers in scf.h, from 1. */
-static const char *const sources[] = {"filter", "beside", "text", "table", "profile", "compile", "stack", "compare"};
-static const char *const kinds[] = {
-    "Memory", "Read", "Truncated", "TooLong", "Empty", "Code", "Load", "Scratch", "Divisor", "Shift", "Jump",
-    "LastNotReturn", "Unset", "NotAscii", "Mnemonic", "Operand", "NumberRange", "Label", "JumpTooFar", "Form", "Name",
-    "Number", "Repeated", "Json", "Missing", "Kind", "Action", "Operator", "EmptyNames", "Index", "RepeatedIndex",
-    "Errno", "ErrnoRange", "NoX8664", "EngineForm", "TooMany", "Conflict", "TooLarge", "NotListed"};
-
-#define NAME_OF(names, number) \
-    ((number) >= 1 && (number) <= sizeof(names) / sizeof *(names) ? (names)[(number) - 1] : NULL)
 
 struct output {
     char *text;
@@ -40,17 +30,19 @@ static void add_number(struct output *output, uint64_t number) {
     add(output, digits, (size_t)snprintf(digits, sizeof digits, " %llu", (unsigned long long)number));
 }
 
-static const struct row *row_of(const char *source, const char *kind) {
+static const struct row *row_of(uint32_t source, uint32_t kind) {
     for (size_t i = 0; i < sizeof rows / sizeof *rows; i++)
-        if (strcmp(rows[i].source, source) == 0 && strcmp(rows[i].kind, kind) == 0) return rows + i;
+        if (rows[i].source == source && rows[i].kind == kind) return rows + i;
     return NULL;
 }
 
 /* What a fault of a side beside another means stands with the input of that side. */
-static const struct row *row_beside(const char *kind) {
-    const char *const inputs[] = {"beside", "profile", "table"};
+static const struct row *row_beside(const struct scf_fault *fault) {
+    const uint32_t inputs[] = {SCF_SOURCE_BESIDE, SCF_SOURCE_PROFILE, SCF_SOURCE_TABLE};
     const struct row *row = NULL;
-    for (size_t i = 0; row == NULL && i < sizeof inputs / sizeof *inputs; i++) row = row_of(inputs[i], kind);
+    /* (a stack with too many instructions says how many) */
+    if (fault->kind == SCF_KIND_TOO_MANY && fault->numbers[0] == 0) return row_of(SCF_SOURCE_PROFILE, fault->kind);
+    for (size_t i = 0; row == NULL && i < sizeof inputs / sizeof *inputs; i++) row = row_of(inputs[i], fault->kind);
     return row;
 }
 
@@ -72,18 +64,16 @@ static void add_numbers(struct output *output, const struct row *row, const stru
 
 void scf_fault_text(const struct scf_fault *fault, char *text, size_t room, size_t *needed) {
     struct output output = {text, room, 0};
-    const char *source = NAME_OF(sources, fault->source), *kind = NAME_OF(kinds, fault->kind);
-    if (source != NULL && kind != NULL) {
-        const struct row *row = fault->source == SCF_SOURCE_BESIDE ? row_beside(kind) : row_of(source, kind);
+    const int is_beside = fault->source == SCF_SOURCE_BESIDE;
+    const struct row *row = is_beside ? row_beside(fault) : row_of(fault->source, fault->kind);
+    if (row != NULL) {
         add_text(&output, "fault ");
-        add_text(&output, source);
+        add_text(&output, is_beside ? "beside" : row->source_name);
         add_text(&output, " ");
-        add_text(&output, kind);
-        if (row != NULL) {
-            add_numbers(&output, row, fault);
-            add_text(&output, "\n");
-            add_text(&output, row->meaning);
-        }
+        add_text(&output, row->kind_name);
+        add_numbers(&output, row, fault);
+        add_text(&output, "\n");
+        add_text(&output, row->meaning);
         add_text(&output, "\n");
     }
     *needed = output.length;

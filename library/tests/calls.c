@@ -581,6 +581,8 @@ static void fault_texts(void) {
     IS(is_fault_text(SCF_SOURCE_FILTER, SCF_KIND_EMPTY, 0, 0, 0,
                      "fault filter Empty\nThe filter has no instruction.\n"));
     whole = needed;
+    IS(is_fault_text(SCF_SOURCE_BESIDE, SCF_KIND_TOO_MANY, 32796, 0, 0, "fault beside TooMany total 32796\nWith this "));
+    IS(is_fault_text(SCF_SOURCE_BESIDE, SCF_KIND_TOO_MANY, 0, 0, 0, "fault beside TooMany\nThe profile has "));
     IS(is_fault_text(SCF_SOURCE_COMPARE, SCF_KIND_MEMORY, 0, 0, 0, "fault compare Memory\nOut of memory."));
     IS(is_fault_text(0, 0, 0, 0, 0, "") && is_fault_text(99, 1, 0, 0, 0, "") && is_fault_text(1, 99, 0, 0, 0, ""));
     memset(&fault, 0, sizeof fault);
