@@ -1,5 +1,6 @@
-"""The documents: docs/FAULTS.md against the program's kinds and lines, the blocks of README.md, docs/TUTORIAL.md and
-docs/RECIPES.md, the manual pages, statuses, and that what docs/TRUST.md and docs/ARCHITECTURE.md name is there."""
+"""The documents: docs/FAULTS.md and scf.h against the proved rows of faults, and against printed lines; the blocks of
+README.md, docs/TUTORIAL.md and docs/RECIPES.md, the manual pages, statuses, and that what docs/TRUST.md and
+docs/ARCHITECTURE.md name is there."""
 import glob
 import itertools
 import os
@@ -14,27 +15,26 @@ from test_texts import CODES
 
 TOOLS = sorted(entry.name for entry in os.scandir(os.path.join(TOP, "tools")) if entry.is_file())
 
-# Which enum of the program is printed for which sources; for some, only these of its kinds.
-SOURCES = {
-    "InputFault": ["input", "table", "profile"], "BundleFault": ["bundle"],
-    "ReadFault": ["filter", "beside"],
-    "CheckFault": ["filter", "beside"], "TextFault": ["text"],
-    "TableFault": ["table"], "LoadFault": ["profile"], "CompileFault": ["compile"],
-    "PushFault": ["stack", "beside"],
-}
-# These are made of others, or are printed in another way.
-OTHERS = {"BesideFault", "VerifyFault", "WriteFault", "NumberFault", "NumeralFault", "RequestFault"}
+# Of a row of faults: a source or a kind with its number in scf.h, and a kind between its status and its numbers.
+NAME, KIND = r'\(codes "(\w+)", (\d+)\)', r'\(\s*(\w+),\s+\(codes "(\w+)", (\d+)\),\s+([^=]*?),?\s*\)'
+STATUSES = {"Refused": 1, "CommandLine": 2, "Failed": 3}
 
 
-def enums():
-    """The enums of faults in the sources: for each its kinds, and for each kind the names of its numbers."""
-    actual = {}
-    for path in glob.glob(os.path.join(TOP, "crates", "*", "src", "**", "*.rt"), recursive=True):
-        with open(path, encoding="utf-8") as file:
-            text = re.sub(r"//[^\n]*|#\[[^\n]*\]", "", file.read())
-        for enum in re.finditer(r"^pub enum (\w+Fault) \{\n(.*?)^\}", text, re.M | re.S):
-            kinds = re.findall(r"^    (\w+)(?:\s*\{([^}]*)\}|\(([^)]*)\))?,", enum[2], re.M)
-            actual[enum[1]] = {kind: re.findall(r"(\w+)\s*:", fields) for kind, fields, _ in kinds}
+def fault_rows():
+    """The faults of scf_tool's definition: for each (source, kind) their numbers in scf.h, or 0, the names of the
+    numbers behind them, and the status."""
+    text = text_of("crates", "scf_tool", "specs", "Faults.antt")
+    for word, name in re.findall(r'^(\w+) = (\(codes "\w+", \d+\))$', text, re.M):
+        text = re.sub(rf"\b{word}\b", name, text)
+    kinds, actual = re.findall(rf"^(\w+_kind) [^=]+=\s+{KIND}$", text, re.M), {}
+    beside = re.search(rf"Beside fault\) = \({NAME}", text).groups()
+    for of, *source, function, status, kind, number, numbers in re.findall(
+            rf"^(\w+)_row [^=]+= \({NAME}, (?:(\w+) fault|{KIND})\)$", text, re.M):
+        own = [row[1:] for row in kinds if row[0] == function] or [(status, kind, number, numbers)]
+        for name, place in (source, beside) if of == "verify" else (source,):
+            for status, kind, number, numbers in own:
+                names = ["entry"] if numbers == "in_entry entry" else re.findall(r'codes "(\w+)"', numbers)
+                actual.setdefault((name, kind), ((int(place), int(number)), names, STATUSES[status]))
     return actual
 
 
@@ -65,25 +65,17 @@ def options(command):
 
 
 class Faults(Case):
-    def test_each_kind_has_a_row_and_each_row_a_kind(self):
-        printed = {}
-        for enum, kinds in enums().items():
-            self.assertIn(enum, {*SOURCES, *OTHERS},
-                          "a new enum of faults: say here what its source is, and write its rows")
-            for source in SOURCES.get(enum, []):
-                for kind, fields in kinds.items():
-                    printed.setdefault((source, kind), fields)
-        self.assertEqual(set(enums()) & set(SOURCES), set(SOURCES))
-        printed["bundle", "Parts"] = []
-        for kind in ("Calls", "Flags", "Range", "Reading"):
-            printed["command", kind] = []
-        for source in ("answers", "compare", "command"):
-            printed[source, "Memory"] = []
-        for name in {*options("run"), *options("decide"), *options("compare")}:
-            printed["number", name] = []
-        self.assertEqual(set(rows()), set(printed))
-        for (source, kind), fields in printed.items():
-            self.assertEqual(rows()[source, kind][0], fields, (source, kind))
+    def test_the_page_and_the_header_have_each_row(self):
+        """The page has of `beside` what a filter may have, and no command without a word, which clap refuses."""
+        proved = fault_rows()
+        printed = {key: row[1:] for key, row in proved.items() if key != ("command", "NoCommand") and (
+            key[0] != "beside" or proved.keys() & {("filter", key[1]), ("stack", key[1])})}
+        printed |= {("number", name): ([], 2) for word in ("run", "decide", "compare") for name in options(word)}
+        self.assertEqual({key: (names, status_of(*key)) for key, (names, _) in rows().items()}, printed)
+        for at, enum in enumerate(("SOURCE", "KIND")):
+            numbers = re.findall(rf"^ +SCF_{enum}_(\w+) = (\d+)", text_of("library", "scf.h"), re.M)
+            self.assertEqual(sorted((name.replace("_", ""), int(number)) for name, number in numbers),
+                             sorted({(key[at].upper(), row[0][at]) for key, row in proved.items() if row[0][at]}))
 
     def test_each_row_says_when_and_what_to_do(self):
         for key, (_, sentences) in rows().items():

@@ -173,14 +173,6 @@ class Interface(Built):
                              (int(size), fields), name)
         self.assertEqual(len(lines), 16)
 
-    def test_faults_are_those_of_the_page(self):
-        sources, kinds = header_numbers("SOURCE_"), header_numbers("KIND_")
-        self.assertEqual(sorted(sources.values()), list(range(1, len(sources) + 1)))
-        self.assertEqual(sorted(kinds.values()), list(range(1, len(kinds) + 1)))
-        self.assertEqual({snake(kind) for _, kind in fault_lines()}, set(kinds))
-        self.assertEqual({source.upper() for source, _ in fault_lines()}, set(sources))
-        self.assertLessEqual(max(map(len, fault_lines().values())), 3)
-
     def test_each_fault_has_the_text_of_the_page(self):
         page = re.findall(r"^- (`fault .*)\n  (.*)$", read(TOP, "docs", "FAULTS.md"), re.M)
         sentences = {(source, kind): sentence.replace("`", "") for lines, sentence in page

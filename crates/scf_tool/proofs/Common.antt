@@ -24,7 +24,6 @@ pub use Rattle.scf_profile.proofs.Common.{Answering, IfOk-weaker, Names, err_fro
 pub use Rattle.scf_profile.specs.declared.load_fault.LoadFault.{LoadFault}
 pub use Rattle.scf_text.proofs.Common.{each_fails, fails_first, flat_map, writes_then}
 pub use Rattle.scf_tool.specs.Commands.{NoReadFailed, ReadsInput}
-pub use Rattle.scf_tool.specs.Faults.{number_words}
 pub use Rattle.scf_tool.specs.FilterStacks.{HasNoStack, HasStack, HaveStopped, IsNotPushed}
 pub use Rattle.scf_tool.specs.Reports.{argument_text, name_line, named_line}
 pub use Rattle.scf_request.specs.Requests.{AsksFor}
@@ -35,7 +34,6 @@ pub use Rattle.scf_tool.specs.Comparisons.{AreFound, IsFoundOfCall}
 pub use Rattle.scf_tool.specs.VerifyingStacks.{AreComparedInputs, LeavesFilterReaders, left_out_of}
 pub use Rattle.scf_request.specs.declared.contents.PartReader.{PartReader}
 pub use Rattle.scf_tool.specs.declared.fault.Fault.{Fault}
-pub use Rattle.scf_tool.specs.declared.fault_line.FaultField.{FaultField}
 pub use Rattle.scf_tool.specs.declared.inputs.Inputs.{Inputs}
 pub use Rattle.scf_tool.specs.declared.reply.Reply.{Reply}
 pub use Rattle.scf_tool.specs.declared.reply.Reply.TheVariants.{CommandLine}
@@ -43,7 +41,6 @@ pub use Rattle.scf_tool.specs.declared.verify_fault.VerifyFault.{VerifyFault}
 pub use Rattle.scf_tool.specs.declared.verify_fault.VerifyFault.TheVariants.{FilterRead}
 pub use Rattle.scf_request.specs.Contents.{rest_of}
 pub use Rattle.scf_tool.specs.internal.Gathering.{buffered}
-pub use Rattle.scf_tool.specs.internal.Fields.{field_text, numbers_of_field}
 pub use Rattle.scf_tool.specs.internal.Explaining.{Explains}
 pub use Rattle.scf_tool.specs.internal.Pieces.{fragment_text}
 pub use Rattle.scf_tool.specs.internal.Verification.{AreInputs}

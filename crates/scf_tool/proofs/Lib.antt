@@ -4,7 +4,7 @@ pub mod CallLemmas
 pub mod Common
 mod ComparisonParts
 pub mod ExplorationLemmas
-mod FaultLemmas
+pub mod FaultLemmas
 mod InputLemmas
 mod RunLemmas
 mod ScopeLemmas

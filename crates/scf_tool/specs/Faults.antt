@@ -1,5 +1,7 @@
--- What is printed of each fault, and the exit status that goes with it.
-use Rattle.std.specs.Prelude.{ℕ, List, [], ◌∷◌, ◌++◌, codes, Option, Some, None}
+-- The row of each fault: what is refused and why, each by its name in the printed line and its number in scf.h, the
+-- numbers that say where, and the program's exit status. Numbers of scf.h never change; new kinds come behind them.
+use Rattle.std.specs.Prelude.{ℕ, List, [], ◌∷◌, ◌++◌, ◌-◌, ◌^◌, codes, map, Option, Some, None}
+use Rattle.std.specs.Borrow.{Bor}
 use Rattle.std.specs.List.{flat_map}
 use Rattle.std.specs.Fmt.{decimal}
 use Rattle.scf_insn.specs.declared.input.InputFault.{InputFault}
@@ -30,138 +32,218 @@ use Rattle.scf_tool.specs.declared.status.Status.{Status}
 use Rattle.scf_tool.specs.declared.status.Status.TheVariants.{Refused, CommandLine, Failed}
 use Rattle.scf_tool.specs.declared.fault.Fault.{Fault}
 use Rattle.scf_tool.specs.declared.fault.Fault.TheVariants as faults
+use Rattle.scf_tool.specs.declared.fault_row.FaultKind.{FaultKind}
+use Rattle.scf_tool.specs.declared.fault_row.FaultRow.{FaultRow}
 
--- A kind of fault: the exit status that goes with it, its name, and its numbers behind their names. What can't be read
--- and memory that is refused have status 3, what is refused has status 1, and what is wrong with the words status 2.
+-- a name in the printed line, and its number in scf.h; 0 if only the program has it
+abbrev pub Name : Type 0
+Name = List ℕ × ℕ
+
+-- one of a fault's numbers: its name in the line, which leaves out a number without one, and what libscf hands out
+abbrev pub Number : Type 0
+Number = Option (List ℕ) × ℕ
+
+-- Why something is refused: the exit status, the kind's name, and the numbers that say where. What can't be read and
+-- memory that is refused have status 3, what is refused has status 1, and what is wrong with the words status 2.
 abbrev pub Kind : Type 0
-Kind = Status × List ℕ × List (List ℕ × ℕ)
+Kind = Status × Name × List Number
 
--- the number of an entry of a profile, and none outside of them
-abbrev pub in_entry : Option ℕ → List (List ℕ × ℕ)
-in_entry None = []
-in_entry (Some entry) = (codes "entry", entry) ∷ []
+-- what is refused, and why
+abbrev pub Row : Type 0
+Row = Name × Kind
+
+-- ---- numbers
+
+abbrev pub named : List ℕ → ℕ → Number
+named name value = (Some name, value)
+
+-- in place of a number that the kind hasn't
+abbrev pub unused : Number
+unused = (None, 0)
+
+abbrev pub none : List Number
+none = unused ∷ unused ∷ unused ∷ []
+
+abbrev pub one : List ℕ → ℕ → List Number
+one name value = named name value ∷ unused ∷ unused ∷ []
+
+-- that of an entry of a profile, or outside of them the greatest number
+abbrev pub in_entry : Option ℕ → List Number
+in_entry (Some entry) = one (codes "entry") entry
+in_entry None = (None, 2 ^ 64 - 1) ∷ unused ∷ unused ∷ []
+
+-- ---- the names that stand in more than one row
+
+abbrev pub of_filter : Name
+of_filter = (codes "filter", 1)
+
+abbrev pub of_table : Name
+of_table = (codes "table", 4)
+
+abbrev pub of_profile : Name
+of_profile = (codes "profile", 5)
+
+abbrev pub memory : Name
+memory = (codes "Memory", 1)
+
+abbrev pub read : Name
+read = (codes "Read", 2)
+
+abbrev pub too_long : Name
+too_long = (codes "TooLong", 4)
+
+abbrev pub too_many : Name
+too_many = (codes "TooMany", 36)
 
 -- ---- the kinds of each fault
 
 abbrev pub input_kind : InputFault → Kind
-input_kind inputs.Read = (Failed, codes "Read", [])
-input_kind inputs.TooLong = (Failed, codes "TooLong", [])
-input_kind inputs.Memory = (Failed, codes "Memory", [])
+input_kind inputs.Read = (Failed, read, none)
+input_kind inputs.TooLong = (Failed, too_long, none)
+input_kind inputs.Memory = (Failed, memory, none)
 
 abbrev pub bundle_kind : BundleFault → Kind
-bundle_kind (bundles.Header offset) = (Failed, codes "Header", (codes "offset", offset) ∷ [])
-bundle_kind (bundles.Short offset) = (Failed, codes "Short", (codes "offset", offset) ∷ [])
-bundle_kind bundles.Memory = (Failed, codes "Memory", [])
+bundle_kind (bundles.Header offset) = (Failed, (codes "Header", 0), one (codes "offset") offset)
+bundle_kind (bundles.Short offset) = (Failed, (codes "Short", 0), one (codes "offset") offset)
+bundle_kind bundles.Memory = (Failed, memory, none)
 
 abbrev pub read_kind : ReadFault → Kind
-read_kind reads.Read = (Failed, codes "Read", [])
-read_kind (reads.Truncated offset) = (Failed, codes "Truncated", (codes "offset", offset) ∷ [])
-read_kind reads.TooLong = (Failed, codes "TooLong", [])
-read_kind reads.Memory = (Failed, codes "Memory", [])
+read_kind reads.Read = (Failed, read, none)
+read_kind (reads.Truncated offset) = (Failed, (codes "Truncated", 3), one (codes "offset") offset)
+read_kind reads.TooLong = (Failed, too_long, none)
+read_kind reads.Memory = (Failed, memory, none)
 
 abbrev pub check_kind : CheckFault → Kind
-check_kind checks.Empty = (Refused, codes "Empty", [])
-check_kind checks.TooLong = (Refused, codes "TooLong", [])
-check_kind (checks.Code at) = (Refused, codes "Code", (codes "at", at) ∷ [])
-check_kind (checks.Load at) = (Refused, codes "Load", (codes "at", at) ∷ [])
-check_kind (checks.Scratch at) = (Refused, codes "Scratch", (codes "at", at) ∷ [])
-check_kind (checks.Divisor at) = (Refused, codes "Divisor", (codes "at", at) ∷ [])
-check_kind (checks.Shift at) = (Refused, codes "Shift", (codes "at", at) ∷ [])
-check_kind (checks.Jump at) = (Refused, codes "Jump", (codes "at", at) ∷ [])
-check_kind checks.LastNotReturn = (Refused, codes "LastNotReturn", [])
-check_kind (checks.Unset at word) = (Refused, codes "Unset", (codes "at", at) ∷ (codes "word", word) ∷ [])
-check_kind checks.Memory = (Failed, codes "Memory", [])
+check_kind checks.Empty = (Refused, (codes "Empty", 5), none)
+check_kind checks.TooLong = (Refused, too_long, none)
+check_kind (checks.Code at) = (Refused, (codes "Code", 6), one (codes "at") at)
+check_kind (checks.Load at) = (Refused, (codes "Load", 7), one (codes "at") at)
+check_kind (checks.Scratch at) = (Refused, (codes "Scratch", 8), one (codes "at") at)
+check_kind (checks.Divisor at) = (Refused, (codes "Divisor", 9), one (codes "at") at)
+check_kind (checks.Shift at) = (Refused, (codes "Shift", 10), one (codes "at") at)
+check_kind (checks.Jump at) = (Refused, (codes "Jump", 11), one (codes "at") at)
+check_kind checks.LastNotReturn = (Refused, (codes "LastNotReturn", 12), none)
+check_kind (checks.Unset at word) =
+    (Refused, (codes "Unset", 13), named (codes "at") at ∷ named (codes "word") word ∷ unused ∷ [])
+check_kind checks.Memory = (Failed, memory, none)
 
 abbrev pub text_kind : TextFault → Kind
-text_kind (texts.NotAscii line) = (Refused, codes "NotAscii", (codes "line", line) ∷ [])
-text_kind (texts.Mnemonic line) = (Refused, codes "Mnemonic", (codes "line", line) ∷ [])
-text_kind (texts.Operand line) = (Refused, codes "Operand", (codes "line", line) ∷ [])
-text_kind (texts.NumberRange line) = (Refused, codes "NumberRange", (codes "line", line) ∷ [])
-text_kind (texts.Label line) = (Refused, codes "Label", (codes "line", line) ∷ [])
-text_kind (texts.JumpTooFar line) = (Refused, codes "JumpTooFar", (codes "line", line) ∷ [])
-text_kind (texts.TooLong line) = (Refused, codes "TooLong", (codes "line", line) ∷ [])
-text_kind texts.Memory = (Failed, codes "Memory", [])
+text_kind (texts.NotAscii line) = (Refused, (codes "NotAscii", 14), one (codes "line") line)
+text_kind (texts.Mnemonic line) = (Refused, (codes "Mnemonic", 15), one (codes "line") line)
+text_kind (texts.Operand line) = (Refused, (codes "Operand", 16), one (codes "line") line)
+text_kind (texts.NumberRange line) = (Refused, (codes "NumberRange", 17), one (codes "line") line)
+text_kind (texts.Label line) = (Refused, (codes "Label", 18), one (codes "line") line)
+text_kind (texts.JumpTooFar line) = (Refused, (codes "JumpTooFar", 19), one (codes "line") line)
+text_kind (texts.TooLong line) = (Refused, too_long, one (codes "line") line)
+text_kind texts.Memory = (Failed, memory, none)
 
 abbrev pub table_kind : TableFault → Kind
-table_kind (tables.Form line) = (Refused, codes "Form", (codes "line", line) ∷ [])
-table_kind (tables.Name line) = (Refused, codes "Name", (codes "line", line) ∷ [])
-table_kind (tables.Number line) = (Refused, codes "Number", (codes "line", line) ∷ [])
-table_kind (tables.Repeated line) = (Refused, codes "Repeated", (codes "line", line) ∷ [])
-table_kind tables.Memory = (Failed, codes "Memory", [])
+table_kind (tables.Form line) = (Refused, (codes "Form", 20), one (codes "line") line)
+table_kind (tables.Name line) = (Refused, (codes "Name", 21), one (codes "line") line)
+table_kind (tables.Number line) = (Refused, (codes "Number", 22), one (codes "line") line)
+table_kind (tables.Repeated line) = (Refused, (codes "Repeated", 23), one (codes "line") line)
+table_kind tables.Memory = (Failed, memory, none)
 
 abbrev pub load_kind : LoadFault → Kind
-load_kind loads.Json = (Refused, codes "Json", [])
-load_kind (loads.Missing entry) = (Refused, codes "Missing", in_entry entry)
-load_kind (loads.Kind entry) = (Refused, codes "Kind", in_entry entry)
-load_kind (loads.Action entry) = (Refused, codes "Action", in_entry entry)
-load_kind (loads.Operator entry) = (Refused, codes "Operator", in_entry entry)
-load_kind (loads.EmptyNames entry) = (Refused, codes "EmptyNames", in_entry entry)
-load_kind (loads.Index entry) = (Refused, codes "Index", in_entry entry)
-load_kind (loads.RepeatedIndex entry) = (Refused, codes "RepeatedIndex", in_entry entry)
-load_kind (loads.Errno entry) = (Refused, codes "Errno", in_entry entry)
-load_kind (loads.ErrnoRange entry) = (Refused, codes "ErrnoRange", in_entry entry)
-load_kind (loads.NoX8664 entry) = (Refused, codes "NoX8664", in_entry entry)
-load_kind (loads.NotListed table) = (Refused, codes "NotListed", (codes "table", table) ∷ [])
-load_kind (loads.EngineForm entry) = (Refused, codes "EngineForm", in_entry entry)
-load_kind loads.TooMany = (Refused, codes "TooMany", [])
-load_kind (loads.Conflict number first second) =
-    (Refused, codes "Conflict", (codes "number", number) ∷ (codes "first", first) ∷ (codes "second", second) ∷ [])
-load_kind loads.Memory = (Failed, codes "Memory", [])
+load_kind loads.Json = (Refused, (codes "Json", 24), none)
+load_kind (loads.Missing entry) = (Refused, (codes "Missing", 25), in_entry entry)
+load_kind (loads.Kind entry) = (Refused, (codes "Kind", 26), in_entry entry)
+load_kind (loads.Action entry) = (Refused, (codes "Action", 27), in_entry entry)
+load_kind (loads.Operator entry) = (Refused, (codes "Operator", 28), in_entry entry)
+load_kind (loads.EmptyNames entry) = (Refused, (codes "EmptyNames", 29), in_entry entry)
+load_kind (loads.Index entry) = (Refused, (codes "Index", 30), in_entry entry)
+load_kind (loads.RepeatedIndex entry) = (Refused, (codes "RepeatedIndex", 31), in_entry entry)
+load_kind (loads.Errno entry) = (Refused, (codes "Errno", 32), in_entry entry)
+load_kind (loads.ErrnoRange entry) = (Refused, (codes "ErrnoRange", 33), in_entry entry)
+load_kind (loads.NoX8664 entry) = (Refused, (codes "NoX8664", 34), in_entry entry)
+load_kind (loads.NotListed table) = (Refused, (codes "NotListed", 39), one (codes "table") table)
+load_kind (loads.EngineForm entry) = (Refused, (codes "EngineForm", 35), in_entry entry)
+load_kind loads.TooMany = (Refused, too_many, none)
+load_kind (loads.Conflict number first second) = (
+  Refused,
+  (codes "Conflict", 37),
+  named (codes "number") number ∷ named (codes "first") first ∷ named (codes "second") second ∷ [],
+)
+load_kind loads.Memory = (Failed, memory, none)
 
 abbrev pub compile_kind : CompileFault → Kind
-compile_kind compiles.TooLarge = (Refused, codes "TooLarge", [])
-compile_kind compiles.Memory = (Failed, codes "Memory", [])
+compile_kind compiles.TooLarge = (Refused, (codes "TooLarge", 38), none)
+compile_kind compiles.Memory = (Failed, memory, none)
 
 abbrev pub push_kind : PushFault → Kind
-push_kind (pushes.TooMany total) = (Refused, codes "TooMany", (codes "total", total) ∷ [])
-push_kind pushes.Memory = (Failed, codes "Memory", [])
+push_kind (pushes.TooMany total) = (Refused, too_many, one (codes "total") total)
+push_kind pushes.Memory = (Failed, memory, none)
 
--- ---- what is wrong, and its kind
+-- ---- the rows
 
--- what a fault is of, and its kind
-abbrev pub verify_kind : VerifyFault → List ℕ × Kind
-verify_kind (verifies.FilterRead fault) = (codes "filter", read_kind fault)
-verify_kind (verifies.Check fault) = (codes "filter", check_kind fault)
-verify_kind (verifies.Stack fault) = (codes "stack", push_kind fault)
-verify_kind (verifies.TableRead fault) = (codes "table", input_kind fault)
-verify_kind (verifies.Table fault) = (codes "table", table_kind fault)
-verify_kind (verifies.ProfileRead fault) = (codes "profile", input_kind fault)
-verify_kind (verifies.Profile fault) = (codes "profile", load_kind fault)
-verify_kind verifies.Memory = (codes "compare", (Failed, codes "Memory", []))
+abbrev pub text_row : TextFault → Row
+text_row fault = ((codes "text", 3), text_kind fault)
 
--- a fault of two sides: those of the filters or the profile beside others are told apart
-abbrev pub beside_kind : BesideFault → List ℕ × Kind
-beside_kind (besides.Verify fault) = verify_kind fault
-beside_kind (besides.Beside fault) = (codes "beside", (verify_kind fault).1)
+abbrev pub compile_row : CompileFault → Row
+compile_row fault = ((codes "compile", 6), compile_kind fault)
+
+abbrev pub verify_row : VerifyFault → Row
+verify_row (verifies.FilterRead fault) = (of_filter, read_kind fault)
+verify_row (verifies.Check fault) = (of_filter, check_kind fault)
+verify_row (verifies.Stack fault) = ((codes "stack", 7), push_kind fault)
+verify_row (verifies.TableRead fault) = (of_table, input_kind fault)
+verify_row (verifies.Table fault) = (of_table, table_kind fault)
+verify_row (verifies.ProfileRead fault) = (of_profile, input_kind fault)
+verify_row (verifies.Profile fault) = (of_profile, load_kind fault)
+verify_row verifies.Memory = ((codes "compare", 8), (Failed, memory, none))
+
+-- of two sides: those of the filters or the profile beside others are told apart
+abbrev pub beside_row : BesideFault → Row
+beside_row (besides.Verify fault) = verify_row fault
+beside_row (besides.Beside fault) = ((codes "beside", 2), (verify_row fault).1)
 
 -- the name of an option stands in place of a kind
-abbrev pub request_kind : RequestFault → List ℕ × Kind
-request_kind requests.NoCommand = (codes "command", (CommandLine, codes "NoCommand", []))
-request_kind (requests.Number fault) = (codes "number", (CommandLine, fault.name.now, []))
-request_kind requests.Flags = (codes "command", (CommandLine, codes "Flags", []))
-request_kind requests.Reading = (codes "command", (CommandLine, codes "Reading", []))
-request_kind requests.Range = (codes "command", (CommandLine, codes "Range", []))
+abbrev pub request_row : RequestFault → Row
+request_row requests.NoCommand = ((codes "command", 0), (CommandLine, (codes "NoCommand", 0), none))
+request_row (requests.Number fault) = ((codes "number", 0), (CommandLine, (fault.name.now, 0), none))
+request_row requests.Flags = ((codes "command", 0), (CommandLine, (codes "Flags", 0), none))
+request_row requests.Reading = ((codes "command", 0), (CommandLine, (codes "Reading", 0), none))
+request_row requests.Range = ((codes "command", 0), (CommandLine, (codes "Range", 0), none))
 
-abbrev pub kind_of_fault : Fault → List ℕ × Kind
-kind_of_fault faults.CommandLine = (codes "command", (Failed, codes "Memory", []))
-kind_of_fault (faults.Request fault) = request_kind fault
-kind_of_fault (faults.Input fault) = (codes "input", input_kind fault)
-kind_of_fault (faults.Bundle fault) = (codes "bundle", bundle_kind fault)
-kind_of_fault faults.Parts = (codes "bundle", (Failed, codes "Parts", []))
-kind_of_fault (faults.Text fault) = (codes "text", text_kind fault)
-kind_of_fault (faults.Compile fault) = (codes "compile", compile_kind fault)
-kind_of_fault (faults.Verify fault) = verify_kind fault
-kind_of_fault (faults.Sides fault) = beside_kind fault
-kind_of_fault faults.Answers = (codes "answers", (Failed, codes "Memory", []))
-kind_of_fault faults.Range = (codes "command", (CommandLine, codes "Range", []))
-kind_of_fault faults.Calls = (codes "command", (CommandLine, codes "Calls", []))
+abbrev pub fault_row : Fault → Row
+fault_row faults.CommandLine = ((codes "command", 0), (Failed, memory, none))
+fault_row (faults.Request fault) = request_row fault
+fault_row (faults.Input fault) = ((codes "input", 0), input_kind fault)
+fault_row (faults.Bundle fault) = ((codes "bundle", 0), bundle_kind fault)
+fault_row faults.Parts = ((codes "bundle", 0), (Failed, (codes "Parts", 0), none))
+fault_row (faults.Text fault) = text_row fault
+fault_row (faults.Compile fault) = compile_row fault
+fault_row (faults.Verify fault) = verify_row fault
+fault_row (faults.Sides fault) = beside_row fault
+fault_row faults.Answers = ((codes "answers", 0), (Failed, memory, none))
+fault_row faults.Range = ((codes "command", 0), (CommandLine, (codes "Range", 0), none))
+fault_row faults.Calls = ((codes "command", 0), (CommandLine, (codes "Calls", 0), none))
 
--- a number behind its name
-abbrev pub number_words : List ℕ × ℕ → List ℕ
-number_words number = codes " " ++ number.0 ++ codes " " ++ decimal number.1
+-- ---- the status and the line of a row
 
--- the status and the line of what is wrong
+abbrev pub names_text : Row → List ℕ
+names_text ((source, _), (_, (kind, _), _)) = codes "fault " ++ source ++ codes " " ++ kind
+
+abbrev pub number_text : Number → List ℕ
+number_text (None, _) = []
+number_text (Some name, value) = codes " " ++ name ++ codes " " ++ decimal value
+
 abbrev pub printed_fault : Fault → Status × List ℕ
 printed_fault fault =
-    let wrong = kind_of_fault fault in
-    (wrong.1.0, codes "fault " ++ wrong.0 ++ codes " " ++ wrong.1.1 ++ flat_map number_words wrong.1.2 ++ codes "\n")
+    let row = fault_row fault in
+    (row.1.0, names_text row ++ flat_map number_text row.1.2 ++ codes "\n")
+
+-- ---- rows as the code keeps them
+
+abbrev pub name_at : Option (Bor (List ℕ)) → Option (List ℕ)
+name_at None = None
+name_at (Some name) = Some name.now
+
+abbrev pub number_of : Option (Bor (List ℕ)) × ℕ → Number
+number_of (name, value) = (name_at name, value)
+
+abbrev pub kind_of : FaultKind → Kind
+kind_of kind = (kind.status, (kind.name.0.now, kind.name.1), map number_of kind.numbers)
+
+abbrev pub row_of : FaultRow → Row
+row_of row = ((row.source.0.now, row.source.1), kind_of row.kind)

@@ -1,5 +1,4 @@
 pub mod Explaining
-pub mod Fields
 pub mod Gathering
 pub mod Parts
 pub mod Pieces
