@@ -7,8 +7,7 @@ use Rattle.scf_facts.proofs.Common.{IsPowerOfTwo, and_pow}
 use Rattle.scf_facts.proofs.MaskLaws.{under_power}
 use Rattle.scf_facts.proofs.Ones.{more_ones, one_more}
 use Rattle.scf_compare.proofs.Common.{Bits, HasBits, trailing_ones, bit_at-trailing_ones, one_shl, w32, ◌≡◌, ◌+◌, ◌*◌, ◌%◌, ◌<◌, ◌≤◌, ◌-◌, ◌^◌, ℕ, List, arith, bit_and, bit_or, common_steps, eq-eqb, eqb, false, inl, inr, length, refl, slice_index}
-use Rattle.scf_compare.specs.internal.FixedBits.{HaveBits, bits_at}
-use Rattle.scf_compare.specs.Splits.{open_bits}
+use Rattle.scf_compare.specs.Splits.{HaveBits, bits_at, open_bits}
 
 -- a number that doesn't have a bit lacks it
 pub lacks_bit : (x m : ℕ) → IsPowerOfTwo m → eqb (bit_and x m) m ≡ false → bit_and x m ≡ 0

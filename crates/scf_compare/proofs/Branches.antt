@@ -3,7 +3,7 @@ use Rattle.scf_compare.proofs.Common.{◌≡◌, ℕ, zero, suc, ◌+◌, ◌<�
 use Rattle.scf_machine.proofs.Indices.{index_before, index_cases, index_last}
 use Rattle.scf_compare.specs.declared.frontier.OpenBranch.{OpenBranch}
 use Rattle.scf_compare.specs.internal.Trees.{GoesEither, IsStep, KeepsAsked}
-use Rattle.scf_compare.specs.internal.Frontier.{IsBefore, IsWhole, IsWhollyAhead, StaysWhole, first_open_after, first_open_left}
+use Rattle.scf_compare.specs.internal.Frontier.{HasOpened, HasTaken, IsBefore, IsWhole, IsWhollyAhead, StaysWhole, first_open_after, first_open_left}
 use Rattle.scf_compare.specs.internal.Leaves.{pair_leaves}
 use Rattle.scf_compare.specs.internal.Stages.{IsStageAfter}
 use Rattle.scf_compare.specs.declared.frontier.Stage.{Stage}
@@ -12,26 +12,13 @@ use Rattle.std.specs.Prelude.{IfOk, IfSome, IsSome, Result, Ok, Err}
 
 -- ---- one more at the end of a list
 
-length_more : {X : Type 0} (xs ys : List X) (x : X) → ys ≡ xs ++ x ∷ [] → length ys ≡ length xs + 1
+pub length_more : {X : Type 0} (xs ys : List X) (x : X) → ys ≡ xs ++ x ∷ [] → length ys ≡ length xs + 1
 length_more xs ys x e = ap length e ∙ length-append xs (x ∷ [])
 
 pub size_more : {F K N : Type 0} (tree : K → Tree N) (fewer more : Frontier F K N) (b : OpenBranch K N)
     → more.branches.items ≡ fewer.branches.items ++ b ∷ []
     → open_size tree more ≡ open_size tree fewer + (tree b.known).size b.node
 size_more tree fewer more b h = grind (arith, sum_by-append)
-
--- A branch was opened, and the answer yes was learned.
-pub record HasOpened {F K N : Type 0} (store : Store F) (old new : Frontier F K N) (b : OpenBranch K N) : Type 0 where
-  pub branches : new.branches.items ≡ old.branches.items ++ b ∷ []
-  pub marks : store.level new.facts ≡ store.level old.facts + 1
-  pub levels : (index : ℕ) → index ≤ store.level old.facts
-      → IsSameLevel store.allows store.is_exact store.refutes_among old.facts index new.facts index
-  pub known : (words : List ℕ)
-      → store.allows new.facts (store.level new.facts) words
-      ↔ (store.allows old.facts (store.level old.facts) words × GivesAnswer b.asked true words)
-  pub among : (masks : ℕ) → LearnsAmong masks b.asked true
-      → store.refutes_among old.facts (store.level old.facts) masks
-      → store.refutes_among new.facts (store.level new.facts) masks
 
 -- words that go either way give one of the answers, and come on with it
 either : (atom : Option Atom) (words : List ℕ) (first second : Type 0) → GoesEither atom words first second
@@ -130,19 +117,6 @@ after_undo store asked old undone new closed law marks learned among =
       ),
       λ masks keeps was. among masks keeps ((same.2 masks).1 was),
     )
-
--- The newest branch was taken: its mark was undone, and what leads into it was learned.
-pub record HasTaken {F K N : Type 0} (store : Store F) (old new : Frontier F K N) (b : OpenBranch K N) : Type 0 where
-  pub branches : old.branches.items ≡ new.branches.items ++ b ∷ []
-  pub marks : store.level new.facts + 1 ≡ store.level old.facts
-  pub levels : (index : ℕ) → index < store.level new.facts
-      → IsSameLevel store.allows store.is_exact store.refutes_among old.facts index new.facts index
-  pub known : (words : List ℕ)
-      → store.allows new.facts (store.level new.facts) words
-      ↔ (store.allows old.facts (store.level new.facts) words × GivesAnswer b.asked false words)
-  pub among : (masks : ℕ) → LearnsAmong masks b.asked false
-      → store.refutes_among old.facts (store.level new.facts) masks
-      → store.refutes_among new.facts (store.level new.facts) masks
 
 pub taken : {F K N : Type 0} (store : Store F) (compared : Compared) (tree : K → Tree N) (old new : Frontier F K N)
     (b : OpenBranch K N)
@@ -321,6 +295,19 @@ opened_whole {K = K} {N = N} store compared tree old new known atom if_true if_f
       ],
     )
 
+-- the words go on without a question
+pub goes_on : {F K N : Type 0} {store : Store F} {tree : K → Tree N} {frontier : Frontier F K N} {first : Option ℕ}
+    {comes_on on : List ℕ → Type 0} → IsWhole store tree frontier first comes_on
+    → ((words : List ℕ) → store.allows frontier.facts (store.level frontier.facts) words → comes_on words → on words)
+    → IsWhole store tree frontier first on
+goes_on whole goes = record {
+  few = whole.few;
+  asked = whole.asked;
+  branches = whole.branches;
+  answered = whole.answered;
+  here = λ is words allowed. goes words allowed (whole.here is words allowed);
+}
+
 -- an answer that the facts know changes nothing
 pub decided_whole : {F K N : Type 0} (store : Store F) (tree : K → Tree N) (frontier : Frontier F K N)
     (first : Option ℕ) (atom : Atom) {comes_on on : List ℕ → Type 0} (count : ℕ)
@@ -328,16 +315,7 @@ pub decided_whole : {F K N : Type 0} (store : Store F) (tree : K → Tree N) (fr
     → ((words : List ℕ) → store.allows frontier.facts (store.level frontier.facts) words → comes_on words → on words)
     → StaysWhole store tree frontier frontier first (first_open_after first (Some atom) count) on
 decided_whole store tree frontier first atom count whole goes =
-    rw (after_atom first (Some atom) count refl) (
-      record {
-        few = whole.few;
-        asked = whole.asked;
-        branches = whole.branches;
-        answered = whole.answered;
-        here = λ is words allowed. goes words allowed (whole.here is words allowed);
-      },
-      λ words ahead. ahead,
-    )
+    rw (after_atom first (Some atom) count refl) (goes_on whole goes, λ words ahead. ahead)
 
 -- the branches before one that is taken were decided
 was_left : (first : Option ℕ) (count index : ℕ) → index < count → IsBefore (first_open_left first count) index

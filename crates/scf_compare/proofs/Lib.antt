@@ -14,6 +14,7 @@ pub mod Numbered
 pub mod Relations
 pub mod Rules
 pub mod Saturated
+pub mod Searches
 pub mod SeveralProfiles
 pub mod Weights
 pub mod SplitLaws

@@ -2,9 +2,13 @@
 use Rattle.std.proofs.Math.Nat.{one-le-pow, pow-le-pow_right}
 use Rattle.std.proofs.lemmas.Grind.{pow_more}
 use Rattle.scf_facts.specs.declared.bits.Bits.{Bits}
-use Rattle.scf_compare.proofs.Common.{◌≡◌, ◌+◌, ◌-◌, ◌*◌, ◌<◌, ◌≤◌, ◌^◌, ℕ, List, arith, mul-le-mul_left, scaled_costs}
-use Rattle.scf_compare.specs.Splits.{open_bits}
-use Rattle.scf_compare.specs.internal.Settling.{weight}
+use Rattle.scf_compare.proofs.Common.{◌≡◌, ◌+◌, ◌-◌, ◌*◌, ◌<◌, ◌≤◌, ◌^◌, ℕ, List, Bool, Some, arith, false, mul-le-mul_left, scaled_costs, true}
+use Rattle.scf_compare.proofs.Common.{AreWordsIn, Branch, Compared, Tree, atom_answer}
+use Rattle.scf_compare.specs.Splits.{HaveBits, bit_is_set, open_bits}
+use Rattle.scf_compare.specs.declared.settling.SettlingNode.{SettlingNode}
+use Rattle.scf_compare.specs.internal.Leaves.{pair_leaves}
+use Rattle.scf_compare.specs.internal.Settling.{StartsAt, settling_trees, weight}
+use Rattle.scf_compare.specs.internal.Trees.{IsStep}
 
 pub weight_counts : (effort lacks : ℕ) → 0 < (2 * effort + 1) ^ lacks
 weight_counts effort lacks = one-le-pow lacks (2 * effort + 1) (omega arith)
@@ -50,3 +54,39 @@ weighs_less effort size more fewer less counts =
     let within : weight effort more ≤ weight effort fewer = pow-le-pow_right (omega arith) less in
     let all : weight effort fewer * 1 ≤ weight effort fewer * size = mul-le-mul_left (weight effort fewer) counts in
     omega arith
+
+-- a split of a node into two at the root, each with one bit more
+pub record IsSplit {N : Type 0} (root : N) (fixed : List Bits) (word bit : ℕ) (answer : Bool) (half : SettlingNode N)
+    : Type 0 where
+  pub node : half.node ≡ root
+  pub have : (words : List ℕ) → HaveBits fixed words → atom_answer (bit_is_set word bit) words ≡ answer
+      → HaveBits half.fixed.words words
+  pub fewer : open_bits half.fixed.words < open_bits fixed
+
+pub splits_in_two : {K N : Type 0} (compared : Compared) (tree : K → Tree N) (start : K) (root : N)
+    (given : List ℕ → Type 0) (before : K) (from : SettlingNode N) (fixed : List Bits) (word bit : ℕ)
+    (set clear : SettlingNode N)
+    → ((words : List ℕ) → given words → AreWordsIn compared words) → StartsAt (AreWordsIn compared) (tree start) root
+    → ((words : List ℕ) → given words → HaveBits from.fixed.words words → HaveBits fixed words)
+    → open_bits fixed ≤ open_bits from.fixed.words → 0 < (tree before).size from.node → word < 16
+    → IsSplit root fixed word bit true set → IsSplit root fixed word bit false clear
+    → IsStep (pair_leaves compared) given (settling_trees tree start root before) from
+    (settling_trees tree start root start) (Branch (Some (bit_is_set word bit)) set clear)
+splits_in_two compared tree start root given before from fixed word bit set clear within at_root have less counts word_is of_set of_clear =
+    let effort = (tree start).size root in
+    record {
+      proper = (word_is, rw of_set.node at_root.node, rw of_clear.node at_root.node);
+      leads = λ words allowed on.
+          let reached = at_root.reached words (within words allowed) in
+          let have_fixed = have words allowed on.1 in (
+            λ yes. (rw of_set.node reached, of_set.have words have_fixed yes),
+            λ no. (rw of_clear.node reached, of_clear.have words have_fixed no),
+          );
+      costs = rw (of_set.node, of_clear.node) (omega (
+        arith,
+        two_walks effort (open_bits fixed) (open_bits set.fixed.words) (open_bits clear.fixed.words) of_set.fewer
+            of_clear.fewer,
+        weighs_less effort ((tree before).size from.node) fixed from.fixed.words less counts,
+      ));
+      plain = λ masks plain. absurd plain;
+    }

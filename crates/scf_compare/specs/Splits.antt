@@ -1,6 +1,21 @@
--- How many splits a comparison can make.
-use Rattle.std.specs.Prelude.{◌≡◌, ◌+◌, ◌-◌, ◌<◌, ◌^◌, ℕ, List, count_ones, length, sum_by}
+-- Splits: the bits that they fix, and how many a comparison can make.
+use Rattle.std.specs.Prelude.{◌≡◌, ◌+◌, ◌-◌, ◌<◌, ◌^◌, ℕ, List, count_ones, length, slice_index, slice_index_or, sum_by}
+use Rattle.scf_facts.specs.Bits.{HasBits}
+use Rattle.scf_facts.specs.declared.atom.Atom.{Atom}
+use Rattle.scf_facts.specs.declared.atom.Atom.TheVariants.{Eq}
 use Rattle.scf_facts.specs.declared.bits.Bits.{Bits}
+
+-- whether a word has a bit
+abbrev pub bit_is_set : ℕ → ℕ → Atom
+bit_is_set word bit = Eq word bit bit
+
+-- what is fixed of the word at an index
+abbrev pub bits_at : List Bits → ℕ → Bits
+bits_at fixed index = slice_index_or fixed index (record { mask = 0; value = 0 })
+
+-- each word has the bits that are fixed of it
+abbrev pub HaveBits : List Bits → List ℕ → Type 0
+HaveBits fixed words = (index : ℕ) → HasBits (bits_at fixed index) (slice_index words index)
 
 -- how many bits of the words aren't fixed
 abbrev pub open_bits : List Bits → ℕ

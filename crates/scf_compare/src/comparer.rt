@@ -1,6 +1,6 @@
 //! Comparisons: of two sides, and of a filter with a profile.
 
-ghost use Rattle.std.specs.Prelude.{◌≡◌, ℕ, All, IsTrue, IfOk, OnErr, min};
+ghost use Rattle.std.specs.Prelude.{◌≡◌, ◌∷◌, [], ℕ, All, IsTrue, IfOk, OnErr, min};
 ghost use Rattle.scf_machine.specs.Machine.{RunAnswers};
 ghost use Rattle.scf_machine.specs.Plain.{IsPlainProgram};
 ghost use Rattle.scf_machine.specs.Precedence.{StackAnswers};
@@ -20,11 +20,10 @@ ghost use Rattle.scf_compare.specs.Findings.{
 };
 ghost use Rattle.scf_compare.specs.Limits.{LeavesStepsBelow};
 ghost use Rattle.scf_facts.specs.Masks.{AreFew};
+ghost use Rattle.scf_compare.specs.Searches.{IfUndecided, IsGivenUp};
 ghost use Rattle.scf_compare.specs.Sides.{AreOneStack, IsMaskedSide, IsPlainSide, behavior_of, effort_of_sides};
-ghost use Rattle.scf_compare.specs.Verdicts.{IsDecided, IsTrueOf, IsTrueOfStack, IsWithin};
+ghost use Rattle.scf_compare.specs.Verdicts.{IsDecided, IsTrueOf, IsTrueOfStack, IsWithin, WasGivenUp};
 ghost use Rattle.scf_compare.specs.internal.Comparers.{IsComparison};
-ghost use Rattle.scf_compare.specs.internal.Pairs.{pair_tree};
-ghost use Rattle.scf_compare.specs.internal.Walks.{IfUndecided, WasGivenUp};
 
 use crate::budget::{Limit, Splits};
 use crate::by_number::ByNumber;
@@ -49,8 +48,9 @@ use std::slice;
 ///
 /// `Holds` says that the relation holds of the answers to every record of the scope; `Fails` shows one, with both
 /// answers, of which it doesn't hold. `Undecided` gives the index of an instruction where runs of one side end and the
-/// store `F` doesn't decide the answers; it comes only after everything else was explored. `Unfinished` comes only if
-/// the limit is below the exact effort; the steps of `Holds` are within both.
+/// store `F` doesn't decide the answers; it comes only after everything else was explored, and after as many splits or
+/// steps below them as the limit allows. `Unfinished` comes only if the limit is below the exact effort; the steps of
+/// `Holds` are within both.
 ///
 /// A store that starts exact decides plain sides: with a limit of at least the effort the finding is `Holds` exactly if
 /// the relation holds of the answers to every record of the scope, else `Fails`. It decides sides so that also test
@@ -79,6 +79,9 @@ pub fn compare_sides<F: WordFacts>(
     ensures of_one { AreOneStack left.now right.now
         → IfOk result (IsFindingDecided (AllRelated (compared_sides by over left.now right.now))
         limit.steps (effort_of_sides left.now right.now)) }
+    ensures undecided { IfOk result (λ finding. IfUndecided finding
+        (IsGivenUp (compared_sides by over left.now right.now) (effort_of_sides left.now right.now)
+        limit.splits limit.steps)) }
 {
     let mut left_over = limit.steps;
     let mut left_below = limit.steps;
@@ -125,6 +128,9 @@ pub fn compare_sides_within<F: WordFacts>(
     ensures of_one { AreOneStack left.now right.now
         → IfOk result (IsFindingDecided (AllRelated (compared_sides by over left.now right.now))
         (min limit.steps left_over.old) (effort_of_sides left.now right.now)) }
+    ensures undecided { IfOk result (λ finding. IfUndecided finding
+        (IsGivenUp (compared_sides by over left.now right.now) (effort_of_sides left.now right.now)
+        limit.splits (min limit.steps left_below.old))) }
     ensures left { IfOk result (λ finding. LeavesFindingSteps
         (min limit.steps left_over.old) (effort_of_sides left.now right.now) left_over.old finding left_over.new) }
     ensures left_below { IfOk result (λ finding. LeavesStepsBelow
@@ -272,7 +278,7 @@ fn compare_with<F: WordFacts, L: SideTree + Drop>(
 }
 
 /// Walks the tree of a pair; if that leaves it undecided, a second time with splits, unless both sides are the same.
-#[tactic(auto, using(crate::proofs::Budgets::unsplit_below))]
+#[tactic(auto, using(crate::proofs::Budgets::unsplit))]
 fn compare_pair<F: WordFacts, L: SideTree, R: SideTree>(
     alloc: Global,
     pair: &Pair<L, R>,
@@ -283,13 +289,9 @@ fn compare_pair<F: WordFacts, L: SideTree, R: SideTree>(
 ) -> Result<Finding, Memory>
     requires { IsTrue is_same → AllRelated
         (compared_in pair.now.by pair.now.over (L.behavior pair.now.left) (R.behavior pair.now.right)) }
-    ensures comparison { IfOk result (λ finding. IsComparison
+    ensures { IfOk result (λ finding. IsComparison
         (compared_in pair.now.by pair.now.over (L.behavior pair.now.left) (R.behavior pair.now.right))
         (IsTrue F.starts_exact) (IsTrue is_same) limit budget.old finding taken.new budget.new.steps) }
-    ensures given_up { let compared =
-        compared_in pair.now.by pair.now.over (L.behavior pair.now.left) (R.behavior pair.now.right) in
-        let tree = pair_tree compared (L.tree pair.now.left) (R.tree pair.now.right) in
-        IfOk result (λ finding. IfUndecided finding (WasGivenUp F.WordFacts compared tree budget.old)) }
 {
     let facts: F = facts_of(alloc, pair.over)?;
     let (known, root) = pair.start();
@@ -327,6 +329,7 @@ pub fn compare<F: WordFacts>(
         → IfOk result (IsDecided
         (SameAnswers (RunAnswers program.now) profile.now)
         limit (effort_of program.now profile.now)) }
+    ensures undecided { IfOk result (WasGivenUp (program.now ∷ []) profile.now Scope.All limit) }
 {
     let limit = Limit::of_steps(limit);
     let filter = Side::Stack(slice::from_ref(program));
@@ -355,6 +358,7 @@ pub fn compare_stack<F: WordFacts>(
         → IfOk result (IsDecided
         (SameAnswersIn scope (StackAnswers stack.now) profile.now)
         limit (effort_of_stack stack.now profile.now)) }
+    ensures undecided { IfOk result (WasGivenUp stack.now profile.now scope limit) }
 {
     let limit = Limit::of_steps(limit);
     let filters = Side::Stack(stack.filters());

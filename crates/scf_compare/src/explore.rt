@@ -5,7 +5,7 @@ ghost use Rattle.scf_insn.specs.Words.{IsRecord, words_of};
 ghost use Rattle.scf_facts.specs.Masks.{AreFew};
 ghost use Rattle.scf_compare.specs.Findings.{WordsRelated};
 ghost use Rattle.scf_compare.specs.internal.Leaves.{AreWordsIn, IsFirstUndecided, IsLeaf, IsUndecidedLeaf, WereSeen};
-ghost use Rattle.scf_compare.specs.internal.Leaves.{KnowsBoth, Tells};
+ghost use Rattle.scf_compare.specs.internal.Leaves.{KnowsBoth, Tells, told_end};
 ghost use Rattle.scf_compare.specs.internal.Frontier.{IsFrontier, IsExact};
 ghost use Rattle.scf_compare.specs.internal.Stages.{IsExplored, IsFound, IsJudged, IsStageAfter, finding_of_all};
 
@@ -43,7 +43,8 @@ fn is_related<C: Comparison>(comparison: &C, leaf: PairLeaf) -> bool
 /// Where a leaf is undecided: on the left side, unless only the right one's answer isn't known.
 fn open_end_of<C: Comparison>(comparison: &C, leaf: PairLeaf) -> (Which, usize)
     requires { IsLeaf (C.compared comparison.now) leaf }
-    ensures { IsFirstUndecided (C.compared comparison.now) result }
+    ensures open { IsFirstUndecided (C.compared comparison.now) result }
+    ensures told { result ≡ told_end leaf }
 {
     let _ = comparison;
     match (leaf.left.answer, leaf.right.answer) {
@@ -115,7 +116,7 @@ fn advance<C: Comparison, F: WordFacts>(
         frontier.old frontier.new (C.tree comparison.now known.old) node (C.tree comparison.now known.new)
         (WereSeen (C.compared comparison.now) first_undecided.new)) }
     ensures index { IfSome first_undecided.new (IsFirstUndecided (C.compared comparison.now)) }
-    ensures still { IsSome first_undecided.old → IsSome first_undecided.new }
+    ensures kept { IsSome first_undecided.old → first_undecided.new ≡ first_undecided.old }
     ensures exact { let here = C.tree comparison.now known.old in
         (masks : ℕ) → AreFew masks
         → IsExact F.WordFacts (C.tree comparison.now) masks frontier.old (here.is_plain masks node) (here.reaches node)

@@ -1,12 +1,12 @@
 //! The bits of the sixteen words of a record that splits have fixed.
 
-ghost use Rattle.std.specs.Prelude.{◌≡◌, ◌≢◌, ◌-◌, ◌<◌, ◌≤◌, ◌^◌, ℕ, List, IfSome, IfNone, slice_index};
+ghost use Rattle.std.specs.Prelude.{◌≡◌, ◌≢◌, ◌-◌, ◌<◌, ◌≤◌, ◌^◌, ℕ, List, IfSome, IfNone, length, slice_index};
 ghost use Rattle.std.specs.Int.{IsPowerOfTwo};
 ghost use Rattle.scf_insn.specs.Words.{IsWords};
 ghost use Rattle.scf_facts.specs.Atoms.{atom_answer};
 ghost use Rattle.scf_facts.specs.Bits.{HasBits};
-ghost use Rattle.scf_compare.specs.internal.FixedBits.{AreWhole, HaveBits, IsOpenBit, bit_is_set, bits_at};
-ghost use Rattle.scf_compare.specs.Splits.{open_bits};
+ghost use Rattle.scf_compare.specs.internal.FixedBits.{AreWhole, IsOpenBit};
+ghost use Rattle.scf_compare.specs.Splits.{HaveBits, bit_is_set, bits_at, open_bits};
 
 use crate::known_bits::told_bits;
 use crate::sources::{OpenTest, Sources};
@@ -55,7 +55,8 @@ impl WordBit {
 impl FixedBits {
     /// No bit is fixed.
     pub(crate) fn none() -> FixedBits
-        ensures { (words : List ℕ) → HaveBits result.words words }
+        ensures have { (words : List ℕ) → HaveBits result.words words }
+        ensures count { length result.words ≡ 16 }
     {
         FixedBits {
             words: [Bits::NONE; 16],

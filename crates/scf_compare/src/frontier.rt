@@ -4,8 +4,8 @@ ghost use Rattle.std.specs.Prelude.{◌≡◌, ◌<◌, ◌↔◌, ◌⊎◌, []
 ghost use Rattle.scf_facts.specs.Levels.{IsSameLevel};
 ghost use Rattle.scf_compare.specs.internal.Leaves.{AreWordsIn, IsLeaf, pair_leaves};
 ghost use Rattle.scf_compare.specs.internal.Frontier.{GivesAnswer, LearnsAmong, IsFrontier, IsWhole, StaysWhole};
-ghost use Rattle.scf_compare.specs.internal.Frontier.{first_open_after};
-ghost use Rattle.scf_compare.specs.internal.Stages.{FindsNothing, GoesOver, IsStageAfter, IsWholeStage};
+ghost use Rattle.scf_compare.specs.internal.Frontier.{HasOpened, first_open_after};
+ghost use Rattle.scf_compare.specs.internal.Stages.{FindsNothing, GoesOver, IsStageAfter, IsTaken, IsWholeStage};
 ghost use Rattle.scf_compare.specs.internal.Trees.{IsAsked, IsProper, IsStep};
 
 use crate::comparison::Comparison;
@@ -96,6 +96,7 @@ pub(crate) fn take_branch<C: Comparison, F: WordFacts>(
         → IsWhole F.WordFacts tree frontier.old first_open ((tree before).reaches from)
         → IfOk result (IsWholeStage F.WordFacts tree frontier.old frontier.new first_open (tree known.new)) }
     ensures nothing { IfOk result FindsNothing }
+    ensures taken { IfOk result (IsTaken F.WordFacts frontier.old frontier.new known.new) }
 {
     let _ = comparison;
     let Some(branch) = frontier.branches.pop() else {
@@ -105,6 +106,31 @@ pub(crate) fn take_branch<C: Comparison, F: WordFacts>(
     learn_answer(&mut frontier.facts, branch.asked, false)?;
     *known = branch.known;
     Ok(Stage::At(branch.node))
+}
+
+/// Opens a branch for the answer no to what is asked, if anything is, and learns yes.
+pub(crate) fn open_branch<C: Comparison, F: WordFacts>(
+    comparison: &C,
+    frontier: &mut Frontier<F, C::Known, C::Node>,
+    known: &C::Known,
+    asked: Option<Atom>,
+    node: C::Node,
+) -> Result<(), Memory>
+    requires frontier { IsFrontier F.WordFacts (C.tree comparison.now)
+        (AreWordsIn (C.compared comparison.now)) frontier.old }
+    requires asked { IsAsked asked }
+    ensures { OnOk result (HasOpened F.WordFacts frontier.old frontier.new
+        (record { known = known.now; node = node; asked = asked })) }
+{
+    let _ = comparison;
+    frontier.facts.mark()?;
+    frontier.branches.push(OpenBranch {
+        known: *known,
+        node,
+        asked,
+    })?;
+    learn_answer(&mut frontier.facts, asked, true)?;
+    Ok(())
 }
 
 /// Goes on from a test. If the store knows the answer, that side is followed. Otherwise a branch is opened for the
@@ -121,7 +147,9 @@ pub(crate) fn ask<C: Comparison, F: WordFacts>(
         (AreWordsIn (C.compared comparison.now)) frontier.old }
     requires proper { let step = Step.Branch atom if_true if_false in
         IsProper (C.tree comparison.now known.now) (IsLeaf (C.compared comparison.now)) step }
-    ensures either { IfOk result (λ next. (next ≡ if_true) ⊎ (next ≡ if_false)) }
+    ensures opened { IfOk result (λ next. ((frontier.new ≡ frontier.old) × ((next ≡ if_true) ⊎ (next ≡ if_false)))
+        ⊎ ((next ≡ if_true) × HasOpened F.WordFacts frontier.old frontier.new
+        (record { known = known.now; node = if_false; asked = atom }))) }
     ensures goes { let compared = C.compared comparison.now in
         let tree = C.tree comparison.now in
         let given = F.allows frontier.old.facts (F.level frontier.old.facts) in
@@ -140,7 +168,6 @@ pub(crate) fn ask<C: Comparison, F: WordFacts>(
         IfOk result (λ next.
         StaysWhole F.WordFacts tree frontier.old frontier.new first_open after ((tree known.now).reaches next)) }
 {
-    let _ = comparison;
     let question = atom;
     if let Some(asked) = question {
         match frontier.facts.tell(asked) {
@@ -149,12 +176,6 @@ pub(crate) fn ask<C: Comparison, F: WordFacts>(
             Tell::Maybe => {}
         }
     }
-    frontier.facts.mark()?;
-    frontier.branches.push(OpenBranch {
-        known: *known,
-        node: if_false,
-        asked: atom,
-    })?;
-    learn_answer(&mut frontier.facts, atom, true)?;
+    open_branch(comparison, frontier, known, atom, if_false)?;
     Ok(if_true)
 }

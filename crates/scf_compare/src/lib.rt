@@ -20,9 +20,9 @@
 //!    the filter is run on it, the profile is asked, and the finding is `Fails`. Over x86-64 alone the walk goes on
 //!    with the first branch and ends with `Holds`.
 //!
-//! The right side doesn't begin at its root then: at each question of the left one that the store doesn't decide it goes
-//! on as far as the store decides its own (`decided`), and each branch keeps how far it came. So two filters of the same
-//! tests, one after another, are walked once, side by side.
+//! The right side doesn't begin at its root then: at each question of the left one that the store doesn't decide it
+//! goes on as far as the store decides its own (`decided`), and each branch keeps how far it came. So two filters of
+//! the same tests, one after another, are walked once, side by side.
 //!
 //! A value that the filter computes stays known while it is a bit slice of a word (`bit_slice`). Of everything else
 //! only single bits are known (`computed`): those that follow from the operands' known bits (`known_bits`). Where
@@ -44,8 +44,8 @@
 //!
 //! A stack of filters is walked oldest first (`stack`). Of the profiles of several architectures each is asked in turn
 //! whether the call is its architecture's, and the later ones where it isn't (`profiles`). The proofs of the walk speak
-//! of trees (`comparison`), and neither of instructions nor of rules. `Verdict` is the finding on a filter, on the left,
-//! and a profile (`comparer`).
+//! of trees (`comparison`), and neither of instructions nor of rules. `Verdict` is the finding on a filter, on the
+//! left, and a profile (`comparer`).
 #![tactic(auto)]
 
 mod affine_term;

@@ -2,26 +2,22 @@
 
 ghost use Rattle.std.specs.Prelude.{◌≡◌, ◌≤◌, ◌↔◌, ℕ, List, None, IfNone, IfOk, IfSome};
 ghost use Rattle.scf_compare.specs.Findings.{WordsRelated};
+ghost use Rattle.scf_compare.specs.Searches.{IsGivenUp};
+ghost use Rattle.scf_compare.specs.Splits.{HaveBits, open_bits};
 ghost use Rattle.scf_compare.specs.internal.Budgets.{LeavesSteps};
-ghost use Rattle.scf_compare.specs.internal.FixedBits.{AreWhole, HaveBits, IsOpenBit};
-ghost use Rattle.scf_compare.specs.Splits.{open_bits};
+ghost use Rattle.scf_compare.specs.internal.FixedBits.{AreWhole, IsOpenBit};
 ghost use Rattle.scf_compare.specs.internal.Frontier.{IsFrontier};
 ghost use Rattle.scf_compare.specs.internal.Leaves.{AreWordsIn, WereSeen};
-ghost use Rattle.scf_compare.specs.internal.Settling.{
-  IsSettled,
-  IsTurn,
-  StartsAt,
-  settling_trees,
-};
+ghost use Rattle.scf_compare.specs.internal.Settling.{IsSettled, StartsAt, settling_trees};
 ghost use Rattle.scf_compare.specs.internal.Stages.{IsFound, IsStageAfter};
-ghost use Rattle.scf_compare.specs.internal.Walks.{IsGivenUp};
+ghost use Rattle.scf_compare.specs.internal.Walks.{HasCome, SearchesOn};
 
-use crate::budget::Limit;
+use crate::budget::{Limit, Splits};
 use crate::comparison::Comparison;
 use crate::explore::{Judged, difference_by, judge};
 use crate::finding::Finding;
 use crate::fixed_bits::{FixedBits, WordBit};
-use crate::frontier::{Frontier, Stage, ask, take_branch};
+use crate::frontier::{Frontier, Stage, ask, open_branch, take_branch};
 use crate::settling::{Settling, SettlingNode};
 use crate::step::Step;
 use scf_facts::WordFacts;
@@ -68,7 +64,13 @@ fn restart<C: Comparison, F: WordFacts>(
         (before : C.Known) → IfOk result (λ stage. IfSome stage (IsStageAfter F.WordFacts
         (C.compared own.comparison.now) trees frontier.old frontier.new (trees before) from (trees known.new)
         (WereSeen (C.compared own.comparison.now) None))) }
-    ensures splits { IfOk result (λ stage. IsTurn from stage budget.old.splits budget.new.splits) }
+    ensures search { let own = settling.now in
+        (before : C.Known) (steps splits : ℕ) → HasCome F.WordFacts (C.compared own.comparison.now)
+        (C.tree own.comparison.now) own.start own.root frontier.old before from steps splits
+        → IfOk result (SearchesOn F.WordFacts (C.compared own.comparison.now)
+        (C.tree own.comparison.now) own.start own.root steps splits frontier.new known.new
+        budget.old.splits budget.new.splits) }
+    ensures splits { IfOk result (λ stage. IfNone stage (budget.old.splits ≡ Splits.AtMost 0)) }
     ensures steps { budget.new.steps ≡ budget.old.steps }
 {
     if !budget.take_split() {
@@ -81,16 +83,46 @@ fn restart<C: Comparison, F: WordFacts>(
     let mut clear = fixed;
     clear.fix(bit, false);
     let if_clear = SettlingNode { node, fixed: clear };
-    let half = ask(
-        settling,
-        frontier,
-        &settling.start,
-        Some(bit.is_set()),
-        if_set,
-        if_clear,
-    )?;
     *known = settling.start;
-    Ok(Some(Stage::At(half)))
+    open_branch(settling, frontier, known, Some(bit.is_set()), if_clear)?;
+    Ok(Some(Stage::At(if_set)))
+}
+
+/// Goes on where a test or an answer is open. If every bit is fixed, both sides are asked about the only words left.
+fn split<C: Comparison, F: WordFacts>(
+    settling: &Settling<'_, C>,
+    frontier: &mut Frontier<F, C::Known, SettlingNode<C::Node>>,
+    known: &mut C::Known,
+    from: SettlingNode<C::Node>,
+    budget: &mut Limit,
+) -> Result<Option<Stage<SettlingNode<C::Node>>>, Memory>
+    requires frontier { let own = settling.now in let tree = C.tree own.comparison.now in
+        IsFrontier F.WordFacts (settling_trees tree own.start own.root)
+        (AreWordsIn (C.compared own.comparison.now)) frontier.old }
+    requires root { let own = settling.now in
+        StartsAt (AreWordsIn (C.compared own.comparison.now)) (C.tree own.comparison.now own.start) own.root }
+    ensures stage { let own = settling.now in
+        let trees = settling_trees (C.tree own.comparison.now) own.start own.root in
+        (before : C.Known) → IfOk result (λ stage. IfSome stage (IsStageAfter F.WordFacts
+        (C.compared own.comparison.now) trees frontier.old frontier.new (trees before) from (trees known.new)
+        (WereSeen (C.compared own.comparison.now) None))) }
+    ensures search { let own = settling.now in
+        (before : C.Known) (steps splits : ℕ) → HasCome F.WordFacts (C.compared own.comparison.now)
+        (C.tree own.comparison.now) own.start own.root frontier.old before from steps splits
+        → IfOk result (SearchesOn F.WordFacts (C.compared own.comparison.now)
+        (C.tree own.comparison.now) own.start own.root steps splits frontier.new known.new
+        budget.old.splits budget.new.splits) }
+    ensures splits { IfOk result (λ stage. IfNone stage (budget.old.splits ≡ Splits.AtMost 0)) }
+    ensures steps { budget.new.steps ≡ budget.old.steps }
+{
+    let mut fixed = from.fixed;
+    match fixed.next_bit(&frontier.facts, settling.open_test(known)) {
+        Some(bit) => restart(settling, frontier, known, from, fixed, bit, budget),
+        None => match difference_of(settling, &fixed) {
+            Some(finding) => Ok(Some(Stage::Found(finding))),
+            None => Ok(Some(take_branch(settling, frontier, known)?)),
+        },
+    }
 }
 
 /// One step of the second walk, if the budget suffices. At a test that no atom decides, and at a leaf where the store
@@ -113,35 +145,26 @@ fn advance_again<C: Comparison, F: WordFacts>(
         IfOk result (λ stage. IfSome stage (IsStageAfter F.WordFacts (C.compared own.comparison.now) trees
         frontier.old frontier.new (trees known.old) node (trees known.new)
         (WereSeen (C.compared own.comparison.now) None))) }
-    ensures splits { IfOk result (λ stage. IsTurn node stage budget.old.splits budget.new.splits) }
+    ensures search { let own = settling.now in
+        (steps splits : ℕ) → HasCome F.WordFacts (C.compared own.comparison.now)
+        (C.tree own.comparison.now) own.start own.root frontier.old known.old node steps splits
+        → IfOk result (SearchesOn F.WordFacts (C.compared own.comparison.now)
+        (C.tree own.comparison.now) own.start own.root steps splits frontier.new known.new
+        budget.old.splits budget.new.splits) }
+    ensures splits { IfOk result (λ stage. IfNone stage (budget.old.splits ≡ Splits.AtMost 0)) }
     ensures steps { budget.new.steps ≡ budget.old.steps }
 {
-    let mut fixed = node.fixed;
-    let step = settling.step(&frontier.facts, known, &node);
-    let test = settling.open_test(known);
-    match step {
+    match settling.step(&frontier.facts, known, &node) {
         Step::Next(next) => Ok(Some(Stage::At(next))),
         Step::Branch(Some(atom), if_true, if_false) => {
             let next = ask(settling, frontier, known, Some(atom), if_true, if_false)?;
             Ok(Some(Stage::At(next)))
         }
-        Step::Branch(None, if_true, if_false) => match fixed.next_bit(&frontier.facts, test) {
-            Some(bit) => restart(settling, frontier, known, node, fixed, bit, budget),
-            None => {
-                let next = ask(settling, frontier, known, None, if_true, if_false)?;
-                Ok(Some(Stage::At(next)))
-            }
-        },
+        Step::Branch(None, _, _) => split(settling, frontier, known, node, budget),
         Step::Leaf(leaf) => match judge(settling, &frontier.facts, leaf) {
             Judged::Related => Ok(Some(take_branch(settling, frontier, known)?)),
             Judged::Fails(finding) => Ok(Some(Stage::Found(finding))),
-            Judged::Open => match fixed.next_bit(&frontier.facts, test) {
-                Some(bit) => restart(settling, frontier, known, node, fixed, bit, budget),
-                None => match difference_of(settling, &fixed) {
-                    Some(finding) => Ok(Some(Stage::Found(finding))),
-                    None => Ok(Some(take_branch(settling, frontier, known)?)),
-                },
-            },
+            Judged::Open => split(settling, frontier, known, node, budget),
         },
     }
 }
@@ -164,9 +187,9 @@ pub(crate) fn settle<C: Comparison, F: WordFacts>(
     ensures settled { IfOk result (λ finding. IfSome finding (IsSettled (C.compared comparison.now) steps)) }
     ensures steps { IfOk result (λ finding.
         LeavesSteps budget.old.splits finding budget.old.steps budget.new.steps) }
-    ensures given_up { let trees = settling_trees (C.tree comparison.now) start root in
-        IfOk result (λ finding. IfNone finding
-        (IsGivenUp F.WordFacts (C.compared comparison.now) trees start root budget.old)) }
+    ensures given_up { IfOk result (λ finding. IfNone finding
+        (IsGivenUp (C.compared comparison.now) ((C.tree comparison.now start).size root)
+        budget.old.splits budget.old.steps)) }
 {
     let settling = Settling {
         comparison,

@@ -1,6 +1,8 @@
 //! A comparison's tree with the bits of the words that splits have fixed.
 
-ghost use Rattle.scf_compare.specs.internal.Settling.{settling_trees};
+ghost use Rattle.scf_compare.specs.internal.Leaves.{pair_leaves};
+ghost use Rattle.scf_compare.specs.internal.Settling.{KeepsFixed, settling_trees};
+ghost use Rattle.scf_compare.specs.internal.Trees.{IsStep};
 
 use crate::comparison::{Comparison, PairLeaf};
 use crate::fixed_bits::FixedBits;
@@ -41,7 +43,15 @@ impl<C: Comparison> Comparison for Settling<'_, C> {
         facts: &F,
         known: &mut C::Known,
         node: &SettlingNode<C::Node>,
-    ) -> Step<SettlingNode<C::Node>, PairLeaf> {
+    ) -> Step<SettlingNode<C::Node>, PairLeaf>
+        requires { (C.tree self.now.comparison.now known.old).is_node node.now.node }
+        ensures step { let own = self.now in
+            let trees = settling_trees (C.tree own.comparison.now) own.start own.root in
+            IsStep (pair_leaves (C.compared own.comparison.now)) (F.allows facts.now (F.level facts.now))
+            (trees known.old) node.now (trees known.new) result }
+        ensures keeps { let tree = C.tree self.now.comparison.now in
+            KeepsFixed (tree known.new) node.now.fixed ((tree known.old).size node.now.node) result }
+    {
         let fixed = node.fixed;
         match self.comparison.step(facts, known, &node.node) {
             Step::Next(node) => Step::Next(SettlingNode { node, fixed }),

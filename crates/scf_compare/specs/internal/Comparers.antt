@@ -6,6 +6,7 @@ use Rattle.scf_compare.specs.declared.budget.Splits.TheVariants.{NoLimit}
 use Rattle.scf_compare.specs.declared.finding.Finding.{Finding}
 use Rattle.scf_compare.specs.Findings.{AllRelated, Compared, IsFindingDecided}
 use Rattle.scf_compare.specs.Limits.{LeavesStepsBelow}
+use Rattle.scf_compare.specs.Searches.{IfUndecided, IsGivenUp}
 use Rattle.scf_compare.specs.internal.Stages.{IsExplored}
 
 abbrev pub effort_between : Compared → ℕ
@@ -15,8 +16,10 @@ effort_between compared = compared.left.size * compared.right.size
 pub record IsComparison (compared : Compared) (is_complete are_one : Type 0) (limit : ℕ) (budget : Limit)
     (finding : Finding) (taken left_below : ℕ) : Type 0 where
   pub explored : IsExplored compared
-      (λ masks. AreFew masks × is_complete × compared.left.is_masked masks × compared.right.is_masked masks) limit (effort_between compared) taken finding
+      (λ masks. AreFew masks × is_complete × compared.left.is_masked masks × compared.right.is_masked masks)
+      limit (effort_between compared) taken finding
   pub settled : budget.splits ≡ NoLimit
       → IsFindingDecided (AllRelated compared) limit (effort_between compared) finding
   pub of_one : are_one → IsFindingDecided (AllRelated compared) limit (effort_between compared) finding
   pub below : LeavesStepsBelow budget.splits budget.steps budget.steps finding left_below
+  pub undecided : IfUndecided finding (IsGivenUp compared (effort_between compared) budget.splits budget.steps)

@@ -1,8 +1,10 @@
 -- The open branches of a tree, and where the words are that are still to be seen.
-use Rattle.std.specs.Prelude.{◌≡◌, ◌<◌, ◌≤◌, ◌⊎◌, ℕ, List, Bool, false, true, IfSome, IsSome, Option, Some, None, if◌then◌else◌, length, nat_lt, slice_get, sum_by}
+use Rattle.std.specs.Prelude.{◌≡◌, ◌+◌, ◌<◌, ◌≤◌, ◌↔◌, ◌⊎◌, ◌++◌, ◌∷◌, [], ℕ, List, Bool, false, true, length, sum_by}
+use Rattle.std.specs.Prelude.{IfSome, IsSome, Option, Some, None, if◌then◌else◌, nat_lt, slice_get}
 use Rattle.scf_facts.specs.declared.word_facts.WordFacts.{Ghosts as Store}
 use Rattle.scf_facts.specs.declared.atom.Atom.{Atom}
 use Rattle.scf_facts.specs.Atoms.{atom_answer}
+use Rattle.scf_facts.specs.Levels.{IsSameLevel}
 use Rattle.scf_facts.specs.Masks.{KeepsAmong}
 use Rattle.scf_compare.specs.declared.frontier.OpenBranch.{OpenBranch}
 use Rattle.scf_compare.specs.declared.frontier.Frontier.{Frontier}
@@ -51,8 +53,8 @@ module _ {F K N : Type 0} (store : Store F) (tree : K → Tree N) where
     pub within : (level : ℕ) → level ≤ length frontier.branches.items
         → (words : List ℕ) → store.allows frontier.facts level words → scope words
 
-  -- An open branch has facts at its mark that refute under bits of the masks alone, as they still do with the answer no,
-  -- and its node is plain: all that is allowed there and gives that answer comes to it.
+  -- An open branch has facts at its mark that refute under bits of the masks alone, as they still do with the answer
+  -- no, and its node is plain: all that is allowed there and gives that answer comes to it.
   pub record IsExactBranch (masks : ℕ) (frontier : Frontier F K N) (index : ℕ) (branch : OpenBranch K N) : Type 0 where
     pub facts : store.refutes_among frontier.facts index masks
     pub keeps : LearnsAmong masks branch.asked false
@@ -117,3 +119,28 @@ module _ {F K N : Type 0} (store : Store F) (tree : K → Tree N) where
   abbrev pub StaysWhole : Frontier F K N → Frontier F K N → Option ℕ → Option ℕ → (List ℕ → Type 0) → Type 0
   StaysWhole old new before after comes_on = IsWhole new after comes_on
       × ((words : List ℕ) → IsWhollyAhead new after words → IsWhollyAhead old before words)
+
+module _ {F K N : Type 0} (store : Store F) (old new : Frontier F K N) (branch : OpenBranch K N) where
+  -- A branch was opened, and the answer yes was learned.
+  pub record HasOpened : Type 0 where
+    pub branches : new.branches.items ≡ old.branches.items ++ branch ∷ []
+    pub marks : store.level new.facts ≡ store.level old.facts + 1
+    pub levels : (index : ℕ) → index ≤ store.level old.facts
+        → IsSameLevel store.allows store.is_exact store.refutes_among old.facts index new.facts index
+    pub known : (words : List ℕ) → store.allows new.facts (store.level new.facts) words
+        ↔ (store.allows old.facts (store.level old.facts) words × GivesAnswer branch.asked true words)
+    pub among : (masks : ℕ) → LearnsAmong masks branch.asked true
+        → store.refutes_among old.facts (store.level old.facts) masks
+        → store.refutes_among new.facts (store.level new.facts) masks
+
+  -- The newest branch was taken: its mark was undone, and what leads into it was learned.
+  pub record HasTaken : Type 0 where
+    pub branches : old.branches.items ≡ new.branches.items ++ branch ∷ []
+    pub marks : store.level new.facts + 1 ≡ store.level old.facts
+    pub levels : (index : ℕ) → index < store.level new.facts
+        → IsSameLevel store.allows store.is_exact store.refutes_among old.facts index new.facts index
+    pub known : (words : List ℕ) → store.allows new.facts (store.level new.facts) words
+        ↔ (store.allows old.facts (store.level new.facts) words × GivesAnswer branch.asked false words)
+    pub among : (masks : ℕ) → LearnsAmong masks branch.asked false
+        → store.refutes_among old.facts (store.level new.facts) masks
+        → store.refutes_among new.facts (store.level new.facts) masks

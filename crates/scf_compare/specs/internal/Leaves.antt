@@ -1,11 +1,12 @@
 -- What the leaves of trees tell.
-use Rattle.std.specs.Prelude.{◌≡◌, ◌⊎◌, ℕ, List, Option, IfNone, IfSome, IsSome}
+use Rattle.std.specs.Prelude.{◌≡◌, ◌⊎◌, ℕ, List, Option, None, Some, IfNone, IfSome, IsSome}
 use Rattle.scf_insn.specs.Words.{IsWords, call_of}
+use Rattle.scf_insn.specs.declared.answer.Answer.{Answer}
 use Rattle.scf_compare.specs.declared.comparison.PairLeaf.{PairLeaf}
 use Rattle.scf_compare.specs.declared.finding.Finding.{Finding}
 use Rattle.scf_compare.specs.declared.finding.Finding.TheVariants.{Undecided}
 use Rattle.scf_compare.specs.declared.finding.Which.{Which}
-use Rattle.scf_compare.specs.declared.finding.Which.TheVariants.{Right}
+use Rattle.scf_compare.specs.declared.finding.Which.TheVariants.{Left, Right}
 use Rattle.scf_compare.specs.declared.origin.Origin.{Origin}
 use Rattle.scf_compare.specs.declared.side_tree.SideLeaf.{SideLeaf}
 use Rattle.scf_compare.specs.Findings.{Compared, IsOpenEnd, WordsRelated}
@@ -58,6 +59,15 @@ IsOnlyAnswer answers words answer = (other : ℕ) → answers words other → ot
 -- the side and the instruction of an undecided leaf
 abbrev pub IsFirstUndecided : Compared → Which × ℕ → Type 0
 IsFirstUndecided compared first = IsOpenEnd compared first.0 first.1
+
+-- where an undecided leaf is told to be: on the left side, unless the right one's answer alone isn't known
+abbrev pub end_of : Option Answer → Option Answer → ℕ → ℕ → Which × ℕ
+end_of (Some known) None of_left of_right = (Right, of_right)
+end_of left right of_left of_right = (Left, of_left)
+
+abbrev pub told_end : PairLeaf → Which × ℕ
+told_end leaf =
+    end_of leaf.left.answer leaf.right.answer (origin_index leaf.left.origin) (origin_index leaf.right.origin)
 
 -- A leaf is undecided: an answer isn't known there, or the two aren't related.
 abbrev pub IsUndecidedLeaf : Compared → PairLeaf → Type 0

@@ -1,17 +1,14 @@
 -- The second walk of a comparison's tree, which begins at the root again with each split.
-use Rattle.std.specs.Prelude.{◌≡◌, ◌+◌, ◌*◌, ◌<◌, ◌^◌, ◌⊎◌, ℕ, List, Option, None, Some, true}
+use Rattle.std.specs.Prelude.{◌≡◌, ◌+◌, ◌*◌, ◌<◌, ◌^◌, ◌⊎◌, ℕ, List}
 use Rattle.scf_facts.specs.declared.bits.Bits.{Bits}
-use Rattle.scf_compare.specs.declared.budget.Splits.{Splits}
-use Rattle.scf_compare.specs.declared.budget.Splits.TheVariants.{AtMost}
 use Rattle.scf_compare.specs.declared.finding.Finding.{Finding}
 use Rattle.scf_compare.specs.declared.finding.Finding.TheVariants.{Holds}
-use Rattle.scf_compare.specs.declared.frontier.Stage.{Stage}
-use Rattle.scf_compare.specs.declared.frontier.Stage.TheVariants.{At}
+use Rattle.scf_compare.specs.declared.fixed_bits.FixedBits.{FixedBits}
 use Rattle.scf_compare.specs.declared.settling.SettlingNode.{SettlingNode}
+use Rattle.scf_compare.specs.declared.step.Step.{Step}
+use Rattle.scf_compare.specs.declared.step.Step.TheVariants.{Next, Branch, Leaf}
 use Rattle.scf_compare.specs.Findings.{AllRelated, Compared}
-use Rattle.scf_compare.specs.internal.Budgets.{IsSplitTaken}
-use Rattle.scf_compare.specs.internal.FixedBits.{HaveBits}
-use Rattle.scf_compare.specs.Splits.{open_bits}
+use Rattle.scf_compare.specs.Splits.{HaveBits, open_bits}
 use Rattle.scf_compare.specs.internal.Stages.{IsFound}
 use Rattle.scf_compare.specs.internal.Trees.{Tree}
 
@@ -37,15 +34,12 @@ pub record StartsAt {N : Type 0} (scope : List ℕ → Type 0) (tree : Tree N) (
   pub node : tree.is_node root
   pub reached : (words : List ℕ) → scope words → tree.reaches root words
 
--- a split comes to a node where fewer bits aren't fixed
-abbrev pub IsSplitTo : {N : Type 0} → SettlingNode N → Stage (SettlingNode N) → Type 0
-IsSplitTo from (At next) = open_bits next.fixed.words < open_bits from.fixed.words
-IsSplitTo from stage = ⊥
-
--- A step of the second walk comes to a stage, by a split or without one; it comes to none only where none was left.
-abbrev pub IsTurn : {N : Type 0} → SettlingNode N → Option (Stage (SettlingNode N)) → Splits → Splits → Type 0
-IsTurn from None old new = old ≡ AtMost 0
-IsTurn from (Some stage) old new = (new ≡ old) ⊎ (IsSplitTaken true old new × IsSplitTo from stage)
+-- A step leads to nodes with the same bits fixed, and costs what it does in the comparison's own tree.
+abbrev pub KeepsFixed : {N E : Type 0} → Tree N → FixedBits → ℕ → Step (SettlingNode N) E → Type 0
+KeepsFixed tree fixed size (Next next) = (next.fixed ≡ fixed) × (tree.size next.node < size)
+KeepsFixed tree fixed size (Branch atom if_true if_false) =
+    (if_true.fixed ≡ fixed) × (if_false.fixed ≡ fixed) × (tree.size if_true.node + tree.size if_false.node < size)
+KeepsFixed tree fixed size (Leaf leaf) = Unit {0}
 
 -- the second walk decides: it finds, after so many steps of the first one, that the relation holds, or a difference
 abbrev pub IsSettled : Compared → ℕ → Finding → Type 0

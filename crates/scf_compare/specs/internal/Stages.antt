@@ -1,5 +1,6 @@
 -- From one stage of an exploration to the next.
 use Rattle.std.specs.Prelude.{◌≡◌, ◌+◌, ◌≤◌, ◌⊎◌, ℕ, List, Option, Some, None, length}
+use Rattle.scf_facts.specs.declared.atom.Atom.{Atom}
 use Rattle.scf_facts.specs.declared.word_facts.WordFacts.{Ghosts as Store}
 use Rattle.scf_compare.specs.declared.explore.Judged.{Judged}
 use Rattle.scf_compare.specs.declared.explore.Judged.TheVariants.{Related, Fails as ShownBy, Open}
@@ -11,7 +12,8 @@ use Rattle.scf_compare.specs.declared.finding.Finding.TheVariants.{Holds, Fails,
 use Rattle.scf_compare.specs.declared.finding.Which.{Which}
 use Rattle.scf_compare.specs.Findings.{AllRelated, AreSteps, Compared, IsFindingDecided, IsFindingWithin, IsTrueFinding, WordsRelated}
 use Rattle.scf_compare.specs.internal.Leaves.{AreWordsIn}
-use Rattle.scf_compare.specs.internal.Frontier.{IsAhead, IsFrontier, IsExact, IsWhollyAhead, StaysWhole, first_open_left, open_size}
+use Rattle.scf_compare.specs.internal.Frontier.{HasTaken, IsAhead, IsFrontier, IsExact, IsWhollyAhead, StaysWhole}
+use Rattle.scf_compare.specs.internal.Frontier.{first_open_left, open_size}
 use Rattle.scf_compare.specs.internal.Trees.{Tree}
 
 -- a difference that was found: it is true, and so the relation doesn't hold of all
@@ -83,3 +85,10 @@ abbrev pub FindsNothing : {N : Type 0} → Stage N → Type 0
 FindsNothing (At next) = Unit {0}
 FindsNothing AllSeen = Unit {0}
 FindsNothing (Found finding) = ⊥
+
+-- the newest branch was taken, unless none was open
+abbrev pub IsTaken : {F K N : Type 0} → Store F → Frontier F K N → Frontier F K N → K → Stage N → Type 0
+IsTaken store old new known (At next) =
+    (asked : Option Atom) × HasTaken store old new (record { known = known; node = next; asked = asked })
+IsTaken store old new known AllSeen = Unit {0}
+IsTaken store old new known (Found finding) = Unit {0}

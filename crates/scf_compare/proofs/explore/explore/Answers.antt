@@ -21,7 +21,7 @@ returns-in-AllSeen g c =
     let counts = g.met.C.Comparison.counts c.args.comparison.now c.loop-steps.known c.loop-steps.node in
     let all = λ (none : c.advance.new.first_undecided ≡ None).
     all_related compared c.advance.new.first_undecided none
-    (λ words within. grind (arith, so_far.words words within, seen words, after.still)) in
+    (λ words within. grind (arith, so_far.words words within, seen words, after.kept)) in
     rw c.seen_in.ensures (of_all compared _ (c.loop-steps.steps + 1) c.args.limit _ c.advance.new.first_undecided
     after.index all (λ masks given. let before = so_far.exact masks given.0 given.1 given.2 in
     after.exact masks given.0 before.1 ∙ before.0)
@@ -44,7 +44,7 @@ loop-steps-preserved g c =
       index = after.index;
       words = λ words within.
           elim (so_far.words words within) [
-            | inl seen ↦ grind (arith, seen, after.still)
+            | inl seen ↦ grind (arith, seen, after.kept)
             | inr ahead ↦ over.words words ahead
           ];
       size = omega (arith, over.size, so_far.size);

@@ -1,23 +1,13 @@
-use Rattle.scf_compare.proofs.Common.{arith, ◌∙◌, refl}
+use Rattle.scf_compare.proofs.Common.{refl}
 use Rattle.scf_compare.proofs.Branches.{decided_whole, opened, opened_whole}
 use Rattle.scf_compare.proofs.frontier.ask.Goals as goal
 
 pub returns-clause-goes : goal.returns-clause-goes
 returns-clause-goes g c = λ before from.
     let tree = g.C.Comparison.tree c.args.comparison.now in
-    let marked = c.in_ok-mark.ensures in
-    let learned = c.in_ok-learn_answer.ensures in
     opened g.F.WordFacts (g.C.Comparison.compared c.args.comparison.now) tree c.args.frontier.now
-    (record { facts = c.learn_answer.new.facts; branches = c.push.new.self }) c.args.known.now
-    c.args.atom c.args.if_true c.args.if_false c.requires.frontier
-    (record {
-      branches = c.in_ok-push.ensures.items;
-      marks = learned.marks ∙ marked.opened;
-      levels = λ index up_to. grind (arith, marked.opened, marked.at_marks index, learned.at_marks index);
-      known = λ words. grind (arith, marked.opened, marked.known, learned.marks, learned.learned words);
-      among = λ masks keeps was. grind (arith, marked.opened, marked.known, learned.marks, learned.among masks keeps);
-    })
-    (tree before) from
+    c.open_branch.new.frontier c.args.known.now c.args.atom c.args.if_true c.args.if_false c.requires.frontier
+    c.in_ok-open_branch.ensures (tree before) from
 
 pub returns-in-Always-clause-whole : goal.returns-in-Always-clause-whole
 returns-in-Always-clause-whole g c = λ before from first step whole.
@@ -40,17 +30,6 @@ returns-in-Never-clause-whole g c = λ before from first step whole.
 pub returns-clause-whole : goal.returns-clause-whole
 returns-clause-whole g c = λ before from.
     let tree = g.C.Comparison.tree c.args.comparison.now in
-    let marked = c.in_ok-mark.ensures in
-    let learned = c.in_ok-learn_answer.ensures in
     opened_whole g.F.WordFacts (g.C.Comparison.compared c.args.comparison.now) tree c.args.frontier.now
-    (record { facts = c.learn_answer.new.facts; branches = c.push.new.self }) c.args.known.now
-    c.args.atom c.args.if_true c.args.if_false c.requires.frontier
-    (record {
-      branches = c.in_ok-push.ensures.items;
-      marks = learned.marks ∙ marked.opened;
-      levels = λ index up_to. grind (arith, marked.opened, marked.at_marks index, learned.at_marks index);
-      known = λ words. grind (arith, marked.opened, marked.known, learned.marks, learned.learned words);
-      among = λ masks keeps was. grind (arith, marked.opened, marked.known, learned.marks, learned.among masks keeps);
-    })
-    (tree before)
-    from
+    c.open_branch.new.frontier c.args.known.now c.args.atom c.args.if_true c.args.if_false c.requires.frontier
+    c.in_ok-open_branch.ensures (tree before) from

@@ -47,3 +47,21 @@ returns-clause-whole g c = λ before from.
       among = known.1;
     })
     (tree before) from
+
+pub returns-clause-taken : goal.returns-clause-taken
+returns-clause-taken g c =
+    let closed = c.undo.ensures.closed in
+    let undone = c.undo.ensures.law_undo in
+    let learned = c.in_ok-learn_answer.ensures in
+    let known =
+    after_undo g.F.WordFacts c.in-Some.branch.asked c.args.frontier.now.facts _ c.learn_answer.new.facts closed
+    (λ index below. undone index (omega (arith, closed))) learned.marks learned.learned learned.among in (
+      c.in-Some.branch.asked,
+      record {
+        branches = c.in-Some.ensures.items;
+        marks = omega (arith, closed, learned.marks);
+        levels = λ index below. grind (arith, closed, undone index, learned.at_marks index);
+        known = known.0;
+        among = known.1;
+      },
+    )

@@ -1,5 +1,7 @@
-use Rattle.scf_compare.proofs.Common.{arith, inl}
-use Rattle.scf_compare.proofs.Branches.{weaken, weaken_stage}
+use Rattle.scf_compare.proofs.Common.{None, arith, inl, refl}
+use Rattle.scf_compare.proofs.Branches.{goes_on, weaken, weaken_stage}
+use Rattle.scf_compare.proofs.Searches.{asked_on, of_words, seen_on, walked_on}
+use Rattle.scf_compare.specs.Findings.{WordsRelated}
 use Rattle.scf_compare.proofs.settle.advance_again.Goals as goal
 
 pub returns-in_ok-next-in-Branch-Some-default-default-clause-stage :
@@ -8,34 +10,53 @@ returns-in_ok-next-in-Branch-Some-default-default-clause-stage g c =
     let branch = c.in-Branch-Some-default-default in
     weaken (λ words none. absurd none)
     (c.in_ok-next-in-Branch-Some-default-default.ensures.goes c.args.known.now c.args.node
-    (rw (branch.is, branch.field-0-is) at c.step-step.ensures))
-
-pub returns-in_ok-next-in-None-clause-stage : goal.returns-in_ok-next-in-None-clause-stage
-returns-in_ok-next-in-None-clause-stage g c =
-    let forked = c.in-Branch-None-default-default in
-    weaken (λ words none. absurd none)
-    (c.in_ok-next-in-None.ensures.goes c.args.known.now c.args.node
-    (rw (forked.is, forked.field-0-is) at c.step-step.ensures))
+    (rw (branch.is, branch.field-0-is) at c.step.ensures.step))
 
 pub returns-in_ok-take_branch-in-Related-clause-stage : goal.returns-in_ok-take_branch-in-Related-clause-stage
 returns-in_ok-take_branch-in-Related-clause-stage g c =
     weaken_stage _ _ _ _ _ _ _ _ _ _ _ _ _ _
-    (λ words at. inl (c.in-Related.ensures.judged words (at.0, c.in-Leaf.ensures.leads words at.0 at.1)))
+    (λ words at. inl (c.in-Related.ensures.judged words (at.0, c.in-Leaf.ensures.step.leads words at.0 at.1)))
     (c.in_ok-take_branch-in-Related.ensures.stage c.args.known.now c.args.node)
 
-pub returns-in_ok-take_branch-in-None-difference_of-clause-stage :
-    goal.returns-in_ok-take_branch-in-None-difference_of-clause-stage
-returns-in_ok-take_branch-in-None-difference_of-clause-stage g c =
-    weaken_stage _ _ _ _ _ _ _ _ _ _ _ _ _ _
-    (λ words at.
-    let within =
-    c.requires.frontier.within (g.F.WordFacts.level c.args.frontier.now.facts) (omega arith) words at.0 in
-    inl (c.in-None-difference_of.ensures.related words within
-    (c.in-None-next_bit.ensures.have words at.0 at.1.1)))
-    (c.in_ok-take_branch-in-None-difference_of.ensures.stage c.args.known.now c.args.node)
+pub returns-in_ok-next-in-Branch-Some-default-default-clause-search :
+    goal.returns-in_ok-next-in-Branch-Some-default-default-clause-search
+returns-in_ok-next-in-Branch-Some-default-default-clause-search g c = λ steps splits come.
+    let branch = c.in-Branch-Some-default-default in
+    let asked = c.in_ok-next-in-Branch-Some-default-default.ensures in
+    let step = rw (branch.is, branch.field-0-is) at c.step.ensures in
+    inl (
+      refl,
+      asked_on come _ _ _ _ _ _ c.requires.frontier.marks step.keeps asked.opened
+          (asked.whole c.args.known.now c.args.node None step.step come.whole).0,
+    )
 
-pub returns-in-Some-clause-stage : goal.returns-in-Some-clause-stage
-returns-in-Some-clause-stage g c = c.restart.ensures.stage c.args.known.now
+pub returns-in-Next-clause-search : goal.returns-in-Next-clause-search
+returns-in-Next-clause-search g c = λ steps splits come.
+    let step = rw c.in-Next.is at c.step.ensures in
+    inl (
+      refl,
+      walked_on come _ _ step.keeps.0 step.keeps.1
+          (goes_on come.whole (λ words allowed on. step.step.leads words allowed on)),
+    )
 
-pub returns-in-Some-next_bit-clause-stage : goal.returns-in-Some-next_bit-clause-stage
-returns-in-Some-next_bit-clause-stage g c = c.restart-in-Some-next_bit.ensures.stage c.args.known.now
+pub returns-in_ok-take_branch-in-Related-clause-search : goal.returns-in_ok-take_branch-in-Related-clause-search
+returns-in_ok-take_branch-in-Related-clause-search g c = λ steps splits come.
+    let compared = g.C.Comparison.compared c.args.settling.now.comparison.now in
+    seen_on come _ _ _ _ c.requires.frontier.marks
+    (of_words compared come.part (WordsRelated compared) (λ words within given.
+    let allowed = come.here.words words within given in
+    c.in-Related.ensures.judged words (allowed, c.in-Leaf.ensures.step.leads words allowed (come.whole.here refl words allowed))))
+    (c.in_ok-take_branch-in-Related.ensures.whole c.args.known.now c.args.node None come.whole)
+    c.in_ok-take_branch-in-Related.ensures.taken
+
+pub returns-in-Branch-None-default-default-clause-stage : goal.returns-in-Branch-None-default-default-clause-stage
+returns-in-Branch-None-default-default-clause-stage g c = c.split.ensures.stage c.args.known.now
+
+pub returns-in-Branch-None-default-default-clause-search : goal.returns-in-Branch-None-default-default-clause-search
+returns-in-Branch-None-default-default-clause-search g c = c.split.ensures.search c.args.known.now
+
+pub returns-in-Open-clause-stage : goal.returns-in-Open-clause-stage
+returns-in-Open-clause-stage g c = c.split-in-Open.ensures.stage c.args.known.now
+
+pub returns-in-Open-clause-search : goal.returns-in-Open-clause-search
+returns-in-Open-clause-search g c = c.split-in-Open.ensures.search c.args.known.now

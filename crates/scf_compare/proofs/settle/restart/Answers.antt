@@ -1,29 +1,50 @@
-use Rattle.scf_compare.proofs.Common.{arith, rules}
-use Rattle.scf_compare.proofs.Branches.{weaken}
-use Rattle.scf_compare.proofs.Weights.{two_walks, weighs_less}
-use Rattle.scf_compare.specs.Splits.{open_bits}
+use Rattle.scf_compare.proofs.Common.{None, arith, inr, refl}
+use Rattle.scf_compare.proofs.Branches.{opened, opened_whole, weaken}
+use Rattle.scf_compare.proofs.Searches.{split_on}
+use Rattle.scf_compare.proofs.Weights.{splits_in_two}
+use Rattle.scf_compare.specs.internal.Settling.{settling_trees}
 use Rattle.scf_compare.proofs.settle.restart.Goals as goal
 
 pub returns-clause-stage : goal.returns-clause-stage
 returns-clause-stage g c = λ before.
     let own = c.args.settling.now in
+    let compared = g.C.Comparison.compared own.comparison.now in
     let tree = g.C.Comparison.tree own.comparison.now in
-    let effort = (tree own.start).size own.root in
-    let counts = g.met.C.Comparison.counts own.comparison.now before c.args.from.node in
-    weaken (λ words none. absurd none) (c.in_ok-half.ensures.goes before c.args.from (record {
-      proper = search rules;
-      leads = λ words allowed on.
-          let within =
-          c.requires.frontier.within (g.F.WordFacts.level c.args.frontier.now.facts) (omega arith) words allowed in
-          let reached = c.requires.root.reached words within in
-          let have = c.requires.have words allowed on.1 in
-          grind (arith, c.is_set.ensures, c.fix.ensures.have words have, c.fix-2.ensures.have words have);
-      costs = omega (
-        arith,
-        two_walks effort (open_bits c.args.fixed.words) (open_bits c.fix.new.self.words) (open_bits c.fix-2.new.self.words)
-            c.fix.ensures.less c.fix-2.ensures.less,
-        weighs_less effort ((tree before).size c.args.from.node) c.args.fixed.words c.args.from.fixed.words
-            c.requires.less counts,
-      );
-      plain = λ masks plain. absurd plain;
-    }))
+    let step = splits_in_two compared tree own.start own.root
+    (g.F.WordFacts.allows c.args.frontier.now.facts (g.F.WordFacts.level c.args.frontier.now.facts)) before c.args.from
+    c.args.fixed.words c.args.bit.word c.args.bit.mask (record { node = own.root; fixed = c.fix.new.self })
+    (record { node = own.root; fixed = c.fix-2.new.self })
+    (c.requires.frontier.within (g.F.WordFacts.level c.args.frontier.now.facts) (omega (arith, c.requires.frontier.marks)))
+    c.requires.root c.requires.have c.requires.less
+    (g.met.C.Comparison.counts own.comparison.now before c.args.from.node) c.requires.open.word
+    (record { node = refl; have = c.fix.ensures.have; fewer = c.fix.ensures.less })
+    (record { node = refl; have = c.fix-2.ensures.have; fewer = c.fix-2.ensures.less }) in
+    weaken (λ words none. absurd none) (opened g.F.WordFacts compared (settling_trees tree own.start own.root)
+    c.args.frontier.now c.open_branch.new.frontier own.start _ _ _ c.requires.frontier
+    (rw c.is_set.ensures at c.in_ok-open_branch.ensures) _ c.args.from step)
+
+pub returns-clause-search : goal.returns-clause-search
+returns-clause-search g c = λ before steps splits come.
+    let own = c.args.settling.now in
+    let compared = g.C.Comparison.compared own.comparison.now in
+    let tree = g.C.Comparison.tree own.comparison.now in
+    let opens = rw c.is_set.ensures at c.in_ok-open_branch.ensures in
+    let step = splits_in_two compared tree own.start own.root
+    (g.F.WordFacts.allows c.args.frontier.now.facts (g.F.WordFacts.level c.args.frontier.now.facts)) before c.args.from
+    c.args.fixed.words c.args.bit.word c.args.bit.mask (record { node = own.root; fixed = c.fix.new.self })
+    (record { node = own.root; fixed = c.fix-2.new.self })
+    (c.requires.frontier.within (g.F.WordFacts.level c.args.frontier.now.facts) (omega (arith, c.requires.frontier.marks)))
+    c.requires.root c.requires.have c.requires.less
+    (g.met.C.Comparison.counts own.comparison.now before c.args.from.node) c.requires.open.word
+    (record { node = refl; have = c.fix.ensures.have; fewer = c.fix.ensures.less })
+    (record { node = refl; have = c.fix-2.ensures.have; fewer = c.fix-2.ensures.less }) in
+    let whole = opened_whole g.F.WordFacts compared (settling_trees tree own.start own.root)
+    c.args.frontier.now c.open_branch.new.frontier own.start _ _ _ c.requires.frontier opens _
+    c.args.from None step come.whole in
+    inr (
+      grind arith,
+      split_on come c.args.fixed.words c.args.bit.word c.args.bit.mask _ _
+          c.requires.frontier.marks opens c.requires.have c.requires.less c.requires.open.word c.requires.open.one
+          (record { node = refl; have = c.fix.ensures.have; fewer = c.fix.ensures.less })
+          (record { node = refl; have = c.fix-2.ensures.have; fewer = c.fix-2.ensures.less }) whole.0,
+    )

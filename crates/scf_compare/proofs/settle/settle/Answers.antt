@@ -1,51 +1,51 @@
 use Rattle.scf_compare.proofs.Common.{◌≡◌, ◌+◌, ◌⊎◌, [], Compared, Frontier, None, Store, Tree, arith, inl, inr, refl}
-use Rattle.scf_compare.proofs.Budgets.{counted_split, counted_step, no_step, none_counted}
+use Rattle.scf_compare.proofs.Budgets.{all_splits, all_steps, counted_split, counted_step, none_counted}
 use Rattle.scf_compare.proofs.Stages.{all_related}
-use Rattle.scf_compare.specs.declared.budget.Limit.{Limit}
-use Rattle.scf_compare.specs.declared.budget.Splits.TheVariants.{AtMost}
-use Rattle.scf_compare.specs.declared.settling.SettlingNode.{SettlingNode}
-use Rattle.scf_compare.specs.internal.Walks.{HasWalked, IsGivenUp}
-use Rattle.scf_compare.specs.internal.Walks.Walk.{Begun, Split, Step}
+use Rattle.scf_compare.specs.Searches.Search.{Begun}
 use Rattle.scf_compare.proofs.settle.settle.Goals as goal
 
--- a walk that nothing is left for
-given_up : {F K N : Type 0} {store : Store F} {compared : Compared} {tree : K → Tree (SettlingNode N)}
-    {first frontier : Frontier F K (SettlingNode N)} {start known : K} {from node : SettlingNode N} {old left : Limit}
-    → HasWalked store compared tree first start from old left frontier known node → first.branches.items ≡ []
-    → (left.steps ≡ 0) ⊎ (left.splits ≡ AtMost 0) → IsGivenUp store compared tree start from.node old
-given_up {first = first} {frontier = frontier} {known = known} {from = from} {node = node} {left = left} walked begins all =
-    record {
-      first = first;
-      begins = begins;
-      from = from;
-      at_root = refl;
-      left = left;
-      frontier = frontier;
-      known = known;
-      node = node;
-      walked = walked;
-      all = all;
-    }
-
 pub loop-settling-init : goal.loop-settling-init
-loop-settling-init g c = record {
-  frontier = grind (arith, c.requires.scope);
-  node = c.requires.root.node;
-  words = λ words within.
-      grind (arith, c.requires.scope words, c.requires.root.reached words within, c.none.ensures words);
-  walked = record {
-    steps = 0;
-    splits = 0;
-    walk = Begun;
-    few = omega arith;
-    counted = none_counted c.args.budget.now.splits c.args.budget.now.steps;
-  };
-}
+loop-settling-init g c =
+    let none = c.none.ensures in
+    let begins = c.new-frontier.ensures.branches in
+    record {
+      frontier = grind (arith, c.requires.scope);
+      node = c.requires.root.node;
+      words = λ words within.
+          grind (arith, c.requires.scope words, c.requires.root.reached words within, none.have words);
+      searched = record {
+        steps = 0;
+        splits = 0;
+        come = record {
+          later = [];
+          part = record {
+            answers = [];
+            fixed = c.none.result.words;
+            steps = (g.C.Comparison.tree c.args.comparison.now c.args.start).size c.args.root;
+          };
+          search = Begun refl none.count refl;
+          count = grind arith;
+          branches = λ index branch other stands. grind arith;
+          here = record { words = λ words within given. grind (arith, c.requires.scope words); fixed = refl; steps = refl };
+          whole = record {
+            few = tt;
+            asked = λ index branch stands. grind arith;
+            branches = λ index branch stands. grind arith;
+            answered = λ index branch stands. grind arith;
+            here = λ none_open words allowed.
+                grind (arith, c.requires.scope words, c.requires.root.reached words, none.have words);
+          };
+        };
+        few = omega arith;
+        counted = none_counted c.args.budget.now.splits c.args.budget.now.steps;
+      };
+    }
 
 pub loop-settling-preserved : goal.loop-settling-preserved
 loop-settling-preserved g c =
     let after = c.in_ok-next.ensures in
     let on = rw (c.in-Some-At.is, c.in-Some-At.field-0-is) at after.stage in
+    let was = c.loop-settling.invariant.searched in
     record {
       frontier = on.frontier;
       node = on.node;
@@ -54,22 +54,21 @@ loop-settling-preserved g c =
             | inl seen ↦ inl seen
             | inr ahead ↦ on.words words ahead
           ];
-      walked =
-          let walked = c.loop-settling.invariant.walked in
-          elim (rw (c.in-Some-At.is, c.in-Some-At.field-0-is) at after.splits) [
-            | inl same ↦ record {
-              steps = walked.steps + 1;
-              splits = walked.splits;
-              walk = Step walked.walk on;
-              few = omega (arith, walked.few);
-              counted = grind (arith, counted_step, walked.counted, same, after.steps);
+      searched =
+          elim (rw (c.in-Some-At.is, c.in-Some-At.field-0-is) at (after.search was.steps was.splits was.come)) [
+            | inl (same, come) ↦ record {
+              steps = was.steps + 1;
+              splits = was.splits;
+              come = come;
+              few = omega (arith, was.few);
+              counted = grind (arith, counted_step, was.counted, same, after.steps);
             }
-            | inr split ↦ record {
-              steps = walked.steps + 1;
-              splits = walked.splits + 1;
-              walk = Split walked.walk on split.1;
-              few = omega (arith, walked.few);
-              counted = grind (arith, counted_split, walked.counted, split.0, after.steps);
+            | inr (split, come) ↦ record {
+              steps = was.steps + 1;
+              splits = was.splits + 1;
+              come = come;
+              few = omega (arith, was.few);
+              counted = grind (arith, counted_split, was.counted, split, after.steps);
             }
           ];
     }
@@ -90,9 +89,9 @@ returns-in-Some-Found-clause-settled g c =
 
 pub returns-in-None-clause-given_up : goal.returns-in-None-clause-given_up
 returns-in-None-clause-given_up g c =
-    let turn = rw c.in-None.is at c.in_ok-next.ensures.splits in
-    given_up c.loop-settling.invariant.walked c.new-frontier.ensures.branches (inr (grind arith))
+    let none = rw c.in-None.is at c.in_ok-next.ensures.splits in
+    all_splits c.loop-settling.invariant.searched (grind arith)
 
 pub returns-clause-given_up : goal.returns-clause-given_up
 returns-clause-given_up g c =
-    given_up c.loop-settling.invariant.walked c.new-frontier.ensures.branches (inl (no_step _ _ _ c.loop-settling-test.ensures.steps))
+    all_steps _ c.loop-settling.invariant.searched c.loop-settling-test.ensures.steps

@@ -1,6 +1,6 @@
 use Rattle.scf_compare.proofs.Common.{arith}
 use Rattle.scf_compare.proofs.BitSets.{lowest_lacking}
-use Rattle.scf_compare.specs.internal.FixedBits.{bits_at}
+use Rattle.scf_compare.specs.Splits.{bits_at}
 use Rattle.scf_compare.proofs.fixed_bits.FixedBits.lowest_open.Goals as goal
 
 pub returns-clause-open : goal.returns-clause-open

@@ -1,6 +1,5 @@
 use Rattle.scf_compare.proofs.Common.{◌≡◌, ◌-◌, ◌<◌, ◌≤◌, ◌^◌, ℕ, List}
-use Rattle.scf_compare.specs.internal.FixedBits.{HaveBits, bits_at}
-use Rattle.scf_compare.specs.Splits.{open_bits}
+use Rattle.scf_compare.specs.Splits.{HaveBits, bits_at, open_bits}
 use Rattle.scf_compare.proofs.fixed_bits.FixedBits.next_bit.Given as goal
 
 abbrev pub invariant-loop-word : goal.invariant-loop-word

@@ -1,5 +1,5 @@
 use Rattle.scf_compare.proofs.Common.{◌≡◌, ◌<◌, ℕ, length, slice_index}
-use Rattle.scf_compare.specs.internal.FixedBits.{bits_at}
+use Rattle.scf_compare.specs.Splits.{bits_at}
 use Rattle.scf_compare.proofs.fixed_bits.FixedBits.values.Given as goal
 
 abbrev pub invariant-loop-index : goal.invariant-loop-index
