@@ -12,14 +12,14 @@ from .values import Any
 
 RECORD_OPTIONS = ("--nr", "--arch", "--ip", *(f"--a{index}" for index in range(6)))
 # Options that only a bundle has, which scf(1) describes.
-OF_BUNDLES = ("--architectures", "--reading", "--total-limit", "--nr-from", "--nr-to")
+OF_BUNDLES = ("--architectures", "--reading", "--total-limit", "--nr-from", "--nr-to", "--left-out")
 # The options of the program's commands, but for those that give a record.
 OF_PROGRAM = {
     "answers": ("--native", "--examples", "--limit", "--architectures", "--reading", "--nr-from", "--nr-to"),
     "ask": ("--architectures", "--reading"), "check": (), "decide": (), "run": ("--path",),
-    "compile": ("--architectures", "--reading"),
+    "compile": ("--architectures", "--reading", "--left-out"),
     "compare": ("--native", "--calls", "--no-more", "--no-less", "--disposition", "--limit", "--splits", "--beside",
-                *OF_BUNDLES)}
+                *OF_BUNDLES[:-1])}
 # The commands that also take one of the files of a bundle alone.
 OF_ONE_FILE = ("answers", "ask", "compile", "decide")
 

@@ -21,14 +21,14 @@ Examples:
     scf compile --table x86_64.table profile.json >filter.bpf
     scf compile --caps docker --machine arm64 engine.json >arm64.bpf
 """
-from . import bundles, client, compare, explanation, output, profiles, program, refusals, runtimes, tables, words
+from . import bundles, client, explanation, output, profiles, program, refusals, runtimes, tables, verdicts, words
 from .client import Fault
 
 
 def main():
     parser = words.Parser(__doc__, command="compile")
     parser.add("--native", "--strict", "--json", "--table", "--caps", "--machine")
-    parser.add("--architectures", "--reading", "profile")
+    parser.add("--architectures", "--reading", "--left-out", "profile")
     runtimes.add_option(parser, is_sandboxes=True)
     options = parser.parse_args()
     parser.one_standard_input([options.profile, options.table])
@@ -36,7 +36,7 @@ def main():
         parser.keep_off_terminal()
     profile = runtimes.read(options)
     judged = profile.judged(tables.read(options.table), options.native)
-    done = client.run(["compile", *judged.words], bundles.of_compilation(profile.data, judged))
+    done = client.run(["compile", "--left-out", *judged.words], bundles.of_compilation(profile.data, judged))
     fault = None if done.status == program.SUCCESS else Fault.read(done.line)
     if fault:
         sentences = list(refusals.sentences(fault, profile.data, judged, profile.origins))
@@ -45,12 +45,12 @@ def main():
         else:
             program.say(fault.line, *sentences)
         return done.status
-    report = compare.left_out(profile.data, judged)
+    report, code = verdicts.behind_left_out(done.out)
     if options.json:
-        output.put_json({"status": done.status, "instructions": len(done.out) // 8, "hex": done.out.hex(),
+        output.put_json({"status": done.status, "instructions": len(code) // 8, "hex": code.hex(),
                          "skipped": list(report.skipped), "other_architectures": list(report.architectures)})
         return done.status
-    output.put(done.out)
+    output.put(code)
     output.flush()
     facts = profiles.read(profile.data) if report.skipped else None
     program.say(*explanation.of_skipped(report, judged, bool(facts and facts.allows_by_default)),

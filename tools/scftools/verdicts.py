@@ -37,6 +37,7 @@ HOLDING, FAILING = (SAME, NO_MORE, NO_LESS, SAME_DISPOSITION), (DIFFERS, MORE, L
 NAMED_CALL_LINE = Pattern(r"([0-9]+) ([A-Za-z0-9_,]+) (differs|more|less|undecided|unfinished)\b(.*)")
 ANSWERED = Pattern(r" args((?: 0x[0-9a-f]+){6}) filter (\w+ \w+) (?:profile|beside) (\w+ \w+)")
 LEFT_OUT = ("skipped ", "other ")
+LEFT_OUT_END = b"left-out skipped"
 
 
 @dataclass(frozen=True)
@@ -173,6 +174,25 @@ def report(text: str, pointer: int | None = 0) -> Report:
     calls = tuple(filter(None, (named_call(line, pointer) for line in lines[1:count])))
     verdict, fault = (_verdict(lines[:count]), Fault.read(lines[0])) if count else (None, None)
     return Report(tuple(lines[:count]), verdict, fault, calls)
+
+
+def behind_left_out(printed: bytes) -> tuple[Report, bytes]:
+    """What `scf compile --left-out` prints: a report on what is left out of the profile, and the filter.
+
+    A line between them has the length of each name. It is the last that begins so, whatever the names are: no filter
+    has so many bytes without a zero.
+    """
+    begin = printed.rindex(LEFT_OUT_END)
+    end, at = printed.index(b"\n", begin), 0
+    names: dict[str, list[str]] = {}
+    for word, lengths in zip(LEFT_OUT, printed[begin + len(LEFT_OUT_END):end].split(b" other")):
+        names[word] = []
+        for length in map(int, lengths.split()):
+            at += len(word)
+            names[word].append(printed[at:at + length].decode("utf-8", "surrogateescape"))
+            at += length + 1
+    skipped, others = map(tuple, names.values())
+    return Report((), skipped=skipped, architectures=others), printed[end + 1:]
 
 
 def checked(status: int, checked_report: Report, is_by_call: bool = False) -> Report:

@@ -43,7 +43,7 @@ def _object_name(text: str) -> str:
 # The options and arguments that several tools take.
 SHARED: dict[str, dict[str, Any]] = {
     "--arch": {"metavar": "ARCH", "help": ARCH_HELP.format("", "")},
-    "--architectures": {"action": "store_true", "help": argparse.SUPPRESS},
+    **{name: {"action": "store_true", "help": argparse.SUPPRESS} for name in ("--architectures", "--left-out")},
     **{name: {"metavar": "N", "help": argparse.SUPPRESS}
        for name in ("--nr-from", "--nr-to", "--reading", "--total-limit")},
     "--caps": {"metavar": "LIST",

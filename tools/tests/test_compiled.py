@@ -1,6 +1,7 @@
 """Filters that scf compiles of profiles, run on calls: their answers, how many instructions run, and how they are put
 together."""
 import functools
+import json
 import struct
 
 from support.common import I386, X32, X86_64, part
@@ -8,6 +9,7 @@ from support.on_parts import (CLONE, CLONE_TABLE, DEFAULT_ALLOW, ONE_CALL, READ_
                               a_profile, a_table, bundle, ran)
 from support.worked import (EXTREMES, FAILS, KILLS, MADE, MOST, SOCKET_NOT_40, SOCKET_RULES, SOCKET_TABLE, WHOLE_CONFIG,
                             allowing, effort, refusing)
+from scftools import verdicts  # noqa: E402
 
 BIT_32, LAST = 1 << 32, X32 - 1
 # The most instructions that a conditional jump passes.
@@ -84,6 +86,40 @@ class Answers(OnCompiled):
             filter_ = compiled(tested(count, 1), READ_WRITE_TABLE)
             for number, first, answer in TESTED:
                 self.answers(filter_, answer, number, arguments=(first,))
+
+
+class LeftOut(OnProgram):
+    """With --left-out: the lines of `compare`, and one with the length of each name, since a name may have line ends in
+    it, and even look like that line."""
+
+    NAMES = ((), ("gone",), ("gone", "x\nskipped y", "other z\n", "left-out skipped 4 other\n", "\u00e9", "", "gone"))
+    ARCHITECTURES = ((), ("SCMP_ARCH_X86",), ("SCMP_ARCH_PPC", "a\nleft-out skipped 1 other 2\n", "SCMP_ARCH_PPC"))
+
+    @staticmethod
+    def front(names, architectures):
+        """What is printed before the filter."""
+        skipped, others = ([text.encode() for text in texts] for texts in (names, architectures))
+        lines = [b"skipped %b\n" % name for name in skipped] + [b"other %b\n" % name for name in others]
+        lengths = ["".join(f" {len(name)}" for name in texts).encode() for texts in (skipped, others)]
+        return b"".join(lines) + b"left-out skipped%b other%b\n" % tuple(lengths)
+
+    def test_lines_before_the_filter(self):
+        for names in self.NAMES:
+            for architectures in self.ARCHITECTURES:
+                profile = json.dumps({
+                    "defaultAction": "SCMP_ACT_ERRNO", "architectures": ["SCMP_ARCH_X86_64", *architectures],
+                    "syscalls": [{"names": ["read", *names], "action": "SCMP_ACT_ALLOW"}]})
+                given, front = bundle([a_profile(profile), a_table(READ_TABLE)]), self.front(names, architectures)
+                for words in (["compile"], ["compile", "--architectures"]):
+                    filter_, status = ran(words, given)
+                    self.assertEqual((status, len(filter_) % 8), (0, 0))
+                    self.prints([*words, "--left-out"], given, front + filter_)
+                    report, code = verdicts.behind_left_out(front + filter_)
+                    self.assertEqual((report.skipped, report.architectures, code), (names, architectures, filter_))
+
+    def test_faults_stay(self):
+        given = bundle([a_profile("{"), a_table(READ_TABLE)])
+        self.assertEqual(ran(["compile", "--left-out"], given), ran(["compile"], given))
 
 
 class Steps(OnCompiled):

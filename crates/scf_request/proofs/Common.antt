@@ -32,7 +32,7 @@ pub use Rattle.scf_request.specs.Bundle.{AreNoParts, HasHeader, Held, IsBundlePa
 pub use Rattle.scf_request.specs.Options.{NumberOption, choice_in, first_wrong, chosen_of, is_given, number_by, number_in, one_of}
 pub use Rattle.scf_request.specs.Requests.{Command as Asked, command_word}
 pub use Rattle.scf_request.specs.Requests.Command.{Answers, Ask, Asm, Check, Compare, Compile, Decide, Dis, Run}
-pub use Rattle.scf_request.specs.CommandLine.{option_rule, profile_shape, scf, scf_shape, shape_for, shape_with}
+pub use Rattle.scf_request.specs.CommandLine.{flag_rule, option_rule, rules_of_options, scf, scf_shape, shape_for}
 pub use Rattle.scf_request.specs.declared.bundle.BundleFault.{BundleFault}
 pub use Rattle.scf_request.specs.declared.bundle.BundleFault.TheVariants.{Header, Memory, Short}
 pub use Rattle.scf_request.specs.declared.bundle.Part.{Part}
@@ -43,4 +43,4 @@ pub use Rattle.scf_request.specs.Contents.{held_by, rest_of_table}
 pub use Rattle.scf_request.specs.declared.contents.PartReader.{PartReader}
 pub use Rattle.scf_request.specs.declared.contents.TableReader.{TableReader}
 pub use Rattle.scf_request.specs.internal.Contents.{with_part}
-pub use Rattle.scf_request.specs.internal.Parsing.{MakesNamed, ReadsAsProgram, flags_in, option_of, options_kept, scf_with}
+pub use Rattle.scf_request.specs.internal.Parsing.{MakesNamed, ReadsAsProgram, command_of, flags_in, names_of_flags, option_of, options_kept, scf_with}

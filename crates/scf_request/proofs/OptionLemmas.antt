@@ -1,5 +1,5 @@
 -- Options among the matches of a command line, and among its rules.
-use Rattle.scf_request.proofs.Common.{codes, false, Bool, filter_map, ◌≡◌, ◌||◌, ◌-◌, ◌^◌, ◌<◌, ◌+◌, ℕ, Bor, List, [], ◌∷◌, ◌++◌, Option, Some, None, true, false, append-nil, length, take, drop, get_or, map, refl, sym, ap, ◌∙◌, drop_more, map-append, map_more, map_push, take-append-drop, if◌then◌else◌, is_some, option_to_list, filter_map-append, App, Row, first_value, with_rule, rows_of, Found, first_value-rows, Kept, NumberOption, choice_in, first_wrong, chosen_of, is_given, number_by, number_in, one_of, option_rule, shape_with, flags_in, option_of, options_kept}
+use Rattle.scf_request.proofs.Common.{codes, false, Bool, filter_map, ◌≡◌, ◌||◌, ◌-◌, ◌^◌, ◌<◌, ◌+◌, ℕ, Bor, List, [], ◌∷◌, ◌++◌, Option, Some, None, true, false, append-nil, append_assoc, length, take, drop, get_or, map, refl, sym, ap, ◌∙◌, drop_more, map-append, map_more, map_push, take-append-drop, if◌then◌else◌, is_some, option_to_list, filter_map-append, Row, first_value, with_rule, rows_of, Found, first_value-rows, NumberOption, choice_in, first_wrong, chosen_of, is_given, number_by, number_in, one_of, command_of, flags_in}
 use Rattle.clap.specs.Words.{Rule, first_of}
 use Rattle.scf_request.specs.declared.request.Limits.{Limits}
 use Rattle.scf_request.specs.Options.{SelectsCalls, comparison_options, has_range, numbers_of_limits, numbers_of_range, range_options, scope_flags, word_option}
@@ -76,20 +76,16 @@ range_of_flags rows EachCall none chosen = open_range rows none
 range_of_flags rows (AtOnce (Numbers first last)) none chosen = absurd (no_range_flag rows first last chosen)
 range_of_flags rows (AtOnce scope) none chosen = open_range rows none
 
-abbrev pub leaf : List ℕ → List Kept → App
-leaf name options = record { top = shape_with name (options_kept options); subs = [] }
-
--- one more option
-pub leaf_more : (name : List ℕ) (options : List Kept) (i : ℕ) (d : Kept) → i < length options
-    → leaf name (take (i + 1) options) ≡ with_rule (leaf name (take i options))
-    (option_rule (option_of (get_or options i d)))
-leaf_more name options i d lt =
-    let rules : map option_rule (options_kept (take (i + 1) options)) ≡ map option_rule (options_kept (take i options))
-    ++ option_rule (option_of (get_or options i d)) ∷ [] =
-    ap (map option_rule) (map_more option_of options i d lt)
-    ∙ map_push option_rule (options_kept (take i options)) (option_of (get_or options i d)) in
-    ap (λ (rs : List Rule). let moved : App =
-    record { top = record (shape_with name []) { rules = rs }; subs = [] } in moved) rules
+-- one more of the options or flags whose rules a command has
+pub rules_more : {A B : Type 0} (rule : B → Rule) (of : A → B) (name : List ℕ) (front : List Rule) (items : List A)
+    (i : ℕ) (d : A) → i < length items
+    → command_of name (front ++ map rule (map of (take (i + 1) items)))
+    ≡ with_rule (command_of name (front ++ map rule (map of (take i items)))) (rule (of (get_or items i d)))
+rules_more rule of name front items i d lt =
+    let before = map of (take i items) in
+    ap (λ (rules : List Rule). command_of name (front ++ rules))
+    (ap (map rule) (map_more of items i d lt) ∙ map_push rule before (of (get_or items i d)))
+    ∙ ap (command_of name) (sym (append_assoc front (map rule before) (rule (of (get_or items i d)) ∷ [])))
 
 abbrev if_given : {A : Type 0} → List Row → List ℕ × A → Option A
 if_given rows flag = if is_given rows flag.0 then Some flag.1 else None

@@ -1,5 +1,5 @@
 -- The command line of the program, as its reader sees it.
-use Rattle.std.specs.Prelude.{ℕ, true, false, List, [], ◌∷◌, ◌++◌, codes, map, Some, if◌then◌else◌}
+use Rattle.std.specs.Prelude.{ℕ, Bool, true, false, List, [], ◌∷◌, ◌++◌, codes, map, Some, if◌then◌else◌}
 use Rattle.clap.specs.declared.builder.action.ArgAction.TheVariants.{SetTrue}
 use Rattle.clap.specs.Words.{App, Rule, Shape, new_app, new_rule}
 use Rattle.scf_request.specs.Options.{NumberOption, reading_option}
@@ -17,18 +17,16 @@ reading_rule = record (new_rule reading_option) { long = Some reading_option; va
 abbrev pub flag_rule : List ℕ → Rule
 flag_rule name = record (new_rule name) { long = Some name; action = Some SetTrue }
 
-abbrev pub shape_with : List ℕ → List NumberOption → Shape
-shape_with name options = record (new_app name).top { rules = map option_rule options }
-
--- a command on profiles takes a reading, too
-abbrev pub profile_shape : List ℕ → List NumberOption → Shape
-profile_shape name options = record (new_app name).top { rules = map option_rule options ++ reading_rule ∷ [] }
+-- the rules of options, and of a reading
+abbrev pub rules_of_options : List NumberOption → Bool → List Rule
+rules_of_options options takes_reading =
+    map option_rule options ++ (if takes_reading then reading_rule ∷ [] else [])
 
 abbrev pub shape_for : Command → Shape
 shape_for command =
     record (new_app (command_word command)).top {
-      rules = map option_rule (options_of command)
-          ++ (if takes_reading command then reading_rule ∷ [] else []) ++ map flag_rule (words_of_command command).2;
+      rules = rules_of_options (options_of command) (takes_reading command)
+          ++ map flag_rule (words_of_command command).2;
     }
 
 -- a command is named, and there is `--version`

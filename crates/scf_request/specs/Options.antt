@@ -152,6 +152,10 @@ beside_flag = codes "beside"
 abbrev pub architectures_flag : List ℕ
 architectures_flag = codes "architectures"
 
+-- the flag that has what is left out of a profile printed in front of its filter
+abbrev pub left_out_flag : List ℕ
+left_out_flag = codes "left-out"
+
 -- an end of a range is given
 abbrev pub has_range : List Row → Bool
 has_range rows = is_some (first_of (codes "nr-from") rows) || is_some (first_of (codes "nr-to") rows)

@@ -16,7 +16,7 @@ use Rattle.scf_request.specs.declared.request.Request.{Request}
 use Rattle.scf_request.specs.declared.request.Request.TheVariants as requests
 use Rattle.scf_request.specs.declared.request.Scopes.{Scopes}
 use Rattle.scf_request.specs.declared.request.Scopes.TheVariants.{AtOnce, EachCall}
-use Rattle.scf_request.specs.Options.{AreExclusive, AsksToCompare, AsksToExplore, NumberOption, architectures_flag, at_flag, beside_flag, call_options, comparison_options, examples_flag, exploration_options, first_wrong, flag_names, is_given, native_flag, number_in, numbers_of_comparison, numbers_of_exploration, numbers_of_record, path_flag, reading_in, relation_flags, scope_flags}
+use Rattle.scf_request.specs.Options.{AreExclusive, AsksToCompare, AsksToExplore, NumberOption, architectures_flag, at_flag, beside_flag, call_options, comparison_options, examples_flag, exploration_options, first_wrong, flag_names, is_given, left_out_flag, native_flag, number_in, numbers_of_comparison, numbers_of_exploration, numbers_of_record, path_flag, reading_in, relation_flags, scope_flags}
 
 pub data Command : Type 0 where
   Answers Ask Asm Check Compare Compile Decide Dis Run : Command
@@ -33,7 +33,7 @@ words_of_command Compare = (
   comparison_options,
   flag_names scope_flags ++ flag_names relation_flags ++ beside_flag ∷ architectures_flag ∷ [],
 )
-words_of_command Compile = (codes "compile", [], architectures_flag ∷ [])
+words_of_command Compile = (codes "compile", [], architectures_flag ∷ left_out_flag ∷ [])
 words_of_command Decide = (codes "decide", call_options, at_flag ∷ path_flag ∷ [])
 words_of_command Dis = (codes "dis", [], [])
 words_of_command Run = (codes "run", call_options, path_flag ∷ [])
@@ -63,8 +63,8 @@ command_and_numbers requests.Check = (Check, [])
 command_and_numbers (requests.Compare comparison) = (Compare, numbers_of_comparison comparison)
 command_and_numbers (requests.CompareBeside comparison) = (Compare, numbers_of_comparison comparison)
 command_and_numbers (requests.CompareArchitectures comparison) = (Compare, numbers_of_comparison comparison)
-command_and_numbers requests.Compile = (Compile, [])
-command_and_numbers requests.CompileArchitectures = (Compile, [])
+command_and_numbers (requests.Compile has_left_out) = (Compile, [])
+command_and_numbers (requests.CompileArchitectures has_left_out) = (Compile, [])
 command_and_numbers (requests.Decide call) = (Decide, numbers_of_record call)
 command_and_numbers (requests.DecideBy call) = (Decide, numbers_of_record call)
 command_and_numbers (requests.DecidePaths call) = (Decide, numbers_of_record call)
@@ -87,8 +87,10 @@ HasFlags rows (requests.CompareBeside comparison) = AsksToCompare rows compariso
 HasFlags rows (requests.CompareArchitectures comparison) = AsksToCompare rows comparison
     × (is_given rows native_flag ≡ false) × (is_given rows beside_flag ≡ false)
     × (is_given rows architectures_flag ≡ true)
-HasFlags rows requests.Compile = is_given rows architectures_flag ≡ false
-HasFlags rows requests.CompileArchitectures = is_given rows architectures_flag ≡ true
+HasFlags rows (requests.Compile has_left_out) =
+    (is_given rows architectures_flag ≡ false) × (is_given rows left_out_flag ≡ has_left_out)
+HasFlags rows (requests.CompileArchitectures has_left_out) =
+    (is_given rows architectures_flag ≡ true) × (is_given rows left_out_flag ≡ has_left_out)
 HasFlags rows (requests.Decide call) = (is_given rows at_flag ≡ false) × (is_given rows path_flag ≡ false)
 HasFlags rows (requests.DecideBy call) = (is_given rows at_flag ≡ true) × (is_given rows path_flag ≡ false)
 HasFlags rows (requests.DecidePaths call) = is_given rows path_flag ≡ true

@@ -1,15 +1,15 @@
 //! The command line, defined for `clap`.
 
-ghost use Rattle.std.specs.Prelude.{◌≡◌, [], codes, false, true, map, IfOk, IfSome};
+ghost use Rattle.std.specs.Prelude.{◌≡◌, ◌++◌, [], codes, false, true, map, IfOk, IfSome};
 ghost use Rattle.clap.specs.Words.{App, FailsBy, Shape, app_of, fault_of, new_app, rule_of, subcommand_of, subcommand_rows_of, with_subcommand};
-ghost use Rattle.scf_request.specs.CommandLine.{flag_rule, option_rule, profile_shape, reading_rule, scf, shape_with};
+ghost use Rattle.scf_request.specs.CommandLine.{flag_rule, option_rule, reading_rule, rules_of_options, scf};
 ghost use Rattle.scf_request.specs.Requests.Command.{Answers, Ask, Asm, Check, Compare, Compile, Decide, Dis, Run};
-ghost use Rattle.scf_request.specs.internal.Parsing.{MakesNamed, ReadsAsProgram, definition_of, option_of, options_kept};
+ghost use Rattle.scf_request.specs.internal.Parsing.{MakesNamed, ReadsAsProgram, command_of, definition_of, names_of_flags, option_of, options_kept};
 
 use crate::options::{
     ARCHITECTURES_FLAG, AT_FLAG, BESIDE_FLAG, CALLS_FLAG, DISPOSITION_FLAG, EXAMPLES_FLAG,
-    NATIVE_FLAG, NO_LESS_FLAG, NO_MORE_FLAG, NumberOption, PATH_FLAG, READING_OPTION, call_options,
-    comparison_options, exploration_options,
+    LEFT_OUT_FLAG, NATIVE_FLAG, NO_LESS_FLAG, NO_MORE_FLAG, NumberOption, PATH_FLAG,
+    READING_OPTION, call_options, comparison_options, exploration_options,
 };
 use clap::{Arg, ArgAction, ArgMatches, Command, Error};
 use std::alloc::{AllocError, Global};
@@ -63,26 +63,13 @@ fn command_with<'a>(
     options: &[NumberOption],
 ) -> Result<Command<'a>, AllocError>
     ensures { IfOk result (λ command. app_of command
-        ≡ record { top = shape_with name.now (options_kept options.now); subs = [] }) }
+        ≡ command_of name.now (map option_rule (options_kept options.now))) }
 {
     let mut command = Command::new(alloc, name).about(about);
     for option in options {
         command = command.arg(argument_of(alloc, *option))?;
     }
     Ok(command)
-}
-
-/// A command on profiles, with options that take numbers.
-fn profile_command<'a>(
-    alloc: Global,
-    name: &'a str,
-    about: &'a str,
-    options: &[NumberOption],
-) -> Result<Command<'a>, AllocError>
-    ensures { IfOk result (λ command. app_of command
-        ≡ record { top = profile_shape name.now (options_kept options.now); subs = [] }) }
-{
-    command_with(alloc, name, about, options)?.arg(reading_argument(alloc))
 }
 
 /// A flag, for `clap`.
@@ -96,21 +83,59 @@ fn flag_argument<'a>(alloc: Global, name: &'a str, help: &'a str) -> Arg<'a>
         .help(help)
 }
 
+/// A command with options that take numbers, and that of a reading, if it takes one.
+fn command_reading<'a>(
+    alloc: Global,
+    name: &'a str,
+    about: &'a str,
+    options: &[NumberOption],
+    takes_reading: bool,
+) -> Result<Command<'a>, AllocError>
+    ensures { IfOk result (λ command. app_of command
+        ≡ command_of name.now (rules_of_options (options_kept options.now) takes_reading)) }
+{
+    let command = command_with(alloc, name, about, options)?;
+    if takes_reading {
+        command.arg(reading_argument(alloc))
+    } else {
+        Ok(command)
+    }
+}
+
+/// The same with flags, of each its name and its help.
+fn define<'a>(
+    alloc: Global,
+    name: &'a str,
+    about: &'a str,
+    options: &[NumberOption],
+    takes_reading: bool,
+    flags: &[(&'a str, &'a str)],
+) -> Result<Command<'a>, AllocError>
+    ensures { IfOk result (λ command. app_of command ≡ command_of name.now
+        (rules_of_options (options_kept options.now) takes_reading ++ map flag_rule (names_of_flags flags.now))) }
+{
+    let mut command = command_reading(alloc, name, about, options, takes_reading)?;
+    for flag in flags {
+        command = command.arg(flag_argument(alloc, flag.0, flag.1))?;
+    }
+    Ok(command)
+}
+
 /// The command `check`.
 fn define_check<'a>(alloc: Global) -> Result<Command<'a>, AllocError>
     ensures { IfOk result (λ command. app_of command ≡ definition_of Check) }
 {
-    command_with(alloc, "check", "Checks a filter", &[])
+    define(alloc, "check", "Checks a filter", &[], false, &[])
 }
 
 /// The command `run`.
 fn define_run<'a>(alloc: Global) -> Result<Command<'a>, AllocError>
     ensures { IfOk result (λ command. app_of command ≡ definition_of Run) }
 {
+    let about = "Runs a filter on a call";
     let path = "Also the indices of the instructions on the way";
-    command_with(alloc, "run", "Runs a filter on a call", &call_options())?.arg(flag_argument(
-        alloc, PATH_FLAG, path,
-    ))
+    let flags = [(PATH_FLAG, path)];
+    define(alloc, "run", about, &call_options(), false, &flags)
 }
 
 /// The command `decide`.
@@ -120,23 +145,24 @@ fn define_decide<'a>(alloc: Global) -> Result<Command<'a>, AllocError>
     let about = "Runs a bundle of filters on a call";
     let at = "Also the filter that gives the answer, the oldest being 0, and its instruction";
     let path = "This, and the answer of each filter and the instructions on its way";
-    command_with(alloc, "decide", about, &call_options())?
-        .arg(flag_argument(alloc, AT_FLAG, at))?
-        .arg(flag_argument(alloc, PATH_FLAG, path))
+    let flags = [(AT_FLAG, at), (PATH_FLAG, path)];
+    define(alloc, "decide", about, &call_options(), false, &flags)
 }
 
 /// The command `dis`.
 fn define_dis<'a>(alloc: Global) -> Result<Command<'a>, AllocError>
     ensures { IfOk result (λ command. app_of command ≡ definition_of Dis) }
 {
-    command_with(alloc, "dis", "Lists a filter, which isn't checked", &[])
+    let about = "Lists a filter, which isn't checked";
+    define(alloc, "dis", about, &[], false, &[])
 }
 
 /// The command `asm`.
 fn define_asm<'a>(alloc: Global) -> Result<Command<'a>, AllocError>
     ensures { IfOk result (λ command. app_of command ≡ definition_of Asm) }
 {
-    command_with(alloc, "asm", "Assembles a text, which isn't checked", &[])
+    let about = "Assembles a text, which isn't checked";
+    define(alloc, "asm", about, &[], false, &[])
 }
 
 /// The command `compile`.
@@ -144,11 +170,10 @@ fn define_compile<'a>(alloc: Global) -> Result<Command<'a>, AllocError>
     ensures { IfOk result (λ command. app_of command ≡ definition_of Compile) }
 {
     let about = "Compiles a bundle of a profile and a table";
-    profile_command(alloc, "compile", about, &[])?.arg(flag_argument(
-        alloc,
-        ARCHITECTURES_FLAG,
-        TABLES_HELP,
-    ))
+    let left_out =
+        "First the skipped names and the other architectures, as `compare` prints them, and a line that ends them";
+    let flags = [(ARCHITECTURES_FLAG, TABLES_HELP), (LEFT_OUT_FLAG, left_out)];
+    define(alloc, "compile", about, &[], true, &flags)
 }
 
 /// The command `compare`.
@@ -165,14 +190,16 @@ fn define_compare<'a>(alloc: Global) -> Result<Command<'a>, AllocError>
     let beside = "With parts `beside`, other filters, in place of a profile";
     let each =
         "Only calls of architectures with a table: parts `table`, `table-x86` ..; not with --native or --beside";
-    profile_command(alloc, "compare", about, &comparison_options())?
-        .arg(flag_argument(alloc, NATIVE_FLAG, NATIVE_HELP))?
-        .arg(flag_argument(alloc, CALLS_FLAG, calls))?
-        .arg(flag_argument(alloc, NO_MORE_FLAG, no_more))?
-        .arg(flag_argument(alloc, NO_LESS_FLAG, no_less))?
-        .arg(flag_argument(alloc, DISPOSITION_FLAG, disposition))?
-        .arg(flag_argument(alloc, BESIDE_FLAG, beside))?
-        .arg(flag_argument(alloc, ARCHITECTURES_FLAG, each))
+    let flags = [
+        (NATIVE_FLAG, NATIVE_HELP),
+        (CALLS_FLAG, calls),
+        (NO_MORE_FLAG, no_more),
+        (NO_LESS_FLAG, no_less),
+        (DISPOSITION_FLAG, disposition),
+        (BESIDE_FLAG, beside),
+        (ARCHITECTURES_FLAG, each),
+    ];
+    define(alloc, "compare", about, &comparison_options(), true, &flags)
 }
 
 /// The command `ask`.
@@ -180,11 +207,8 @@ fn define_ask<'a>(alloc: Global) -> Result<Command<'a>, AllocError>
     ensures { IfOk result (λ command. app_of command ≡ definition_of Ask) }
 {
     let about = "Says what a profile answers to a call, and why, of a bundle with a table";
-    profile_command(alloc, "ask", about, &call_options())?.arg(flag_argument(
-        alloc,
-        ARCHITECTURES_FLAG,
-        TABLES_HELP,
-    ))
+    let flags = [(ARCHITECTURES_FLAG, TABLES_HELP)];
+    define(alloc, "ask", about, &call_options(), true, &flags)
 }
 
 /// The command `answers`.
@@ -196,10 +220,19 @@ fn define_answers<'a>(alloc: Global) -> Result<Command<'a>, AllocError>
     let each =
         "Only calls of architectures with a table, of a profile: parts `table`, `table-x86` ..; not with --native";
     let examples = "Also a call of each region";
-    profile_command(alloc, "answers", about, &exploration_options())?
-        .arg(flag_argument(alloc, NATIVE_FLAG, NATIVE_HELP))?
-        .arg(flag_argument(alloc, ARCHITECTURES_FLAG, each))?
-        .arg(flag_argument(alloc, EXAMPLES_FLAG, examples))
+    let flags = [
+        (NATIVE_FLAG, NATIVE_HELP),
+        (ARCHITECTURES_FLAG, each),
+        (EXAMPLES_FLAG, examples),
+    ];
+    define(
+        alloc,
+        "answers",
+        about,
+        &exploration_options(),
+        true,
+        &flags,
+    )
 }
 
 /// The program without commands.

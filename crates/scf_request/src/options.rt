@@ -170,6 +170,9 @@ pub(crate) const BESIDE_FLAG: &str = "beside";
 /// The flag by which a profile is taken for each architecture that has a table.
 pub(crate) const ARCHITECTURES_FLAG: &str = "architectures";
 
+/// The flag that has what is left out of a profile printed first.
+pub(crate) const LEFT_OUT_FLAG: &str = "left-out";
+
 /// The flag that shows a record of each region.
 pub(crate) const EXAMPLES_FLAG: &str = "examples";
 

@@ -20,9 +20,9 @@ ghost use Rattle.scf_request.specs.Options.{
 ghost use Rattle.scf_request.specs.Requests.{AsksFor, GoesOverRecord, ReadsBy, Spell};
 
 use crate::options::{
-    ARCHITECTURES_FLAG, AT_FLAG, BESIDE_FLAG, EXAMPLES_FLAG, NATIVE_FLAG, NumberFault, PATH_FLAG,
-    RELATION_FLAGS, SCOPE_FLAGS, chosen_flag, comparison_numbers, exploration_numbers, has_range,
-    is_given, reading_in, record_of,
+    ARCHITECTURES_FLAG, AT_FLAG, BESIDE_FLAG, EXAMPLES_FLAG, LEFT_OUT_FLAG, NATIVE_FLAG,
+    NumberFault, PATH_FLAG, RELATION_FLAGS, SCOPE_FLAGS, chosen_flag, comparison_numbers,
+    exploration_numbers, has_range, is_given, reading_in, record_of,
 };
 use crate::records::goes_over_record;
 use crate::request_fault::RequestFault;
@@ -88,9 +88,10 @@ pub enum Request {
     /// `compare --architectures`: compare filters with a profile, over the calls of each architecture that has a table.
     /// Never over `Native`; a range of numbers is one of each of them, and `EachCall` is for a bundle with one table.
     CompareArchitectures(Comparison),
-    Compile,
+    /// `compile`: compile a profile; `has_left_out` says whether what is left out of it is printed first.
+    Compile { has_left_out: bool },
     /// `compile --architectures`: compile the profiles of the architectures that have a table.
-    CompileArchitectures,
+    CompileArchitectures { has_left_out: bool },
     Decide(CallRecord),
     /// `decide --at`: also print which instruction of which filter gives the answer.
     DecideBy(CallRecord),
@@ -226,10 +227,11 @@ fn ask_request(options: &ArgMatches<'_>) -> Result<Request, RequestFault>
 fn compile_request(options: &ArgMatches<'_>) -> Request
     ensures { Spell (Some (codes "compile", rows_of (found_of options.now))) (Ok result) }
 {
+    let has_left_out = is_given(options, LEFT_OUT_FLAG);
     if is_given(options, ARCHITECTURES_FLAG) {
-        Request::CompileArchitectures
+        Request::CompileArchitectures { has_left_out }
     } else {
-        Request::Compile
+        Request::Compile { has_left_out }
     }
 }
 

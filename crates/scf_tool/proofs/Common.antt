@@ -20,7 +20,7 @@ pub use Rattle.scf_compare.specs.declared.finding.Finding.TheVariants.{Holds, Fa
 pub use Rattle.scf_insn.specs.declared.insn.Insn.{Insn}
 pub use Rattle.scf_machine.specs.Precedence.{StackAnswers}
 pub use Rattle.scf_machine.proofs.Common.{IsPush, cost_of}
-pub use Rattle.scf_profile.proofs.Common.{Answering, IfOk-weaker, Names, err_from_is_err_and, map-append, texts_at}
+pub use Rattle.scf_profile.proofs.Common.{IfOk-weaker, Names, err_from_is_err_and, map-append, texts_at}
 pub use Rattle.scf_profile.specs.declared.load_fault.LoadFault.{LoadFault}
 pub use Rattle.scf_text.proofs.Common.{each_fails, fails_first, flat_map, writes_then}
 pub use Rattle.scf_tool.specs.Commands.{NoReadFailed, ReadsInput}
@@ -31,10 +31,9 @@ pub use Rattle.scf_request.specs.CommandLine.{scf}
 pub use Rattle.scf_tool.specs.Runs.{SpeaksOfWords}
 pub use Rattle.scf_tool.specs.Verifying.{HasEnded, IsAcceptedFilter, LeavesProfileReader, LeavesTableReader}
 pub use Rattle.scf_tool.specs.Comparisons.{AreFound, IsFoundOfCall}
-pub use Rattle.scf_tool.specs.VerifyingStacks.{AreComparedInputs, LeavesFilterReaders, left_out_of}
+pub use Rattle.scf_tool.specs.VerifyingStacks.{LeavesFilterReaders}
 pub use Rattle.scf_request.specs.declared.contents.PartReader.{PartReader}
 pub use Rattle.scf_tool.specs.declared.fault.Fault.{Fault}
-pub use Rattle.scf_tool.specs.declared.inputs.Inputs.{Inputs}
 pub use Rattle.scf_tool.specs.declared.reply.Reply.{Reply}
 pub use Rattle.scf_tool.specs.declared.reply.Reply.TheVariants.{CommandLine}
 pub use Rattle.scf_tool.specs.declared.verify_fault.VerifyFault.{VerifyFault}
@@ -43,4 +42,3 @@ pub use Rattle.scf_request.specs.Contents.{rest_of}
 pub use Rattle.scf_tool.specs.internal.Gathering.{buffered}
 pub use Rattle.scf_tool.specs.internal.Explaining.{Explains}
 pub use Rattle.scf_tool.specs.internal.Pieces.{fragment_text}
-pub use Rattle.scf_tool.specs.internal.Verification.{AreInputs}

@@ -3,7 +3,7 @@ use Rattle.std.proofs.lemmas.Grind.{flat_map-append}
 use Rattle.std.proofs.lemmas.List.{append-nil}
 use Rattle.std.proofs.lemmas.Slice.Zip.{all_zipped_more}
 use Rattle.scf_machine.specs.Path.{IsPathOf}
-use Rattle.scf_tool.proofs.Common.{Insn, List, [], ap, flat_map, get_or, length, sym, take, take_more, ◌++◌, ◌+◌, ◌<◌, ◌∙◌, ◌∷◌, ◌≡◌, ℕ}
+use Rattle.scf_tool.proofs.Common.{Insn, List, [], ap, flat_map, get_or, length, sym, take, take_more, ◌++◌, ◌+◌, ◌<◌, ◌∙◌, ◌∷◌, ℕ}
 use Rattle.scf_tool.specs.Commands.{ShowsRuns}
 use Rattle.scf_tool.specs.Lines.{traced_text}
 

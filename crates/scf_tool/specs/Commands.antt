@@ -57,9 +57,11 @@ use Rattle.scf_request.specs.declared.bundle.BundleForm.TheVariants as forms
 use Rattle.scf_request.specs.Interpretations.{Interpretation, LoadsBy, LoadsEachBy, interpretation_of, stubs_of}
 use Rattle.scf_tool.specs.Lines.{decision_text, traced_text}
 use Rattle.scf_tool.specs.FilterStacks.{HasStack, HasNoStack}
-use Rattle.scf_tool.specs.Reports.{findings_status, sides_text}
+use Rattle.scf_tool.specs.Reports.{findings_status, left_out_front, sides_text}
 use Rattle.scf_tool.specs.declared.sides.SidesOutcome.{SidesOutcome}
 use Rattle.scf_tool.specs.Verifying.{IsAcceptedFilter, IsNoFilter, ReadsFilter, ReadsUnder}
+use Rattle.scf_tool.specs.VerifyingArchitectures.{left_out_of_each}
+use Rattle.scf_tool.specs.VerifyingStacks.{left_out_of}
 use Rattle.scf_tool.specs.VerifyingSides.{AreRefused, AreVerified, SideBytes, fault_of_either}
 use Rattle.scf_tool.specs.VerifyingSides.SideBytes.{OfFilters, OfProfile}
 
@@ -236,6 +238,10 @@ CantLoad by profile table (verifies.Profile fault) =
     (names : Names) × (table_of table ≡ Ok names) × RefusesAs by.reading profile names fault
 CantLoad by profile table fault = ⊥
 
+-- The text is that of which this holds, behind a front.
+abbrev pub IsBehind : List ℕ → (List ℕ → Type 0) → List ℕ → Type 0
+IsBehind front Holds text = (behind : List ℕ) × Holds behind × (text ≡ front ++ behind)
+
 -- the bytes of an accepted filter that answers every call record as the profile does
 abbrev pub IsFilterOf : Profile → List ℕ → Type 0
 IsFilterOf profile bytes =
@@ -246,14 +252,15 @@ abbrev pub IsFilterOfEach : List Profile → List ℕ → Type 0
 IsFilterOfEach profiles bytes =
     (insns : List Insn) × IsAcceptedFilter (Some bytes) insns × SameAnswersAsEach (RunAnswers insns) profiles
 
--- `compile`: the filter of the profile
-abbrev pub Compiles : Interpretation → List ℕ → List ℕ → Result Reply Fault → Type 0
-Compiles by profile table (Ok (Bytes bytes)) =
-    (loaded : Loaded) × IsStated by profile table loaded × IsFilterOf loaded.profile bytes.items
-Compiles by profile table (Err (faults.Verify fault)) = CantLoad by profile table fault
-Compiles by profile table (Err (faults.Compile fault)) = (loaded : Loaded) × IsStated by profile table loaded
+-- `compile`: the filter of the profile, and in front of it what is left out of that, if it is asked for
+abbrev pub Compiles : Bool → Interpretation → List ℕ → List ℕ → Result Reply Fault → Type 0
+Compiles has_left_out by profile table (Ok (Bytes bytes)) = (loaded : Loaded) × IsStated by profile table loaded
+    × IsBehind (left_out_front has_left_out (left_out_of loaded)) (IsFilterOf loaded.profile) bytes.items
+Compiles has_left_out by profile table (Err (faults.Verify fault)) = CantLoad by profile table fault
+Compiles has_left_out by profile table (Err (faults.Compile fault)) = (loaded : Loaded)
+    × IsStated by profile table loaded
     × (fault ≡ compiles.TooLarge → bpf_maxinsns < size_bound_of loaded.profile)
-Compiles by profile table ending = ⊥
+Compiles has_left_out by profile table ending = ⊥
 
 -- `ask`: the answer of the profile to the call, and why
 abbrev pub GivesReason : CallRecord → Interpretation → List ℕ → List ℕ → Result Reply Fault → Type 0
@@ -369,15 +376,16 @@ CantLoadEach by profile texts (verifies.Profile fault) =
     (read : Tables) × AllZip SpellsTable texts read × RefusesEachAs by.reading profile read fault
 CantLoadEach by profile texts fault = ⊥
 
--- `compile --architectures`: the filter of the profiles of all architectures that have a table
-abbrev pub CompilesEach : Interpretation → List ℕ → List (Architecture × List ℕ) → Result Reply Fault → Type 0
-CompilesEach by profile texts (Ok (Bytes bytes)) =
-    (loaded : LoadedProfiles) × AreStated by profile texts loaded × IsFilterOfEach loaded.profiles bytes.items
-CompilesEach by profile texts (Err (faults.Verify fault)) = CantLoadEach by profile texts fault
-CompilesEach by profile texts (Err (faults.Compile fault)) = (loaded : LoadedProfiles)
+-- `compile --architectures`: the filter of the profiles of all architectures that have a table, behind the same
+abbrev pub CompilesEach : Bool → Interpretation → List ℕ → List (Architecture × List ℕ) → Result Reply Fault → Type 0
+CompilesEach has_left_out by profile texts (Ok (Bytes bytes)) = (loaded : LoadedProfiles)
+    × AreStated by profile texts loaded
+    × IsBehind (left_out_front has_left_out (left_out_of_each loaded)) (IsFilterOfEach loaded.profiles) bytes.items
+CompilesEach has_left_out by profile texts (Err (faults.Verify fault)) = CantLoadEach by profile texts fault
+CompilesEach has_left_out by profile texts (Err (faults.Compile fault)) = (loaded : LoadedProfiles)
     × AreStated by profile texts loaded
     × (fault ≡ compiles.TooLarge → bpf_maxinsns < size_bound_of_each loaded.profiles)
-CompilesEach by profile texts ending = ⊥
+CompilesEach has_left_out by profile texts ending = ⊥
 
 -- `ask --architectures`: the answer of the profile of the call's architecture, and why
 abbrev pub GivesReasonAmong : CallRecord → Interpretation → List ℕ → List (Architecture × List ℕ) → Result Reply Fault
@@ -451,8 +459,9 @@ IsTrueReply reading (requests.CompareBeside comparison) input =
     Compares (forms.Beside comparison.scopes) reading comparison input
 IsTrueReply reading (requests.CompareArchitectures comparison) input =
     Compares forms.Architectures reading comparison input
-IsTrueReply reading requests.Compile input = EndsOnTable reading input Compiles
-IsTrueReply reading requests.CompileArchitectures input = EndsOnTables reading input CompilesEach
+IsTrueReply reading (requests.Compile has_left_out) input = EndsOnTable reading input (Compiles has_left_out)
+IsTrueReply reading (requests.CompileArchitectures has_left_out) input =
+    EndsOnTables reading input (CompilesEach has_left_out)
 IsTrueReply reading (requests.Decide call) input = Decides (requests.Decide call) input
 IsTrueReply reading (requests.DecideBy call) input = Decides (requests.DecideBy call) input
 IsTrueReply reading (requests.DecidePaths call) input = Decides (requests.DecidePaths call) input

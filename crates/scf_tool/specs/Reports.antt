@@ -1,5 +1,5 @@
 -- What the program prints of a comparison.
-use Rattle.std.specs.Prelude.{ℕ, false, List, [], ◌++◌, codes, Option, Some, None, if◌then◌else◌}
+use Rattle.std.specs.Prelude.{ℕ, Bool, true, false, List, [], ◌++◌, codes, length, Option, Some, None, if◌then◌else◌}
 use Rattle.std.specs.List.{flat_map, join_by}
 use Rattle.std.specs.Fmt.{decimal, digits}
 use Rattle.std.specs.Option.{option_map_or}
@@ -71,6 +71,18 @@ abbrev pub left_out_text : List ℕ × List ℕ → Option LeftOut → List ℕ
 left_out_text words None = []
 left_out_text words (Some left_out) =
     flat_map (name_line words.0) left_out.skipped ++ flat_map (name_line words.1) left_out.other_architectures
+
+abbrev pub length_text : List ℕ → List ℕ
+length_text name = codes " " ++ decimal (length name)
+
+-- What stands in front of what is printed of a profile, if that is asked for: the same, and a line that ends it, with
+-- the length of each name, which may have newlines in it.
+abbrev pub left_out_front : Bool → LeftOut → List ℕ
+left_out_front false left_out = []
+left_out_front true left_out =
+    left_out_text (codes "skipped", codes "other") (Some left_out)
+    ++ (codes "left-out skipped" ++ (flat_map length_text left_out.skipped
+    ++ (codes " other" ++ (flat_map length_text left_out.other_architectures ++ codes "\n"))))
 
 -- the words for the profile on the right: its own beside another one
 abbrev pub words_of_left_out : Option LeftOut → List ℕ × List ℕ

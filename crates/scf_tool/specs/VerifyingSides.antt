@@ -48,8 +48,8 @@ abbrev pub HasNoStackOf : SideBytes → VerifyFault → Type 0
 HasNoStackOf (OfFilters filters) fault = HasNoStack (map Some filters) fault
 HasNoStackOf (OfProfile profile) fault = ⊥
 
--- The bytes of a side are read as this: a profile for x86-64 alone under the only table, else for each architecture that
--- has a table.
+-- The bytes of a side are read as this: a profile for x86-64 alone under the only table, else for each architecture
+-- that has a table.
 abbrev pub IsSide : Bool → Interpretation → Tables → SideBytes → SideInput → Type 0
 IsSide native by tables (OfFilters filters) (Stack stack) = HasStack (map Some filters) stack
 IsSide true by tables (OfProfile profile) (Profile loaded) =
@@ -87,13 +87,15 @@ pub record AreSides (native : Bool) (by : Interpretation) (left right : SideByte
 -- profile on the left, the one on the right, out of memory behind all of them.
 pub data AreRefused (native : Bool) (by : Interpretation) (left right : SideBytes)
     (texts : List (Architecture × Option (List ℕ))) : BesideFault → Type 0 where
-  by_left_filters : (fault : VerifyFault) → HasNoStackOf left fault → AreRefused native by left right texts (Verify fault)
+  by_left_filters : (fault : VerifyFault) → HasNoStackOf left fault
+      → AreRefused native by left right texts (Verify fault)
   by_right_filters : (fault : VerifyFault) → HasStackOf left → HasNoStackOf right fault
       → AreRefused native by left right texts (Beside fault)
   by_tables : (fault : VerifyFault) → HasStackOf left → HasStackOf right → HasNoTable texts fault
       → AreRefused native by left right texts (Verify fault)
   by_left_profile : (fault : VerifyFault) (tables : Tables) → HasStackOf left → HasStackOf right
-      → AreTables texts tables → IsNoSide native by tables left fault → AreRefused native by left right texts (Verify fault)
+      → AreTables texts tables → IsNoSide native by tables left fault
+      → AreRefused native by left right texts (Verify fault)
   by_right_profile : (fault : VerifyFault) (tables : Tables) (input : SideInput) → HasStackOf right
       → AreTables texts tables → IsSide native by tables left input → IsNoSide native by tables right fault
       → AreRefused native by left right texts (fault_of_right left fault)

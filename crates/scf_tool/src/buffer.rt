@@ -8,7 +8,7 @@ ghost use Rattle.scf_tool.specs.internal.Gathering.{Adds, buffered};
 ghost use Rattle.scf_tool.specs.internal.Pieces.{fragment_text};
 
 use crate::fragments::{Fragment, write_fragments};
-use scf_insn::{Failed, Insn, Memory, Sink, write_program};
+use scf_insn::{Failed, Insn, Memory, Sink, write_program, write_whole};
 use scf_text::disassemble;
 use std::alloc::{AllocError, Global};
 
@@ -45,6 +45,16 @@ impl Buffer {
         ensures { Adds self.old (flat_map fragment_text pieces.now) result self.new }
     {
         match write_fragments(self, pieces) {
+            Ok(()) => Ok(()),
+            Err(_) => Err(Memory),
+        }
+    }
+
+    /// Adds bytes to what was written. An error is an allocation failure.
+    pub(crate) fn add_bytes(&mut self, bytes: &[u8]) -> Result<(), Memory>
+        ensures { Adds self.old bytes.now result self.new }
+    {
+        match write_whole(self, bytes) {
             Ok(()) => Ok(()),
             Err(_) => Err(Memory),
         }

@@ -82,8 +82,12 @@ fn answer<R: Source>(
                 input,
             )
         }
-        Request::Compile => compile_profile(alloc, reading, input),
-        Request::CompileArchitectures => compile_architectures(alloc, reading, input),
+        Request::Compile { has_left_out } => {
+            compile_profile(alloc, reading, *has_left_out, input)
+        }
+        Request::CompileArchitectures { has_left_out } => {
+            compile_architectures(alloc, reading, *has_left_out, input)
+        }
         Request::Decide(call) => decide_stack(alloc, call, input),
         Request::DecideBy(call) => decide_stack_at(alloc, call, input),
         Request::DecidePaths(call) => trace_stack(alloc, call, input),

@@ -1,11 +1,14 @@
 //! The bytes of the filters of profiles.
 
-ghost use Rattle.std.specs.Prelude.{◌≡◌, ◌<◌, IfErr, IfOk};
+ghost use Rattle.std.specs.Prelude.{◌≡◌, ◌<◌, ◌++◌, IfErr, IfOk};
 ghost use Rattle.scf_compile.specs.SizeBound.{size_bound_of, size_bound_of_each};
 ghost use Rattle.scf_insn.specs.Kernel.{bpf_maxinsns};
 ghost use Rattle.scf_tool.specs.Commands.{IsFilterOf, IsFilterOfEach};
+ghost use Rattle.scf_tool.specs.Reports.{left_out_front};
 
-use crate::buffer::encoding_of;
+use crate::buffer::{Buffer, encoding_of};
+use crate::left_out::LeftOut;
+use crate::reporting::add_left_out_front;
 use scf_compile::{CompileFault, compile, compile_profiles};
 use scf_profile::{Profile, Profiles};
 use std::alloc::Global;
@@ -28,4 +31,23 @@ pub fn filter_of_each(alloc: Global, profiles: &Profiles) -> Result<Vec<u8>, Com
 {
     let program = compile_profiles(alloc, profiles)?;
     Ok(encoding_of(alloc, program.insns())?)
+}
+
+/// The bytes of a filter behind what was left out of its profile, if that is asked for.
+pub(crate) fn behind_left_out(
+    alloc: Global,
+    has_left_out: bool,
+    left_out: &LeftOut,
+    filter: Vec<u8>,
+) -> Result<Vec<u8>, CompileFault>
+    ensures text { IfOk result (λ text. text.items ≡ left_out_front has_left_out left_out.now ++ filter.items) }
+    ensures memory { IfErr result (λ fault. fault ≡ CompileFault.Memory) }
+{
+    if !has_left_out {
+        return Ok(filter);
+    }
+    let mut text = Buffer::new(alloc);
+    add_left_out_front(&mut text, left_out)?;
+    text.add_bytes(&filter)?;
+    Ok(text.into_bytes())
 }

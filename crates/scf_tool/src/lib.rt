@@ -17,7 +17,6 @@ mod filter_stack;
 mod findings;
 mod fragments;
 mod in_memory;
-mod inputs;
 mod joint_finding;
 mod left_out;
 mod lines;

@@ -1,6 +1,6 @@
 //! The report of a comparison.
 
-ghost use Rattle.std.specs.Prelude.{◌≡◌, ◌++◌, Some, codes, string_bytes, IfOk};
+ghost use Rattle.std.specs.Prelude.{◌≡◌, ◌++◌, Some, codes, string_bytes, true, IfOk};
 ghost use Rattle.std.specs.Fmt.{decimal};
 ghost use Rattle.std.specs.List.{flat_map};
 ghost use Rattle.scf_compare.specs.Verdicts.{finding_of};
@@ -9,7 +9,9 @@ ghost use Rattle.scf_tool.specs.Reports.{
   argument_text,
   call_line,
   finding_text,
+  left_out_front,
   left_out_text,
+  length_text,
   name_line,
   outcome_of,
   prefixed,
@@ -223,6 +225,31 @@ fn add_names_left_out(
 {
     add_names(text, skipped_word, skipped)?;
     add_names(text, other_word, others)?;
+    Ok(())
+}
+
+/// Adds the length of each name.
+fn add_lengths(text: &mut Buffer, names: &Texts) -> Result<(), Memory>
+    ensures { Adds text.old (flat_map length_text names.now) result text.new }
+{
+    for name in names.as_slice() {
+        text.add(&[Text(" "), Decimal(name.len() as u64)])?;
+    }
+    Ok(())
+}
+
+/// Adds what was left out of a profile, and a line that ends it.
+pub(crate) fn add_left_out_front(text: &mut Buffer, left_out: &LeftOut) -> Result<(), Memory>
+    ensures { Adds text.old (left_out_front true left_out.now) result text.new }
+{
+    let skipped = &left_out.skipped;
+    let others = &left_out.other_architectures;
+    add_names_left_out(text, "skipped", "other", skipped, others)?;
+    text.add(&[Text("left-out skipped")])?;
+    add_lengths(text, skipped)?;
+    text.add(&[Text(" other")])?;
+    add_lengths(text, others)?;
+    text.add(&[Text("\n")])?;
     Ok(())
 }
 

@@ -133,8 +133,8 @@ fn findings_of(
 /// call by call of the only table. A profile is read for x86-64 alone, or for each architecture that has a table.
 ///
 /// At once, `Holds` says that the relation holds of both answers to every record of the scope, and `Fails` shows one of
-/// which it doesn't: see `compare_sides`. The steps and splits are at most `limits.each` and `limits.splits`. Beside the
-/// profiles of several architectures these are the limits of each, over its own records; if the scope is a range of
+/// which it doesn't: see `compare_sides`. The steps and splits are at most `limits.each` and `limits.splits`. Beside
+/// the profiles of several architectures these are the limits of each, over its own records; if the scope is a range of
 /// numbers, over those with a number in it. The finding is the first that fails, in the order of `Architecture::all`,
 /// else the first that doesn't hold, else `Holds`.
 ///

@@ -4,8 +4,8 @@ ghost use Rattle.std.specs.Prelude.{map};
 ghost use Rattle.scf_tool.specs.Verifying.{LeavesProfileReader, LeavesTableReader};
 ghost use Rattle.scf_tool.specs.VerifyingStacks.{LeavesFilterReaders, VerifiesStack};
 
-use crate::inputs::read_inputs;
-use crate::verification::Outcome;
+use crate::filter_stack::read_stack;
+use crate::verification::{Outcome, read_profile, read_table};
 use crate::verify_fault::VerifyFault;
 use scf_compare::compare_stack;
 use scf_facts::WordSets;
@@ -37,12 +37,11 @@ pub fn verify_stack<F: Source, P: Source, T: Source>(
     ensures table_reader { LeavesTableReader T.remaining T.failures table_reader.old result table_reader.new }
     ensures profile_reader { LeavesProfileReader P.remaining P.failures profile_reader.old result profile_reader.new }
 {
+    let stack = read_stack(alloc, filter_readers)?;
+    let names = read_table(alloc, table_reader)?;
     let by = Interpretation::by_words(alloc);
-    let inputs = read_inputs(alloc, &by, filter_readers, profile_reader, table_reader)?;
-    let stack = &inputs.stack;
-    let profile = &inputs.loaded.profile;
-    let verdict = compare_stack::<WordSets>(alloc, stack, profile, scope, limit)?;
-    let loaded = inputs.loaded;
+    let loaded = read_profile(alloc, &by, profile_reader, &names)?;
+    let verdict = compare_stack::<WordSets>(alloc, &stack, &loaded.profile, scope, limit)?;
     Ok(Outcome {
         verdict,
         skipped: loaded.skipped,

@@ -3,7 +3,7 @@ use Rattle.std.specs.Prelude.{◌≡◌, ℕ, List, [], ◌∷◌, map, true, Re
 use Rattle.std.specs.declared.alloc.AllocError.{AllocError}
 use Rattle.std.specs.Borrow.{Bor}
 use Rattle.clap.specs.declared.builder.command.Command.{Command as Definition}
-use Rattle.clap.specs.Words.{App, Text, app_of, fault_of, is_simple_and_free, subcommand_of}
+use Rattle.clap.specs.Words.{App, Rule, Text, app_of, fault_of, is_simple_and_free, new_app, subcommand_of}
 use Rattle.scf_request.specs.declared.options.NumberOption.{NumberOption as Kept}
 use Rattle.scf_request.specs.Options.{NumberOption}
 use Rattle.scf_request.specs.CommandLine.{scf, scf_shape, shape_for}
@@ -18,6 +18,14 @@ flags_in group = map (λ flag. (flag.0.now, flag.1)) group
 
 abbrev pub options_kept : List Kept → List NumberOption
 options_kept = map option_of
+
+-- a command of this name with these rules
+abbrev pub command_of : Text → List Rule → App
+command_of name rules = record { top = record (new_app name).top { rules = rules }; subs = [] }
+
+-- the names of flags that are defined
+abbrev pub names_of_flags : List (Bor (List ℕ) × Bor (List ℕ)) → List (List ℕ)
+names_of_flags = map (λ flag. flag.0.now)
 
 -- a command by itself
 abbrev pub definition_of : Command → App

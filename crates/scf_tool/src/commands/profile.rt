@@ -1,13 +1,13 @@
 //! Commands on a profile and its call table.
 
-ghost use Rattle.std.specs.Prelude.{IfOk, IfErr, Ok, Err};
 ghost use Rattle.scf_tool.specs.Commands.{Compiles, EndsOnTable, GivesReason};
 ghost use Rattle.scf_tool.specs.Statuses.{LeavesWhole};
 
 use crate::commands::parts::{BesideProfile, profile_parts};
 use crate::commands::whole_input;
-use crate::compilation::filter_of;
+use crate::compilation::{behind_left_out, filter_of};
 use crate::fault::Fault;
+use crate::left_out::LeftOut;
 use crate::loading::load_with_table;
 use crate::reply::Reply;
 use scf_insn::{CallRecord, Source};
@@ -15,27 +15,50 @@ use scf_profile::Reading;
 use scf_request::{BundleForm, Contents, Interpretation};
 use std::alloc::Global;
 
-/// The bytes of the filter of a profile and a table.
-fn filter_bytes(
+/// The filter of a profile and a table, behind what is left out of the profile, if that is asked for.
+fn compiled(
+    alloc: Global,
+    has_left_out: bool,
+    by: &Interpretation,
+    profile: &[u8],
+    table: &[u8],
+) -> Result<Reply, Fault>
+    ensures { Compiles has_left_out by.now profile.now table.now result }
+{
+    let loaded = load_with_table(alloc, by, profile, table)?;
+    let filter = filter_of(alloc, &loaded.profile)?;
+    let left_out = LeftOut {
+        skipped: loaded.skipped,
+        other_architectures: loaded.other_architectures,
+    };
+    Ok(Reply::Bytes(behind_left_out(alloc, has_left_out, &left_out, filter)?))
+}
+
+/// What the profile that is stated under a table answers to a call, and why.
+fn asked(
     alloc: Global,
     by: &Interpretation,
     profile: &[u8],
     table: &[u8],
-) -> Result<Vec<u8>, Fault>
-    ensures filter { IfOk result (λ bytes. Compiles by.now profile.now table.now (Ok (Reply.Bytes bytes))) }
-    ensures fault { IfErr result (λ fault. Compiles by.now profile.now table.now (Err fault)) }
+    call: &CallRecord,
+) -> Result<Reply, Fault>
+    ensures { GivesReason call.now by.now profile.now table.now result }
 {
     let loaded = load_with_table(alloc, by, profile, table)?;
-    Ok(filter_of(alloc, &loaded.profile)?)
+    Ok(Reply::Asked {
+        answer: loaded.profile.answer(call),
+        reason: loaded.profile.reason(call),
+    })
 }
 
 /// `compile`: the filter that answers as a profile does.
 pub(super) fn compile_profile<R: Source>(
     alloc: Global,
     reading: Reading,
+    has_left_out: bool,
     input: &mut R,
 ) -> Result<Reply, Fault>
-    ensures answer { EndsOnTable reading (R.remaining input.old) Compiles result }
+    ensures answer { EndsOnTable reading (R.remaining input.old) (Compiles has_left_out) result }
     ensures left { LeavesWhole R.remaining R.failures input.old result input.new }
 {
     let bytes = whole_input(alloc, input)?;
@@ -44,7 +67,7 @@ pub(super) fn compile_profile<R: Source>(
         return Err(Fault::Parts);
     };
     let table = parts.tables[0].reader.rest();
-    Ok(Reply::Bytes(filter_bytes(alloc, &parts.by, parts.profile.rest(), table)?))
+    compiled(alloc, has_left_out, &parts.by, parts.profile.rest(), table)
 }
 
 /// `ask`: what a profile answers to a call, and why.
@@ -63,9 +86,5 @@ pub(super) fn ask_profile<R: Source>(
         return Err(Fault::Parts);
     };
     let table = parts.tables[0].reader.rest();
-    let loaded = load_with_table(alloc, &parts.by, parts.profile.rest(), table)?;
-    Ok(Reply::Asked {
-        answer: loaded.profile.answer(call),
-        reason: loaded.profile.reason(call),
-    })
+    asked(alloc, &parts.by, parts.profile.rest(), table, call)
 }

@@ -1,7 +1,7 @@
 use Rattle.scf_compare.specs.Sides.{profile_behavior}
 use Rattle.scf_compare.specs.declared.regions.Regions.{Regions}
 use Rattle.scf_profile.specs.Profile.{Profile}
-use Rattle.scf_tool.proofs.Common.{◌≡◌, ◌+◌, ◌<◌, ◌≤◌, ℕ, List, ap, arith, get_or, length, subst, sum_by_push, take_more}
+use Rattle.scf_tool.proofs.Common.{◌≤◌, ℕ, List, ap, arith, subst, sum_by_push, take_more}
 use Rattle.scf_tool.proofs.ExplorationLemmas.{widened}
 use Rattle.std.proofs.Common.{sum_by}
 use Rattle.std.proofs.lemmas.List.Sums.{sum_by_more}

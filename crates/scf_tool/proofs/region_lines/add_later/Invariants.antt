@@ -1,4 +1,4 @@
-use Rattle.scf_tool.proofs.Common.{◌≡◌, ◌++◌, [], codes, take, flat_map, buffered}
+use Rattle.scf_tool.proofs.Common.{◌≡◌, ◌++◌, codes, take, flat_map, buffered}
 use Rattle.scf_tool.specs.RegionLines.{interval_text}
 use Rattle.scf_tool.proofs.region_lines.add_later.Given as goal
 

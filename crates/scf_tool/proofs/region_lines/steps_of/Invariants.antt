@@ -1,4 +1,4 @@
-use Rattle.scf_tool.proofs.Common.{◌≡◌, ◌++◌, length, take, flat_map, buffered}
+use Rattle.scf_tool.proofs.Common.{◌≡◌, take}
 use Rattle.scf_tool.specs.RegionLines.{total_of}
 use Rattle.scf_tool.proofs.region_lines.steps_of.Given as goal
 

@@ -2,7 +2,7 @@ use Rattle.scf_compare.specs.Sides.{behavior_of, profile_behavior}
 use Rattle.scf_compare.specs.declared.finding.Finding.{Finding}
 use Rattle.scf_profile.specs.Profile.{Profile}
 use Rattle.scf_tool.proofs.ArchitectureLemmas.{joint_is_true, scope_is_of}
-use Rattle.scf_tool.proofs.Common.{AllZip, List, ap, refl, subst, sym, take_all, take_more, ◌∙◌, ◌≡◌}
+use Rattle.scf_tool.proofs.Common.{AllZip, List, ap, subst, sym, take_all, take_more, ◌∙◌, ◌≡◌}
 use Rattle.std.proofs.lemmas.Slice.Zip.{all_zipped_more}
 use Rattle.scf_tool.specs.ArchitectureScopes.{scope_of}
 use Rattle.scf_tool.specs.Comparisons.{IsFound, limit_of}

@@ -2,7 +2,6 @@ use Rattle.scf_tool.proofs.Common.{err_from_is_err_and, map, ◌∙◌}
 use Rattle.scf_tool.proofs.SideLemmas.{open_has_stack, right_of}
 use Rattle.scf_tool.proofs.TableLemmas.{parts_counted}
 use Rattle.scf_tool.specs.VerifyingSides.AreRefused.{by_left_filters, by_left_profile, by_right_filters, by_right_profile, by_tables}
-use Rattle.scf_tool.specs.VerifyingSides.{AreRefused}
 use Rattle.scf_tool.specs.internal.Sides.{side_bytes}
 use Rattle.scf_tool.specs.internal.Verification.{named_of}
 use Rattle.scf_tool.proofs.sides.read_sides.Goals as goal

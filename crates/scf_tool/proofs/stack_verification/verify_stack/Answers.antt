@@ -1,22 +1,40 @@
-use Rattle.scf_tool.proofs.Common.{err_from_is_err_and, inr, refl}
-use Rattle.scf_tool.proofs.InputLemmas.{inputs_are_compared}
+use Rattle.scf_tool.proofs.Common.{inl, inr, refl, err_from_is_err_and}
 use Rattle.scf_tool.proofs.stack_verification.verify_stack.Goals as goal
 
-pub returns-in_err-inputs-clause-answer : goal.returns-in_err-inputs-clause-answer
-returns-in_err-inputs-clause-answer g c =
+pub returns-in_err-stack-clause-answer : goal.returns-in_err-stack-clause-answer
+returns-in_err-stack-clause-answer g c =
     let p = err_from_is_err_and c.from_residual.result c.from_residual.ensures.1 in
-    rw (p.1, p.2) (rw c.by_words-by.ensures at c.in_err-inputs.ensures.refused)
+    rw (p.1, p.2) (inl c.in_err-stack.ensures.refused)
+
+pub returns-in_err-names-clause-answer : goal.returns-in_err-names-clause-answer
+returns-in_err-names-clause-answer g c =
+    let p = err_from_is_err_and c.from_residual-in_err-names.result c.from_residual-in_err-names.ensures.1 in
+    rw (p.1, p.2) (inr (_, c.in_ok-stack.ensures.stack, inl c.in_err-names.ensures.refused))
+
+pub returns-in_err-loaded-clause-answer : goal.returns-in_err-loaded-clause-answer
+returns-in_err-loaded-clause-answer g c =
+    let p = err_from_is_err_and c.from_residual-in_err-loaded.result c.from_residual-in_err-loaded.ensures.1 in
+    let refused = rw c.by_words-by.ensures at c.in_err-loaded.ensures.refused in
+    rw (p.1, p.2) (inr (_, c.in_ok-stack.ensures.stack, inr (_, c.in_ok-names.ensures.table, inl refused)))
 
 pub returns-in_err-verdict-clause-answer : goal.returns-in_err-verdict-clause-answer
 returns-in_err-verdict-clause-answer g c =
     let p = err_from_is_err_and c.from_residual-in_err-verdict.result c.from_residual-in_err-verdict.ensures.1 in
-    let read = rw c.by_words-by.ensures at c.in_ok-inputs.ensures.inputs in
-    rw (p.1, p.2) (inr (_, read.has_stack, inr (_, read.is_table, inr (_, read.is_loaded, refl))))
+    let loaded = rw c.by_words-by.ensures at c.in_ok-loaded.ensures.loaded in
+    rw (p.1, p.2) (inr (_, c.in_ok-stack.ensures.stack, inr (_, c.in_ok-names.ensures.table, inr (_, loaded, refl))))
 
 pub returns-clause-answer : goal.returns-clause-answer
-returns-clause-answer g c =
-    inputs_are_compared _ _ _ _ c.in_ok-inputs.inputs _ (rw c.by_words-by.ensures at c.in_ok-inputs.ensures.inputs) (record {
-      holds = c.in_ok-verdict.ensures.holds;
-      within = c.in_ok-verdict.ensures.within;
-      decided = c.in_ok-verdict.ensures.decided refl;
-    })
+returns-clause-answer g c = record {
+  stack = c.in_ok-stack.stack;
+  names = c.in_ok-names.names;
+  loaded = c.in_ok-loaded.loaded;
+  has_stack = c.in_ok-stack.ensures.stack;
+  is_table = c.in_ok-names.ensures.table;
+  is_loaded = rw c.by_words-by.ensures at c.in_ok-loaded.ensures.loaded;
+  is_left_out = refl;
+  compared = record {
+    holds = c.in_ok-verdict.ensures.holds;
+    within = c.in_ok-verdict.ensures.within;
+    decided = c.in_ok-verdict.ensures.decided refl;
+  };
+}

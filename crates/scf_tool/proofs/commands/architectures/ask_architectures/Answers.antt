@@ -1,10 +1,8 @@
 use Rattle.scf_tool.proofs.BundleEndings.{ends_on_profile}
 use Rattle.scf_request.specs.declared.bundle.BundleForm.TheVariants as forms
 use Rattle.scf_request.specs.Contents.{held_by, rest_of_table}
-use Rattle.scf_tool.proofs.Common.{Err, Ok, ReadsInput, ap, err_from_is_err_and, false, map}
+use Rattle.scf_tool.proofs.Common.{Ok, ReadsInput, ap, false, map}
 use Rattle.scf_tool.specs.Commands.{GivesReasonAmong}
-use Rattle.scf_tool.specs.declared.fault.Fault.TheVariants as faults
-use Rattle.scf_tool.specs.declared.reply.Reply.TheVariants as replies
 use Rattle.scf_tool.proofs.commands.architectures.ask_architectures.Goals as goal
 
 pub returns-clause-answer : goal.returns-clause-answer
@@ -15,23 +13,7 @@ returns-clause-answer g c =
     ends_on_profile forms.Architectures false c.args.reading (g.R.Source.remaining c.args.input.now)
     (GivesReasonAmong c.args.call.now)
     (λ by profile tables. record { no_input = λ fault h. h; no_bundle = λ fault h. h; no_parts = λ h. h })
-    (held_by c.in_ok-contents.contents) c.in-Some.parts (Ok (replies.Asked c.answer.result c.reason.result))
+    (held_by c.in_ok-contents.contents) c.in-Some.parts c.asked.result
     (c.deref.result.now, read, c.in_ok-contents.ensures.bundle) taken _ _
     record { is_profile = c.rest.ensures; are_tables = ap (map rest_of_table) c.deref-2.ensures.value }
-    (c.in_ok-loaded.loaded, c.in_ok-loaded.ensures.stated, c.answer.ensures, c.reason.ensures)
-
-pub returns-in_err-loaded-clause-answer : goal.returns-in_err-loaded-clause-answer
-returns-in_err-loaded-clause-answer g c =
-    let p = err_from_is_err_and c.from_residual-in_err-loaded.result c.from_residual-in_err-loaded.ensures.1 in
-    let read : ReadsInput (g.R.Source.remaining c.args.input.now) (Ok c.deref.result.now) =
-    rw c.deref.ensures.value c.in_ok-bytes.ensures.read in
-    let taken = rw c.in-Some.is at c.in_ok-parts.ensures.parts in
-    rw (p.1, p.2) (
-    ends_on_profile forms.Architectures false c.args.reading (g.R.Source.remaining c.args.input.now)
-    (GivesReasonAmong c.args.call.now)
-    (λ by profile tables. record { no_input = λ fault h. h; no_bundle = λ fault h. h; no_parts = λ h. h })
-    (held_by c.in_ok-contents.contents) c.in-Some.parts (Err (faults.Verify c.in_err-loaded.field-0.0))
-    (c.deref.result.now, read, c.in_ok-contents.ensures.bundle) taken _ _
-    record { is_profile = c.rest.ensures; are_tables = ap (map rest_of_table) c.deref-2.ensures.value }
-    (c.in_err-loaded.ensures.fault)
-    )
+    c.asked.ensures

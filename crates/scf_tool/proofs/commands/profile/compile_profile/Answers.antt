@@ -1,9 +1,8 @@
 use Rattle.scf_tool.proofs.BundleEndings.{ends_on_only}
 use Rattle.scf_request.specs.declared.bundle.BundleForm.TheVariants as forms
 use Rattle.scf_request.specs.Contents.{held_by}
-use Rattle.scf_tool.proofs.Common.{Err, Ok, ReadsInput, err_from_is_err_and}
+use Rattle.scf_tool.proofs.Common.{Ok, ReadsInput}
 use Rattle.scf_tool.specs.Commands.{Compiles}
-use Rattle.scf_tool.specs.declared.reply.Reply.TheVariants as replies
 use Rattle.scf_tool.proofs.commands.profile.compile_profile.Goals as goal
 
 pub returns-clause-answer : goal.returns-clause-answer
@@ -12,25 +11,8 @@ returns-clause-answer g c =
     rw c.deref.ensures.value c.in_ok-bytes.ensures.read in
     let taken = rw c.in-Some.is at c.in_ok-parts.ensures.parts in
     ends_on_only forms.Profile c.args.reading (g.R.Source.remaining c.args.input.now)
-    Compiles
+    (Compiles c.args.has_left_out)
     (λ by profile table. record { no_input = λ fault h. h; no_bundle = λ fault h. h; no_parts = λ h. h })
-    (held_by c.in_ok-contents.contents) c.in-Some.parts c.index.result.now (Ok (replies.Bytes c.in_ok-filter_bytes.field-0))
+    (held_by c.in_ok-contents.contents) c.in-Some.parts c.index.result.now c.compiled.result
     (c.deref.result.now, read, c.in_ok-contents.ensures.bundle) taken c.index.ensures
-    _ _ c.rest.ensures c.rest-table.ensures
-    (c.in_ok-filter_bytes.ensures.filter)
-
-pub returns-in_err-filter_bytes-clause-answer : goal.returns-in_err-filter_bytes-clause-answer
-returns-in_err-filter_bytes-clause-answer g c =
-    let p = err_from_is_err_and c.from_residual-in_err-filter_bytes.result c.from_residual-in_err-filter_bytes.ensures.1 in
-    let read : ReadsInput (g.R.Source.remaining c.args.input.now) (Ok c.deref.result.now) =
-    rw c.deref.ensures.value c.in_ok-bytes.ensures.read in
-    let taken = rw c.in-Some.is at c.in_ok-parts.ensures.parts in
-    rw (p.1, p.2) (
-    ends_on_only forms.Profile c.args.reading (g.R.Source.remaining c.args.input.now)
-    Compiles
-    (λ by profile table. record { no_input = λ fault h. h; no_bundle = λ fault h. h; no_parts = λ h. h })
-    (held_by c.in_ok-contents.contents) c.in-Some.parts c.index.result.now (Err c.in_err-filter_bytes.field-0.0)
-    (c.deref.result.now, read, c.in_ok-contents.ensures.bundle) taken c.index.ensures
-    _ _ c.rest.ensures c.rest-table.ensures
-    (c.in_err-filter_bytes.ensures.fault)
-    )
+    _ _ c.rest.ensures c.rest-table.ensures c.compiled.ensures

@@ -1,0 +1,7 @@
+use Rattle.scf_request.proofs.Common.{◌≡◌, ◌++◌, app_of, command_of, flag_rule, map, names_of_flags, options_kept, rules_of_options, take}
+use Rattle.scf_request.proofs.command_line.define.Given as goal
+
+abbrev pub invariant-loop-flag : goal.invariant-loop-flag
+invariant-loop-flag l = app_of l.command ≡ command_of l.name
+    (rules_of_options (options_kept l.options) l.takes_reading
+    ++ map flag_rule (names_of_flags (take l.flag-index l.flags)))
