@@ -66,7 +66,7 @@ uint32_t scf_version(void);
 enum scf_status {
     SCF_OK = 0,
     SCF_REFUSED = 1,        /* an input isn't accepted */
-    SCF_WRONG_ARGUMENT = 2, /* a number has no meaning, or there is no table, or one twice; no fault says more */
+    SCF_WRONG_ARGUMENT = 2, /* a number has no meaning, or there is no table, one twice, or no call: no fault says it */
     SCF_NO_MEMORY = 3       /* malloc failed; nothing stays allocated, and the call may be repeated */
 };
 
@@ -322,7 +322,8 @@ struct scf_question {
 };
 
 /* The calls that are compared. One number is a range. A range without a number that the architecture's calls can have
- * is SCF_WRONG_ARGUMENT. */
+ * is SCF_WRONG_ARGUMENT, and so are SCF_EACH_ARCHITECTURE without a table and SCF_EACH_CALL where no table has a
+ * syscall. */
 enum scf_scope {
     SCF_ALL_CALLS = 0,         /* of all architectures, also of those that no table is for */
     SCF_NUMBERS = 1,           /* of an architecture, with a number of a range */
@@ -342,7 +343,7 @@ enum scf_relation {
 #define SCF_LIMIT 1000000
 
 enum scf_verdict {
-    SCF_NO_VERDICT = 0, /* nothing was compared: the call didn't end with SCF_OK, or no table has a syscall */
+    SCF_NO_VERDICT = 0, /* nothing was compared: the call didn't end with SCF_OK */
     SCF_HOLDS = 1,      /* proved for every call of the scope */
     SCF_FAILS = 2,      /* `call` shows it, with both answers */
     SCF_UNDECIDED = 3,  /* more splits (10,000) or steps below them are wanted than a comparison makes */

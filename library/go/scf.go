@@ -383,8 +383,9 @@ func (k Kind) Error() string  { return k.String() }
 var (
 	// ErrNoMemory says that malloc failed.
 	ErrNoMemory = errors.New("scf: out of memory")
-	// ErrWrongArgument says that a number has no meaning, or that there is no table, or two of one architecture.
-	ErrWrongArgument = errors.New("scf: a number has no meaning, or there is no table, or one twice")
+	// ErrWrongArgument says that a number has no meaning, that there is no table, or two of one architecture, or that a
+	// scope has no call.
+	ErrWrongArgument = errors.New("scf: a number has no meaning, or there is no table, one twice, or no call")
 	// ErrNoCgo says that the program was built without cgo, and so without libscf.
 	ErrNoCgo = errors.New("scf: built without cgo")
 )

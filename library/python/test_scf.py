@@ -116,6 +116,9 @@ class Calls(unittest.TestCase):
         self.assertEqual([(each.architecture, each.nr, each.finding.verdict) for each in compared.each],
                          [(1, 0, scf.Verdict.HOLDS), (1, 1, scf.Verdict.FAILS)])
         self.assertEqual((compared.finding.verdict, compared.finding.call.nr), (scf.Verdict.FAILS, 1))
+        for tables in ([NATIVE._replace(text=b"")], []):
+            with self.assertRaises(ValueError):
+                scf.compare(scf.Filters([ALLOW]), scf.Filters([ALLOW]), tables, scf.EACH_CALL)
         # more calls than the room that is tried first
         named = NATIVE._replace(text=b"".join(b"call_%d %d\n" % (nr, nr) for nr in range(700)))
         compared = scf.compare(scf.Filters([DENY]), scf.Filters([ALLOW]), [named], scf.EACH_CALL)

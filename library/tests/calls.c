@@ -250,11 +250,10 @@ static void comparisons(void) {
 }
 
 static void stacks_beside(void) {
-    struct scf_bytes filter = bytes_of(positive, sizeof positive), beside[2];
+    struct scf_bytes filter = bytes_of(positive, sizeof positive);
+    struct scf_bytes beside[] = {bytes_of(allow, sizeof allow), bytes_of(deny, sizeof deny)};
     struct scf_side left = with_filters(&filter, 1), right = with_filters(beside, 2);
     struct scf_question question = asked(SCF_ALL_CALLS, SCF_NO_LESS);
-    beside[0] = bytes_of(allow, sizeof allow);
-    beside[1] = bytes_of(deny, sizeof deny);
     IS(compare(&left, &right, &question) == SCF_OK && is_only(SCF_HOLDS) && is_text("no less\n"));
     question.relation = SCF_SAME_DISPOSITION;
     IS(compare(&left, &right, &question) == SCF_OK && found.finding.verdict == SCF_FAILS);
@@ -264,7 +263,8 @@ static void stacks_beside(void) {
     IS(scf_compare(&left, &right, NULL, 0, &question, &found, NULL, 0, &count, NULL, 0, &needed, &fault) == SCF_OK);
     IS(found.finding.verdict == SCF_FAILS && count == 1);
     question.scope = SCF_EACH_ARCHITECTURE;
-    IS(scf_compare(&left, &right, NULL, 0, &question, &found, NULL, 0, &count, NULL, 0, &needed, &fault) == SCF_OK);
+    IS(scf_compare(&left, &right, NULL, 0, &question, &found, NULL, 0, &count, NULL, 0, &needed, &fault) ==
+       SCF_WRONG_ARGUMENT);
     IS(found.finding.verdict == SCF_NO_VERDICT && count == 0 && needed == 0);
     question.scope = SCF_ALL_CALLS;
     beside[1].len = 1;
@@ -296,6 +296,7 @@ static void call_by_call(void) {
     struct scf_side left = with_filters(&filter, 1), right = with_profile(profile);
     struct scf_question question = asked(SCF_EACH_CALL, SCF_SAME);
     struct scf_table names = table_of(SCF_TABLE_X86_64, table);
+    int i;
     IS(compare(&left, &right, &question) == SCF_OK && is_zero(&fault, sizeof fault));
     IS(count == 2 && each[0].nr == 0 && each[1].nr == 1 && each[0].architecture == SCF_TABLE_X86_64);
     IS(each[0].finding.verdict == SCF_FAILS && each[0].finding.left == RET_ALLOW
@@ -318,9 +319,14 @@ static void call_by_call(void) {
     IS(is_fault(&fault, SCF_SOURCE_TABLE, SCF_KIND_REPEATED, 2));
     /* no syscall, and so nothing that holds */
     names.bytes = text_of("");
-    IS(scf_compare(&left, &left, &names, 1, &question, &found, each, 4, &count, text, sizeof text, &needed, &fault)
-       == SCF_OK);
-    IS(found.finding.verdict == SCF_NO_VERDICT && count == 0 && needed == 0);
+    for (i = 0; i < 3; i++) {
+        if (i == 2) question.scope = SCF_EACH_ARCHITECTURE;
+        unset();
+        IS(scf_compare(&left, &left, &names, i == 0, &question, &found, each, 4, &count, text, sizeof text, &needed,
+                       &fault)
+           == SCF_WRONG_ARGUMENT);
+        IS(is_nothing() && count == 0 && is_zero(&found, sizeof found) && is_zero(&fault, sizeof fault));
+    }
 }
 
 /* ---- several architectures: the numbers are those of linux/unistd.h */
@@ -475,6 +481,12 @@ static void answers(void) {
     IS(scf_answers(&side, &names, 1, &question, &listing, regions, 64, &count, facts, 256, &facts_count, &fault)
        == SCF_REFUSED);
     IS(is_fault(&fault, SCF_SOURCE_FILTER, SCF_KIND_TRUNCATED, 0) && is_zero(&listing, sizeof listing) && count == 0);
+    question = asked(SCF_EACH_ARCHITECTURE, SCF_SAME);
+    filter = bytes_of(allow, sizeof allow);
+    side = with_filters(&filter, 1);
+    IS(scf_answers(&side, NULL, 0, &question, &listing, regions, 64, &count, facts, 256, &facts_count, &fault)
+       == SCF_WRONG_ARGUMENT);
+    IS(is_zero(&listing, sizeof listing) && count == 0 && facts_count == 0 && is_zero(&fault, sizeof fault));
     side.kind = 9;
     IS(scf_answers(&side, &names, 1, &question, &listing, regions, 64, &count, facts, 256, &facts_count, &fault)
        == SCF_WRONG_ARGUMENT);

@@ -722,6 +722,8 @@ class Alike(Case):
             kind, source = refused.kind.name, refused.source.name
             is_input = kind == "TRUNCATED" or kind == "TOO_LONG" and source != "TEXT"
             status = 3 if is_input else 1
+        except ValueError:
+            text, status = "fault command Calls\n", 2
         return text.encode("utf-8", "surrogateescape") if isinstance(text, str) else text, status
 
     def test_changed_inputs(self):

@@ -1,6 +1,6 @@
--- The calls of the tables before an index, and of the one there.
-use Rattle.std.proofs.Common.{◌≡◌, ◌++◌, ◌+◌, ◌<◌, ◌∙◌, ℕ, List, [], ◌∷◌, Ok, Option, Some, None, option_map}
-use Rattle.std.proofs.Common.{ap, append-nil, append_assoc, arith, drop, flat_map, get_or, length, map, refl, sym, take}
+-- The calls of the tables before an index, and of the one there; and whether there are records.
+use Rattle.std.proofs.Common.{◌≡◌, ◌==◌, ◌++◌, ◌+◌, ◌<◌, ◌∙◌, ℕ, List, [], ◌∷◌, Ok, Option, Some, None, option_map}
+use Rattle.std.proofs.Common.{ap, append-nil, append_assoc, arith, drop, false, flat_map, get_or, length, map, ne_eqb, refl, sym, take, true}
 use Rattle.std.proofs.lemmas.List.Elements.{filter_map-append}
 use Rattle.std.proofs.lemmas.Slice.Zip.{all_zipped_more}
 use Rattle.std.specs.List.{AllZip}
@@ -12,8 +12,9 @@ use Rattle.scf_profile.specs.Table.{Names, table_of}
 use Rattle.scf_tool.specs.Commands.{SpellsTable}
 use Rattle.scf_tool.specs.declared.verify_fault.VerifyFault.TheVariants as verifies
 use Rattle.scf_c.specs.Architectures.{architecture_of, texts_of}
-use Rattle.scf_c.specs.Records.{AreNumbers, AreOfCalls, AreOfTable, AreRecordsRefused, of_call, of_calls}
+use Rattle.scf_c.specs.Records.{AreNumbers, AreOfCalls, AreOfTable, AreRecords, AreRecordsRefused, AreSomeRecords, of_call, of_calls}
 use Rattle.scf_c.specs.declared.layout.Table.{Table}
+use Rattle.scf_c.specs.declared.question.Over.{Over}
 use Rattle.scf_c.specs.declared.records.Records.{Records}
 use Rattle.scf_c.specs.declared.refusal.Refusal.{Refusal}
 use Rattle.scf_c.specs.declared.refusal.Refusal.TheVariants.{Verify, Beside, Text, Compile}
@@ -102,3 +103,17 @@ module _ (tables : List Table) (i : ℕ) (d : Table) (lt : i < length tables) wh
   refused_at architecture so_far (Beside why) is before refusal = absurd refusal
   refused_at architecture so_far (Text why) is before refusal = absurd refusal
   refused_at architecture so_far (Compile why) is before refusal = absurd refusal
+
+-- ---- whether there are some
+
+pub no_records : (over : Over) (tables : List Table) (records : List Records) → AreRecords over tables records
+    → (length records == 0) ≡ true → AreRecords over tables []
+no_records over tables [] are empty = are
+no_records over tables (first ∷ later) are empty =
+    let some : (length (first ∷ later) == 0) ≡ false = ne_eqb (length (first ∷ later)) 0 (λ e. omega arith) in
+    absurd (cc)
+
+pub some_records : (over : Over) (tables : List Table) (records : List Records) → AreRecords over tables records
+    → (length records == 0) ≡ false → AreSomeRecords over tables records
+some_records over tables [] are some = absurd (cc)
+some_records over tables (first ∷ later) are some = (are, omega arith)

@@ -28,7 +28,7 @@ use Rattle.scf_c.specs.declared.refusal.Refusal.TheVariants.{Verify}
 use Rattle.scf_c.specs.declared.side.ReadSide.{ReadSide}
 use Rattle.scf_c.specs.Layout.{call_of, no_call}
 use Rattle.scf_c.specs.Profiles.{entry_of, nothing_left_out, reason_number}
-use Rattle.scf_c.specs.Records.{AreRecords, AreRecordsRefused}
+use Rattle.scf_c.specs.Records.{AreRecords, AreRecordsRefused, AreSomeRecords}
 use Rattle.scf_c.specs.Sides.{IsRead, IsSideRefused, behavior_of_read, left_out_of_side, used_by}
 use Rattle.scf_tool.specs.declared.verify_fault.VerifyFault.TheVariants.{Memory}
 
@@ -128,12 +128,18 @@ pub record IsListed (question : Question) (side : SideInput) (tables : List Tabl
   pub records : List Records
   pub walks : Option (List Regions)
   pub is_side : IsRead side asked.left tables read
-  pub are_records : AreRecords asked.over (used_by read tables) records
+  pub are_records : AreSomeRecords asked.over (used_by read tables) records
   pub lists : ListsEach (behavior_of_read read) records question.total_limit walks
   pub listing_is : listed.listing
       ≡ record { is_finished = bit_of (is_some walks); unused = 0; left_out = left_out_of_side read }
   pub regions_are : listed.regions.items ≡ regions_handed walks
   pub facts_are : listed.facts.items ≡ facts_handed walks
+
+-- It is read, and there is no record: no table counts, or none of those that count has a syscall.
+pub record IsListedOverNone (side : SideInput) (tables : List Table) (asked : Asked) : Type 0 where
+  pub read : ReadSide
+  pub is_side : IsRead side asked.left tables read
+  pub no_records : AreRecords asked.over (used_by read tables) []
 
 -- Why it isn't: the first fault of the side or of a table, or out of memory, which may come at any time.
 abbrev pub IsListingRefused : SideInput → List Table → Asked → Refusal → Type 0

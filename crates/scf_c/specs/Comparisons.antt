@@ -1,17 +1,16 @@
 -- Comparisons from the caller's bytes: what they come to, and what is handed out of it.
-use Rattle.std.specs.Prelude.{◌≡◌, ◌*◌, ◌⊎◌, ℕ, Bool, true, false, not, List, [], ◌∷◌, Option, Some, None, find, min}
+use Rattle.std.specs.Prelude.{◌≡◌, ◌*◌, ◌⊎◌, ℕ, not, List, [], ◌∷◌, Option, Some, None, find, min}
 use Rattle.std.specs.Option.{option_map_or, option_or}
 use Rattle.scf_profile.specs.declared.relation.Relation.{Relation}
-use Rattle.scf_profile.specs.declared.scope.Scope.{Scope}
-use Rattle.scf_facts.specs.Masks.{AreFew}
 use Rattle.scf_compare.specs.declared.budget.Limit.{Limit}
 use Rattle.scf_compare.specs.declared.finding.Finding.{Finding}
 use Rattle.scf_compare.specs.declared.finding.Finding.TheVariants.{Holds, Fails, Undecided, Unfinished}
 use Rattle.scf_compare.specs.declared.finding.Which.{Which}
 use Rattle.scf_compare.specs.declared.finding.Which.TheVariants.{Left, Right}
-use Rattle.scf_compare.specs.Findings.{AllRelated, IsFindingDecided, IsFindingWithin, IsTrueFinding}
-use Rattle.scf_compare.specs.Findings.{LeavesFindingSteps, compared_in}
+use Rattle.scf_compare.specs.Findings.{LeavesFindingSteps}
 use Rattle.scf_compare.specs.Sides.{Behavior}
+use Rattle.scf_tool.specs.Comparisons.{IsFound}
+use Rattle.scf_tool.specs.JointFindings.{is_failure, is_holding}
 use Rattle.scf_tool.specs.Reports.{report_text}
 use Rattle.scf_tool.specs.declared.findings.Findings.TheVariants.{AtOnce}
 use Rattle.scf_tool.specs.declared.left_out.LeftOut.{LeftOut}
@@ -32,21 +31,11 @@ use Rattle.scf_c.specs.declared.side.ReadSide.TheVariants as sides
 use Rattle.scf_c.specs.Layout.{call_of, no_call}
 use Rattle.scf_c.specs.Profiles.{nothing_left_out}
 use Rattle.scf_c.specs.Questions.{limit_of}
-use Rattle.scf_c.specs.Records.{AreRecords, AreRecordsRefused}
+use Rattle.scf_c.specs.Records.{AreRecords, AreRecordsRefused, AreSomeRecords}
 use Rattle.scf_c.specs.Sides.{IsRead, IsSideRefused, are_same_kind, behavior_of_read, left_out_of_side}
 use Rattle.scf_c.specs.Sides.{refusal_of_right, tables_in_scope}
 
 -- ---- findings
-
--- A finding is true of two sides over the records of a scope, and within the limit and the effort. It decides between
--- sides whose masks have few bits together, as of plain ones.
-pub record IsFound (relation : Relation) (left right : Behavior) (scope : Scope) (limit : Limit) (finding : Finding)
-    : Type 0 where
-  pub holds : IsTrueFinding (compared_in relation scope left right) finding
-  pub within : IsFindingWithin limit.steps (left.size * right.size) finding
-  pub decided : (masks : ℕ) → AreFew masks → left.is_masked masks → right.is_masked masks
-      → IsFindingDecided (AllRelated (compared_in relation scope left right)) limit.steps (left.size * right.size)
-      finding
 
 -- The finding over some records, in no more steps than remain for all. Those that it takes are subtracted.
 pub record IsFoundOf (relation : Relation) (left right : Behavior) (limit : Limit) (remaining : ℕ) (records : Records)
@@ -61,14 +50,6 @@ AreFound relation left right limit remaining (first ∷ records) (finding ∷ fi
     × IsFoundOf relation left right limit remaining first finding between
     × AreFound relation left right limit between records findings after
 AreFound relation left right limit remaining records findings after = ⊥
-
-abbrev pub is_holding : Finding → Bool
-is_holding (Holds steps) = true
-is_holding finding = false
-
-abbrev pub is_failure : Finding → Bool
-is_failure (Fails call left right) = true
-is_failure finding = false
 
 -- The finding that speaks for several: the first that fails, else the first that doesn't hold, else the first that
 -- does. None if there is none.
@@ -144,12 +125,20 @@ pub record IsCompared (question : Question) (left right : SideInput) (tables : L
   pub remaining : ℕ
   pub is_left : IsRead left asked.left tables left_side
   pub is_right : IsRead right asked.right tables right_side
-  pub are_records : AreRecords asked.over (tables_in_scope left_side right_side tables) records
+  pub are_records : AreSomeRecords asked.over (tables_in_scope left_side right_side tables) records
   pub are_found : AreFound asked.relation (behavior_of_read left_side) (behavior_of_read right_side)
       (limit_of question) question.total_limit records findings remaining
   pub comparison_is : compared.comparison ≡ comparison_of findings left_side right_side
   pub each_is : compared.each.items ≡ of_each records findings
   pub text_is : compared.text.items ≡ text_of asked.relation right_side (joint_finding findings)
+
+-- Both sides are read, and there is no record: no table counts, or none of those that count has a syscall.
+pub record IsOverNone (left right : SideInput) (tables : List Table) (asked : Asked) : Type 0 where
+  pub left_side : ReadSide
+  pub right_side : ReadSide
+  pub is_left : IsRead left asked.left tables left_side
+  pub is_right : IsRead right asked.right tables right_side
+  pub no_records : AreRecords asked.over (tables_in_scope left_side right_side tables) []
 
 -- Why they aren't compared: the first fault of the left side, of the right one, or of a table; or out of memory, which
 -- may come at any time.

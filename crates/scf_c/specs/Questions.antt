@@ -14,7 +14,7 @@ use Rattle.scf_c.specs.declared.question.NumberRange.{NumberRange}
 use Rattle.scf_c.specs.declared.question.Over.{Over}
 use Rattle.scf_c.specs.declared.question.Over.TheVariants.{All, Numbers, EachArchitecture, EachCall}
 use Rattle.scf_c.specs.declared.side.SideKind.{SideKind}
-use Rattle.scf_c.specs.declared.side.SideKind.TheVariants.{Profile, Filters}
+use Rattle.scf_c.specs.declared.side.SideKind.TheVariants.{Filters}
 use Rattle.scf_c.specs.Architectures.{AreMeant, architecture_of}
 use Rattle.scf_c.specs.Sides.{IsKind}
 

@@ -1,5 +1,5 @@
 -- The records that are compared, taken apart as a question asks for.
-use Rattle.std.specs.Prelude.{◌≡◌, ◌↔◌, ◌+◌, ℕ, List, [], ◌∷◌, Some, Ok, Contains, flat_map, map, option_map}
+use Rattle.std.specs.Prelude.{◌≡◌, ◌↔◌, ◌+◌, ◌≤◌, ℕ, List, [], ◌∷◌, Some, Ok, Contains, flat_map, length, map, option_map}
 use Rattle.std.specs.FinMap.{get}
 use Rattle.std.specs.List.{AllZip, filter_map}
 use Rattle.std.specs.List.Sorted.{IsStrictlyIncreasing}
@@ -70,6 +70,10 @@ AreRecords overs.All tables records = records ≡ all_records ∷ []
 AreRecords (overs.Numbers range) tables records = records ≡ of_range range ∷ []
 AreRecords overs.EachArchitecture tables records = records ≡ of_each tables
 AreRecords overs.EachCall tables records = AreOfCalls (texts_of tables) records
+
+-- and there are some
+abbrev pub AreSomeRecords : Over → List Table → List Records → Type 0
+AreSomeRecords over tables records = AreRecords over tables records × (1 ≤ length records)
 
 -- why they aren't known: the first table that is none, or out of memory
 abbrev pub AreRecordsRefused : List Table → Refusal → Type 0

@@ -1,6 +1,5 @@
 -- The sides of comparisons.
-use Rattle.std.specs.Prelude.{◌≡◌, ◌⊎◌, ℕ, Bool, true, false, List}
-use Rattle.scf_profile.specs.declared.reading.Reading.{Reading}
+use Rattle.std.specs.Prelude.{◌≡◌, Bool, true, false, List}
 use Rattle.scf_compare.specs.Sides.{Behavior, profiles_behavior, stack_behavior}
 use Rattle.scf_compare.specs.declared.side.Side.{Side}
 use Rattle.scf_compare.specs.declared.side.Side.TheVariants as compared

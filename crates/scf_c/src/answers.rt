@@ -1,6 +1,6 @@
 //! What a side answers, by regions of records.
 
-ghost use Rattle.std.specs.Prelude.{◌≡◌, ◌≢◌, ◌++◌, ◌∷◌, ◌<◌, [], None, Some, flat_map, map, IfErr, IfOk, MatchOption};
+ghost use Rattle.std.specs.Prelude.{◌≡◌, ◌≢◌, ◌⊎◌, ◌++◌, ◌∷◌, ◌<◌, [], None, Some, flat_map, map, IfErr, IfOk, MatchOption};
 ghost use Rattle.std.specs.Prelude.{OnOk};
 ghost use Rattle.std.specs.List.{AllByRecursion};
 ghost use Rattle.scf_compare.specs.Sides.{behavior_of};
@@ -9,6 +9,7 @@ ghost use Rattle.scf_c.specs.Sides.{behavior_of_read};
 ghost use Rattle.scf_c.specs.Answers.{
   AreOfRecords,
   IsListed,
+  IsListedOverNone,
   IsListingRefused,
   ListsEach,
   all_regions,
@@ -40,7 +41,7 @@ use crate::layout::{
 use crate::memory::hand_out;
 use crate::profile::{entry_of, nothing_left_out, reason_number};
 use crate::question::{Asked, asked_of};
-use crate::records::{Records, records_of};
+use crate::records::{Records, some_records};
 use crate::refusal::Refusal;
 use crate::side::{ReadSide, read_side, used_by};
 use crate::status::{OK, WRONG_ARGUMENT};
@@ -294,28 +295,31 @@ fn listed_of(
     })
 }
 
-/// What a side answers to the records that are asked for.
+/// What a side answers to the records that are asked for, if there is one.
 fn list_answers(
     alloc: Global,
     side: &SideInput,
     tables: &[Table],
     question: &Question,
     asked: Asked,
-) -> Result<Listed, Refusal>
-    ensures listed { IfOk result (IsListed question.now side.now tables.now asked) }
+) -> Result<Option<Listed>, Refusal>
+    ensures listed { IfOk result (λ listed. MatchOption listed (IsListedOverNone side.now tables.now asked)
+        (IsListed question.now side.now tables.now asked)) }
     ensures refused { IfErr result (IsListingRefused side.now tables.now asked) }
 {
     let read = read_side(alloc, side, asked.left, tables)?;
     let used = used_by(alloc, &read, tables)?;
-    let records = records_of(alloc, asked.over, &used)?;
+    let Some(records) = some_records(alloc, asked.over, &used)? else {
+        return Ok(None);
+    };
     let left_out = read.left_out();
     match explore_read(alloc, &read, &records, question.total_limit)? {
-        Some(walks) => Ok(listed_of(alloc, &walks, left_out)?),
-        None => Ok(Listed {
+        Some(walks) => Ok(Some(listed_of(alloc, &walks, left_out)?)),
+        None => Ok(Some(Listed {
             listing: listing_of(false, left_out),
             regions: Vec::new(alloc),
             facts: Vec::new(alloc),
-        }),
+        })),
     }
 }
 
@@ -359,8 +363,9 @@ pub extern "C" fn scf_answers(
         × (listing.new ≡ listed.listing)
         × IsHandedOut listed.regions.items regions.old regions.new regions_needed.new
         × IsHandedOut listed.facts.items facts.old facts.new facts_needed.new × (fault.new ≡ no_fault) }
-    ensures wrong { result ≡ wrong_argument → IsNothingAsked question.now side.now side.now tables.now
-        × (fault.new ≡ no_fault) }
+    ensures wrong { result ≡ wrong_argument → (IsNothingAsked question.now side.now side.now tables.now
+        ⊎ ((asked : Asked) × IsAsked question.now side.now side.now tables.now asked
+        × IsListedOverNone side.now tables.now asked)) × (fault.new ≡ no_fault) }
     ensures refused { result ≢ ok → result ≢ wrong_argument → (asked : Asked)
         × IsAsked question.now side.now side.now tables.now asked
         × IsRefusal (IsListingRefused side.now tables.now asked) result fault.new }
@@ -376,12 +381,13 @@ pub extern "C" fn scf_answers(
         return WRONG_ARGUMENT;
     };
     match list_answers(alloc, side, tables, question, asked) {
-        Ok(listed) => {
+        Ok(Some(listed)) => {
             *listing = listed.listing;
             hand_out(listed.regions.as_slice(), regions, regions_needed);
             hand_out(listed.facts.as_slice(), facts, facts_needed);
             OK
         }
+        Ok(None) => WRONG_ARGUMENT,
         Err(why) => refuse(why, fault),
     }
 }

@@ -1,16 +1,16 @@
 //! Comparisons of two sides over several sets of records.
 
-ghost use Rattle.std.specs.Prelude.{◌≡◌, ◌++◌, ℕ, find, not, IfErr, IfOk, OnOk};
+ghost use Rattle.std.specs.Prelude.{◌≡◌, ◌++◌, ℕ, find, not, IfErr, IfOk, MatchOption, OnOk};
 ghost use Rattle.scf_compare.specs.Sides.{behavior_of};
+ghost use Rattle.scf_tool.specs.JointFindings.{is_failure, is_holding};
 ghost use Rattle.scf_c.specs.Sides.{behavior_of_read};
 ghost use Rattle.scf_c.specs.Comparisons.{
   AreFound,
   IsComparisonRefused,
   IsCompared,
   IsFoundOf,
+  IsOverNone,
   comparison_of,
-  is_failure,
-  is_holding,
   joint_finding,
   no_finding,
   numbers_of,
@@ -25,7 +25,7 @@ use crate::layout::{
     Call, Comparison, FindingNumbers, Question, RecordsComparison, SideInput, Table,
 };
 use crate::question::{Asked, limit_of};
-use crate::records::{Records, records_of};
+use crate::records::{Records, some_records};
 use crate::refusal::Refusal;
 use crate::side::{ReadSide, are_same_kind, read_side, tables_in_scope};
 use scf_compare::{Finding, Limit, Side, Which, compare_sides_within};
@@ -298,7 +298,7 @@ fn text_of(
     report_by(alloc, relation, &outcome)
 }
 
-/// Compares two sides as is asked.
+/// Compares two sides as is asked, if there is a record.
 pub(crate) fn compare_inputs(
     alloc: Global,
     left: &SideInput,
@@ -306,8 +306,10 @@ pub(crate) fn compare_inputs(
     tables: &[Table],
     question: &Question,
     asked: Asked,
-) -> Result<Compared, Refusal>
-    ensures compared { IfOk result (IsCompared question.now left.now right.now tables.now asked) }
+) -> Result<Option<Compared>, Refusal>
+    ensures compared { IfOk result (λ compared. MatchOption compared
+        (IsOverNone left.now right.now tables.now asked)
+        (IsCompared question.now left.now right.now tables.now asked)) }
     ensures refused { IfErr result (IsComparisonRefused left.now right.now tables.now asked) }
 {
     let left_side = read_side(alloc, left, asked.left, tables)?;
@@ -316,7 +318,9 @@ pub(crate) fn compare_inputs(
         Err(why) => return Err(why.of_right(are_same_kind(asked.left, asked.right))),
     };
     let used = tables_in_scope(alloc, &left_side, &right_side, tables)?;
-    let records = records_of(alloc, asked.over, &used)?;
+    let Some(records) = some_records(alloc, asked.over, &used)? else {
+        return Ok(None);
+    };
     let findings = compare_read(
         alloc,
         &left_side,
@@ -330,9 +334,9 @@ pub(crate) fn compare_inputs(
     let mut each = Vec::new(alloc);
     add_each(&mut each, &records, &findings)?;
     let text = text_of(alloc, asked.relation, right_side, joint_finding(&findings))?;
-    Ok(Compared {
+    Ok(Some(Compared {
         comparison,
         each,
         text,
-    })
+    }))
 }

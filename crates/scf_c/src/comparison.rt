@@ -1,7 +1,7 @@
 //! The call that compares two sides.
 
-ghost use Rattle.std.specs.Prelude.{◌≡◌, ◌≢◌, ℕ, List};
-ghost use Rattle.scf_c.specs.Comparisons.{IsComparisonRefused, IsCompared, no_comparison};
+ghost use Rattle.std.specs.Prelude.{◌≡◌, ◌≢◌, ◌⊎◌, ℕ, List};
+ghost use Rattle.scf_c.specs.Comparisons.{IsComparisonRefused, IsCompared, IsOverNone, no_comparison};
 ghost use Rattle.scf_c.specs.Faults.{IsRefusal, no_fault};
 ghost use Rattle.scf_c.specs.HandingOut.{IsHandedOut, IsNothingHandedOut};
 ghost use Rattle.scf_c.specs.Questions.{IsAsked, IsNothingAsked};
@@ -51,8 +51,9 @@ pub extern "C" fn scf_compare(
         × (comparison.new ≡ compared.comparison)
         × IsHandedOut compared.each.items each.old each.new each_needed.new
         × IsHandedOut compared.text.items text.old text.new needed.new × (fault.new ≡ no_fault) }
-    ensures wrong { result ≡ wrong_argument → IsNothingAsked question.now left.now right.now tables.now
-        × (fault.new ≡ no_fault) }
+    ensures wrong { result ≡ wrong_argument → (IsNothingAsked question.now left.now right.now tables.now
+        ⊎ ((asked : Asked) × IsAsked question.now left.now right.now tables.now asked
+        × IsOverNone left.now right.now tables.now asked)) × (fault.new ≡ no_fault) }
     ensures refused { result ≢ ok → result ≢ wrong_argument → (asked : Asked)
         × IsAsked question.now left.now right.now tables.now asked
         × IsRefusal (IsComparisonRefused left.now right.now tables.now asked) result fault.new }
@@ -67,12 +68,13 @@ pub extern "C" fn scf_compare(
         return WRONG_ARGUMENT;
     };
     match compare_inputs(alloc, left, right, tables, question, asked) {
-        Ok(compared) => {
+        Ok(Some(compared)) => {
             *comparison = compared.comparison;
             hand_out(compared.each.as_slice(), each, each_needed);
             hand_out(compared.text.as_slice(), text, needed);
             OK
         }
+        Ok(None) => WRONG_ARGUMENT,
         Err(why) => refuse(why, fault),
     }
 }

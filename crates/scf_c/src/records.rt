@@ -1,12 +1,12 @@
 //! The records that are compared, taken apart as a question asks for.
 
-ghost use Rattle.std.specs.Prelude.{◌≡◌, ◌++◌, ◌+◌, ◌<◌, ◌^◌, ℕ, List, Ok, length, map, IfErr, IfOk, OnOk};
+ghost use Rattle.std.specs.Prelude.{◌≡◌, ◌++◌, ◌+◌, ◌<◌, ◌^◌, [], ℕ, List, Ok, length, map, IfErr, IfOk, MatchOption, OnOk};
 ghost use Rattle.scf_insn.specs.Architectures.{row_of};
 ghost use Rattle.scf_insn.specs.Kernel.{x32_syscall_bit};
 ghost use Rattle.scf_profile.specs.NamedCalls.{AreCallsOf, HasItsNames};
 ghost use Rattle.scf_profile.specs.Table.{Names, table_of};
 ghost use Rattle.scf_c.specs.Architectures.{texts_of};
-ghost use Rattle.scf_c.specs.Records.{AreNumbers, AreOfCalls, AreRecords, AreRecordsRefused};
+ghost use Rattle.scf_c.specs.Records.{AreNumbers, AreOfCalls, AreRecords, AreRecordsRefused, AreSomeRecords};
 ghost use Rattle.scf_c.specs.Records as spec;
 ghost use Rattle.scf_c.specs.internal.CallRecords.{IsNoTable};
 
@@ -163,12 +163,8 @@ fn of_calls(alloc: Global, tables: &[Table]) -> Result<Vec<Records>, Refusal>
     Ok(records)
 }
 
-/// The records that are compared, in the order in which they are.
-pub(crate) fn records_of(
-    alloc: Global,
-    over: Over,
-    tables: &[Table],
-) -> Result<Vec<Records>, Refusal>
+/// The records that are asked for, in the order in which they are compared.
+fn records_of(alloc: Global, over: Over, tables: &[Table]) -> Result<Vec<Records>, Refusal>
     ensures records { IfOk result (λ records. AreRecords over tables.now records.items) }
     ensures refused { IfErr result (AreRecordsRefused tables.now) }
 {
@@ -177,5 +173,24 @@ pub(crate) fn records_of(
         Over::Numbers(range) => Ok(Vec::from_slice(alloc, &[of_range(range)])?),
         Over::EachArchitecture => Ok(of_each(alloc, tables)?),
         Over::EachCall => of_calls(alloc, tables),
+    }
+}
+
+/// The same, if there are some.
+#[tactic(auto, using(crate::proofs::RecordLemmas::no_records, crate::proofs::RecordLemmas::some_records))]
+pub(crate) fn some_records(
+    alloc: Global,
+    over: Over,
+    tables: &[Table],
+) -> Result<Option<Vec<Records>>, Refusal>
+    ensures records { IfOk result (λ found. MatchOption found (AreRecords over tables.now [])
+        (λ records. AreSomeRecords over tables.now records.items)) }
+    ensures refused { IfErr result (AreRecordsRefused tables.now) }
+{
+    let records = records_of(alloc, over, tables)?;
+    if records.as_slice().is_empty() {
+        Ok(None)
+    } else {
+        Ok(Some(records))
     }
 }

@@ -212,7 +212,7 @@ def _call(function: Callable[..., int], *arguments: object) -> None:
     if status == 3:
         raise MemoryError
     if status == 2:
-        raise ValueError("a number has no meaning, or there is no table")
+        raise ValueError("a number has no meaning, or there is no table, or no call")
     if status:
         raise Refused(fault.source, fault.kind, fault.numbers)
 

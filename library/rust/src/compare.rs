@@ -103,7 +103,7 @@ pub enum Verdict {
     },
     /// A limit was reached.
     Unfinished,
-    /// Nothing was compared: no table has a syscall.
+    /// Nothing was compared.
     Nothing,
     /// One of a later library, by its number: nothing is known.
     Other(u32),

@@ -79,7 +79,8 @@ impl fmt::Display for Fault {
 pub enum Error {
     /// An input isn't accepted.
     Refused(Fault),
-    /// There is no table, or one twice, or the library doesn't know a number: it is older than this crate.
+    /// There is no table, or one twice, or no call in the scope, or the library doesn't know a number: it is older than
+    /// this crate.
     WrongArgument,
     /// Out of memory.
     NoMemory,
@@ -89,7 +90,7 @@ impl fmt::Display for Error {
     fn fmt(&self, f: &mut fmt::Formatter<'_>) -> fmt::Result {
         match self {
             Error::Refused(fault) => fault.fmt(f),
-            Error::WrongArgument => f.write_str("a number has no meaning, or there is no table, or one twice"),
+            Error::WrongArgument => f.write_str("a number has no meaning, or there is no table, one twice, or no call"),
             Error::NoMemory => f.write_str("out of memory"),
         }
     }

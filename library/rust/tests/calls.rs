@@ -116,7 +116,7 @@ fn comparisons() {
     assert!(none.each.iter().all(|own| own.verdict == Verdict::Unfinished));
     let (nothing, cut): (&[&[u8]], &[&[u8]]) = (&[], &[&[6]]);
     assert_eq!(Compare::new(nothing, cut).run(), refused(Source::Beside, Kind::Truncated, [0; 3]));
-    assert_eq!(verdict(Compare::new(nothing, nothing).scope(Scope::EachCall)), Ok(Verdict::Nothing));
+    assert_eq!(verdict(Compare::new(nothing, nothing).scope(Scope::EachCall)), Err(Error::WrongArgument));
 }
 
 #[test]

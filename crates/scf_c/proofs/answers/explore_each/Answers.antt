@@ -1,4 +1,4 @@
-use Rattle.std.proofs.Common.{◌≡◌, ◌+◌, ◌≤◌, ℕ, List, ap, arith, sum_by}
+use Rattle.std.proofs.Common.{◌≤◌, ℕ, List, ap, arith, sum_by}
 use Rattle.std.proofs.lemmas.List.Sums.{sum_by_more, sum_by_push}
 use Rattle.scf_compare.specs.Sides.{behavior_of}
 use Rattle.scf_compare.specs.declared.regions.Regions.{Regions}
