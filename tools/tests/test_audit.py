@@ -9,10 +9,10 @@ import time
 import unittest
 from unittest import mock
 
-from support.common import ALLOW, EPERM, TOP, Case, filter_of, gate, jeq, load, profile_of, ret, tool
+from support.common import ALLOW, EPERM, LOADER, TOP, Case, filter_of, gate, jeq, load, profile_of, ret, tool
 from support import json_schema
 from support.confined import processes
-from support.own_machine import OwnMachine, Systemd
+from support.own_machine import OwnMachine, Systemd, podman_settings
 from scftools import audit, audit_output, container_files, firejail_programs, machine, output, snap_programs, tables
 from scftools.values import replace
 
@@ -25,13 +25,8 @@ STRICTER = {**STATED, "syscalls": [{"names": ["mount", "ptrace", "chroot"], "act
 
 
 # Is under a filter, and starts threads and processes without end.
-COME_AND_GO = """
-import ctypes, os, sys, threading, time
-class Program(ctypes.Structure):
-    _fields_ = [(\"len\", ctypes.c_ushort), (\"filter\", ctypes.c_char_p)]
-library, data = ctypes.CDLL(None), open(sys.argv[1], \"rb\").read()
-library.prctl(38, 1, 0, 0, 0)
-library.prctl(22, 2, ctypes.byref(Program(len(data) // 8, data)), 0, 0)
+COME_AND_GO = LOADER + """
+load(open(sys.argv[1], "rb").read())
 while True:
     threading.Thread(target=time.sleep, args=(0.002,)).start()
     number = os.fork()
@@ -101,18 +96,26 @@ class Audited:
     def restate(self, name, seccomp, keeps=False):
         """Changes what a container's configuration says, after its start, and unless `keeps` what runc says that it was
         started with."""
-        kept = None if seccomp is None else {"default_action": 4, "architectures": ["amd64"], "syscalls": [
+        started = None if seccomp is None else {"default_action": 4, "architectures": ["amd64"], "syscalls": [
             {"name": called, "action": 2, "errnoRet": entry["errnoRet"], "args": []}
             for entry in seccomp["syscalls"] for called in entry["names"]]}
         if not keeps:
-            self.on("/usr/bin/python3", "-c", RESTATE, f"/run/runc/{name}/state.json", given=json.dumps(kept).encode())
+            self.on("/usr/bin/python3", "-c", RESTATE, f"/run/runc/{name}/state.json", given=json.dumps(started).encode())
         path = os.path.join(self.folder, "bundles", name, "config.json")
         with open(path, encoding="utf-8") as file:
             config = json.load(file)
-        config["linux"]["seccomp"] = seccomp
-        if seccomp is None:
-            del config["linux"]["seccomp"]
+        config["linux"].pop("seccomp", None)
+        config["linux"].update({} if seccomp is None else {"seccomp": seccomp})
         self.file(path, json.dumps(config))
+
+    def enters(self, number, hierarchy, path, owner=0):
+        """Puts a process into a new group of a hierarchy of version 1, in a folder of this owner."""
+        if not os.path.ismount(f"/sys/fs/cgroup/{hierarchy}"):
+            self.skipTest(f"there is no hierarchy {hierarchy} of control groups of version 1 here")
+        group = f"/sys/fs/cgroup/{hierarchy}/{self.group}/{path}"
+        os.makedirs(group)
+        os.chown(os.path.dirname(group), owner, owner)
+        self.assertEqual(self.on("sh", "-c", f"echo {number} >{group}/cgroup.procs")[0], 0)
 
 
 class Programs(Audited, OwnMachine):
@@ -257,11 +260,11 @@ class Containers(Audited, OwnMachine):
         self.assertEqual({name: (row["verdict"], row["profile"].get("changed")) for name, row in rows.items()}, {
             "same": ("as configured", None), "more": ("as configured", True),
             "open": ("unconfined by configuration", True)})
-        said = self.on(tool("audit"))[1]
+        lines = self.on(tool("audit"))[1]
         for name in ("more", "open"):
             self.assertIn(f"\n    {self.folder}/bundles/{name}/config.json has changed: judged is the profile that "
-                          "the container was started with\n", said)
-        self.assertNotIn("bundles/same/config.json", said)
+                          "the container was started with\n", lines)
+        self.assertNotIn("bundles/same/config.json", lines)
 
     def test_one_of_lxc(self):
         """Its configuration, and the policy that this names through a file that it includes."""
@@ -455,11 +458,7 @@ class Users(Audited, OwnMachine):
         (number,) = self.crowd(("alpha", [], 1, 1))
         self.container("runc", IDENTIFIER, None)
         self.restate(IDENTIFIER, STATED)
-        group = f"/sys/fs/cgroup/pids/{self.group}/mine/libpod-{IDENTIFIER}.scope"
-        if not os.path.ismount("/sys/fs/cgroup/pids"):
-            self.skipTest("there are no control groups of version 1 here")
-        os.makedirs(group)
-        self.assertEqual(self.on("sh", "-c", f"echo {number} >{group}/cgroup.procs")[0], 0)
+        self.enters(number, "pids", f"mine/libpod-{IDENTIFIER}.scope")
         rows = self.audit("--allow-unconfined", status=1)["rows"]
         self.assertEqual({(row["engine"], row["verdict"]) for row in rows},
                          {("runc", "unconfined though configured"), ("podman", "not known")})
@@ -470,13 +469,7 @@ class Users(Audited, OwnMachine):
 
     def test_a_name_of_a_group_of_a_user(self):
         """A container that only such a name tells is said to be of the user who could have made the group."""
-        if not os.path.ismount("/sys/fs/cgroup/pids"):
-            self.skipTest("there are no control groups of version 1 here")
-        group = f"/sys/fs/cgroup/pids/{self.group}/given/libpod-{IDENTIFIER}.scope"
-        os.makedirs(group)
-        os.chown(os.path.dirname(group), self.USER, self.USER)
-        number = self.process("x")
-        self.assertEqual(self.on("sh", "-c", f"echo {number} >{group}/cgroup.procs")[0], 0)
+        self.enters(self.process("x"), "pids", f"given/libpod-{IDENTIFIER}.scope", self.USER)
         (row,) = self.audit()["rows"]
         self.assertEqual((row["id"], row["user"], row["verdict"]), (IDENTIFIER, self.USER, "not known"))
 
@@ -634,13 +627,7 @@ class Units(Audited, OwnMachine):
 
     def unit(self, name, filters):
         """Starts a process of a unit."""
-        (number,) = self.crowd((name[:15], filters, 1, 1))
-        group = f"/sys/fs/cgroup/systemd/{self.group}/x.slice/{name}"
-        if not os.path.ismount("/sys/fs/cgroup/systemd"):
-            self.skipTest("there is no hierarchy of systemd here")
-        os.makedirs(group)
-        self.assertEqual(self.on("sh", "-c", f"echo {number} >{group}/cgroup.procs")[0], 0)
-        return number
+        self.enters(*self.crowd((name[:15], filters, 1, 1)), "systemd", f"x.slice/{name}")
 
     @property
     def group(self):
@@ -681,33 +668,13 @@ DefaultDependencies=no
 ExecStart=/bin/sleep 1000
 {}
 """
-# Folders and locks of podman's own.
-CONTAINERS = """[containers]
-netns = "none"
-default_ulimits = ["nofile=1024:1024", "nproc=1000:1000"]
-pids_limit = 0
-[engine]
-cgroup_manager = "cgroupfs"
-events_logger = "none"
-lock_type = "file"
-tmp_dir = "{0}/tmp"
-static_dir = "{0}/static"
-volume_path = "{0}/volumes"
-"""
-STORAGE = """[storage]
-driver = "vfs"
-graphroot = "{0}/root"
-runroot = "/run/podman-of-tests"
-"""
 
 
 class Podman(Audited):
     """A podman with folders of its own."""
 
     def podman(self, *words):
-        settings = {f"CONTAINERS_{name}": self.file(f"podman/{name}", text.format(f"{self.folder}/podman"))
-                    for name, text in (("CONF", CONTAINERS), ("STORAGE_CONF", STORAGE))}
-        return self.on("podman", "--runtime", "runc", *words, **settings)
+        return self.on("podman", "--runtime", "runc", *words, **podman_settings(self, "/run/podman-of-tests"))
 
 
 class Pods(Podman, OwnMachine):
@@ -905,8 +872,8 @@ class Firejail(Case):
         parents = {1: 1, 5: 1, 6: 5, 7: 6, 8: 1}
         processes = {number: process(number, parent=parent) for number, parent in parents.items()}
         sandboxes = firejail_programs.Sandboxes(processes)
-        self.assertEqual({number: found.number for number in processes
-                          if (found := sandboxes.sandbox_of(processes[number])) is not None}, {5: 5, 6: 5, 7: 5})
+        self.assertEqual({number: sandbox.number for number in processes
+                          if (sandbox := sandboxes.sandbox_of(processes[number])) is not None}, {5: 5, 6: 5, 7: 5})
         os.chown(os.path.join(self.folder, "profile", "5"), 12345, 12345)
         self.assertEqual(firejail_programs.Sandboxes(processes).of_number, {})
 
@@ -972,10 +939,10 @@ class Snaps(Case):
         path = self.file("p.json", expected.asked.profile)
         self.run_words(["sh", "-c", f"{tool('compile')} {path} >{self.folder}/own.bpf"])
         with open(os.path.join(self.folder, "own.bpf"), "rb") as file:
-            own = file.read()
-        for filters, verdict in (((own, self.OF_ALL), "as configured"), ((own,), "as configured"),
+            compiled = file.read()
+        for filters, verdict in (((compiled, self.OF_ALL), "as configured"), ((compiled,), "as configured"),
                                  ((self.OF_ALL,), "weaker"), ((gate(ret(ALLOW)), self.OF_ALL), "weaker"),
-                                 ((own, gate(ret(EPERM))), "stricter")):
+                                 ((compiled, gate(ret(EPERM))), "stricter")):
             self.assertEqual(judge.judge_all(processes.Stack(filters, False), expected).verdict, verdict)
 
     def test_rows(self):
@@ -1020,17 +987,15 @@ class Descriptions(Case):
 
     def test_root_and_a_user(self):
         root, user = ("root", 7, None), ("user", 7, self.USER)
-        for described in ((root, user), (user, root)):
-            self.assertEqual(self.belongs("/", *described), "root")
-        self.assertEqual(self.belongs("/", user), "user")
-        # another user's process, and one that runs as root, as sudo does
-        self.assertIsNone(self.belongs("/", user, user=1))
-        self.assertIsNone(self.belongs("/", user, user=0))
-        self.assertIsNone(self.belongs("/", user, user=0, real=self.USER))
-        # a descendant of the user's first process, in a namespace of a container of root's
-        space = {"spaces": ((1, 5), (1, 1)), "inner": 1}
-        self.assertEqual(self.belongs("/", user, root, **space), "root")
-        self.assertEqual(self.belongs("/", ("user", 8, self.USER), parent=8), "user")
+        for described, settings, expected in (
+                ((root, user), {}, "root"), ((user, root), {}, "root"), ((user,), {}, "user"),
+                # another user's process, and one that runs as root, as sudo does
+                ((user,), {"user": 1}, None), ((user,), {"user": 0}, None),
+                ((user,), {"user": 0, "real": self.USER}, None),
+                # a descendant of the user's first process, in a namespace of a container of root's
+                ((user, root), {"spaces": ((1, 5), (1, 1)), "inner": 1}, "root"),
+                ((("user", 8, self.USER),), {"parent": 8}, "user")):
+            self.assertEqual(self.belongs("/", *described, **settings), expected, (described, settings))
 
     def test_a_group_that_a_user_states(self):
         """It isn't believed, and a named one only in the slices of users."""
@@ -1233,6 +1198,12 @@ class Limits(Case):
         self.assertEqual(list(judge.judgements.values), [(2,)])
 
 
+def unit(name, verdict="weaker", why=None, threads=(), kind=audit.UNIT, expected=None):
+    """A row of threads without filters."""
+    part = audit.RowPart(processes.Stack((), False), dict(threads), audit.StackJudgement(verdict, why))
+    return audit.AuditRow(kind, name, [], expected or audit.Expectation(), parts=[part])
+
+
 class Output(Case):
     """What is written of rows whose names are hostile."""
 
@@ -1303,12 +1274,10 @@ class Output(Case):
         """contrib's rules on these metrics: those alerts come that have to, as where the audit sees nothing."""
         rules = os.path.join(TOP, "contrib", "prometheus", "scf.rules.yml")
         self.assertIn("SUCCESS: 5 rules found", self.run_words(["promtool", "check", "rules", rules])[1])
-        unit = audit.AuditRow(audit.UNIT, "a.service", [], audit.Expectation())
-        unit.parts = [audit.RowPart(processes.Stack((), False), {}, audit.StackJudgement("weaker"))]
         for rows, left_out, step, alerts in (
                 ([], [], 60, []), ([], ["no filters could be read"], 60, ["ScfNotLookedAt"]),
                 ([], [], 0, ["ScfAuditStale"]), ([self.row], [], 60, ["ScfNotKnown"]), (None, [], 60, ["ScfAuditAbsent"]),
-                ([self.row, unit], [], 60, ["ScfNotConfinedAsConfigured", "ScfNotKnown"])):
+                ([self.row, unit("a.service")], [], 60, ["ScfNotConfinedAsConfigured", "ScfNotKnown"])):
             self.audit.rows, self.audit.left_out = rows or [], left_out
             text = "" if rows is None else audit_output.metrics(self.audit)
             series = [{"series": name, "values": f"0+{step}x60" if name == "scf_audit_timestamp_seconds" else
@@ -1353,10 +1322,7 @@ class Output(Case):
             {"kind": "container", "name": "gone", "verdict": "weaker"},
             {"kind": "container", "name": "x", "id": "ab" * 32, "verdict": "as configured"},
             {"kind": "unit", "name": "a.service", "verdict": "weaker"}]})
-        units = [audit.AuditRow(audit.UNIT, name, [], audit.Expectation()) for name in ("a.service", "b.service")]
-        for unit in units:
-            unit.parts = [audit.RowPart(processes.Stack((), False), {}, audit.StackJudgement("weaker"))]
-        self.audit.rows += units
+        self.audit.rows += [unit("a.service"), unit("b.service")]
         changes = [*audit_output.changes(earlier, self.audit)]
         self.assertEqual([(change["change"], change["verdict"], change["was"]) for change in changes], [
             ("changed", "not known", "as configured"), ("new", "weaker", None), ("gone", None, "weaker")])
@@ -1385,11 +1351,9 @@ class Output(Case):
         """Those without a configuration that don't bear on the status are listed by --programs alone, and so are the
         changes of them; objects have all."""
         stated = audit.Expectation(source="x", dropped="x")
-        programs = [audit.AuditRow(audit.OTHER_PROGRAM, name, [], expectation) for name, expectation in (
-            ("fine", audit.Expectation()), ("worse", audit.Expectation()), ("stated", stated))]
-        for row, verdict in zip(programs, ("stricter", "weaker", "stricter")):
-            row.parts = [audit.RowPart(processes.Stack((), False), {}, audit.StackJudgement(verdict))]
-        self.audit.rows = programs
+        self.audit.rows = [unit(name, verdict, kind=audit.OTHER_PROGRAM, expected=expected)
+                           for name, verdict, expected in (("fine", "stricter", None), ("worse", "weaker", None),
+                                                           ("stated", "stricter", stated))]
         gone = {"kind": "program", "verdict": "stricter", "profile": {"source": None, "sha256": None}}
         earlier = audit_output.Earlier.of_object({
             "time": "T", "rows": [{**gone, "name": "gone"}, {**gone, "name": "worse"}]})
@@ -1403,30 +1367,24 @@ class Output(Case):
         self.assertEqual(len(audit_output.as_json(self.audit, self.table)["rows"]), 3)
 
     def test_a_reason_stands_once(self):
-        rows = [audit.AuditRow(audit.UNIT, name, [], audit.Expectation()) for name in "abcd"]
-        for row, why in zip(rows, ("slow", "slow", "late", None)):
-            row.parts = [audit.RowPart(processes.Stack((), False), {7: [7]}, audit.StackJudgement("not known", why))]
-        self.audit.rows = rows
+        self.audit.rows = [unit(name, "not known", why, {7: [7]})
+                           for name, why in zip("abcd", ("slow", "slow", "late", None))]
         lines = [line.split(": ", 2)[2] for line in audit_output.lines(self.audit, self.table) if line[0] == " "]
         self.assertEqual(lines, ["slow", "as for unit a", "late"])
 
     def test_status(self):
         """1 before 4 before 0; what is unconfined by configuration counts, unless it is allowed."""
         def status(*verdicts, allows=False, left_out=()):
-            rows = [audit.AuditRow(audit.UNIT, str(at), [], audit.Expectation()) for at, _ in enumerate(verdicts)]
-            for row, verdict in zip(rows, verdicts):
-                row.parts = [audit.RowPart(processes.Stack((), False), {}, audit.StackJudgement(verdict))]
-            return audit.Audit(rows, machine.Snapshot(), 0.0, left_out=list(left_out), allows_unconfined=allows).status
+            return audit.Audit([unit("x", verdict) for verdict in verdicts], machine.Snapshot(), 0.0,
+                               left_out=list(left_out), allows_unconfined=allows).status
 
+        by_configuration, though_configured = "unconfined by configuration", "unconfined though configured"
         for verdict, expected in (("as configured", 0), ("stricter", 0), ("otherwise", 0), ("not known", 4),
-                                  ("weaker", 1), ("unconfined by configuration", 1),
-                                  ("unconfined though configured", 1)):
+                                  ("weaker", 1), (by_configuration, 1), (though_configured, 1)):
             self.assertEqual(status("as configured", verdict), expected, verdict)
-        self.assertEqual(status("not known", "weaker"), 1)
-        self.assertEqual(status("unconfined by configuration", allows=True), 0)
-        self.assertEqual(status("unconfined though configured", allows=True), 1)
-        self.assertEqual(status("as configured", left_out=["x"]), 4)
-        self.assertEqual(status(), 0)
+        self.assertEqual([status("not known", "weaker"), status(by_configuration, allows=True),
+                          status(though_configured, allows=True), status("as configured", left_out=["x"]), status()],
+                         [1, 0, 1, 4, 0])
 
 
 class Words(Case):

@@ -12,7 +12,7 @@ import types
 import unittest
 import unittest.mock
 
-from support.common import ALLOW, I386, KILL_PROCESS, PATIENCE, TOP, X86_64, Case, jeq, module, profile_of, ret
+from support.common import ALLOW, I386, KILL_PROCESS, LOADER, PATIENCE, TOP, X86_64, Case, jeq, module, profile_of, ret
 
 sys.path.append(os.path.join(TOP, "tools"))
 
@@ -31,19 +31,13 @@ WRITTEN = ('audit: type=1326 audit(1795757700.752:2): auid=4294967295 uid=0 gid=
            'code=0x80000000')
 # Puts itself under filters, the oldest first, makes a call, and prints its result and errno. Its words: flags of
 # seccomp(2), the most bytes of a core, the call as numbers, and the filters' files.
-CONFINED = """
-import ctypes, os, resource, sys
-class Program(ctypes.Structure):
-    _fields_ = [("len", ctypes.c_ushort), ("filter", ctypes.c_char_p)]
-library = ctypes.CDLL(None, use_errno=True)
+CONFINED = LOADER + """
 library.syscall.restype = ctypes.c_long
 flags, core, call, *names = sys.argv[1:]
 resource.setrlimit(resource.RLIMIT_CORE, (int(core), int(core)))
-library.prctl(38, 1, 0, 0, 0)
 call = list(map(ctypes.c_long, eval(call)))
 for name in names:
-    data = open(name, "rb").read()
-    if library.syscall(317, 1, int(flags), ctypes.byref(Program(len(data) // 8, data))) < 0:
+    if load(open(name, "rb").read(), int(flags)) < 0:
         os._exit(99)
 result = library.syscall(*call)
 os.write(1, b"%d %d" % (result, ctypes.get_errno()))
@@ -112,10 +106,10 @@ heard = unittest.skipIf(WHY_NOT, WHY_NOT or "")
 class Causes(Case):
     def why(self, *words, status=None, **settings):
         """What the tool prints, line by line."""
-        found, out, err = self.run_tool("why", *words, **settings)
+        ended_with, out, err = self.run_tool("why", *words, **settings)
         self.assertEqual(err, "")
         if status is not None:
-            self.assertEqual(found, status, out)
+            self.assertEqual(ended_with, status, out)
         self.assertTrue(all(line.isprintable() for line in out.split("\n")), out)
         return out.split("\n")[:-1]
 
@@ -130,6 +124,14 @@ class Causes(Case):
 
     def profile(self, *entries, default="SCMP_ACT_ALLOW", **members):
         return self.file("p.json", json.dumps({"defaultAction": default, "syscalls": list(entries), **members}))
+
+    def of_i386(self):
+        """The program of OF_I386, if it can be built."""
+        program = os.path.join(self.folder, "of_i386")
+        if not shutil.which("cc") or subprocess.run(["cc", "-m32", "-x", "c", "-o", program, "-"], check=False,
+                                                    input=OF_I386.encode(), stderr=subprocess.DEVNULL).returncode:
+            self.skipTest("no program of i386 can be built here")
+        return program
 
 
 @heard
@@ -162,10 +164,10 @@ class Records(Causes):
             self.assertIn("# whatever the arguments are", lines)
             self.assertIn("# so the profile answers it", lines)
             # another answer isn't the record's
-            at = [it[2] for it in self.ANSWERS].index(action)
-            for other, _, wrong in self.ANSWERS[max(at - 1, 0):at] + self.ANSWERS[at + 1:at + 2]:
+            at = [row[2] for row in self.ANSWERS].index(action)
+            for wrong_answer, _, wrong in self.ANSWERS[max(at - 1, 0):at] + self.ANSWERS[at + 1:at + 2]:
                 lines = self.why(line, self.profile({"names": ["socket"], "action": wrong}), status=1)
-                stricter = other ^ 0x80000000 < (answer ^ 0x80000000) & 0xFFFF0000
+                stricter = wrong_answer ^ 0x80000000 < (answer ^ 0x80000000) & 0xFFFF0000
                 self.assertEqual("# the profile would have answered more strictly: the process isn't under it"
                                  in lines, stricter, (action, wrong))
 
@@ -189,9 +191,9 @@ class Records(Causes):
         for given, answer in ((self.profile(denial), "ERRNO 22 entry 0"), (self.file("f.bpf", data), "ERRNO 22")):
             lines = self.why(line, given, status=0)
             self.assertIn(answer, lines)
-            example = next(it for it in lines if it.startswith("# for example with args "))
+            example = next(text for text in lines if text.startswith("# for example with args "))
             numbers = example.partition(": ")[0].split()[5:]
-            self.assertEqual([int(it, 16) for it in numbers][::2][:2], [AF_NETLINK, NETLINK_AUDIT])
+            self.assertEqual([int(text, 16) for text in numbers][::2][:2], [AF_NETLINK, NETLINK_AUDIT])
             self.assertRegex("\n".join(lines), "the (profile|filter) answers it with such arguments, and not with all")
         # what is never answered so isn't this record's, whatever the arguments are
         _, line = self.record(answering(KILL_PROCESS))
@@ -206,7 +208,7 @@ class Records(Causes):
         self.assertIn("ERRNO 3", lines)
         self.assertIn(f"# the filter that answers so is {names[1]}", lines)
         self.assertIn(f"# the last tests on the path in {names[1]}:", lines)
-        self.assertTrue(any("socket: to" in it and "loaded 0x29" in it for it in lines), lines)
+        self.assertTrue(any("socket: to" in line and "loaded 0x29" in line for line in lines), lines)
         self.assertIn("# the filters are more permissive: another filter of the process answered so, or it "
                       "isn't under the filters", self.why(line, names[0], names[2], status=1))
 
@@ -244,7 +246,7 @@ class Records(Causes):
         last = self.confined(answering(KILL_PROCESS))[0]
         while True:
             text = listener.socket.recv(1 << 16)[16:].decode("latin-1")
-            self.assertFalse([it for it in silent if f" pid={it} " in text], text)
+            self.assertFalse([process for process in silent if f" pid={process} " in text], text)
             if f" pid={last} " in text:
                 break
 
@@ -258,13 +260,11 @@ class Records(Causes):
         child, _ = started([[]])
         self.addCleanup(ended, child)
         given = self.file("f.bpf", answering(ERRNO | 1))
-        child.stdin.write(f"data = open({given!r}, 'rb').read(); "
-                          "library.syscall(317, 1, 2, ctypes.byref(Program(len(data) // 8, data)))\n"
-                          "print(library.socket(16, 3, 9), flush=True)\n")
+        child.stdin.write(f"load(open({given!r}, 'rb').read(), 2)\nprint(library.socket(16, 3, 9), flush=True)\n")
         child.stdin.flush()
         self.assertEqual(child.stdout.readline(), "-1\n")
         until = time.monotonic() + 60
-        while time.monotonic() < until and not any(f" pid={child.pid} " in it for it in audit_records.kernel_lines()):
+        while time.monotonic() < until and f" pid={child.pid} " not in "\n".join(audit_records.kernel_lines()):
             # (the kernel leaves records out of its log where many come at once)
             child.stdin.write("print(library.socket(16, 3, 9), flush=True)\n")
             child.stdin.flush()
@@ -288,7 +288,7 @@ class Cores(Causes):
             self.skipTest(f"cores are written otherwise here: {pattern}")
 
     def found_core(self):
-        return next(os.path.join(self.folder, it) for it in os.listdir(self.folder) if it.startswith("core"))
+        return next(os.path.join(self.folder, name) for name in os.listdir(self.folder) if name.startswith("core"))
 
     def core(self, *stack, **settings):
         """The core of a process that makes a call under filters."""
@@ -311,12 +311,8 @@ class Cores(Causes):
             self.why("--core", core, self.file("g.bpf", answering(answer ^ 1)), status=1)
             os.remove(core)
 
-    @unittest.skipUnless(shutil.which("cc"), "there is no C compiler here")
     def test_i386(self):
-        program = os.path.join(self.folder, "of_i386")
-        if subprocess.run(["cc", "-m32", "-x", "c", "-o", program, "-"], input=OF_I386.encode(), check=False,
-                          stderr=subprocess.DEVNULL).returncode:
-            self.skipTest("no program of i386 can be built here")
+        program = self.of_i386()
         self.require_cores()
         subprocess.run([program, hex(KILL_PROCESS | 3)], cwd=self.folder, check=False)
         event = cores.read(self.found_core())
@@ -341,7 +337,7 @@ class Cores(Causes):
                         {"index": 1, "op": "SCMP_CMP_LT", "value": 2}]}]),
                 ("SCMP_ACT_ALLOW", [{"names": ["socket"], "action": "SCMP_ACT_KILL_PROCESS", "args": [
                     {"index": 0, "op": "SCMP_CMP_EQ", "value": 16}, {"index": 2, "op": "SCMP_CMP_EQ", "value": 9}]}]),
-                ("SCMP_ACT_KILL_PROCESS", [{"names": [it for it in TABLE.names() if it != "socket"],
+                ("SCMP_ACT_KILL_PROCESS", [{"names": [name for name in TABLE.names() if name != "socket"],
                                             "action": "SCMP_ACT_ALLOW"},
                                            {"names": ["socket"], "action": "SCMP_ACT_ALLOW", **args}])):
             given = {"defaultAction": default, "syscalls": entries}
@@ -372,7 +368,7 @@ class Cores(Causes):
     @staticmethod
     def changed(profile, steps):
         """A profile changed as the steps say."""
-        entries = [dict(it, names=list(it["names"])) for it in profile["syscalls"]]
+        entries = [dict(entry, names=list(entry["names"])) for entry in profile["syscalls"]]
         gone, added = [], []
         for step in steps:
             text = step.removeprefix("#   ")
@@ -383,8 +379,8 @@ class Cores(Causes):
                 gone.append(int(text.split()[2]))
             else:
                 added.append(json.loads(text.removeprefix("add to syscalls: ")))
-        left = [it for at, it in enumerate(entries) if at not in gone]
-        return {**profile, "syscalls": left + added}
+        remaining = [entry for at, entry in enumerate(entries) if at not in gone]
+        return {**profile, "syscalls": remaining + added}
 
     def test_hostile_cores(self):
         core = self.core(answering(KILL_PROCESS))
@@ -451,13 +447,13 @@ class Strace(Causes):
                                        "SIGSYS")
             self.why("-", self.file("g.bpf", answering(TRAP | data ^ 1)), given=log.encode(), status=1)
             # the line of the signal alone says it, too
-            line = next(it for it in log.split("\n") if "--- SIGSYS" in it)
+            line = next(each for each in log.split("\n") if "--- SIGSYS" in each)
             lines = self.why(line, self.file("f.bpf", answering(TRAP | data)), status=0)
             self.assertIn("the syscall is socket (41)", lines[0])
 
     def test_a_syscall_that_fails(self):
         log = self.traced(answering(ERRNO | 77))
-        line = next(it for it in log.split("\n") if it.startswith("socket(AF_NETLINK"))
+        line = next(each for each in log.split("\n") if each.startswith("socket(AF_NETLINK"))
         lines = self.why(line, self.file("f.bpf", answering(ERRNO | 77)), status=0)
         self.assertEqual(lines[1], "# it failed with EBADFD: by ERRNO 77, by a tracer or a supervisor, or by the "
                                    "kernel itself, which strace doesn't show")
@@ -469,16 +465,12 @@ class Strace(Causes):
         # TRACE and USER_NOTIF without whom they ask
         for answer in (TRACE | 1, USER_NOTIF):
             log = self.traced(answering(answer))
-            line = next(it for it in log.split("\n") if it.startswith("socket(AF_NETLINK"))
+            line = next(each for each in log.split("\n") if each.startswith("socket(AF_NETLINK"))
             self.assertIn(" = -1 ENOSYS ", line)
             self.why(line, self.file("f.bpf", answering(answer)), status=0)
 
-    @unittest.skipUnless(shutil.which("cc"), "there is no C compiler here")
     def test_i386(self):
-        program, log = (os.path.join(self.folder, it) for it in ("of_i386", "log"))
-        if subprocess.run(["cc", "-m32", "-x", "c", "-o", program, "-"], input=OF_I386.encode(), check=False,
-                          stderr=subprocess.DEVNULL).returncode:
-            self.skipTest("no program of i386 can be built here")
+        program, log = self.of_i386(), os.path.join(self.folder, "log")
         for answer in (KILL_PROCESS, TRAP | 5):
             subprocess.run(["strace", "--quiet=none", "-o", log, program, hex(answer)], cwd=self.folder, check=False,
                            stderr=subprocess.DEVNULL)
@@ -540,14 +532,14 @@ int main(int count, char **words)
     @unittest.skipUnless(shutil.which("cc"), "there is no C compiler here")
     def test_one_of_several_threads(self):
         """All are killed by SIGSYS, and one is the cause."""
-        program, log = (os.path.join(self.folder, it) for it in ("threads", "log"))
+        program, log = (os.path.join(self.folder, each) for each in ("threads", "log"))
         subprocess.run(["cc", "-x", "c", "-o", program, "-", "-lpthread"], input=self.THREADS.encode(), check=True)
         for answer in (KILL_PROCESS, KILL_THREAD):
             subprocess.run(["strace", "-f", "-o", log, program, hex(answer)], stderr=subprocess.DEVNULL, check=False)
             with open(log, "rb") as file:
                 data = file.read()
             lines = self.why("-", self.file("f.bpf", answering(answer)), given=data, status=0)
-            self.assertEqual([it for it in lines if "the syscall is " in it], [lines[0]])
+            self.assertEqual([each for each in lines if "the syscall is " in each], [lines[0]])
             self.assertIn("the syscall is socket (41)", lines[0])
 
 
@@ -559,8 +551,8 @@ class Lines(Causes):
                    "arch=x86_64 syscall=socket compat=0 ip=0x7fc36f3ffdc7 code=kill ")
 
     def event(self, text):
-        found = events.read(text.split("\n"), TABLE)
-        return [it for it, _ in found.events.values()], found
+        log = events.read(text.split("\n"), TABLE)
+        return [event for event, _ in log.events.values()], log
 
     def test_each_form(self):
         for text in (WRITTEN, f"[  624.561849] {WRITTEN}", f"[Fri Nov 27 05:35:00 2026] {WRITTEN}",
@@ -580,16 +572,16 @@ class Lines(Causes):
                      f"vm audit: SECCOMP auid={self.TAIL}",
                      f"type=SECCOMP msg=audit(1795757700.752:2): auid={self.TAIL}",
                      f"type=SECCOMP msg=audit(1795757700.752:2): auid={self.TAIL}\x1dAUID=\"unset\" "
-                     "UID=\"root\" GID=\"root\" ARCH=x86_64 SYSCALL=socket",
+                     "UID=\"root\" GID=\"root\" ARCH=x86_64 SYSCALL=unknown-syscall(-1)",
                      f"node=vm type=SECCOMP msg=audit(1795757700.752:2): auid={self.TAIL}",
                      f"type=SECCOMP msg=audit(11/27/26 05:35:00.752:2) : {self.INTERPRETED}",
                      f"{WRITTEN}\r", f"noise\n{WRITTEN}\nnoise"):
-            (event,), found = self.event(text)
+            (event,), log = self.event(text)
             self.assertEqual(event.call, events.Call(41, X86_64, 0x7FC36F3FFDC7), text)
             self.assertEqual((event.process, event.name), (12551, "python3"))
             # ausearch -i names both actions that kill alike
             self.assertEqual(event.outcome.actions, ("KILL_PROCESS", "KILL_THREAD")[:1 + ("code=kill" in text)])
-            self.assertEqual((found.faults, found.suppressed), ([], 0))
+            self.assertEqual((log.faults, log.suppressed), ([], 0))
 
     def test_names_of_actions(self):
         """As ausearch -i prints them."""
@@ -615,10 +607,10 @@ class Lines(Causes):
         (event,), _ = self.event("type=SECCOMP msg=audit(1:2) : " + self.INTERPRETED.replace(
             "exe=/usr/bin/python3.11", f"exe=/tmp/x{forged} pid=1 comm=init"))
         self.assertEqual((event.call.number, event.call.architecture, event.process), (41, X86_64, 12551))
-        found, _ = self.event(f'write(1, " {WRITTEN} ", 300) = 300\n')
-        self.assertEqual(found, [])
+        read_events, _ = self.event(f'write(1, " {WRITTEN} ", 300) = 300\n')
+        self.assertEqual(read_events, [])
 
-    def test_what_another_message_has_of_a_process_is_no_record(self):
+    def test_what_another_message_has_message_is_no_record(self):
         suppressed = "audit: kauditd_printk_skb: 12 callbacks suppressed"
         for record in (WRITTEN, WRITTEN[len("audit: "):], f"type=SECCOMP msg=audit(1:2): auid={self.TAIL}", suppressed):
             for text in (f"process '/tmp/x {record}' launched '/tmp/x' with NULL argv: empty string added",
@@ -626,19 +618,19 @@ class Lines(Causes):
                 for before in ("", "[  624.561849] ", "<5>[  624.5] ", "kern  :notice: [  624.5] ",
                                "Nov 27 05:35:00 vm kernel: ", "Nov 27 05:35:00 vm kernel: [  624.5] ",
                                "Nov 27 05:35:00 vm prog[7]: ", "Nov 27 05:35:00 vm prog: ", "node=vm "):
-                    events_found, found = self.event(before + text)
-                    self.assertEqual((events_found, found.faults, found.suppressed), ([], [], 0), before + text)
+                    events_found, log = self.event(before + text)
+                    self.assertEqual((events_found, log.faults, log.suppressed), ([], [], 0), before + text)
 
     def test_messages_of_the_kernel_s_log(self):
         """As Documentation/ABI/testing/dev-kmsg has them: what a program writes there isn't of facility 0."""
-        other = f"process '/tmp/{WRITTEN}' launched '/tmp/x' with NULL argv: empty string added"
-        one, end = socket.socketpair(socket.AF_UNIX, socket.SOCK_DGRAM)
+        message = f"process '/tmp/{WRITTEN}' launched '/tmp/x' with NULL argv: empty string added"
+        log, end = socket.socketpair(socket.AF_UNIX, socket.SOCK_DGRAM)
         self.addCleanup(end.close)
-        for text in (f"13,1,1,-;{WRITTEN}", f"4,2,1,-;{other}", f"5,3,1,-;{WRITTEN}\n SUBSYSTEM=audit\n DEVICE=x",
+        for text in (f"13,1,1,-;{WRITTEN}", f"4,2,1,-;{message}", f"5,3,1,-;{WRITTEN}\n SUBSYSTEM=audit\n DEVICE=x",
                      f"8,4,1,-;{WRITTEN}", f"x,5,1,-;{WRITTEN}", WRITTEN, f"5,6,1,-; {WRITTEN}"):
             end.send(text.encode())
-        one.setblocking(False)
-        with unittest.mock.patch.object(os, "open", return_value=one.detach()):
+        log.setblocking(False)
+        with unittest.mock.patch.object(os, "open", return_value=log.detach()):
             self.assertEqual([*audit_records.kernel_lines()], [WRITTEN])
 
     def test_the_log_of_auditd(self):
@@ -652,8 +644,8 @@ class Lines(Causes):
             for begun, numbers in ((None, [41, 1, 2]), (1795757600.0, [41, 2]), (1795757701.5, [41, 2]),
                                    (1795757800.0, [])):
                 with unittest.mock.patch.object(why, "started", lambda _, begun=begun: begun):
-                    found, _ = why.of_process(options, None, TABLE)
-                self.assertEqual([it.call.number for it, _ in found.events.values()], numbers, begun)
+                    log_read, _ = why.of_process(options, None, TABLE)
+                self.assertEqual([event.call.number for event, _ in log_read.events.values()], numbers, begun)
 
     def test_values_that_no_kernel_writes(self):
         for old, new, says in (("syscall=41", "syscall=4294967296", "=4294967296 isn't a number up to 4294967295"),
@@ -680,9 +672,9 @@ class Lines(Causes):
         self.assertEqual(lines[-1], "# records that the kernel left out, since too many came at once: 12")
 
     def test_many_records(self):
-        text = "\n".join(WRITTEN.replace("syscall=41", f"syscall={it}") for it in range(300))
+        text = "\n".join(WRITTEN.replace("syscall=41", f"syscall={number}") for number in range(300))
         lines = self.why("-", given=text.encode(), status=4)
-        self.assertEqual(sum("the syscall is" in it for it in lines), events.EVENTS)
+        self.assertEqual(sum("the syscall is" in line for line in lines), events.EVENTS)
         self.assertEqual(lines[-1], "# records of more syscalls than 200 different ones, which aren't judged: 100")
 
     def test_numbers_with_leading_zeros(self):
@@ -702,7 +694,7 @@ class Lines(Causes):
         text = "\n".join(" ".join(pieces[:at] + pieces[at + 1:]) for at in range(len(pieces)))
         status, out, err = self.run_tool("why", "-", given=text.encode())
         self.assertEqual((status, err), (3, ""))
-        self.assertTrue(all(it.startswith("# ") for it in out.split("\n")[:-1]), out)
+        self.assertTrue(all(line.startswith("# ") for line in out.split("\n")[:-1]), out)
 
     def test_no_record(self):
         for text in ("", "hello", "systemd[1]: x.service: Main process exited, code=dumped, status=31/SYS"):
@@ -710,11 +702,11 @@ class Lines(Causes):
                                                                                        status=4)[0])
 
 
-def entry(message, **members):
+def entry(message, **changes):
     """An entry as journalctl prints one of the kernel; members that are None are left out."""
-    found = {"PRIORITY": "5", "_TRANSPORT": "kernel", "SYSLOG_FACILITY": "0", "SYSLOG_IDENTIFIER": "kernel",
-             "MESSAGE": message, **members}
-    return json.dumps({name: value for name, value in found.items() if value is not None})
+    members = {"PRIORITY": "5", "_TRANSPORT": "kernel", "SYSLOG_FACILITY": "0", "SYSLOG_IDENTIFIER": "kernel",
+             "MESSAGE": message, **changes}
+    return json.dumps({name: value for name, value in members.items() if value is not None})
 
 
 class Journals(Causes):
@@ -736,9 +728,9 @@ class Journals(Causes):
                "exe": "/usr/bin/sl\x1b[2Jeep", "size": 1566101}]
 
     def numbers(self, text):
-        found = events.read(text.split("\n"), TABLE)
-        self.assertEqual((found.faults, found.failures.count), ([], 0))
-        return [(it.call.number, it.process, count) for it, count in found.events.values()], found.suppressed
+        log = events.read(text.split("\n"), TABLE)
+        self.assertEqual((log.faults, log.failures.count), ([], 0))
+        return [(event.call.number, event.process, count) for event, count in log.events.values()], log.suppressed
 
     def test_entries_of_the_kernel_and_of_audit(self):
         suppressed = "audit: kauditd_printk_skb: 12 callbacks suppressed"
@@ -766,16 +758,16 @@ class Journals(Causes):
     def test_cores(self):
         present = ("# process 1065 (sleep) was ended by SIGSYS, and its core has the syscall: coredumpctl dump 1065 | "
                    "scf why --core - ..")
-        for signal, storage, said in (
+        for signal, storage, expected in (
                 ("31 (SYS)", "present", present),
                 ("31 (SYS)", "missing", "# process 1065 (sleep) was ended by SIGSYS, and its core, which has the "
                                         "syscall, isn't kept"),
                 ("11 (SEGV)", "present", "# process 1065 (sleep) was ended by signal 11, and a filter ends a process "
                                          "by SIGSYS")):
             text = (self.INFO % (signal, storage)).encode()
-            self.assertEqual(self.why("-", given=text, status=4), [said])
+            self.assertEqual(self.why("-", given=text, status=4), [expected])
             # beside what is judged, a core that has a syscall isn't
-            lines = self.why("-", given=WRITTEN.encode() + b"\n" + text, status=4 if said == present else 0)
+            lines = self.why("-", given=WRITTEN.encode() + b"\n" + text, status=4 if expected == present else 0)
             self.assertIn("the syscall is socket (41)", lines[0])
 
     def test_lists_of_cores(self):
@@ -790,7 +782,7 @@ class Journals(Causes):
         many = json.dumps([self.LISTED[1]] * 300)
         self.assertEqual(len(self.why("-", given=many.encode(), status=4)), 200)
         out = self.run_tool("why", "--json", "-", given=short.encode())[1]
-        self.assertEqual([it["process"] for it in json.loads(out)["cores"] if it["is_present"]], [1065])
+        self.assertEqual([core["process"] for core in json.loads(out)["cores"] if core["is_present"]], [1065])
 
 
 class Words(Causes):
@@ -822,9 +814,9 @@ class Words(Causes):
         profile = self.profile({"names": ["socket"], "action": "SCMP_ACT_KILL_PROCESS"})
         status, out, err = self.run_tool("why", "--json", WRITTEN, profile, self.file("f.bpf", ret(ALLOW)))
         self.assertEqual((status, err, out.count("\n")), (1, "", 1))
-        found = json.loads(out)
-        event = found["events"][0]
-        self.assertEqual((found["status"], event["process"], event["name"], event["call"]["number"], event["actions"]),
+        value = json.loads(out)
+        event = value["events"][0]
+        self.assertEqual((value["status"], event["process"], event["name"], event["call"]["number"], event["actions"]),
                          (1, 12551, "python3", 41, ["KILL_PROCESS"]))
         self.assertEqual((event["profile"]["verdict"], event["profile"]["cases"][0]["reason"],
                           event["profile"]["cases"][0]["entry"]), ("fits", "entry", 0))

@@ -7,24 +7,18 @@ import subprocess
 import sys
 import unittest
 
-from support.common import TOP, Case
+from support.common import LOADER, TOP, Case
 
 # Loads a filter, and makes calls in the order of its words, each as often as it says, in a child where they begin with
 # `child`; then it ends with a status.
-UNDER = """
-import ctypes, os, sys
-class Program(ctypes.Structure):
-    _fields_ = [("len", ctypes.c_ushort), ("filter", ctypes.c_char_p)]
-library = ctypes.CDLL(None, use_errno=True)
+UNDER = LOADER + """
 def makes(calls):
     for count, *call in calls:
         for _ in range(count):
             library.syscall(*map(ctypes.c_long, call))
 name, status, before, of_child, after = sys.argv[1], *map(eval, sys.argv[2:])
 makes(before)
-data = open(name, "rb").read()
-library.prctl(38, 1, 0, 0, 0)
-if library.syscall(ctypes.c_long(317), 1, 0, ctypes.byref(Program(len(data) // 8, data))) < 0:
+if load(open(name, "rb").read()) < 0:
     os._exit(99)
 if os.fork() == 0:
     makes(of_child)
@@ -55,7 +49,7 @@ class Denials(Case):
         """The status, and each denied syscall with its count, in order."""
         status, lines = self.why(log, *words, **settings)
         heads = [HEAD.fullmatch(line) for line in lines]
-        return status, [(it[1], int(it[2] or 1)) for it in heads if it]
+        return status, [(head[1], int(head[2] or 1)) for head in heads if head]
 
     def lines_of(self, *lines, **settings):
         return self.denied("".join(f"{line}\n" for line in lines), **settings)[1]
@@ -65,8 +59,8 @@ class Changes(Denials):
     def changes(self, line, *words, **settings):
         """What the changes of a profile allow that are offered for a line."""
         _, lines = self.why(f"{LOAD}\n{line}\n", *words, **settings)
-        found = [re.match("# this change of the profile allows (.*), and no other answer", each) for each in lines]
-        return [match[1] for match in found if match]
+        heads = [re.match("# this change of the profile allows (.*), and no other answer", each) for each in lines]
+        return [match[1] for match in heads if match]
 
     def test_numbers_of_a_run(self):
         """A descriptor or a length isn't a condition, unless an entry tests it; a constant is one."""
@@ -121,7 +115,7 @@ class Traced(Denials):
         """The kernel itself answers to a socket of no family with the errno of the entry for AF_NETLINK."""
         log = self.traced([(2, CHROOT, -1)], [(3, SOCKET, 16, 3, 0), (1, SOCKET, 77, 1, 0)], [(1, UNSHARE, 1)])
         status, lines = self.why(log)
-        self.assertEqual((status, [HEAD.fullmatch(it)[1] for it in lines if HEAD.fullmatch(it)]), (0, ["socket"]))
+        self.assertEqual((status, [HEAD.fullmatch(line)[1] for line in lines if HEAD.fullmatch(line)]), (0, ["socket"]))
         self.assertRegex("\n".join(lines), "# syscalls that failed: [0-9]+; to which the profile answers so: 3\n")
 
     def test_the_changes_repair_it(self):
@@ -131,14 +125,14 @@ class Traced(Denials):
         for _ in range(3):
             log = self.traced([], [], calls, 1, profile)
             given = self.file("p.json", json.dumps(profile))
-            found = json.loads(self.run_tool("why", "--json", "-", given, given=log.encode("latin-1"))[1])
-            first = found["events"][0]
+            value = json.loads(self.run_tool("why", "--json", "-", given, given=log.encode("latin-1"))[1])
+            first = value["events"][0]
             seen.append(first["call"]["names"][0])
             change = first["changes"][0]
-            entries = [dict(it, names=[name for name in it["names"] if at not in change["taken_out"]
+            entries = [dict(entry, names=[name for name in entry["names"] if at not in change["taken_out"]
                                        or name not in first["call"]["names"]])
-                       for at, it in enumerate(profile["syscalls"])]
-            profile = {**profile, "syscalls": [it for it in entries if it["names"]] + change["added"]}
+                       for at, entry in enumerate(profile["syscalls"])]
+            profile = {**profile, "syscalls": [entry for entry in entries if entry["names"]] + change["added"]}
         self.assertEqual(sorted(seen), ["chroot", "sethostname", "socket"])
         self.assertEqual(self.denied(self.traced([], [], calls, 1, profile), profile=profile), (4, []))
 
@@ -221,20 +215,21 @@ class Logs(Denials):
     def test_by_syscall_and_entry(self):
         """The change allows what all failures by an entry have in common."""
         socket = "7  socket(AF_NETLINK, {}, {}) = -1 EAFNOSUPPORT (Address family not supported)"
-        lines = self.why("".join(f"{socket.format(*it)}\n" for it in (
+        lines = self.why("".join(f"{socket.format(*words)}\n" for words in (
             ("SOCK_RAW", 0), ("SOCK_RAW", 9), ("SOCK_DGRAM", 9))), profile={
                 **PROFILE, "syscalls": [{"names": ["socket"], "action": "SCMP_ACT_ERRNO", "errnoRet": 97}]})[1]
-        self.assertEqual([it for it in lines if HEAD.fullmatch(it)],
+        self.assertEqual([line for line in lines if HEAD.fullmatch(line)],
                          ["# process 7: the syscall is socket (41); such failures: 3"])
         allows = "# this change of the profile allows socket where argument 0 is 0x10, and no other answer changes:"
         self.assertIn(allows, lines)
         # what they have in common is the entry's own condition: the change that allows all of it is the same
         lines = self.why(socket.format("SOCK_RAW", 0) + "\n" + socket.format("SOCK_DGRAM", 9) + "\n")[1]
-        self.assertEqual([it for it in lines if "this change" in it], [allows])
-        other = {"names": ["socket"], "action": "SCMP_ACT_ERRNO", "errnoRet": 97,
+        self.assertEqual([line for line in lines if "this change" in line], [allows])
+        of_inet = {"names": ["socket"], "action": "SCMP_ACT_ERRNO", "errnoRet": 97,
                  "args": [{"index": 0, "value": 2, "op": "SCMP_CMP_EQ"}]}
-        text = "".join(f"7  socket({it}, SOCK_RAW, 0) = -1 EAFNOSUPPORT (x)\n" for it in ("AF_NETLINK", "AF_INET"))
-        self.assertEqual(self.denied(text, profile={**PROFILE, "syscalls": [*PROFILE["syscalls"], other]}),
+        text = "".join(f"7  socket({family}, SOCK_RAW, 0) = -1 EAFNOSUPPORT (x)\n"
+                       for family in ("AF_NETLINK", "AF_INET"))
+        self.assertEqual(self.denied(text, profile={**PROFILE, "syscalls": [*PROFILE["syscalls"], of_inet]}),
                          (0, [("socket", 1), ("socket", 1)]))
 
     def test_all(self):
@@ -262,7 +257,7 @@ class Logs(Denials):
     def test_a_profile_that_is_refused(self):
         log = f'7  {DENIED}\n7  read(0, "", 1) = 0\n'
         status, lines = self.why(log, profile={**PROFILE, "defaultAction": "SCMP_ACT"})
-        self.assertEqual((status, [it for it in lines if it[:2] != "# "]), (1, ["fault profile Action"]))
+        self.assertEqual((status, [line for line in lines if line[:2] != "# "]), (1, ["fault profile Action"]))
 
     def test_what_scf_leaves_undecided(self):
         status, lines = self.why(f"7  {DENIED}\n7  acct(NULL) = -1 EPERM (Operation not permitted)\n", "--limit=1")
@@ -273,17 +268,17 @@ class Logs(Denials):
         log = (f"7  {DENIED}\n7  {LOAD}\n7  {DENIED}\n7  acct(NULL) = -1 EPERM (Operation not permitted)\n"
                "7  +++ exited with 2 +++\n")
         status, out, err = self.run_tool("why", "--json", "-", given, given=log.encode())
-        found = json.loads(out)
-        self.assertEqual((status, err, [(it["count"], it["has_ended"]) for it in found["events"]]),
+        value = json.loads(out)
+        self.assertEqual((status, err, [(each["count"], each["has_ended"]) for each in value["events"]]),
                          (0, "", [(1, True)]))
-        others = found["failures"].pop("by_other_cause")
-        self.assertEqual([(it["call"]["names"], it["errno"], it["count"]) for it in others], [(["acct"], 1, 1)])
-        self.assertEqual(found["failures"], {"count": 2, "denied": 1, "not_shown": [], "unknown": 0, "not_judged": 0,
+        others = value["failures"].pop("by_other_cause")
+        self.assertEqual([(each["call"]["names"], each["errno"], each["count"]) for each in others], [(["acct"], 1, 1)])
+        self.assertEqual(value["failures"], {"count": 2, "denied": 1, "not_shown": [], "unknown": 0, "not_judged": 0,
                                              "before_load": 1})
 
     def test_many_failures(self):
         """More kinds than are kept are counted, and the answer isn't known then."""
-        log = "".join(f"7  socket(AF_NETLINK, SOCK_RAW, {it}) = -1 EAFNOSUPPORT (x)\n" for it in range(1007))
+        log = "".join(f"7  socket(AF_NETLINK, SOCK_RAW, {at}) = -1 EAFNOSUPPORT (x)\n" for at in range(1007))
         status, lines = self.why(log)
         self.assertEqual(status, 4)
         self.assertIn("such failures: 1000", lines[0])

@@ -35,15 +35,15 @@ class Hostile(Case):
         What is said last is looked at; what is printed stands in the file that is answered.
         """
         out = os.path.join(self.folder, "out")
-        with open(path, "rb") as given, open(out, "wb") as printed, open(f"{out}.said", "w+b") as said:
+        with open(path, "rb") as given, open(out, "wb") as printed, open(f"{out}.said", "w+b") as messages:
             done = subprocess.run([tool("resolve-profile"), *words, "-"], stdin=given, stdout=printed,
-                                  stderr=said, timeout=PATIENCE, check=False, preexec_fn=limited(SECONDS, MEMORY))
-            said.seek(max(said.seek(0, os.SEEK_END) - 20000, 0))
-            text = said.read().decode()
+                                  stderr=messages, timeout=PATIENCE, check=False, preexec_fn=limited(SECONDS, MEMORY))
+            messages.seek(max(messages.seek(0, os.SEEK_END) - 20000, 0))
+            text = messages.read().decode()
         self.assertIn(done.returncode, status if isinstance(status, tuple) else (status,), text[-300:])
         self.assertTrue(says in text, text[-300:])
         self.assertNotIn("Traceback", text)
-        self.assertFalse([it for it in text if it != "\n" and not it.isprintable()])
+        self.assertFalse([letter for letter in text if letter != "\n" and not letter.isprintable()])
         return out
 
     def test_endless_ones(self):

@@ -12,7 +12,8 @@ import unittest
 
 from support.common import (ALLOW, EPERM, I386, KILL_PROCESS, PATIENCE, SCF, TOP, X86_64, comes, jeq, jge, load, module,
                             profile_of, ret, tool)
-from support.confined import CHILD, NEWEST, OLDEST, OTHER, Confined, ended, here, processes, ptrace, status_of
+from support.confined import CHILD, NEWEST, OLDEST, OTHER, Confined, ended, here, processes, status_of
+from support.own_machine import remove_groups
 from scftools import containers, filters
 
 filters_of = module("filters-of")
@@ -209,15 +210,15 @@ class FiltersOf(Confined):
     def test_threads_that_differ(self):
         """They have as many filters of as many instructions, and others: that is said, and one can be taken."""
         child = self.child([OLDEST, NEWEST], [OLDEST, OTHER], [])
-        main, other, free = child.threads
+        main, second, free = child.threads
         # (the kernel may begin again with small numbers between two of them)
-        stacks = "; ".join(f"thread {it}: {'no filter' if it == free else '2 filters, of 1, 4 instructions'}"
-                           for it in sorted(child.threads))
+        stacks = "; ".join(f"thread {thread}: {'no filter' if thread == free else '2 filters, of 1, 4 instructions'}"
+                           for thread in sorted(child.threads))
         self.assertEqual(self.filters_of(child), (
             3, "", f"filters-of: the threads of process {main} don't have the same filters; {stacks}; --thread takes "
                    f"those of one thread\n"))
         self.assertFalse(os.path.exists(os.path.join(self.folder, "out")))
-        self.assertEqual(self.filters_of(child, "--thread", str(other)), (0, "out/0.bpf\nout/1.bpf\n", ""))
+        self.assertEqual(self.filters_of(child, "--thread", str(second)), (0, "out/0.bpf\nout/1.bpf\n", ""))
         self.assertEqual(self.read("out/1.bpf"), OTHER)
         self.assertEqual(self.run_tool("filters-of", f"--thread={free}", str(main), "none"),
                          (3, "", f"filters-of: thread {free} of process {main} has no filter\n"))
@@ -325,16 +326,17 @@ class VerifyProcess(Confined):
     @here
     def test_threads_that_differ(self):
         """A thread of as many filters of as many instructions, which lets more through, is told, and first."""
-        kept, lax = refusing(MOUNT), refusing(UMOUNT2)
-        child = self.child([kept], [lax], [kept])
-        main, other, alike = child.threads
+        strict, lax = refusing(MOUNT), refusing(UMOUNT2)
+        child = self.child([strict], [lax], [strict])
+        main, lax_thread, alike = child.threads
         status, out = self.verify(child, refuses("mount"))
         first, second = out.split("\n\n")
         self.assertEqual((status, first.split("\n")[0], second.split("\n")[0]), (1, "differs", "same"))
         self.assertEqual(comments(first)[-1],
-                         f"thread {other} of {self.called(child)} has 1 filter, of {len(lax) // 8} instructions")
-        self.assertEqual(comments(second)[-1], f"threads {min(main, alike)}, {max(main, alike)} of "
-                                               f"{self.called(child)} have 1 filter, of {len(kept) // 8} instructions")
+                         f"thread {lax_thread} of {self.called(child)} has 1 filter, of {len(lax) // 8} instructions")
+        self.assertEqual(comments(second)[-1],
+                         f"threads {min(main, alike)}, {max(main, alike)} of {self.called(child)} have 1 filter, of "
+                         f"{len(strict) // 8} instructions")
         self.runs_on(child)
 
     @here
@@ -391,26 +393,26 @@ class VerifyProcess(Confined):
         """What isn't looked at is said, and whether some of it is let through."""
         status, out = self.verify(self.child([refusing(MOUNT)]), refuses("mount"))
         self.assertEqual(status, 0)
-        said = comments(out)
-        self.assertIn("compared: x86-64 syscalls; other ABIs are only checked for any allowed syscall:", said)
-        self.assertIn("other ABIs: every i386 and x32 syscall is denied; the kernel has no others", said)
+        notes = comments(out)
+        self.assertIn("compared: x86-64 syscalls; other ABIs are only checked for any allowed syscall:", notes)
+        self.assertIn("other ABIs: every i386 and x32 syscall is denied; the kernel has no others", notes)
         untested = load(0) + jeq(MOUNT, 0, 1) + ret(EPERM) + ret(ALLOW)
         child, named = self.child([untested]), refuses("mount", architectures=["SCMP_ARCH_X86_64", "SCMP_ARCH_X86"])
         status, out = self.verify(child, named, "--native")
-        said = comments(out)
+        notes = comments(out)
         self.assertEqual((status, out.split("\n")[0]), (0, "same"))
         self.assertIn("i386: some syscalls are allowed, such as restart_syscall (0): ALLOW; the profile also names "
-                      "SCMP_ARCH_X86, which is judged without --native", said)
+                      "SCMP_ARCH_X86, which is judged without --native", notes)
         status, out = self.verify(child, named)
         self.assertEqual((status, out.split("\n")[0]), (1, "differs"))
         self.assertIn("compared: x86-64 and i386 syscalls; other ABIs are only checked for any allowed syscall:",
                       comments(out))
-        self.assertIn("x32: some syscalls are allowed, such as read (0x40000000 + 0): ALLOW", said)
+        self.assertIn("x32: some syscalls are allowed, such as read (0x40000000 + 0): ALLOW", notes)
         logs_one = (load(4) + jeq(I386, 1, 0) + ret(ALLOW) + load(0) + jeq(3, 0, 1) + ret(0x7FFC0000)
                     + ret(EPERM))
-        said = comments(self.verify(self.child([logs_one]), ALLOWS_ALL)[1])
-        self.assertIn("i386: some syscalls are allowed, such as read (3): LOG", said)
-        self.assertIn("other ABIs: the kernel has no others", said)
+        notes = comments(self.verify(self.child([logs_one]), ALLOWS_ALL)[1])
+        self.assertIn("i386: some syscalls are allowed, such as read (3): LOG", notes)
+        self.assertIn("other ABIs: the kernel has no others", notes)
 
     @here
     def test_named_calls_alone(self):
@@ -425,16 +427,16 @@ class VerifyProcess(Confined):
     def test_json(self):
         child = self.child([refusing(MOUNT)], [refusing(UMOUNT2)], [])
         status, out = self.verify(child, refuses("mount", "umont2"), "--json")
-        found = json.loads(out)
-        self.assertEqual((status, found["status"], found["scope"], found["container"]), (1, 1, "native", None))
-        self.assertIn(found["verdict"], ("differs", "unconfined"))
-        by_thread = {stack["processes"][0]["threads"][0]: stack for stack in found["stacks"]}
-        main, other, free = child.threads
+        value = json.loads(out)
+        self.assertEqual((status, value["status"], value["scope"], value["container"]), (1, 1, "native", None))
+        self.assertIn(value["verdict"], ("differs", "unconfined"))
+        by_thread = {stack["processes"][0]["threads"][0]: stack for stack in value["stacks"]}
+        main, differing, free = child.threads
         self.assertEqual({thread: stack["verdict"] for thread, stack in by_thread.items()},
-                         {main: "same", other: "differs", free: "unconfined"})
-        self.assertEqual(by_thread[other]["call"]["names"], ["umount2"])
-        self.assertEqual(by_thread[other]["filter"], {"action": "ERRNO", "data": 1, "errno": "EPERM"})
-        self.assertEqual(by_thread[other]["profile"], {"action": "ALLOW", "data": 0})
+                         {main: "same", differing: "differs", free: "unconfined"})
+        self.assertEqual(by_thread[differing]["call"]["names"], ["umount2"])
+        self.assertEqual(by_thread[differing]["filter"], {"action": "ERRNO", "data": 1, "errno": "EPERM"})
+        self.assertEqual(by_thread[differing]["profile"], {"action": "ALLOW", "data": 0})
         self.assertEqual((by_thread[main]["skipped"], by_thread[main]["filters"]), (["umont2"], [9]))
         self.assertEqual([kind["not_denied"] for kind in by_thread[main]["foreign"]], [[], []])
         self.assertEqual(by_thread[main]["processes"][0]["process"], child.pid)
@@ -477,6 +479,19 @@ class Containers(Confined):
         if not kernel.is_root_the_first():
             self.skipTest("the tests run in a cgroup namespace of their own")
 
+    def child_in_a_namespace(self):
+        """A child whose own child is the first process of a PID namespace, and that one's number."""
+        if not shutil.which("unshare"):
+            self.skipTest("there is no unshare here")
+        child = subprocess.Popen(["unshare", "--pid", "--fork", "--kill-child", sys.executable, "-c", CHILD, "[[]]"],
+                                 stdin=subprocess.PIPE, stdout=subprocess.PIPE, text=True)
+        self.addCleanup(ended, child)
+        if child.stdout.readline() != "1\n":
+            self.skipTest("no PID namespace can be made here")
+        first = self.children(child.pid)[0]
+        self.skip_in_a_group(first)
+        return child, first
+
     @here
     def test_no_container(self):
         child = self.child([OLDEST])
@@ -488,17 +503,9 @@ class Containers(Confined):
     @here
     @ROOT
     def test_a_namespace(self):
-        if not shutil.which("unshare"):
-            self.skipTest("there is no unshare here")
-        kept, lax = (self.file(name, refusing(number)) for name, number in (("kept", MOUNT), ("lax", UMOUNT2)))
-        child = subprocess.Popen(["unshare", "--pid", "--fork", "--kill-child", sys.executable, "-c", CHILD, "[[]]"],
-                                 stdin=subprocess.PIPE, stdout=subprocess.PIPE, text=True)
-        self.addCleanup(ended, child)
-        if child.stdout.readline() != "1\n":
-            self.skipTest("no PID namespace can be made here")
-        first = ptrace.numbers_in(f"/proc/{child.pid}/task") and self.children(child.pid)[0]
-        self.skip_in_a_group(first)
-        self.do(child, f"(os.fork() or (confine([{lax!r}]), time.sleep(1000))); confine([{kept!r}]); "
+        strict, lax = (self.file(name, refusing(number)) for name, number in (("kept", MOUNT), ("lax", UMOUNT2)))
+        child, first = self.child_in_a_namespace()
+        self.do(child, f"(os.fork() or (confine([{lax!r}]), time.sleep(1000))); confine([{strict!r}]); "
                        f"print(2, flush=True)")
         self.assertEqual(child.stdout.readline(), "2\n")
         second = self.children(first)[0]
@@ -510,21 +517,21 @@ class Containers(Confined):
         self.assertIn(f"# process {second} (", blocks[0])
         self.assertIn(f"# process {first} (", blocks[1])
         self.assertEqual(comments(out)[-1], "the container is a PID namespace; its processes that were checked: 2")
-        found = json.loads(self.verify(first, refuses("mount"), "--all", "--json")[1])
-        self.assertEqual((found["status"], found["verdict"], found["container"]), (1, "differs", "a PID namespace"))
-        self.assertEqual([stack["processes"][0]["process"] for stack in found["stacks"]], [second, first])
+        value = json.loads(self.verify(first, refuses("mount"), "--all", "--json")[1])
+        self.assertEqual((value["status"], value["verdict"], value["container"]), (1, "differs", "a PID namespace"))
+        self.assertEqual([stack["processes"][0]["process"] for stack in value["stacks"]], [second, first])
         self.assertEqual(self.verify(first, refuses("mount"))[0], 0)
 
     def children(self, pid):
         with open(f"/proc/{pid}/task/{pid}/children", encoding="ascii") as file:
-            return [int(it) for it in file.read().split()]
+            return [int(number) for number in file.read().split()]
 
     def grouped(self, *places):
         """Puts processes into a control group of the test's own and into groups below it; gives its path.
 
         Each place is a child, the name of its group below, and the number of the process."""
         tops = ("/sys/fs/cgroup", "/sys/fs/cgroup/unified")
-        top = next((it for it in tops if os.path.exists(f"{it}/cgroup.procs")), None)
+        top = next((folder for folder in tops if os.path.exists(f"{folder}/cgroup.procs")), None)
         group = f"{top}/scf-test-{os.getpid()}"
         self.addCleanup(self.without, [child for child, _, _ in places], group)
         try:
@@ -554,30 +561,22 @@ class Containers(Confined):
     @ROOT
     def test_processes_of_its_namespace_in_other_groups(self):
         """Nothing tells whether they are the container's: it isn't said that it is confined."""
-        if not shutil.which("unshare"):
-            self.skipTest("there is no unshare here")
         name = self.file("kept", refusing(MOUNT))
-        child = subprocess.Popen(["unshare", "--pid", "--fork", "--kill-child", sys.executable, "-c", CHILD, "[[]]"],
-                                 stdin=subprocess.PIPE, stdout=subprocess.PIPE, text=True)
-        self.addCleanup(ended, child)
-        if child.stdout.readline() != "1\n":
-            self.skipTest("no PID namespace can be made here")
+        child, first = self.child_in_a_namespace()
         self.do(child, f"confine([{name!r}]); os.fork() or time.sleep(1000); print(2, flush=True)")
         self.assertEqual(child.stdout.readline(), "2\n")
-        first = self.children(child.pid)[0]
         second = self.children(first)[0]
-        self.skip_in_a_group(first)
         group = self.grouped((child, "inner", first))
         status, out, err = self.verify(first, refuses("mount"), "--all")
         with open(f"/proc/{second}/comm", encoding="utf-8") as file:
             called = file.read().strip()
-        told = (f"processes of its PID namespace in other control groups weren't checked: {second} "
+        note = (f"processes of its PID namespace in other control groups weren't checked: {second} "
                 f"({called}); whether they are the container's can't be known")
         self.assertEqual((status, err, comments(out)[-2:]),
-                         (4, "", [told, f"the container is the control group {group}/inner; its processes that "
+                         (4, "", [note, f"the container is the control group {group}/inner; its processes that "
                                         f"were checked: 1"]))
-        found = json.loads(self.verify(first, refuses("mount"), "--all", "--json")[1])
-        self.assertEqual((found["status"], found["verdict"], found["not_checked"]), (4, None, told))
+        value = json.loads(self.verify(first, refuses("mount"), "--all", "--json")[1])
+        self.assertEqual((value["status"], value["verdict"], value["not_checked"]), (4, None, note))
         # where both are, all is known
         self.grouped((child, "inner", second))
         self.assertEqual(self.verify(first, refuses("mount"), "--all")[0], 0)
@@ -600,14 +599,7 @@ class Containers(Confined):
         for child in children:
             child.kill()
             child.wait()
-        for _ in range(100):
-            for name, _, _ in os.walk(group, topdown=False):
-                try:
-                    os.rmdir(name)
-                except OSError:
-                    time.sleep(0.02)
-            if not os.path.exists(group):
-                break
+        comes(lambda: not remove_groups(group))
 
     def started(self, runtime, profile):
         """Why a runtime starts no container with this profile, or None where it runs."""
@@ -623,26 +615,26 @@ class Containers(Confined):
         config["linux"]["seccomp"] = profile
         self.file("box/config.json", json.dumps(config))
         self.addCleanup(subprocess.run, [runtime, "delete", "--force", name], stderr=subprocess.DEVNULL, check=False)
-        with open(os.path.join(self.folder, "said"), "w+b") as said:
+        with open(os.path.join(self.folder, "said"), "w+b") as messages:
             done = subprocess.run([runtime, "run", "--detach", "--pid-file", "pid", name], cwd=where, check=False,
-                                  stdin=subprocess.DEVNULL, stdout=said, stderr=said, timeout=PATIENCE)
-            said.seek(0)
-            return f"{runtime}: {said.read().decode(errors='replace').strip()}" if done.returncode else None
+                                  stdin=subprocess.DEVNULL, stdout=messages, stderr=messages, timeout=PATIENCE)
+            messages.seek(0)
+            return f"{runtime}: {messages.read().decode(errors='replace').strip()}" if done.returncode else None
 
     def container(self, profile, *runtimes):
         """The number of the process of a container that one of these runtimes starts with this profile."""
-        found = [it for it in runtimes if shutil.which(it)]
+        there = [runtime for runtime in runtimes if shutil.which(runtime)]
         busybox = shutil.which("busybox")
-        if not found or not busybox:
+        if not there or not busybox:
             self.skipTest(f"there is no {' and no '.join(runtimes)}, or no busybox, here")
-        said = []
-        for runtime in found:
+        reasons = []
+        for runtime in there:
             why = self.started(runtime, profile)
             if why is None:
                 with open(os.path.join(self.folder, "box/pid"), encoding="ascii") as file:
                     return int(file.read())
-            said.append(why)
-        return self.skipTest(f"no container can be started here: {'; '.join(said)}")
+            reasons.append(why)
+        return self.skipTest(f"no container can be started here: {'; '.join(reasons)}")
 
     @here
     @ROOT
@@ -672,10 +664,10 @@ class Containers(Confined):
         profile["syscalls"][0]["names"] = [name for name in allowed if name != "chroot"] + ["mount"]
         status, out, _ = self.verify(pid, json.dumps(profile))
         self.assertEqual(status, 1)
-        said = comments(out)
-        self.assertEqual(said[0], "syscalls in the table that differ: 2")
-        self.assertEqual([line.split()[:2] for line in said[1:3]], [["161", "chroot"], ["165", "mount"]])
-        self.assertTrue(said[3].startswith("syscalls with numbers above all that the profile names"), said)
+        notes = comments(out)
+        self.assertEqual(notes[0], "syscalls in the table that differ: 2")
+        self.assertEqual([line.split()[:2] for line in notes[1:3]], [["161", "chroot"], ["165", "mount"]])
+        self.assertTrue(notes[3].startswith("syscalls with numbers above all that the profile names"), notes)
         status, out, err = self.verify(pid, json.dumps(profile), "--all")
         self.assertEqual((status, err), (1, ""))
         self.assertIn("its processes that were checked: 1", out)
@@ -691,11 +683,12 @@ class Containers(Confined):
         subprocess.run(["runc", "exec", "--detach", name, "busybox", "sleep", "1000"], check=True,
                        stdin=subprocess.DEVNULL, stdout=subprocess.DEVNULL, stderr=subprocess.DEVNULL)
         kernel = processes.Kernel()
-        hierarchy = next((it for it in containers.HIERARCHIES if kernel.groups_of(pid).get(it, b"/") != b"/"), None)
+        groups = kernel.groups_of(pid)
+        hierarchy = next((name for name in containers.HIERARCHIES if groups.get(name, b"/") != b"/"), None)
         folder = {"": "unified", "name=systemd": "systemd"}.get(hierarchy, str(hierarchy))
-        top = next((it for it in (f"/sys/fs/cgroup/{folder}", "/sys/fs/cgroup") if os.path.exists(f"{it}/cgroup.procs")),
-                   None)
-        group = kernel.groups_of(pid)[hierarchy].decode()
+        tops = (f"/sys/fs/cgroup/{folder}", "/sys/fs/cgroup")
+        top = next((path for path in tops if os.path.exists(f"{path}/cgroup.procs")), None)
+        group = groups[hierarchy].decode()
         if top is None or not os.path.isdir(f"{top}{group}"):
             self.skipTest("the container has no control group of its own here")
         os.mkdir(f"{top}{group}/first")

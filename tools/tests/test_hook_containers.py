@@ -12,6 +12,7 @@ import unittest
 
 from support.common import TOP, comes, tool
 from support.confined import here
+from support.own_machine import podman_settings
 from test_filters_of import ROOT, refuses
 from test_oci_hook import Hook, processes
 from test_processes import EXECUTE
@@ -26,24 +27,6 @@ HYBRID = "/sys/fs/cgroup/unified"
 WITHOUT = ["unshare", "--mount", "--propagation", "private", "sh", "-c", f'umount {HYBRID}; exec "$@"', "sh"]
 ALONE = WITHOUT if os.path.ismount(HYBRID) else []
 PATH = {"env": [f"PATH={os.environ['PATH']}"]}
-# Limits that nobody needs a capability for, and folders and locks of podman's own.
-CONTAINERS = """[containers]
-netns = "none"
-default_ulimits = ["nofile=1024:1024", "nproc=1000:1000"]
-pids_limit = 0
-[engine]
-cgroup_manager = "cgroupfs"
-events_logger = "none"
-lock_type = "file"
-tmp_dir = "{0}/tmp"
-static_dir = "{0}/static"
-volume_path = "{0}/volumes"
-"""
-STORAGE = """[storage]
-driver = "vfs"
-graphroot = "{0}/root"
-runroot = "{0}/run"
-"""
 # A pause that is over soon; what needs longer hangs.
 SECONDS = 60
 
@@ -306,9 +289,7 @@ class Podman(Containers):
     """Podman with runc and with crun: the default profile of its own."""
 
     def podman(self, *words):
-        base = os.path.join(self.folder, "podman")
-        settings = {f"CONTAINERS_{name}": self.file(f"podman/{name}", text.format(base))
-                    for name, text in (("CONF", CONTAINERS), ("STORAGE_CONF", STORAGE))}
+        settings = podman_settings(self, f"{self.folder}/podman/run")
         return self.said([*ALONE, "podman", *words], env={**os.environ, **settings})
 
     def test_the_default_profile(self):

@@ -8,7 +8,7 @@ import subprocess
 import sys
 import unittest
 
-from support.common import ALLOW, EPERM, TOP, X86_64, Case, jeq, load, ret, tool
+from support.common import ALLOW, EPERM, LOADER, TOP, X86_64, Case, jeq, load, ret, tool
 
 sys.path.append(os.path.join(TOP, "tools"))
 
@@ -18,19 +18,14 @@ from scftools.architectures import NATIVE  # noqa: E402
 # Filters that allow all but a syscall that nobody makes.
 FIRST, SECOND, THIRD = (load(4) + jeq(X86_64, 0, 2) + load(0) + jeq(number, 1, 0) + ret(ALLOW) + ret(EPERM)
                         for number in (1000, 1001, 1002))
-# Loads a filter (seccomp(2) 317, prctl(2) 157; PR_SET_NO_NEW_PRIVS 38, PR_SET_SECCOMP 22, SECCOMP_MODE_FILTER 2), by
-# seccomp with these flags or by prctl.
-LOADING = """
-import ctypes, os, sys, threading
-libc = ctypes.CDLL(None, use_errno=True)
-class Program(ctypes.Structure):
-    _fields_ = [("len", ctypes.c_ushort), ("filter", ctypes.c_char_p)]
+# Loads filters by prctl(2) (PR_SET_SECCOMP 22, SECCOMP_MODE_FILTER 2), or with flags by seccomp(2).
+LOADING = LOADER + """
+libc, load_with_flags = library, load
 def load(data, flags=None):
-    program = Program(len(data) // 8, data)
+    if flags is not None:
+        return load_with_flags(data, flags)
     libc.prctl(38, 1, 0, 0, 0)
-    if flags is None:
-        return libc.prctl(22, 2, ctypes.byref(program))
-    return libc.syscall(317, 1, flags, ctypes.byref(program))
+    return libc.prctl(22, 2, ctypes.byref(Program(len(data) // 8, data)))
 FIRST, SECOND, THIRD = map(bytes.fromhex, sys.argv[1:4])
 """
 TSYNC, NEW_LISTENER = 1, 8
@@ -57,7 +52,7 @@ class Traced(Case):
 
     def taken(self, folder="out"):
         files = sorted(os.listdir(os.path.join(self.folder, folder)))
-        return [pathlib.Path(self.folder, folder, it).read_bytes() for it in files]
+        return [pathlib.Path(self.folder, folder, name).read_bytes() for name in files]
 
 
 class Filters(Traced):
@@ -211,7 +206,7 @@ class Recorded(Traced):
         status, _, err = self.run_tool("record", "--profile", base, "--", program)
         self.assertEqual((status, err.split("\n")[0]), (0, "record: writes true.json"))
         with open(self.path("true.json"), encoding="utf-8") as file:
-            self.assertIn("exit_group", [name for it in json.load(file)["syscalls"] for name in it["names"]])
+            self.assertIn("exit_group", [name for entry in json.load(file)["syscalls"] for name in entry["names"]])
 
     def test_the_terminal_interrupts_the_program_alone(self):
         script = "trap 'echo caught; exit 3' INT; echo ready; while :; do sleep 0.1; done"
@@ -241,7 +236,7 @@ class Recorded(Traced):
         self.assertEqual((status, out), (0, "ran\n"), err)
         with open(self.path("least.json"), encoding="utf-8") as file:
             least = json.load(file)
-        entries = {tuple(it["names"]): it.get("args") for it in least["syscalls"]}
+        entries = {tuple(entry["names"]): entry.get("args") for entry in least["syscalls"]}
         self.assertEqual(entries[("personality",)], [{"index": 0, "value": 0xFFFFFFFF, "op": "SCMP_CMP_EQ"}])
         self.assertEqual(least["defaultAction"], "SCMP_ACT_ERRNO")
         status, out, _ = self.run_python("record", "print('ran')", "--profile", self.file("bad", b"{}"), "least.json")

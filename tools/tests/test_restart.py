@@ -115,6 +115,11 @@ class Restarts(Confined):
             return None
         return int(word) if word.isdigit() else None
 
+    def second_of(self, child):
+        """The number of the second thread of a child, once there is one."""
+        self.assertTrue(comes(lambda: len(ptrace.numbers_in(f"/proc/{child.pid}/task")) == 2))
+        return next(number for number in ptrace.numbers_in(f"/proc/{child.pid}/task") if number != child.pid)
+
     def next_call_of(self, child):
         """The number of the call in which the main thread of a child waits next, None where it ends."""
         self.assertTrue(comes(lambda: child.poll() is not None or self.call_of(child.pid) is not None))
@@ -157,7 +162,6 @@ class Restarts(Confined):
         self.go_on([(KILL_PROCESS, name) for name in BEGIN_ANEW], lambda name: CALLS[name][0])
         self.go_on([(KILL_PROCESS, name) for name in END], lambda name: 0)
 
-
     def waiting(self, answer=KILL_PROCESS, name="nanosleep", before=""):
         """A child that waits in a call under a filter that answers restart_syscall so."""
         child = self.child([denying(answer)])
@@ -181,8 +185,7 @@ class Restarts(Confined):
             child = self.child([denying(answer)])
             self.do(child, "threading.Thread(target=lambda: print(threading.get_native_id(), "
                            f"library.usleep({WAIT * 1000000}), flush=True)).start()")
-            self.assertTrue(comes(lambda child=child: len(os.listdir(f"/proc/{child.pid}/task")) == 2))
-            second = next(int(name) for name in os.listdir(f"/proc/{child.pid}/task") if int(name) != child.pid)
+            second = self.second_of(child)
             self.assertTrue(comes(lambda second=second: self.call_of(second) in (NANOSLEEP, 230)))
             processes.look_at_process(processes.Kernel(), child.pid)
             self.assertEqual(child.stdout.readline(), f"{second} 0\n")
@@ -196,8 +199,7 @@ class Restarts(Confined):
         # (the second waits twice as long, so that what the two print can't mix)
         self.do(child, f"threading.Thread(target=lambda: print(library.syscall({POLL}, None, 0, {WAIT * 2000}), "
                        f"flush=True)).start()")
-        self.assertTrue(comes(lambda child=child: len(os.listdir(f"/proc/{child.pid}/task")) == 2))
-        second = next(int(name) for name in os.listdir(f"/proc/{child.pid}/task") if int(name) != child.pid)
+        second = self.second_of(child)
         self.waits(child, *CALLS["poll"][1::-1])
         self.assertEqual(self.call_of(second), POLL)
         processes.look_at_process(processes.Kernel(), child.pid)
@@ -226,11 +228,9 @@ class Restarts(Confined):
             given, child = self.file("later", denying(KILL_PROCESS, *numbers)), self.child([])
             self.do(child, f"threading.Thread(target=lambda: print(library.syscall({call}), ctypes.get_errno(), "
                            f"flush=True)).start()")
-            self.assertTrue(comes(lambda child=child: len(os.listdir(f"/proc/{child.pid}/task")) == 2))
-            second = next(int(name) for name in os.listdir(f"/proc/{child.pid}/task") if int(name) != child.pid)
+            second = self.second_of(child)
             self.assertTrue(comes(lambda second=second, numbers=numbers: self.call_of(second) == numbers[-1]))
-            self.do(child, f"data = open({given!r}, 'rb').read(); "
-                           f"print(library.syscall(317, 1, 1, ctypes.byref(Program(len(data) // 8, data))), flush=True)")
+            self.do(child, f"print(load(open({given!r}, 'rb').read(), 1), flush=True)")
             self.assertEqual(child.stdout.readline(), "0\n")
             inspection = processes.look_at_process(processes.Kernel(), child.pid)
             self.assertEqual(len(inspection.stacks[0].threads[child.pid]), 2)

@@ -39,12 +39,12 @@ def entry(names, action, lines, errno=None, *args):
 
 
 class Lists(Case):
-    def profile(self, text, *said):
+    def profile(self, text, *remarks):
         """The profile of a list, with what is said of it beside that it is one."""
         path = self.file("list", text)
         status, out, err = self.run_tool("resolve-profile", path)
         self.assertEqual(status, 0, err)
-        self.assertEqual([line.removeprefix("resolve-profile: ") for line in err.splitlines()][1:], list(said))
+        self.assertEqual([line.removeprefix("resolve-profile: ") for line in err.splitlines()][1:], list(remarks))
         return json.loads(out)
 
     def are_refused(self, texts):
@@ -67,32 +67,33 @@ class Lists(Case):
                               stdin=subprocess.DEVNULL, stdout=subprocess.PIPE, stderr=subprocess.STDOUT,
                               start_new_session=True) as process:
             try:
-                said = process.communicate(timeout=60)[0]
+                messages = process.communicate(timeout=60)[0]
             except subprocess.TimeoutExpired:
                 os.killpg(process.pid, signal.SIGKILL)
                 raise
         with open(path, encoding="utf-8", errors="replace") as file:
-            return list(filter_loads.stacks_in(file.read().split("\n"))), said
+            return list(filter_loads.stacks_in(file.read().split("\n"))), messages
 
 
 class Policies(Lists):
     """LXC's: lxc.container.conf(5), and what LXC 5 refuses."""
 
     def test_the_manual_page(self):
-        found = self.profile("2\ndenylist\nmknod errno 0\nioctl notify\n")
-        self.assertEqual(found, {"defaultAction": "SCMP_ACT_ALLOW", "architectures": [NATIVE, I386, X32], "syscalls": [
-            entry("mknod", "ERRNO", "line 3", 0), entry("ioctl", "NOTIFY", "line 4")]})
-        found = self.profile("1\nallowlist\n0\n 231 # exit_group\n")
-        self.assertEqual(found, {"defaultAction": "SCMP_ACT_KILL_THREAD", "architectures": [NATIVE], "syscalls": [
+        profile = self.profile("2\ndenylist\nmknod errno 0\nioctl notify\n")
+        self.assertEqual(profile, {
+            "defaultAction": "SCMP_ACT_ALLOW", "architectures": [NATIVE, I386, X32],
+            "syscalls": [entry("mknod", "ERRNO", "line 3", 0), entry("ioctl", "NOTIFY", "line 4")]})
+        profile = self.profile("1\nallowlist\n0\n 231 # exit_group\n")
+        self.assertEqual(profile, {"defaultAction": "SCMP_ACT_KILL_THREAD", "architectures": [NATIVE], "syscalls": [
             entry("read exit_group", "ALLOW", "lines 3-4")]})
 
     def test_rules(self):
         """As common.seccomp of LXC has them, with conditions."""
-        found = self.profile("2\nblacklist trap\nreject_force_umount  # may be [left out\n".replace("[", "") + "[all]\n"
-                             "kexec_load errno 1\n\n# a comment\n  # another\nfinit_module errno 1\n"
-                             "clone errno 5 [0,0x10,==][1,010,!=]\nswapon kill [1,2,&=,0x3]\nacct\nsync allow\n")
-        self.assertEqual(found["defaultAction"], "SCMP_ACT_TRAP")
-        self.assertEqual(found["syscalls"], [
+        profile = self.profile("2\nblacklist trap\nreject_force_umount  # may be left out\n[all]\n"
+                               "kexec_load errno 1\n\n# a comment\n  # another\nfinit_module errno 1\n"
+                               "clone errno 5 [0,0x10,==][1,010,!=]\nswapon kill [1,2,&=,0x3]\nacct\nsync allow\n")
+        self.assertEqual(profile["defaultAction"], "SCMP_ACT_TRAP")
+        self.assertEqual(profile["syscalls"], [
             entry("umount2", "ERRNO", "line 3", 13, (1, "MASKED_EQ", 1, 1)),
             entry("kexec_load finit_module", "ERRNO", "lines 5, 9", 1),
             entry("clone", "ERRNO", "line 10", 5, (0, "EQ", 16, 0), (1, "NE", 8, 0)),
@@ -101,20 +102,21 @@ class Policies(Lists):
 
     def test_architectures(self):
         """Sections of other machines are left out; those of this one's hold for all of its architectures."""
-        found = self.profile("2\ndenylist\n[arm]\nread errno 1\n[x86]\nacct errno 1\n[X86_64]\nsync errno 2\n",
-                             "line 3: the rules of [arm] are for other machines, and left out",
-                             "line 6: LXC applies the rules of [x86] to x86-64, too")
-        self.assertEqual([it["names"] for it in found["syscalls"]], [["acct"], ["sync"]])
-        found = self.profile("2\ndenylist\nsocket errno 1\nnosuch errno 1\n",
-                             "left out, as by the sandbox, since libseccomp doesn't know them: nosuch",
-                             "the profile leaves i386 out: LXC makes no rule of socket there")
-        self.assertEqual(found["architectures"], [NATIVE, X32])
+        profile = self.profile("2\ndenylist\n[arm]\nread errno 1\n[x86]\nacct errno 1\n[X86_64]\nsync errno 2\n",
+                               "line 3: the rules of [arm] are for other machines, and left out",
+                               "line 6: LXC applies the rules of [x86] to x86-64, too")
+        self.assertEqual([listed["names"] for listed in profile["syscalls"]], [["acct"], ["sync"]])
+        profile = self.profile("2\ndenylist\nsocket errno 1\nnosuch errno 1\n",
+                               "left out, as by the sandbox, since libseccomp doesn't know them: nosuch",
+                               "the profile leaves i386 out: LXC makes no rule of socket there")
+        self.assertEqual(profile["architectures"], [NATIVE, X32])
 
     def test_several_rules_of_a_syscall(self):
-        found = self.profile("2\ndenylist\nmknod errno 1\nmknod errno 2\nacct errno 4 [0,1,==]\nacct errno 5\n",
-                             "line 4 has no effect on mknod: line 3 covers it",
-                             "line 5 has no effect on acct: line 6 covers it")
-        self.assertEqual(found["syscalls"], [entry("mknod", "ERRNO", "line 3", 1), entry("acct", "ERRNO", "line 6", 5)])
+        profile = self.profile("2\ndenylist\nmknod errno 1\nmknod errno 2\nacct errno 4 [0,1,==]\nacct errno 5\n",
+                               "line 4 has no effect on mknod: line 3 covers it",
+                               "line 5 has no effect on acct: line 6 covers it")
+        self.assertEqual(profile["syscalls"], [entry("mknod", "ERRNO", "line 3", 1),
+                                               entry("acct", "ERRNO", "line 6", 5)])
 
     def test_what_lxc_refuses(self):
         self.are_refused({

@@ -95,6 +95,19 @@ def stub(number, answer=0x00050026):
     return load(0) + jge(number, 0, 1) + ret(answer)
 
 
+# What a script of Python's begins with that puts its thread under filters: load has the kernel take the bytes of one, by
+# seccomp(2) with flags (317, SECCOMP_SET_MODE_FILTER), behind PR_SET_NO_NEW_PRIVS; its result is below 0 if it doesn't.
+LOADER = """
+import ctypes, json, os, resource, sys, threading, time
+library = ctypes.CDLL(None, use_errno=True)
+class Program(ctypes.Structure):
+    _fields_ = [("len", ctypes.c_ushort), ("filter", ctypes.c_char_p)]
+def load(data, flags=0):
+    library.prctl(38, 1, 0, 0, 0)
+    return library.syscall(317, 1, flags, ctypes.byref(Program(len(data) // 8, data)))
+"""
+
+
 def comes(holds):
     """Whether something holds in the end."""
     until = time.monotonic() + PATIENCE

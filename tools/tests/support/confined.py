@@ -11,7 +11,7 @@ import sys
 import time
 import unittest
 
-from .common import ALLOW, EPERM, PATIENCE, TOP, Case, comes, jeq, load, ret
+from .common import ALLOW, EPERM, LOADER, PATIENCE, TOP, Case, comes, jeq, load, ret
 
 sys.path[:0] = [os.path.join(TOP, "tools"), os.path.join(TOP, "conformance")]
 from kernel_child import (SECCOMP_IOCTL_NOTIF_RECV,  # noqa: E402 pylint: disable=wrong-import-position
@@ -21,16 +21,10 @@ from scftools import processes, ptrace  # noqa: E402 pylint: disable=wrong-impor
 # Its words: a JSON list, for each thread the names of its filters' files, oldest first; the main thread's is the first.
 # Each thread is put under its own filters, the main one last, since threads that are begun later inherit them. It
 # prints the numbers of its threads, and then does what it reads, a line of Python at a time, in the main thread.
-CHILD = """
-import ctypes, json, os, sys, threading, time
-class Program(ctypes.Structure):
-    _fields_ = [("len", ctypes.c_ushort), ("filter", ctypes.c_char_p)]
-library = ctypes.CDLL(None, use_errno=True)
-library.prctl(38, 1, 0, 0, 0)
+CHILD = LOADER + """
 def confine(names):
     for name in names:
-        data = open(name, "rb").read()
-        if library.prctl(22, 2, ctypes.byref(Program(len(data) // 8, data)), 0, 0):
+        if load(open(name, "rb").read()):
             print("errno", ctypes.get_errno(), flush=True)
             os._exit(1)
 numbers = [os.getpid()]

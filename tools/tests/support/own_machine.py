@@ -12,7 +12,7 @@ import time
 import unittest
 
 from . import json_schema
-from .common import PATIENCE, Case, comes
+from .common import LOADER, PATIENCE, Case, comes
 from .confined import here
 
 BUSYBOX = shutil.which("busybox")
@@ -34,25 +34,20 @@ for line in sys.stdin:
 # Starts processes: its words are a JSON list of a name, the names of filters' files, the number of processes and the
 # number of threads of each. Each process waits in read(2), which its filters must allow. It prints their numbers, and
 # ends.
-CROWD = r"""
-import ctypes, json, os, sys, threading, time
-class Program(ctypes.Structure):
-    _fields_ = [("len", ctypes.c_ushort), ("filter", ctypes.c_char_p)]
-library = ctypes.CDLL(None, use_errno=True)
+CROWD = LOADER + r"""
 threading.stack_size(1 << 16)
 read, write = os.pipe()
 def status_of(number):
     return dict(it.split(":\t", 1) for it in open(f"/proc/{number}/status", errors="replace") if ":\t" in it)
 def be(name, files, threads):
     library.prctl(15, name.encode("utf-8", "surrogateescape"), 0, 0, 0)
-    library.prctl(38, 1, 0, 0, 0)
     for _ in range(threads - 1):
         threading.Thread(target=os.read, args=(read, 1), daemon=True).start()
     for file in (0, 1, 2):
         os.close(file)
     for data in [open(it, "rb").read() for it in files]:
-        # seccomp(2): SECCOMP_SET_MODE_FILTER, SECCOMP_FILTER_FLAG_TSYNC
-        if library.syscall(317, 1, 1, ctypes.byref(Program(len(data) // 8, data))):
+        # SECCOMP_FILTER_FLAG_TSYNC
+        if load(data, 1):
             os._exit(1)
     os.read(read, 1)
 numbers = []
@@ -72,6 +67,32 @@ for name, files, count, threads in json.loads(sys.argv[1]):
             time.sleep(0.001)
 print(json.dumps(numbers))
 """
+
+
+# Limits that nobody needs a capability for, and folders and locks of podman's own.
+PODMAN_CONF = """[containers]
+netns = "none"
+default_ulimits = ["nofile=1024:1024", "nproc=1000:1000"]
+pids_limit = 0
+[engine]
+cgroup_manager = "cgroupfs"
+events_logger = "none"
+lock_type = "file"
+tmp_dir = "{0}/tmp"
+static_dir = "{0}/static"
+volume_path = "{0}/volumes"
+"""
+PODMAN_STORAGE_CONF = """[storage]
+driver = "vfs"
+graphroot = "{0}/root"
+runroot = "{1}"
+"""
+
+
+def podman_settings(case, run_root):
+    """The environment in which podman keeps all that it has in a test's folder."""
+    return {f"CONTAINERS_{name}": case.file(f"podman/{name}", text.format(f"{case.folder}/podman", run_root))
+            for name, text in (("CONF", PODMAN_CONF), ("STORAGE_CONF", PODMAN_STORAGE_CONF))}
 
 
 def remove_groups(top):
