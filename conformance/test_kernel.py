@@ -144,7 +144,7 @@ class Regions(Asked):
         program = [word.format(folder=self.folder) for word in words]
         subprocess.run([*STRACE, log, "timeout", "--signal=KILL", "3", *program],
                        stdin=subprocess.DEVNULL, stdout=subprocess.DEVNULL, stderr=subprocess.DEVNULL, check=False)
-        stacks = filter_loads.stacks_in(strace.lines(log, filter_loads.LONGEST_LINE))
+        stacks = filter_loads.stacks_in(strace.lines(log, filter_loads.LONGEST_LOAD))
         return [[self.file(f"{words[0]}.{stack}.{at}", data) for at, data in enumerate(filters)]
                 for stack, filters in enumerate(stacks)]
 

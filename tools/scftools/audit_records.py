@@ -33,9 +33,9 @@ OF_KERNEL = (rf"(?:(?:<[0-9]{{1,3}}>)?(?:[a-z0-9]{{1,9}} {{0,9}}:[a-z]{{1,9}} {{
 OF_AUDITD = rf"(?:{LOGGED}audisp[a-z-]{{1,9}}(?:\[[0-9]{{1,10}}\])?: )?(?:node=\S{{1,255}} )?"
 # How the two kinds of records begin: by their number (linux/audit.h), auditd's name, and journald's, where a record is
 # one that it took from the kernel itself.
-KINDS = Pattern(rf"\A(?:(?:{OF_KERNEL}(?:audit: )?|{OF_AUDITD})type=(1326|SECCOMP|1300|SYSCALL) (?:msg=)?(?=audit\()|"
-                rf"{LOGGED}audit(?:\[[0-9]{{1,10}}\])?: (SECCOMP|SYSCALL) )")
-SECCOMP, SYSCALL = ("1326", "SECCOMP"), ("1300", "SYSCALL")
+RECORD_KINDS = Pattern(rf"\A(?:(?:{OF_KERNEL}(?:audit: )?|{OF_AUDITD})type=(1326|SECCOMP|1300|SYSCALL) (?:msg=)?"
+                       rf"(?=audit\()|{LOGGED}audit(?:\[[0-9]{{1,10}}\])?: (SECCOMP|SYSCALL) )")
+SECCOMP_KINDS, SYSCALL_KINDS = ("1326", "SECCOMP"), ("1300", "SYSCALL")
 # Records of other types, and ausearch's lines between those of one event.
 OTHER = Pattern(rf"\A(?:(?:{OF_KERNEL}(?:audit: )?|{OF_AUDITD})type=[A-Z0-9_\[\]]{{1,40}} (?:msg=)?audit\(|"
                 r"(?:----|time->.*|<no matches>)\Z)")
@@ -62,7 +62,7 @@ class Malformed(Exception):
 
 
 @dataclass(frozen=True)
-class Record:
+class SeccompRecord:
     """An audit record of seccomp: its syscall, the high halves that the answer may have, and the process."""
 
     number: int
@@ -76,7 +76,7 @@ class Record:
 
 
 @dataclass(frozen=True)
-class Syscall:
+class SyscallRecord:
     """An audit record of a syscall that a rule of auditctl logs: its first four arguments, as they are printed."""
 
     number: int
@@ -105,8 +105,8 @@ def architecture_of(text: str | None) -> int:
 
 def named_number(name: str, architecture: int, tables: dict[str, Table]) -> int | None:
     """The number of a syscall by its name in an architecture, None if no table has it."""
-    own = tables.get(architectures.profile_name(architecture) or "")
-    return None if own is None else own.number_of(name)
+    table = tables.get(architectures.profile_name(architecture) or "")
+    return None if table is None else table.number_of(name)
 
 
 def number_of(text: str, architecture: int, tables: dict[str, Table]) -> int:
@@ -145,11 +145,11 @@ def name_of(text: str) -> str:
 
 def kind_of(line: str) -> tuple[str, int] | None:
     """Which record a line has, by its type's name, and where it begins."""
-    found = KINDS.search(line)
-    return (found[1] or found[2], found.end() - 1) if found else None
+    match = RECORD_KINDS.search(line)
+    return (match[1] or match[2], match.end() - 1) if match else None
 
 
-def record_in(line: str, at: int, tables: dict[str, Table]) -> Record:
+def record_in(line: str, at: int, tables: dict[str, Table]) -> SeccompRecord:
     """The record of seccomp that begins there; the last fields count, since those before may have a process's words."""
     text = line[at:].partition(ENRICHED)[0]
     tails, who = list(TAIL.finditer(text)), WHO.search(text)
@@ -158,20 +158,21 @@ def record_in(line: str, at: int, tables: dict[str, Table]) -> Record:
     _, arch, number, _, pointer, code = tails[-1].groups()
     architecture, time = architecture_of(arch), TIME.search(line, at, at + 64)
     process = who[1] if who and re.fullmatch("[0-9]{1,10}", who[1]) else None
-    return Record(number_of(number, architecture, tables), architecture, _number(pointer, "ip", (1 << 64) - 1, 16),
-                  halves_of(code), int(process) if process else None, name_of(who[2]) if who else "",
-                  float(f"{time[1]}.{time[2]}") if time else None)
+    return SeccompRecord(number_of(number, architecture, tables), architecture,
+                         _number(pointer, "ip", (1 << 64) - 1, 16), halves_of(code), int(process) if process else None,
+                         name_of(who[2]) if who else "", float(f"{time[1]}.{time[2]}") if time else None)
 
 
-def syscall_in(line: str, at: int, tables: dict[str, Table]) -> Syscall:
+def syscall_in(line: str, at: int, tables: dict[str, Table]) -> SyscallRecord:
     """The record of a syscall that begins there. The kernel writes the arguments in hexadecimal."""
     text = line[at:].partition(ENRICHED)[0]
-    found = CALL.search(text)
-    if not found:
+    match = CALL.search(text)
+    if not match:
         raise Malformed("the record is cut: it has no arch= syscall= a0= a1= a2= a3=")
-    architecture = architecture_of(found[1])
-    return Syscall(number_of(found[2], architecture, tables), architecture,
-                   tuple(f"0x{it}" if re.fullmatch("[0-9a-f]{1,16}", it) else it for it in found.groups()[2:]))
+    arch, number, *arguments = match.groups()
+    architecture = architecture_of(arch)
+    return SyscallRecord(number_of(number, architecture, tables), architecture, tuple(
+        f"0x{value}" if re.fullmatch("[0-9a-f]{1,16}", value) else value for value in arguments))
 
 
 def is_own_record(message: bytes) -> bool:

@@ -17,7 +17,7 @@ SHOWN = 5
 
 
 @dataclass
-class Report:
+class LogReport:
     """The causes of all events of a log and of its most telling denials, and what else is in it."""
 
     log: EventLog
@@ -31,12 +31,12 @@ class Report:
 
     @property
     def status(self) -> int:
-        """The worst of all."""
-        statuses = {it.status for it in self.causes}
-        if self.log.faults:
+        log = self.log
+        statuses = {cause.status for cause in self.causes}
+        if log.faults:
             statuses.add(program.IO_ERROR)
-        if not self.causes or self.log.left or self.log.suppressed or self.denials and self.denials.is_partial or \
-                any(it.has_syscall for it in self.log.cores):
+        if not self.causes or log.beyond or log.suppressed or any(core.has_syscall for core in log.cores) or \
+                self.denials and self.denials.is_partial:
             statuses.add(program.UNKNOWN)
         return client.worst(statuses)
 
@@ -50,22 +50,22 @@ def _denials(log: EventLog, given: Inputs) -> Denials | None:
             denied = denials.of(log.failures, given)
             failure = None if denied.of else log.last_failure
         except Refusal:
-            denied, failure = None, next((it.event for it in log.failures.of.values()), None)
+            denied, failure = None, next((failure.event for failure in log.failures.of.values()), None)
     if failure is not None and not log.events:
         log.add(failure)
     return denied
 
 
-def of(log: EventLog, given: Inputs, is_all: bool) -> Report:
+def of(log: EventLog, given: Inputs, is_all: bool) -> LogReport:
     """The causes of a log's events and of its denials; where there are none, of its last syscall, if that failed."""
     denied = _denials(log, given)
     shown = len(denied.of) if denied and is_all else SHOWN
-    found = [causes.of(event, count, given) for event, count in log.events.values()]
-    found += [it.cause(given) for it in denied.of[:shown]] if denied else []
-    return Report(log, given, found, denied, shown)
+    of_events = [causes.of(event, count, given) for event, count in log.events.values()]
+    of_denials = [denial.cause(given) for denial in denied.of[:shown]] if denied else []
+    return LogReport(log, given, of_events + of_denials, denied, shown)
 
 
-def lines(report: Report) -> Iterator[str]:
+def lines(report: LogReport) -> Iterator[str]:
     """What is printed of all events, and of what else is in the log."""
     log, denied = report.log, report.denials
     for cause in report.causes:
@@ -74,20 +74,20 @@ def lines(report: Report) -> Iterator[str]:
         yield f"# line {number} isn't judged: {why}" if number else f"# a line isn't judged: {why}"
     if log.suppressed:
         yield f"# records that the kernel left out, since too many came at once: {log.suppressed}"
-    if log.left:
-        yield f"# records of more syscalls than {EVENTS} different ones, which aren't judged: {log.left}"
+    if log.beyond:
+        yield f"# records of more syscalls than {EVENTS} different ones, which aren't judged: {log.beyond}"
     if denied is not None and not (report.causes and log.failures.count == 1):
         yield from output.notes(denials.lines(denied, report.shown, report.given))
-    yield from output.notes(it.describe() for it in log.cores)
+    yield from output.notes(core.describe() for core in log.cores)
     if not report.causes and not log.faults and not log.failures.count and not log.cores:
         yield from output.notes(report.lacking)
 
 
-def as_json(report: Report) -> dict[str, object]:
+def as_json(report: LogReport) -> dict[str, object]:
     log, denied = report.log, report.denials
     has_failures = denied is not None and log.failures.count + log.failures.before_load
-    return {"status": report.status, "events": [causes.as_json(it) for it in report.causes],
+    return {"status": report.status, "events": [causes.as_json(cause) for cause in report.causes],
             "faults": [{"line": number, "why": why} for number, why in log.faults],
-            "suppressed": log.suppressed, "not_judged": log.left,
-            **({"cores": [it.as_json() for it in log.cores]} if log.cores else {}),
+            "suppressed": log.suppressed, "not_judged": log.beyond,
+            **({"cores": [core.as_json() for core in log.cores]} if log.cores else {}),
             **({"failures": denials.as_json(denied, report.shown, report.given.table)} if has_failures else {})}

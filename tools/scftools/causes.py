@@ -31,7 +31,7 @@ class Side:
 
     # "the profile", "the filter" or "the filters"
     name: str
-    found: tuple[Case, ...] = ()
+    cases: tuple[Case, ...] = ()
     verdict: str = UNKNOWN
     refusal: Refusal | None = None
     # whether the syscall is of an architecture that the profile names, and that isn't judged
@@ -39,7 +39,6 @@ class Side:
 
     @property
     def are(self) -> bool:
-        """Whether it is several."""
         return self.name.endswith("s")
 
 
@@ -65,7 +64,7 @@ class Inputs:
     @functools.cached_property
     def of_filters(self) -> AnsweringStack:
         """What the filters answer. Raises Refusal."""
-        return AnsweringStack.of_filters([it.data for it in self.filters])
+        return AnsweringStack.of_filters([each.data for each in self.filters])
 
     @functools.cached_property
     def of_profile(self) -> AnsweringStack:
@@ -88,40 +87,41 @@ class Cause:
 
     @property
     def sides(self) -> list[Side]:
-        return [it for it in (self.profile, self.filters) if it is not None]
+        return [side for side in (self.profile, self.filters) if side is not None]
 
     @property
     def status(self) -> int:
         verdicts = {CONTRADICTS: program.NEGATIVE, UNKNOWN: program.UNKNOWN, FITS: program.SUCCESS}
-        return client.worst(verdicts[it.verdict] if it.refusal is None else it.refusal.status for it in self.sides)
+        return client.worst(verdicts[side.verdict] if side.refusal is None else side.refusal.status
+                            for side in self.sides)
 
 
 def _side(name: str, stack_of: Callable[[], AnsweringStack], event: Event) -> Side:
     try:
-        found = tuple(cases(stack_of(), event))
+        answers = tuple(cases(stack_of(), event))
     except Refusal as why:
         return Side(name, refusal=why)
-    return Side(name, found, verdict_of(found))
+    return Side(name, answers, verdict_of(answers))
 
 
 def of(event: Event, count: int, given: Inputs, common: Event | None = None) -> Cause:
     """What a profile and filters say of an event; of several, with what is `common` to all, which the changes allow."""
-    found = Cause(event, count, given)
+    cause = Cause(event, count, given)
     if given.filters:
         name = "the filter" if len(given.filters) == 1 else "the filters"
-        found.filters = _side(name, lambda: given.of_filters, event)
+        cause.filters = _side(name, lambda: given.of_filters, event)
     if given.profile is None:
-        return found
+        return cause
     reason = reasons.of(given.profile, given.judged, event.call.words())
     if decisions.is_undetermined(reason, event.call, given.profile, given.judged):
-        found.profile = Side("the profile", is_undetermined=True)
-        return found
-    found.profile = _side("the profile", lambda: given.of_profile, event)
-    denied = next((it for it in found.profile.found if not it.answer.allows), None)
+        cause.profile = Side("the profile", is_undetermined=True)
+        return cause
+    cause.profile = _side("the profile", lambda: given.of_profile, event)
+    denied = next((case for case in cause.profile.cases if not case.answer.allows), None)
     if denied is not None:
         reason = reasons.of(given.profile, given.judged, denied.call.words())
-        found.changes = list(amendment.amendments(given.profile, common or event, reason, given.trial))
-    return found
+        cause.changes = list(amendment.amendments(given.profile, common or event, reason, given.trial))
+    return cause
 
 
 def _arguments(call: Call, table: Table) -> str:
@@ -146,23 +146,24 @@ def _of_event(cause: Cause) -> Iterator[str]:
         data = "" if event.outcome.data is None or len(event.outcome.actions) == 1 else \
             f", with {event.outcome.data} as data"
         yield f"the action is {event.outcome.describe()}{data}"
-    known = [(index, values[0]) for index, values in enumerate(event.arguments) if values and len(values) == 1]
-    if known and not event.unknown:
-        yield f"its arguments: {_arguments(event.with_values(dict(known)), cause.given.table)}"
-    elif known:
-        yield "its arguments, as far as they are shown: " + ", ".join(f"{at} is {value:#x}" for at, value in known)
+    arguments = {index: values[0] for index, values in enumerate(event.arguments) if values and len(values) == 1}
+    if arguments and not event.unknown:
+        yield f"its arguments: {_arguments(event.with_values(arguments), cause.given.table)}"
+    elif arguments:
+        yield ("its arguments, as far as they are shown: "
+               + ", ".join(f"{index} is {value:#x}" for index, value in arguments.items()))
     yield LACKS[event.source]
 
 
 def _relation(side: Side, event: Event) -> str:
     """How the answers of a party stand beside an event that they contradict."""
     s, them = "" if side.are else "s", "them" if side.are else "it"
-    ranks, own = [rank(it.answer.word >> 16) for it in side.found], list(map(rank, event.outcome.halves))
+    ranks, of_event = [rank(case.answer.word >> 16) for case in side.cases], [*map(rank, event.outcome.halves)]
     others = f"another filter of the process answered so, or it isn't under {side.name}"
-    if min(ranks) > max(own):
+    if min(ranks) > max(of_event):
         itself = "the kernel itself, or " if event.outcome.is_result else ""
         return f"{side.name} {'are' if side.are else 'is'} more permissive: {itself}{others}"
-    if max(ranks) < min(own):
+    if max(ranks) < min(of_event):
         return f"{side.name} would have answered more strictly: the process isn't under {them}"
     return f"{side.name} answer{s} otherwise: {others}"
 
@@ -174,7 +175,7 @@ def _of_verdict(side: Side, event: Event) -> Iterator[str]:
         yield _relation(side, event)
     elif side.verdict == UNKNOWN:
         yield f"whether {side.name} answer{s} so with other arguments isn't known"
-    elif all(it.fits and it.is_for_all for it in side.found):
+    elif all(case.fits and case.is_for_all for case in side.cases):
         yield f"so {side.name} answer{s} it"
     else:
         yield f"so {side.name} answer{s} it with such arguments, and not with all"
@@ -188,50 +189,39 @@ def _of_case(case: Case, event: Event, table: Table) -> Iterator[str]:
         yield "whatever the arguments are" if len(event.unknown) == 6 else "whatever the other arguments are"
 
 
-def _of_profile(cause: Cause) -> Iterator[str]:
-    """What the profile answers, and by which entry."""
-    side, given = cause.profile, cause.given
-    if side is None or given.profile is None:
-        return
-    if side.refusal is not None:
-        yield from refusals.lines_of(side.refusal, given.profile or b"", given.judged)
-        return
-    if side.is_undetermined:
-        yield FOR_OTHER_ABI
-        return
-    for case in side.found:
-        reason = reasons.of(given.profile, given.judged, case.call.words())
-        yield reason.line
-        yield f"# {case.answer.describe()}"
-        call = None if case.is_for_all and cause.event.unknown else case.call
-        yield from output.notes(reasons.describe(reason, given.profile, call))
-        yield from output.notes(_of_case(case, cause.event, given.table))
-    yield from output.notes(_of_verdict(side, cause.event))
-
-
-def _of_path(case: Case, given: Inputs) -> Iterator[str]:
-    """Which of the filters gives the answer, and its last tests."""
-    givers = listing.deciding_filters(given.filters, case.call.words(), case.answer)
-    yield from decisions.of_givers(given.filters, givers)
-    giver = listing.to_show(givers)
-    if giver is not None:
-        yield from giver.last_tests(case.call, given.table)
-
-
-def _of_filters(cause: Cause) -> Iterator[str]:
-    """What the filters answer, and by which tests."""
-    side, given = cause.filters, cause.given
+def _of_side(side: Side | None, cause: Cause, of_case: Callable[[Case, Cause], Iterator[str]]) -> Iterator[str]:
+    """What a party answers, in each way that the arguments may be."""
     if side is None:
         return
     if side.refusal is not None:
-        yield from refusals.lines_of(side.refusal, b"", given.judged)
-        return
-    for case in side.found:
-        yield case.answer.line
-        yield f"# {case.answer.describe()}"
-        yield from output.notes(_of_case(case, cause.event, given.table))
-        yield from output.notes(_of_path(case, given))
-    yield from output.notes(_of_verdict(side, cause.event))
+        yield from refusals.lines_of(side.refusal, cause.given.profile or b"", cause.given.judged)
+    elif side.is_undetermined:
+        yield FOR_OTHER_ABI
+    else:
+        for case in side.cases:
+            yield from of_case(case, cause)
+        yield from output.notes(_of_verdict(side, cause.event))
+
+
+def _of_profile(case: Case, cause: Cause) -> Iterator[str]:
+    """The profile's answer, and by which entry it is."""
+    given = cause.given
+    reason = reasons.of(given.profile, given.judged, case.call.words())
+    yield reason.line
+    call = None if case.is_for_all and cause.event.unknown else case.call
+    yield from output.notes([case.answer.describe(), *reasons.describe(reason, given.profile, call),
+                             *_of_case(case, cause.event, given.table)])
+
+
+def _of_filters(case: Case, cause: Cause) -> Iterator[str]:
+    """The filters' answer, which of them gives it, and its last tests."""
+    given = cause.given
+    yield case.answer.line
+    givers = listing.deciding_filters(given.filters, case.call.words(), case.answer)
+    giver = listing.to_show(givers)
+    yield from output.notes([case.answer.describe(), *_of_case(case, cause.event, given.table),
+                             *decisions.of_givers(given.filters, givers),
+                             *(giver.last_tests(case.call, given.table) if giver is not None else ())])
 
 
 def _of_changes(cause: Cause) -> Iterator[str]:
@@ -245,39 +235,39 @@ def _of_changes(cause: Cause) -> Iterator[str]:
 def lines(cause: Cause) -> Iterator[str]:
     """What is printed of an event: scf's lines, and those of the tool marked by `# `."""
     yield from output.notes(_of_event(cause))
-    yield from _of_profile(cause)
-    yield from _of_filters(cause)
+    yield from _of_side(cause.profile, cause, _of_profile)
+    yield from _of_side(cause.filters, cause, _of_filters)
     yield from output.notes(_of_changes(cause))
 
 
-def _side_json(side: Side, cause: Cause) -> dict[str, object]:
-    found: dict[str, object] = {"verdict": side.verdict, "cases": [
-        {"call": it.call.as_json(cause.given.table), "answer": it.answer.as_json(), "is_for_all": it.is_for_all,
-         "fits": it.fits} for it in side.found]}
-    if side.refusal is not None:
-        fault = side.refusal.fault
-        found["fault"] = fault.as_json() if fault else side.refusal.line
-    return found
+def _side_json(side: Side, cause: Cause, of_case: Callable[[Case], dict[str, object]]) -> dict[str, object]:
+    table, refusal = cause.given.table, side.refusal
+    value: dict[str, object] = {"verdict": side.verdict, "cases": [
+        {"call": case.call.as_json(table), "answer": case.answer.as_json(), "is_for_all": case.is_for_all,
+         "fits": case.fits, **of_case(case)} for case in side.cases]}
+    return value if refusal is None else {**value, "fault": refusal.fault.as_json() if refusal.fault else refusal.line}
 
 
 def as_json(cause: Cause) -> dict[str, object]:
     event, given = cause.event, cause.given
-    found: dict[str, object] = {
+
+    def of_profile(case: Case) -> dict[str, object]:
+        profile = given.profile or b""
+        return reasons.as_json(reasons.of(profile, given.judged, case.call.words()), profile, None)
+
+    def of_filters(case: Case) -> dict[str, object]:
+        givers = listing.deciding_filters(given.filters, case.call.words(), case.answer)
+        return {"filters": [giver.filter.name for giver in givers]}
+
+    value: dict[str, object] = {
         "status": cause.status, "source": event.source, "process": event.process, "name": event.name,
         "count": cause.count, "call": event.call.as_json(given.table), "actions": list(event.outcome.actions),
         "data": event.outcome.data,
         "arguments": [None if values is None else list(map(hex, values)) for values in event.arguments]}
     if cause.profile is not None:
-        found["profile"] = _side_json(cause.profile, cause)
-        for case, shown in zip(cause.profile.found, found["profile"]["cases"]):
-            reason = reasons.of(given.profile or b"", given.judged, case.call.words())
-            shown.update(reasons.as_json(reason, given.profile or b"", None))
+        value["profile"] = _side_json(cause.profile, cause, of_profile)
     if cause.filters is not None:
-        found["filters"] = _side_json(cause.filters, cause)
-        for case, shown in zip(cause.filters.found, found["filters"]["cases"]):
-            givers = listing.deciding_filters(given.filters, case.call.words(), case.answer)
-            shown["filters"] = [it.filter.name for it in givers]
+        value["filters"] = _side_json(cause.filters, cause, of_filters)
     if event.outcome.is_result:
-        found["has_ended"] = cause.has_ended
-    found["changes"] = [it.as_json() for it in cause.changes]
-    return found
+        value["has_ended"] = cause.has_ended
+    return {**value, "changes": [change.as_json() for change in cause.changes]}

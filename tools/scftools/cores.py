@@ -5,6 +5,8 @@ errno (force_sig_seccomp in kernel/signal.c); and the registers as they were at 
 """
 from __future__ import annotations
 
+# (the module signal makes enums of its constants)
+from _signal import SIGSYS
 import itertools
 import struct
 from collections.abc import Iterator
@@ -21,7 +23,7 @@ from .values import dataclass
 MAGIC, CORE_FILE, NOTES, MACHINE_386, MACHINE_X86_64 = b"\x7fELF", 4, 4, 3, 62
 PRSTATUS, PRPSINFO, SIGINFO = 1, 3, 0x53494749
 # asm-generic/siginfo.h
-SIGSYS_NUMBER, SYS_SECCOMP, SYS_USER_DISPATCH = 31, 1, 2
+SYS_SECCOMP, SYS_USER_DISPATCH = 1, 2
 # The registers of a core of i386 (struct user_regs_struct in asm/user_32.h), by the names of x86-64's.
 REGISTERS_386 = ("rbx", "rcx", "rdx", "rsi", "rdi", "rbp", "rax", "ds", "es", "fs", "gs", "orig_rax", "rip")
 # The most notes that are read, and the most bytes of one.
@@ -104,8 +106,8 @@ def _signal(note: bytes, layout: Layout) -> tuple[int, int, int, int]:
     if len(note) < offset + union.size:
         raise refused("has a note of the signal that is cut")
     signal, data, code = struct.unpack_from("<iii", note)
-    if signal != SIGSYS_NUMBER:
-        raise refused(f"is of signal {signal}, and not of SIGSYS ({SIGSYS_NUMBER}), by which a filter ends a process")
+    if signal != SIGSYS:
+        raise refused(f"is of signal {signal}, and not of SIGSYS ({SIGSYS}), by which a filter ends a process")
     if code != SYS_SECCOMP:
         raise refused("is of a SIGSYS that is no filter's: " + (
             "it is of syscall user dispatch" if code == SYS_USER_DISPATCH else f"a process sent it (si_code {code})"))

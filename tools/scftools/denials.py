@@ -2,6 +2,8 @@
 the most telling first."""
 from __future__ import annotations
 
+import errno
+from collections import Counter
 from collections.abc import Iterator, Sequence
 
 from . import causes, reasons
@@ -11,24 +13,20 @@ from .events import Event, Failure, Failures
 from .tables import Table
 from .values import dataclass, field, replace
 
-# The errno of a call for which the process lacks a capability (capabilities(7)).
-EPERM = 1
-
-
 @dataclass
 class Denial:
     """Failures of one syscall by one entry: the last one, with the arguments that all of them have in common."""
 
     failure: Failure
     common: Event
-    count: int
+    count: int = 0
     # whether a process that ended with a failure had none after it
     has_ended: bool = False
 
     def add(self, failure: Failure) -> None:
         self.count += failure.count
         pairs = zip(self.common.arguments, failure.event.arguments)
-        self.common = replace(self.common, arguments=tuple(its if its == others else None for its, others in pairs))
+        self.common = replace(self.common, arguments=tuple(old if old == new else None for old, new in pairs))
         if failure.last > self.failure.last:
             self.failure = failure
 
@@ -55,17 +53,18 @@ class Denials:
 
     @property
     def count(self) -> int:
-        return sum(it.count for it in self.of)
+        return sum(denial.count for denial in self.of)
 
     @property
     def is_partial(self) -> bool:
         """Whether of some it isn't known whether they are denials."""
-        return bool(self.unknown or self.failures.left)
+        return bool(self.unknown or self.failures.beyond)
 
     @property
     def by_other_cause(self) -> list[Failure]:
-        """Failures with EPERM, but not by the profile, or the filters."""
-        return [it for it in self.otherwise if it.event.outcome.data == EPERM]
+        """Failures with EPERM, which a process without a capability gets (capabilities(7)), but not by the profile, or
+        the filters."""
+        return [failure for failure in self.otherwise if failure.event.outcome.data == errno.EPERM]
 
 
 def _key(case: Case, failure: Failure, given: Inputs) -> tuple[object, ...]:
@@ -88,47 +87,40 @@ def of(failures: Failures, given: Inputs) -> Denials:
         elif verdict != FITS:
             denials.unknown += failure.count
         else:
-            key = key_of[kind] = _key(next(it for it in answers if it.fits), failure, given)
-            if key in by_key:
-                by_key[key].add(failure)
-            else:
-                by_key[key] = Denial(failure, failure.event, failure.count)
+            key = key_of[kind] = _key(next(case for case in answers if case.fits), failure, given)
+            by_key.setdefault(key, Denial(failure, failure.event)).add(failure)
     for kinds in failures.of_ended:
-        last = next((key_of[it] for it in kinds if it in key_of), None)
+        last = next((key_of[kind] for kind in kinds if kind in key_of), None)
         if last is not None:
             by_key[last].has_ended = True
-    denials.of = sorted(by_key.values(), key=lambda it: it.order)
+    denials.of = sorted(by_key.values(), key=lambda denial: denial.order)
     return denials
 
 
 def _counted(failures: Sequence[tuple[Event, int]], table: Table) -> str:
-    counts: dict[str, int] = {}
+    counts: Counter[str] = Counter()
     for event, count in failures:
-        name = event.call.describe(table)
-        counts[name] = counts.get(name, 0) + count
+        counts[event.call.describe(table)] += count
     return ", ".join(name + (f" {count} times" if count > 1 else "") for name, count in counts.items())
 
 
 def lines(denials: Denials, shown: int, given: Inputs) -> Iterator[str]:
-    """What is said of all failures together."""
     failures, table = denials.failures, given.table
     name = "the profile" if given.profile is not None else "the filter" if len(given.filters) == 1 else "the filters"
     s = "" if name.endswith("s") else "s"
     if failures.count:
         yield f"syscalls that failed: {failures.count}; to which {name} answer{s} so: {denials.count}"
-    more = denials.of[shown:]
-    if more:
-        counted = _counted([(it.failure.event, it.count) for it in more], table)
-        yield f"of these aren't shown, since they tell less (--all shows them): {counted}"
-    others = denials.by_other_cause
+    hidden = _counted([(denial.failure.event, denial.count) for denial in denials.of[shown:]], table)
+    if hidden:
+        yield f"of these aren't shown, since they tell less (--all shows them): {hidden}"
+    others = _counted([(failure.event, failure.count) for failure in denials.by_other_cause], table)
     if others:
-        counted = _counted([(it.event, it.count) for it in others], table)
-        yield (f"with EPERM, but not by {name}: {counted}: the kernel itself answers so, for example if the process "
+        yield (f"with EPERM, but not by {name}: {others}: the kernel itself answers so, for example if the process "
                "lacks a capability, or another filter does")
     if denials.unknown:
         yield f"of which it isn't known: {denials.unknown}"
-    if failures.left:
-        yield f"with too many different arguments, which aren't judged: {failures.left}"
+    if failures.beyond:
+        yield f"with too many different arguments, which aren't judged: {failures.beyond}"
     if failures.before_load:
         yield f"before a filter is loaded, or in a process without one, which aren't judged: {failures.before_load}"
 
@@ -140,7 +132,7 @@ def as_json(denials: Denials, shown: int, table: Table) -> dict[str, object]:
         return [{"call": event.call.as_json(table), "errno": event.outcome.data, "count": count} for event, count in of]
 
     return {"count": failures.count, "denied": denials.count,
-            "not_shown": listed([(it.failure.event, it.count) for it in denials.of[shown:]]),
-            "by_other_cause": listed([(it.event, it.count) for it in denials.by_other_cause]),
-            "unknown": denials.unknown, "not_judged": failures.left, "before_load": failures.before_load}
+            "not_shown": listed([(denial.failure.event, denial.count) for denial in denials.of[shown:]]),
+            "by_other_cause": listed([(failure.event, failure.count) for failure in denials.by_other_cause]),
+            "unknown": denials.unknown, "not_judged": failures.beyond, "before_load": failures.before_load}
 

@@ -6,12 +6,12 @@ import itertools
 import re
 from collections.abc import Iterable, Iterator
 
-from . import audit_records, filter_loads, journals, strace, tables
+from . import audit_records, journals, strace, tables
 from .answers import ACTIONS, DOES, MAX_ERRNO, NUMBERS_OF_ERRNOS, Answer
 from .architectures import JUDGED, Architecture
 from .audit_records import Malformed
 from .calls import Call
-from .confinement import Confinement
+from .confinement import SUPERSEDED, Confinement
 from .tables import Table
 from .values import Pattern, dataclass, field, replace
 
@@ -24,7 +24,7 @@ RECORD, CORE, STRACE = "the record", "the core", "strace's line"
 KILLS = ("KILL_THREAD", "KILL_PROCESS", "UNNAMED")
 # What may let a syscall fail.
 FAILS = ("ERRNO", "TRACE", "USER_NOTIF")
-SIGSYS = Pattern(r"--- SIGSYS \{([^}]{0,1000})\} ---")
+SIGSYS_LINE = Pattern(r"--- SIGSYS \{([^}]{0,1000})\} ---")
 MEMBER = Pattern(r"\b(si_\w+)=(\w+)")
 KILLED = Pattern(r"\+\+\+ killed by SIGSYS")
 # How a process ends that failed: by a signal, or with another status than 0.
@@ -131,12 +131,12 @@ class Failures:
     # how many there are, how many stand before the loading of a filter, and how many are of more kinds than are kept
     count: int = 0
     before_load: int = 0
-    left: int = 0
+    beyond: int = 0
 
     def add(self, event: Event) -> None:
         self.count += 1
         if event.key not in self.of and len(self.of) >= FAILURES:
-            self.left += 1
+            self.beyond += 1
             return
         failure = self.of.setdefault(event.key, Failure(event))
         failure.event, failure.count, failure.last = event, failure.count + 1, self.count
@@ -144,7 +144,7 @@ class Failures:
     def shows_load(self) -> None:
         """The first filter is loaded: what failed before isn't its answer."""
         self.before_load += self.count
-        self.of, self.of_ended, self.count, self.left = {}, [], 0, 0
+        self.of, self.of_ended, self.count, self.beyond = {}, [], 0, 0
 
 
 @dataclass
@@ -162,19 +162,18 @@ class EventLog:
     # what coredumpctl lists
     cores: journals.Cores = field(default_factory=journals.Cores)
     # events beyond the most that are kept
-    left: int = 0
+    beyond: int = 0
 
     def add(self, event: Event) -> None:
-        kept = self.events.get(event.key)
-        if kept is not None:
-            kept[1] += 1
+        if event.key in self.events:
+            self.events[event.key][1] += 1
         elif len(self.events) < EVENTS:
             self.events[event.key] = [event, 1]
         else:
-            self.left += 1
+            self.beyond += 1
 
 
-def of_record(record: audit_records.Record) -> Event:
+def of_record(record: audit_records.SeccompRecord) -> Event:
     call = Call(record.number, record.architecture, record.pointer)
     actions = tuple(ACTIONS.get(half, "UNNAMED") for half in record.halves)
     outcome = Outcome(actions, record.halves[0] if actions == ("UNNAMED",) else None)
@@ -185,8 +184,8 @@ class _Ends(strace.Log):
     """A strace log, of which the last syscall of each process is kept, those that SIGSYS ended, and those that
     failed."""
 
-    def __init__(self, known: dict[str, Table]):
-        super().__init__(lambda *_: (), known)
+    def __init__(self, tables_of: dict[str, Table]):
+        super().__init__(lambda *_: (), tables_of)
         # the last syscall of each process
         self.last: dict[str | None, _Printed] = {}
         self.killed: list[_Printed] = []
@@ -240,8 +239,7 @@ class _Ends(strace.Log):
                 every.pop(next(iter(every)))
 
     def _ends(self, who: str | None, text: str) -> None:
-        """A process or thread ends, or goes on as another."""
-        superseded = filter_loads.SUPERSEDED.match(text)
+        superseded = SUPERSEDED.match(text)
         if superseded:
             self.confinement.supersedes(who, superseded[1])
             return
@@ -249,12 +247,12 @@ class _Ends(strace.Log):
         failed = self._failed.pop(process, None) if is_bad or process == who else None
         if failed and is_bad and len(self.failures.of_ended) < EVENTS:
             self.failures.of_ended.append([*reversed(failed)])
-        self.confinement.ends(who)
+        self.confinement.forget(who)
 
     def _add(self, who: str | None, line: strace.Line) -> None:
         self.confinement.begins(who, self._makers)
         super()._add(who, line)
-        signal = SIGSYS.match(line.text)
+        signal = SIGSYS_LINE.match(line.text)
         if signal and len(self.signals) < EVENTS:
             self.signals.append((who, signal[1], self.last.pop(who, None)))
         elif line.text.startswith("+++ "):
@@ -305,49 +303,47 @@ class _Printed:
         return None if code is None else self.event(Outcome(FAILS, data=code, is_result=True))
 
 
-def _of_signal(who: str | None, members: str, call: _Printed | None, known: dict[str, Table]) -> Event:
+def _of_signal(who: str | None, members: str, call: _Printed | None, tables_of: dict[str, Table]) -> Event:
     """SIGSYS as strace shows it: by TRAP, with the data as si_errno."""
-    found = dict(MEMBER.findall(members))
-    if found.get("si_code") != "SYS_SECCOMP":
+    values = dict(MEMBER.findall(members))
+    if values.get("si_code") != "SYS_SECCOMP":
         raise Malformed("SIGSYS isn't a filter's: its si_code isn't SYS_SECCOMP")
-    named, code = found.get("si_syscall", "").removeprefix("__NR_"), found.get("si_errno", "0")
-    architecture = audit_records.architecture_of(found.get("si_arch"))
-    number = int(named, 0) if re.fullmatch("0x[0-9a-f]{1,8}|0|[1-9][0-9]{0,8}", named) else \
-        audit_records.named_number(named, architecture, known)
+    name, code = values.get("si_syscall", "").removeprefix("__NR_"), values.get("si_errno", "0")
+    architecture = audit_records.architecture_of(values.get("si_arch"))
+    number = int(name, 0) if re.fullmatch("0x[0-9a-f]{1,8}|0|[1-9][0-9]{0,8}", name) else \
+        audit_records.named_number(name, architecture, tables_of)
     if number is None:
-        raise Malformed(f"si_syscall={named[:64]}: the table has no such name")
+        raise Malformed(f"si_syscall={name[:64]}: the table has no such name")
     data = int(code, 0) if re.fullmatch("0x[0-9a-f]{1,4}|0|[1-9][0-9]{0,4}", code) else NUMBERS_OF_ERRNOS.get(code)
-    pointer = re.fullmatch("0x([0-9a-f]{1,16})", found.get("si_call_addr", ""))
-    outcome = Outcome(("TRAP",), data=data)
+    address = re.fullmatch("0x([0-9a-f]{1,16})", values.get("si_call_addr", ""))
+    outcome, pointer = Outcome(("TRAP",), data=data), int(address[1], 16) if address else None
     if call is not None and call.record == (number, architecture):
-        return call.event(outcome, int(pointer[1], 16) if pointer else None)
-    return Event(STRACE, Call(number, architecture, int(pointer[1], 16) if pointer else None), outcome,
-                 process=int(who) if who else None)
+        return call.event(outcome, pointer)
+    return Event(STRACE, Call(number, architecture, pointer), outcome, process=int(who) if who else None)
 
 
-def _of_ends(ends: _Ends, found: EventLog) -> None:
-    """The events of a strace log: each SIGSYS; and what failed."""
+def _of_ends(ends: _Ends, log: EventLog) -> None:
+    """Adds the events of a strace log: each SIGSYS; and what failed."""
     for who, members, call in ends.signals:
         try:
-            found.add(_of_signal(who, members, call, ends.tables))
+            log.add(_of_signal(who, members, call, ends.tables))
         except Malformed as why:
-            found.faults.append((0, str(why)))
-    numbered = [it for it in ends.killed if it.is_its_number()]
+            log.faults.append((0, str(why)))
+    numbered = [printed for printed in ends.killed if printed.is_its_number()]
     if not ends.signals or numbered:
         # of a process with several threads all are killed, and the syscalls of the others don't end
         for printed in numbered or ends.killed:
-            found.add(printed.event(Outcome(KILLS if numbered else ("KILL_THREAD",))))
-    found.failures, found.last_failure = ends.failures, ends.last_failure
+            log.add(printed.event(Outcome(KILLS if numbered else ("KILL_THREAD",))))
+    log.failures, log.last_failure = ends.failures, ends.last_failure
 
 
-class _Reader:
+class _LogReader:
     """What the lines of a log of any kind have."""
 
     def __init__(self, lines: Iterable[str], table: Table):
         self.log, self._lines, self._ends = EventLog(), iter(lines), _Ends(tables.of_architectures(JUDGED, table).of)
 
     def _take(self, number: int, line: str) -> None:
-        """Takes a line."""
         is_entry = line.startswith('{"')
         if line == "[" or line.startswith("[{"):
             self.log.cores.take_list(line, self._lines)
@@ -363,7 +359,7 @@ class _Reader:
             return False
         if suppressed:
             self.log.suppressed += int(suppressed[1])
-        elif kind is not None and kind[0] in audit_records.SECCOMP:
+        elif kind is not None and kind[0] in audit_records.SECCOMP_KINDS:
             self.log.add(of_record(audit_records.record_in(line, kind[1], self._ends.tables)))
         return True
 
@@ -380,4 +376,4 @@ class _Reader:
 
 def read(lines: Iterable[str], table: Table) -> EventLog:
     """The events in the lines of a log of any kind."""
-    return _Reader(lines, table).read()
+    return _LogReader(lines, table).read()

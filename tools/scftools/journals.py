@@ -6,6 +6,8 @@ message is told from a record, whatever it says. coredumpctl has no syscall: the
 """
 from __future__ import annotations
 
+# (the module signal makes enums of its constants)
+from _signal import SIGSYS
 import itertools
 import json
 from collections.abc import Iterable, Iterator
@@ -14,9 +16,8 @@ from . import output
 from .audit_records import Malformed
 from .values import Any, Pattern, dataclass
 
-SIGSYS = 31
 # The most cores that are kept, and the most lines of `coredumpctl --json=pretty list`, which has ten a core.
-CORES, LINES = 200, 100000
+MOST_CORES, MOST_LIST_LINES = 200, 100000
 # The lines of `coredumpctl info` that are read: the first of a process, its signal, and where its core is.
 PROCESS = Pattern(r" {1,16}PID: ([0-9]{1,10})(?: \((.{0,256})\))?\Z")
 SIGNAL = Pattern(r" {1,16}Signal: ([0-9]{1,3}) \(")
@@ -61,7 +62,7 @@ def message_in(line: str) -> str:
     """The message of an entry as the kernel's log has it; an empty one if neither the kernel nor audit wrote it."""
     entry = _parsed(line, "an entry as `journalctl -o json` prints it")
     message = entry.get("MESSAGE")
-    if isinstance(message, list) and all(isinstance(it, int) and 0 <= it < 256 for it in message):
+    if isinstance(message, list) and all(isinstance(byte, int) and 0 <= byte < 256 for byte in message):
         # (one with a control character)
         message = bytes(message).decode("latin-1")
     if not isinstance(message, str):
@@ -78,7 +79,7 @@ class Cores(list):
     def take(self, line: str) -> bool:
         """Takes a line of `coredumpctl info`; whether it begins a process."""
         process = PROCESS.match(line)
-        if process and len(self) < CORES:
+        if process and len(self) < MOST_CORES:
             self.append(Core(int(process[1]), process[2] or ""))
         elif self and line.startswith(" "):
             signal = SIGNAL.match(line)
@@ -91,15 +92,14 @@ class Cores(list):
     def take_list(self, first: str, lines: Iterable[str]) -> None:
         """Takes what `coredumpctl --json list` prints, of which the first line is read: on one line, or pretty."""
         if first == "[":
-            first = "".join(itertools.chain(first, itertools.islice(_until_end(lines), LINES)))
-        for one in _parsed(first, "a list as `coredumpctl --json=short list` prints it"):
-            number, signal = (one.get(it) if isinstance(one, dict) else None for it in ("pid", "sig"))
-            if isinstance(number, int) and isinstance(signal, int) and len(self) < CORES:
-                self.append(Core(number, str(one.get("exe") or ""), signal, one.get("corefile") == "present"))
+            first = "".join(itertools.chain(first, itertools.islice(_until_end(lines), MOST_LIST_LINES)))
+        for entry in _parsed(first, "a list as `coredumpctl --json=short list` prints it"):
+            process, signal = (entry.get(name) if isinstance(entry, dict) else None for name in ("pid", "sig"))
+            if isinstance(process, int) and isinstance(signal, int) and len(self) < MOST_CORES:
+                self.append(Core(process, str(entry.get("exe") or ""), signal, entry.get("corefile") == "present"))
 
 
 def _until_end(lines: Iterable[str]) -> Iterator[str]:
-    """Lines up to the one that ends a list."""
     for line in lines:
         yield line
         if line == "]":

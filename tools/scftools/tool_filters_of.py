@@ -63,7 +63,6 @@ def read_words():
 
 
 def the_one_stack(stacks, process):
-    """The stack that all threads share."""
     if len(stacks) > 1:
         shares = "".join(f"; {processes.threads_text(stack.threads[process])}: {stack.description}" for stack in stacks)
         raise program.ToolError(f"the threads of process {process} don't have the same filters{shares}; --thread takes "
@@ -78,7 +77,7 @@ def the_one_stack(stacks, process):
 def loaded_in(log, label, thread):
     """The stack that the processes of a log share, or that one thread has."""
     try:
-        stacks = filter_loads.stacks_in(strace.lines(log, filter_loads.LONGEST_LINE))
+        stacks = filter_loads.stacks_in(strace.lines(log, filter_loads.LONGEST_LOAD))
     except c_arrays.NotAnArray as why:
         raise program.ToolError(f"the filters in {label} can't be read: {why}", program.IO_ERROR) from why
     if thread is not None:
@@ -123,7 +122,6 @@ def write(named, folder):
 
 
 def of_process(options):
-    """The stack of a running process."""
     kernel = processes.Kernel()
 
     def read():

@@ -105,7 +105,7 @@ class Trace(strace.Log):
         if kind is None:
             return audit_records.OTHER.search(line) is not None
         try:
-            if kind[0] in audit_records.SYSCALL:
+            if kind[0] in audit_records.SYSCALL_KINDS:
                 found = audit_records.syscall_in(line, kind[1], self.tables)
                 values = {at: int(it, 16) for at, it in enumerate(found.arguments) if HEXADECIMAL.fullmatch(it)}
                 self._by_number(number, found.number, values, architecture=found.architecture)

@@ -162,6 +162,11 @@ class Logs(Denials):
         # before strace shows whose child it is
         self.assertEqual(self.lines_of(f"7  {LOAD}", "7  vfork( <unfinished ...>", f"8  {DENIED}",
                                        "7  <... vfork resumed>) = 8", f"8  {DENIED}"), [("chroot", 2)])
+        # what such a child loads itself stays
+        for begin in ("vfork(", "clone(child_stack=0x7f01, flags=CLONE_VM|CLONE_SIGHAND|CLONE_THREAD"):
+            self.assertEqual(self.lines_of(f"7  {begin} <unfinished ...>", f"8  {LOAD}",
+                                           f"7  <... {begin.partition('(')[0]} resumed>) = 8", f"8  {DENIED}"),
+                             [("chroot", 1)])
         # the first process has a number only as long as there are others
         self.assertEqual(self.lines_of(LOAD, f"{clone} = 8", f"[pid     8] {DENIED}", f"[pid     7] {DENIED}"),
                          [("chroot", 2)])
