@@ -15,9 +15,8 @@ import time
 from collections import Counter
 from collections.abc import Callable, Iterable, Sequence
 
-from . import (bundles, child, client, compare_output, container_files, engines, firejail_programs, hold, lxc_configs,
-               lxc_policies, machine, output, program, sandbox_rules, snap_programs, unit_profiles, units, verdicts,
-               verify)
+from . import (bundles, child, client, compare_output, container_files, engines, hold, lxc_policies, machine, output,
+               program, sandbox_programs, sandbox_rules, unit_profiles, units, verdicts, verify)
 from .architectures import I386
 from .compare import Comparison
 from .container_files import ContainerDescription
@@ -50,7 +49,7 @@ MOST_CACHED, MOST_CACHED_BYTES = 2000, 1 << 26
 # scf's comparisons may take with all their steps.
 SECONDS_OF_A_USER, SECONDS_OF_USERS, LEAST_SECONDS, SECONDS_OF_SCF = 5.0, 20.0, 0.25, 3.0
 BEYOND = "it isn't looked at: to judge all of this user takes too long"
-STRICT = "it is in seccomp's strict mode, which no profile expresses"
+IN_STRICT_MODE = "it is in seccomp's strict mode, which no profile expresses"
 
 
 def sha256(data: bytes) -> str:
@@ -91,10 +90,6 @@ class Expectation:
     def is_stated(self) -> bool:
         """Whether it is stated how the processes are confined, or isn't known whether it is."""
         return self.digest is not None or self.why is not None
-
-    def without_profile(self) -> Expectation:
-        """This expectation without its profile, of which only the digest stays, once all is judged."""
-        return replace(self, asked=None, dropped=self.digest)
 
 
 @dataclass(frozen=True)
@@ -171,7 +166,6 @@ class AuditRow:
 
     @property
     def capabilities(self) -> list[str]:
-        """The capabilities that some of its processes have."""
         held = 0
         for process in self.processes:
             held |= process.capabilities
@@ -207,7 +201,6 @@ class Audit:
 
     @property
     def status(self) -> int:
-        """The exit status."""
         bad = {WEAKER, UNCONFINED_THOUGH, *([] if self.allows_unconfined else [BY_CONFIGURATION])}
         if any(row.verdict in bad or row.is_unconfined and row.verdict == NOT_KNOWN for row in self.rows):
             return program.NEGATIVE
@@ -216,7 +209,6 @@ class Audit:
 
     @property
     def counts(self) -> Counter[tuple[str, str]]:
-        """The rows by kind and verdict."""
         return Counter((row.kind, row.verdict) for row in self.rows)
 
     @property
@@ -268,17 +260,15 @@ class StackJudge:
         self.foreign = Cache()
 
     def keep(self, key: tuple[object, ...], judgement: StackJudgement) -> StackJudgement:
-        """Keeps a verdict, and hands it back."""
         comparison = judgement.comparison
         return self.judgements.keep(key, judgement, len(comparison.profile) if comparison is not None else 0)
 
     def forget_unknown(self) -> None:
         """Forgets what isn't known: it may have taken too long, and may be known with more time."""
-        for key in [key for key, judgement in self.judgements.values.items() if judgement.verdict == NOT_KNOWN]:
-            del self.judgements.values[key]
-        for key in [key for key, answers in self.foreign.values.items()
-                    if not all(answer.is_decided for answer in answers)]:
-            del self.foreign.values[key]
+        self.judgements.values = {key: judgement for key, judgement in self.judgements.values.items()
+                                  if judgement.verdict != NOT_KNOWN}
+        self.foreign.values = {key: answers for key, answers in self.foreign.values.items()
+                               if all(answer.is_decided for answer in answers)}
 
     def judge(self, stack: Stack, asked: Request | None, relation: str = SAME) -> StackJudgement:
         """The verdict on a stack with filters."""
@@ -343,9 +333,9 @@ class StackJudge:
 
     def judge_all(self, stack: Stack, expected: Expectation) -> StackJudgement:
         """The verdict on a stack with filters beside all that is expected."""
-        own = tuple(data for data in stack.filters if data != expected.beside)
-        stack = replace(stack, filters=own) if own else stack
-        judgements = [self.judge(stack, expected.asked), *(self.judge(stack, request) for request in expected.others)]
+        filters = tuple(data for data in stack.filters if data != expected.beside)
+        stack = replace(stack, filters=filters) if filters else stack
+        judgements = (self.judge(stack, request) for request in (expected.asked, *expected.others))
         worst = min(judgements, key=lambda judgement: WORST_FIRST.index(judgement.verdict))
         if expected.doubt is None or worst.verdict in (NOT_KNOWN, AS_CONFIGURED):
             return worst
@@ -371,6 +361,10 @@ class Options:
     # None for all architectures that a profile names
     scope: str | None = None
 
+    def request(self, profile: bytes, relation: str = SAME, **settings: Any) -> Request:
+        """The question how filters stand beside a profile."""
+        return Request(profile, self.table, self.scope, relation, **settings)
+
     def check(self) -> None:
         """Raises a ToolError if scf refuses a profile, the table or the limit. Two entries that conflict, or two
         conditions on one argument, are left to the runtimes, which accept them."""
@@ -392,8 +386,7 @@ class Expectations:
         self.options = options
         self.requests = Cache()
         self.names = container_files.Names()
-        self.sandboxes: dict[firejail_programs.Sandbox, Expectation] = {}
-        self.snaps: dict[str, Expectation | None] = {}
+        self.of_lists: dict[object, Expectation | None] = {}
 
     def _asked(self, config: dict[str, Any], runtime: str | None) -> Request | str:
         """The question about a configuration, once for each distinct one; or why there is none."""
@@ -420,7 +413,7 @@ class Expectations:
             return None
         name, data = self.options.expected
         if runtime is None:
-            return Expectation(Request(data, self.options.table, self.options.scope), name)
+            return Expectation(self.options.request(data), name)
         value = json.loads(data)
         linux = value.get("linux") if isinstance(value, dict) else None
         return self._of_config({"linux": linux if isinstance(linux, dict) else {"seccomp": value}}, runtime, name)
@@ -453,54 +446,54 @@ class Expectations:
             return Expectation(source=container.config)
         return self._of_config(config, container.runtime, container.config)
 
+    def _of_list(self, key: object, source: str, read: Callable[[], Expectation | None]) -> Expectation | None:
+        """The expectation that is read of a sandbox's own list, or why it can't be; once for each key."""
+        if key not in self.of_lists:
+            try:
+                self.of_lists[key] = self.of_all() or read()
+            except (UnreadableFile, sandbox_rules.ListError) as why:
+                self.of_lists[key] = Expectation(source=source, why=str(why))
+        return self.of_lists[key]
+
+    def _of_groups(self, profiles: Sequence[tuple[bytes, Sequence[str]]], source: str,
+                   doubt: str | None = None) -> Expectation:
+        """The expectation of several profiles, each for its architectures."""
+        named = [oci for _, architectures in profiles for oci in architectures]
+        asked, *others = (self.options.request(profile, elsewhere=tuple(oci for oci in named if oci not in of_profile))
+                          for profile, of_profile in profiles)
+        return Expectation(asked, source, others=tuple(others), doubt=doubt)
+
     def _of_lxc(self, container: ContainerDescription) -> Expectation:
         """The expectation of a container of LXC, whose configuration only its name tells."""
-        path = lxc_configs.path_of(container.identifier)
-        try:
-            policy_path = lxc_configs.policy_path(container.read, path)
+        path = sandbox_programs.lxc_config(container.identifier)
+
+        def read() -> Expectation:
+            policy_path = sandbox_programs.lxc_policy(container.read, path)
             if policy_path is None:
                 return Expectation(source=path)
-            policy = lxc_policies.read(container.read(policy_path, sandbox_rules.MOST_BYTES))
-        except (UnreadableFile, sandbox_rules.ListError) as why:
-            return Expectation(source=path, why=str(why))
-        policies = [policy, *policy.others] if self.options.scope is None else [policy]
-        listed = [oci for each in policies for oci in each.architectures]
-        asked, *others = (Request(each.data(), self.options.table, self.options.scope,
-                                  elsewhere=tuple(oci for oci in listed if oci not in each.architectures))
-                          for each in policies)
-        return Expectation(asked, policy_path, others=tuple(others))
+            policy = lxc_policies.read(container.read(policy_path, sandbox_rules.MOST_LIST_BYTES))
+            policies = [policy, *policy.others] if self.options.scope is None else [policy]
+            return self._of_groups([(each.data(), each.architectures) for each in policies], policy_path)
 
-    def of_firejail(self, sandbox: firejail_programs.Sandbox) -> Expectation:
+        return self._of_list(path, path, read)
+
+    def of_firejail(self, sandbox: sandbox_programs.Firejail) -> Expectation:
         """The expectation of the programs in a sandbox of firejail, of which only x86-64 syscalls are known."""
-        if sandbox not in self.sandboxes:
-            self.sandboxes[sandbox] = self.of_all() or self._of_firejail(sandbox)
-        return self.sandboxes[sandbox]
-
-    def _of_firejail(self, sandbox: firejail_programs.Sandbox) -> Expectation:
-        try:
-            policy = sandbox.policy()
-        except (UnreadableFile, sandbox_rules.ListError) as why:
-            return Expectation(source=sandbox.profile, why=str(why))
-        return Expectation(Request(policy.data(), self.options.table, self.options.scope, unknown=(I386,)),
-                           sandbox.profile)
+        return self._of_list(sandbox, sandbox.profile, lambda: Expectation(
+            self.options.request(sandbox.policy().data(), unknown=(I386,)), sandbox.profile))
 
     def of_snap(self, tag: str) -> Expectation | None:
         """The expectation of the programs with a snap's security tag, None if the tag has no filter."""
-        if tag not in self.snaps:
-            self.snaps[tag] = self.of_all() or self._of_snap(tag)
-        return self.snaps[tag]
+        path = sandbox_programs.snap_rules(tag)
 
-    def _of_snap(self, tag: str) -> Expectation | None:
-        path = snap_programs.path_of(tag)
-        try:
-            policy = snap_programs.policy_of(tag)
-        except (UnreadableFile, sandbox_rules.ListError) as why:
-            return Expectation(source=path, why=str(why))
-        return None if policy is None else Expectation(
-            Request(policy.data(), self.options.table, self.options.scope), path, beside=snap_programs.filter_of_all())
+        def read() -> Expectation | None:
+            policy = sandbox_programs.snap_policy(tag)
+            return None if policy is None else Expectation(self.options.request(policy.data()), path,
+                                                           beside=sandbox_programs.filter_of_all_snaps())
+
+        return self._of_list(tag, path, read)
 
     def of_units(self, names: Sequence[str]) -> dict[str, Expectation]:
-        """The expectations of units, by their names."""
         stated = self.of_all()
         if stated is not None or not names:
             return {name: stated for name in names if stated is not None}
@@ -510,11 +503,6 @@ class Expectations:
             return {name: Expectation(source="systemctl", why=str(why)) for name in names}
         reader = units.ListReader(units.all_groups, lambda _: None)
         return {name: self._of_unit(name, shown.get(name), reader) for name in names}
-
-    def _of_group(self, settings: units.UnitSettings, group: Sequence[str]) -> Request:
-        """The request for one group of a unit's architectures."""
-        return Request(unit_profiles.profile_of(settings, group).encode(), self.options.table, self.options.scope,
-                       elsewhere=tuple(oci for oci in settings.architectures if oci not in group))
 
     def _of_unit(self, name: str, shown: dict[str, str] | None, reader: units.ListReader) -> Expectation:
         """The expectation of a unit, given what systemctl shows of it."""
@@ -527,13 +515,14 @@ class Expectations:
                 return Expectation(source=source)
             # (one profile names all if x86-64 alone is judged)
             groups = unit_profiles.groups_of(settings) if self.options.scope is None else [settings.architectures]
-            asked, *others = (self._of_group(settings, group) for group in groups)
+            profiles = [(unit_profiles.profile_of(settings, group).encode(), group) for group in groups]
         except (units.SettingError, program.ToolError) as why:
             return Expectation(source=source, why=str(why))
-        return Expectation(asked, source, others=tuple(others), doubt=settings.doubt)
+        return self._of_groups(profiles, source, settings.doubt)
 
 
-def _program_row(process: Process, sandbox: firejail_programs.Sandbox | None, expectations: Expectations) -> AuditRow:
+def _program_row(process: Process, sandbox: sandbox_programs.Firejail | None,
+                 expectations: Expectations) -> AuditRow:
     """The row of a program that is in no container and no unit, and maybe in a sandbox of firejail."""
     path = os.fsdecode(process.executable) or f"unknown ({os.fsdecode(process.name)})"
     if sandbox is None:
@@ -546,13 +535,13 @@ def rows_of(kernel: Kernel, snapshot: Snapshot, expectations: Expectations) -> t
     options, every = expectations.options, list(snapshot.processes.values())
     descriptions = container_files.descriptions_of(kernel, options.roots)
     members = container_files.Membership(kernel, descriptions.containers, snapshot.processes)
-    sandboxes, tags = firejail_programs.Sandboxes(snapshot.processes), snap_programs.tags()
+    sandboxes, tags = sandbox_programs.Firejails(snapshot.processes), sandbox_programs.snap_tags()
     of_units = expectations.of_units(sorted({unit for unit in map(container_files.unit_of, every) if unit is not None}))
     rows: dict[tuple[object, ...], AuditRow] = {}
     for process in every:
         unit = container_files.unit_of(process)
         container = members.container_of(process, unit is not None and of_units[unit].is_stated)
-        tag = snap_programs.tag_of(process) if tags else None
+        tag = sandbox_programs.snap_tag_of(process) if tags else None
         of_snap = expectations.of_snap(tag) if tag in tags else None
         if container is not None:
             row = AuditRow(CONTAINER, container.identifier, [], Expectation(), container)
@@ -582,9 +571,8 @@ def _tell_apart(rows: Iterable[AuditRow]) -> None:
 
 
 def judgement_of(stack: Stack, expected: Expectation, options: Options, judge: StackJudge) -> StackJudgement:
-    """The verdict on a stack of a row."""
     if stack.is_strict:
-        return StackJudgement(NOT_KNOWN, STRICT)
+        return StackJudgement(NOT_KNOWN, IN_STRICT_MODE)
     if not stack.filters:
         if expected.why is not None:
             return StackJudgement(NOT_KNOWN, f"it isn't confined, and what is configured isn't known: {expected.why}",
@@ -596,8 +584,7 @@ def judgement_of(stack: Stack, expected: Expectation, options: Options, judge: S
         judgement = judge.judge_all(stack, expected)
     if options.baseline is None:
         return judgement
-    asked = Request(options.baseline[1], options.table, options.scope, NO_MORE)
-    least = judge.judge(stack, asked, NO_MORE)
+    least = judge.judge(stack, options.request(options.baseline[1], NO_MORE), NO_MORE)
     is_worse = AUDIT_VERDICTS.index(least.verdict) < AUDIT_VERDICTS.index(judgement.verdict)
     return replace(least, is_of_baseline=True) if is_worse and least.verdict in (WEAKER, NOT_KNOWN) else judgement
 
@@ -679,7 +666,6 @@ class Assessor:
 
     def _add(self, row: AuditRow, stacks: StackThreads, container: ContainerDescription | None, expected: Expectation,
              judgements: Iterable[StackJudgement]) -> None:
-        """Adds what was judged to a row."""
         row.container, row.expected = container, expected
         row.parts += [RowPart(stack, threads, judgement) for (stack, threads), judgement in zip(stacks, judgements)]
         row.parts.sort(key=lambda part: part.judgement.order)
@@ -689,11 +675,12 @@ class Assessor:
         """A row's container, its expectation, and the judgement on each stack. The config.json is read
         here, and isn't kept."""
         container, expected = row.container, row.expected
-        if container is None:
-            return None, expected, [self._judgement(stack, expected, until) for stack, _ in stacks]
-        container, expected = self.expectations.of_container(container)
+        if container is not None:
+            container, expected = self.expectations.of_container(container)
         judgements = [self._judgement(stack, expected, until) for stack, _ in stacks]
-        return container, expected.without_profile(), judgements
+        if container is not None:
+            expected = replace(expected, asked=None, dropped=expected.digest)
+        return container, expected, judgements
 
     def _judgement(self, stack: Stack, expected: Expectation, until: float) -> StackJudgement:
         """The verdict on a stack of a row; whatever is raised meanwhile, it isn't known."""

@@ -14,10 +14,10 @@ from __future__ import annotations
 import json
 import os
 import time
-from collections.abc import Callable, Iterable, Iterator
+from collections.abc import Callable, Iterable, Iterator, Sequence
 
 from . import child, containers, engines, owned_files, started_profiles
-from .machine import Process
+from .machine import Process, ancestors
 from .owned_files import ANYONE, Absent, UnreadableFile
 from .ptrace import Kernel, contents, ticks_at_start
 from .values import Any, Pattern, dataclass, field, replace
@@ -148,7 +148,6 @@ def _text(value: Any, *names: str) -> str | None:
     return next((member for member in members if isinstance(member, str) and member), None)
 
 
-
 def _is_of_user(kernel: Kernel, process: int, user: int) -> bool:
     """Whether a process is a user's: it runs as that user, or in a user namespace of that user."""
     shown = kernel.status_of(process).get("Uid", "").split()
@@ -159,16 +158,15 @@ def _of_runc(value: Any) -> tuple[Any, str | None, Any, Any]:
     """The first process, the bundle, the time of the start, and the control groups, of a state.json."""
     config, groups = value.get("config"), value.get("cgroup_paths")
     labels = config.get("labels") if isinstance(config, dict) else None
-    bundles = [label[7:] for label in labels if isinstance(label, str) and label.startswith("bundle=")] \
-        if isinstance(labels, list) else []
-    return (value.get("init_process_pid"), next(iter(bundles), None), value.get("init_process_start"),
+    texts = (label for label in (labels if isinstance(labels, list) else ()) if isinstance(label, str))
+    bundle = next((text.removeprefix("bundle=") for text in texts if text.startswith("bundle=")), None)
+    return (value.get("init_process_pid"), bundle, value.get("init_process_start"),
             groups.values() if isinstance(groups, dict) else ())
 
 
 def _of_crun(value: Any) -> tuple[Any, str | None, Any, Any]:
-    """The first process, the bundle, the time of the start, and the control groups, of crun's status."""
-    return (value.get("pid"), _text(value, "bundle"), value.get("process-start-time"),
-            [value.get("cgroup-path")])
+    """The same of crun's status."""
+    return value.get("pid"), _text(value, "bundle"), value.get("process-start-time"), [value.get("cgroup-path")]
 
 
 def _user_of(path: str, users: frozenset[int]) -> int | None:
@@ -204,10 +202,10 @@ def _state_in(kernel: Kernel, folder: str) -> ContainerDescription | None:
         if not _runs(first, started) or user is not None and not _is_of_user(kernel, first, user):
             return None
         config = os.path.join(bundle, "config.json") if bundle and bundle.startswith("/") else ""
-        stated = tuple(group.encode("utf-8", "backslashreplace") for group in groups
-                       if isinstance(group, str) and group.strip("/"))
+        paths = tuple(group.encode("utf-8", "backslashreplace") for group in groups
+                      if isinstance(group, str) and group.strip("/"))
         return ContainerDescription(os.path.basename(folder), runtime, runtime, first, config, folder=folder,
-                                    groups=stated, user=user)
+                                    groups=paths, user=user)
     return None
 
 
@@ -218,10 +216,10 @@ class Descriptions:
     containers: list[ContainerDescription] = field(default_factory=list)
     left_out: list[str] = field(default_factory=list)
 
-    def add(self, read: Callable[[], ContainerDescription | None], path: str) -> None:
-        """Adds what is read of a path; whatever is raised meanwhile concerns no other container."""
+    def add(self, read: Callable[[Kernel, str], ContainerDescription | None], kernel: Kernel, folder: str) -> None:
+        """Adds what is read of a folder; whatever is raised meanwhile concerns no other container."""
         try:
-            container = read()
+            container = read(kernel, folder)
             if container is not None:
                 self.containers.append(container)
         except child.Interrupted:
@@ -229,10 +227,10 @@ class Descriptions:
         except UnreadableFile as why:
             self.left_out.append(str(why))
         except Exception as error:  # pylint: disable=broad-exception-caught
-            self.left_out.append(f"'{path}' can't be read: {type(error).__name__}")
+            self.left_out.append(f"'{folder}' can't be read: {type(error).__name__}")
 
 
-def _of_engine(folder: str) -> ContainerDescription | None:
+def _of_engine(_: Kernel, folder: str) -> ContainerDescription | None:
     """The container of a bundle of containerd's, of which only an engine's own files are known."""
     path = os.path.join(folder, "init.pid")
     try:
@@ -248,13 +246,12 @@ def _of_engine(folder: str) -> ContainerDescription | None:
 
 def _of_root(kernel: Kernel) -> Descriptions:
     """The containers that root's own files describe."""
-    containers_found = Descriptions()
-    for folder in (folder for root in ROOTS for folder in paths_matching(os.path.join(root, "*"))):
-        containers_found.add(lambda folder=folder: _state_in(kernel, folder), folder)
-    for folder in sorted(folder for root in CONTAINERD
-                         for folder in paths_matching(f"{root}/io.containerd.runtime.v2.task/*/*")):
-        containers_found.add(lambda folder=folder: _of_engine(folder), folder)
-    return containers_found
+    descriptions = Descriptions()
+    for pattern, read in (*((f"{root}/*", _state_in) for root in ROOTS),
+                          *((f"{root}/io.containerd.runtime.v2.task/*/*", _of_engine) for root in CONTAINERD)):
+        for folder in paths_matching(pattern):
+            descriptions.add(read, kernel, folder)
+    return descriptions
 
 
 def _in_roots(kernel: Kernel, patterns: Iterable[str], whose: str) -> Descriptions:
@@ -266,8 +263,8 @@ def _in_roots(kernel: Kernel, patterns: Iterable[str], whose: str) -> Descriptio
         except UnreadableFile as why:
             listing.left_out.append(str(why))
             continue
-        for folder in (os.path.join(root, name) for name in sorted(names)):
-            listing.add(lambda folder=folder: _state_in(kernel, folder), folder)
+        for name in sorted(names):
+            listing.add(_state_in, kernel, os.path.join(root, name))
         if not is_all:
             more = [f"all but {MOST_OF_A_USER} of the folders of containers {whose}"]
     count = len(listing.left_out)
@@ -302,11 +299,11 @@ def descriptions_of(kernel: Kernel, more_roots: tuple[str, ...] = ()) -> Descrip
     for patterns, whose in places:
         seconds = max(LEAST_READING_SECONDS, min(READING_SECONDS_OF_A_USER, until - time.monotonic()))
         every.append(_in_child(kernel, patterns, whose, seconds))
-    first_of: dict[int, ContainerDescription] = {}
-    containers_found = (container for listing in every for container in listing.containers)
-    for container in sorted(containers_found, key=lambda container: container.user is not None):
-        first_of.setdefault(container.first, container)
-    return Descriptions(list(first_of.values()), [line for listing in every for line in listing.left_out])
+    by_first: dict[int, ContainerDescription] = {}
+    every_container = (container for listing in every for container in listing.containers)
+    for container in sorted(every_container, key=lambda container: container.user is not None):
+        by_first.setdefault(container.first, container)
+    return Descriptions(list(by_first.values()), [line for listing in every for line in listing.left_out])
 
 
 class Names:
@@ -319,8 +316,9 @@ class Names:
         """The name and the image of a container in a storage."""
         if (folder, container.user) not in self.of_storage:
             listed = _object(container.read, os.path.join(folder, "containers.json"), ENGINE_BYTES)
-            listed = [entry for entry in listed if _text(entry, "id")] if isinstance(listed, list) else []
-            self.of_storage[folder, container.user] = {entry["id"]: self._in(entry) for entry in listed}
+            self.of_storage[folder, container.user] = {
+                entry["id"]: self._in(entry) for entry in (listed if isinstance(listed, list) else ())
+                if _text(entry, "id")}
         return self.of_storage[folder, container.user].get(identifier, (None, None))
 
     @staticmethod
@@ -435,8 +433,8 @@ def place_of(kernel: Kernel, container: ContainerDescription, process: Process) 
 class ContainerPlaces:
     """Where some containers are, to find those of processes."""
 
-    def __init__(self, places: Iterable[Place], processes: dict[int, Process]) -> None:
-        self.processes, places = processes, list(places)
+    def __init__(self, places: Sequence[Place], processes: dict[int, Process]) -> None:
+        self.processes = processes
         # the innermost group first
         self.by_group = sorted((place for place in places if place.group is not None), reverse=True,
                                key=lambda place: len(place.group.path) if place.group else 0)
@@ -448,13 +446,7 @@ class ContainerPlaces:
         """The containers that a process may be of, the most likely one first."""
         yield from (place.container for place in self.by_group if place.group.has(process.groups))
         yield from (self.by_space[space] for space in process.spaces if space in self.by_space)
-        seen: set[int] = set()
-        ancestor: Process | None = process
-        while ancestor is not None and ancestor.number not in seen:
-            if ancestor.number in self.by_first:
-                yield self.by_first[ancestor.number]
-            seen.add(ancestor.number)
-            ancestor = self.processes.get(ancestor.parent)
+        yield from (self.by_first[number] for number in ancestors(process, self.processes) if number in self.by_first)
 
 
 class Membership:
@@ -465,8 +457,8 @@ class Membership:
         self.kernel = kernel
         places = [place_of(kernel, container, processes[container.first]) for container in descriptions
                   if container.first in processes]
-        self.of_root = ContainerPlaces((place for place in places if place.container.user is None), processes)
-        self.of_users = ContainerPlaces((place for place in places if place.container.user is not None), processes)
+        self.of_root = ContainerPlaces([place for place in places if place.container.user is None], processes)
+        self.of_users = ContainerPlaces([place for place in places if place.container.user is not None], processes)
         # the groups of pods, by the containers in them
         self.pods = {place.group.path.rpartition(b"/")[0] for place in self.of_root.by_group if place.group is not None}
 
@@ -507,11 +499,8 @@ def named_container(process: Process, kernel: Kernel) -> ContainerDescription | 
 def unit_of(process: Process) -> str | None:
     """The system's unit of a process, as the name of its control group tells."""
     for hierarchy in SYSTEMD_HIERARCHIES:
-        for part in process.groups.get(hierarchy, b"").split(b"/")[1:]:
-            if part.endswith(b".slice"):
-                continue
-            match = UNIT_GROUP.fullmatch(part)
-            if match:
-                return match[1].decode("ascii")
-            break
+        parts = process.groups.get(hierarchy, b"").split(b"/")[1:]
+        match = UNIT_GROUP.fullmatch(next((part for part in parts if not part.endswith(b".slice")), b""))
+        if match:
+            return match[1].decode("ascii")
     return None

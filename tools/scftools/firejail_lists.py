@@ -17,38 +17,37 @@ from . import constants, sandbox_rules, tables
 from .answers import ALLOW, ENOSYS, Answer
 from .architectures import NATIVE
 from .entries import Condition
-from .sandbox_rules import ListError, Policy, Rule, UnknownRules, error_at
+from .sandbox_rules import KILL, LOG, LOWER_HALF, ListError, Policy, Rule, UnknownRules, error_at
 from .units import answer_of_errno
-from .unit_restrictions import Alternative, Restriction, SettingError, among
+from .unit_restrictions import NAMESPACES, Restriction, SettingError, among, masked, with_all, with_any
 from .values import Pattern, dataclass, field
 
-ENOTSUP, LOG, KILL = Answer("ERRNO", 95), Answer("LOG", 0), Answer("KILL_THREAD", 0)
+ENOTSUP = Answer("ERRNO", 95)
 SETTINGS = ("seccomp", "seccomp.drop", "seccomp.keep", "seccomp.block-secondary", "seccomp-error-action", "protocol",
             "memory-deny-write-execute", "restrict-namespaces")
-BEGINS = Pattern(rb"(?m)^(?:--)?(?:seccomp(?:\.(?:32\.)?(?:drop|keep)|\.32|\.block-secondary)?|protocol|"
-                 rb"memory-deny-write-execute|restrict-namespaces)(?:[ =][^\n]*)?$")
+SIGN = Pattern(rb"(?m)^(?:--)?(?:seccomp(?:\.(?:32\.)?(?:drop|keep)|\.32|\.block-secondary)?|protocol|"
+               rb"memory-deny-write-execute|restrict-namespaces)(?:[ =][^\n]*)?$")
 # Where firejail keeps the files that profiles include and its configuration, and its compiler of filters.
-CONFIGURATION = "firejail.config"
-FOLDER, FOLDERS = "/etc/firejail", ("/usr/lib/x86_64-linux-gnu/firejail", "/usr/lib/firejail", "/usr/lib64/firejail",
-                                    "/usr/local/lib/firejail")
+PROFILES, CONFIGURATION = "/etc/firejail", "firejail.config"
+COMPILERS = tuple(f"/usr/{folder}/firejail/fseccomp" for folder in (
+    "lib/x86_64-linux-gnu", "lib", "lib64", "local/lib"))
 # The deepest nesting of includes, and the most files; the most words of a line that `ignore` compares; how long the
 # compiler may take, in seconds, and how much it may write.
-DEEPEST_INCLUDE, MOST_INCLUDED, MOST_WORDS, SECONDS, MOST_FILTER_BYTES = 16, 64, 8, 10, 1 << 15
+DEEPEST_INCLUDE, MOST_INCLUDED, MOST_IGNORED, COMPILER_SECONDS, MOST_FILTER_BYTES = 16, 64, 8, 10, 1 << 15
 # The instructions of its filters before those of syscalls, of which each compares a number: BPF_JMP|BPF_JEQ|BPF_K.
-BEFORE, JEQ = 7, 0x15
-# What seccomp.keep allows in any case, and what is denied without a list.
-ALWAYS_KEPT, DENIED, DENIED_WITHOUT_DEBUGGERS = "@default-keep", "@default", "@default-nodebuggers"
+HEAD_INSTRUCTIONS, COMPARE_NUMBER = 7, 0x15
+# The groups that seccomp.keep allows in any case, and that are denied without a list.
+ALWAYS_ALLOWED, DENIED_GROUP, DENIED_WITHOUT_DEBUGGERS = "@default-keep", "@default", "@default-nodebuggers"
 FAMILIES = {"unix": "AF_UNIX", "inet": "AF_INET", "inet6": "AF_INET6",
             "netlink": "AF_NETLINK", "packet": "AF_PACKET", "bluetooth": "AF_BLUETOOTH"}
-NAMESPACES = {"cgroup": "CLONE_NEWCGROUP", "ipc": "CLONE_NEWIPC", "net": "CLONE_NEWNET", "mnt": "CLONE_NEWNS",
-              "pid": "CLONE_NEWPID", "time": "CLONE_NEWTIME", "user": "CLONE_NEWUSER", "uts": "CLONE_NEWUTS"}
-LOWER_HALF, WIDTH = 0xFFFFFFFF, 32
+# The bits of the lower half of an argument.
+BITS = range(32)
 # Actions, the strictest first (seccomp(2)).
 ORDER = ("KILL_THREAD", "ERRNO", "LOG", "ALLOW")
 
 
 @dataclass
-class Settings:
+class StatedSettings:
     """What a profile and the files that it includes state, each with the line of the profile."""
 
     of: dict[str, tuple[str, int]] = field(default_factory=dict)
@@ -61,11 +60,7 @@ class Settings:
     def ignores(self, name: str, value: str) -> bool:
         """Whether a line is ignored: its first words are those behind `ignore`."""
         words = f"{name} {value}".split()
-        return any(" ".join(words[:count]) in self.ignored for count in range(1, min(len(words), MOST_WORDS) + 1))
-
-
-def is_profile(data: bytes) -> bool:
-    return BEGINS.search(data) is not None
+        return any(" ".join(words[:count]) in self.ignored for count in range(1, min(len(words), MOST_IGNORED) + 1))
 
 
 def _contents(path: str, most: int) -> bytes:
@@ -82,42 +77,42 @@ def group_numbers(group: str) -> list[int]:
     import subprocess  # pylint: disable=import-outside-toplevel
     import tempfile  # pylint: disable=import-outside-toplevel
 
-    compiler = next((path for path in (f"{folder}/fseccomp" for folder in FOLDERS) if os.access(path, os.X_OK)), None)
+    compiler = next((path for path in COMPILERS if os.access(path, os.X_OK)), None)
     if compiler is None:
         raise UnknownRules("it names a group of firejail, which isn't installed")
     with tempfile.TemporaryDirectory() as folder:
         paths = [os.path.join(folder, name) for name in ("first", "second")]
         try:
             done = subprocess.run([compiler, "drop", *paths, group], stdin=subprocess.DEVNULL, check=False,
-                                  stdout=subprocess.DEVNULL, stderr=subprocess.DEVNULL, timeout=SECONDS)
+                                  stdout=subprocess.DEVNULL, stderr=subprocess.DEVNULL, timeout=COMPILER_SECONDS)
         except (OSError, subprocess.TimeoutExpired) as error:
             raise UnknownRules(f"'{compiler}' can't be run") from error
         filters = [_contents(path, MOST_FILTER_BYTES) for path in paths if os.path.exists(path)]
     if done.returncode:
         raise ListError(f"'{group}' isn't a group of the installed firejail")
-    instructions = [instruction for data in filters for instruction in list(struct.iter_unpack("<HBBI", data))[BEFORE:]]
-    return list(dict.fromkeys(k for code, _, _, k in instructions if code == JEQ))
+    instructions = [each for data in filters for each in [*struct.iter_unpack("<HBBI", data)][HEAD_INSTRUCTIONS:]]
+    return list(dict.fromkeys(k for code, _, _, k in instructions if code == COMPARE_NUMBER))
 
 
-def _included(name: str, at: int, settings: Settings) -> bytes:
+def _included(name: str, at: int, settings: StatedSettings) -> bytes:
     """The contents of a file that a profile includes; nothing of one that isn't there, as firejail goes on then."""
     settings.included += 1
     if settings.included > MOST_INCLUDED:
         raise ListError(f"it includes more than {MOST_INCLUDED} files")
-    name = name.replace("${CFG}/", "").removeprefix(f"{FOLDER}/")
+    name = name.replace("${CFG}/", "").removeprefix(f"{PROFILES}/")
     if not re.fullmatch(r"[A-Za-z0-9_+-][A-Za-z0-9_.+-]{0,200}", name):
-        raise error_at(at, f"only files of {FOLDER} are included, not '{name}'")
+        raise error_at(at, f"only files of {PROFILES} are included, not '{name}'")
     try:
-        return _contents(os.path.join(FOLDER, name), sandbox_rules.MOST_BYTES)
+        return _contents(os.path.join(PROFILES, name), sandbox_rules.MOST_LIST_BYTES)
     except FileNotFoundError:
         if not name.endswith(".local"):
-            settings.remarks.append(f"line {at}: {FOLDER} has no {name}")
+            settings.remarks.append(f"line {at}: {PROFILES} has no {name}")
         return b""
     except OSError as error:
         raise error_at(at, f"'{name}' can't be read: {error.strerror}") from error
 
 
-def read_lines(data: bytes, settings: Settings, outer: int | None = None, depth: int = 0) -> None:
+def read_lines(data: bytes, settings: StatedSettings, outer: int | None = None, depth: int = 0) -> None:
     """Reads the lines of a file, which the line `outer` of the profile includes."""
     if depth > DEEPEST_INCLUDE:
         raise ListError("files include each other too deep")
@@ -145,7 +140,7 @@ def read_lines(data: bytes, settings: Settings, outer: int | None = None, depth:
 
 
 @dataclass
-class ListReader:
+class GroupReader:
     """Reads lists of syscalls; asks for the numbers of a group once."""
 
     ask: Callable[[str], list[int]] = group_numbers
@@ -160,14 +155,15 @@ class ListReader:
         if word[0] == "@" and word not in self.groups:
             self.groups[word] = self.ask(word)
         table = tables.of_architecture(NATIVE) or tables.Table(b"")
-        numbers = self.groups[word] if word[0] == "@" else [int(word[1:])]
-        names = {number: table.names_of(number)[:1] for number in numbers}
-        unnamed = next((number for number, its in names.items() if not its), None)
-        if unnamed is not None:
-            raise error_at(at, f"no name is known of the syscall {unnamed}, and a profile has names alone")
-        return [name for its in names.values() for name in its]
+        names = []
+        for number in self.groups[word] if word[0] == "@" else [int(word[1:])]:
+            if not table.names_of(number):
+                raise error_at(at, f"no name is known of the syscall {number}, and a profile has names alone")
+            names.append(table.names_of(number)[0])
+        return names
 
-    def answers_in(self, text: str, at: int, plain: Answer, negated: Answer, settings: Settings) -> dict[str, Answer]:
+    def answers_in(self, text: str, at: int, plain: Answer, negated: Answer,
+                   settings: StatedSettings) -> dict[str, Answer]:
         """The answers of a list: of a name behind `!`, or with an errno, before those of other names."""
         exceptions: dict[str, Answer] = {}
         others: dict[str, Answer] = {}
@@ -193,16 +189,6 @@ def _answer_of(text: str, at: int) -> Answer:
         raise error_at(at, str(why)) from why
 
 
-def _masked(index: int, mask: int, value: int) -> Alternative:
-    return (Condition(index, "SCMP_CMP_MASKED_EQ", mask, value),)
-
-
-def _bits(index: int, mask: int, answer: Answer) -> Restriction:
-    """Denies an argument that has any bit of a mask."""
-    return Restriction(answer, [_masked(index, 1 << bit, 1 << bit) for bit in range(WIDTH) if mask >> bit & 1],
-                       [_masked(index, mask, 0)])
-
-
 def _families(text: str, at: int) -> Restriction:
     """Denies a socket whose family isn't one of a list: one with another value below 64, or a higher bit."""
     values = []
@@ -210,10 +196,9 @@ def _families(text: str, at: int) -> Restriction:
         if word not in FAMILIES:
             raise error_at(at, f"'{word}' isn't a protocol of firejail")
         values.append(constants.numbers()[FAMILIES[word]])
-    low = 64
-    others = [_masked(0, LOWER_HALF, value) for value in range(low) if value not in values]
-    return Restriction(ENOTSUP, [*others, *(_masked(0, 1 << bit, 1 << bit) for bit in range(6, WIDTH))],
-                       [_masked(0, LOWER_HALF, value) for value in sorted(values)])
+    others = [masked(0, LOWER_HALF, value) for value in range(1 << 6) if value not in values]
+    return Restriction(ENOTSUP, [*others, *(masked(0, 1 << bit, 1 << bit) for bit in BITS[6:])],
+                       [masked(0, LOWER_HALF, value) for value in sorted(values)])
 
 
 def _namespaces(text: str, at: int, answer: Answer) -> dict[str, Restriction]:
@@ -221,64 +206,63 @@ def _namespaces(text: str, at: int, answer: Answer) -> dict[str, Restriction]:
     words = text.split(",") if text else list(NAMESPACES)
     if not set(words) <= NAMESPACES.keys():
         raise error_at(at, f"'{text}' aren't namespaces")
-    numbers = constants.numbers()
-    mask = sum(numbers[NAMESPACES[word]] for word in set(words))
-    joins = _bits(1, mask, answer)
-    zero = _masked(1, LOWER_HALF, 0)
-    entered = [_masked(1, mask | 1 << bit, 1 << bit) for bit in range(WIDTH) if not mask >> bit & 1]
-    return {"clone": _bits(0, mask & ~numbers["CLONE_NEWTIME"], answer), "clone3": Restriction(ENOSYS),
-            "unshare": _bits(0, mask, answer), "setns": Restriction(answer, [*joins.denied, zero], entered)}
+    flags, no_flag = sorted({constants.numbers()[NAMESPACES[word]] for word in words}), masked(1, LOWER_HALF, 0)
+    of_clone = [flag for flag in flags if flag != constants.numbers()["CLONE_NEWTIME"]]
+    entered = [masked(1, sum(flags) | 1 << bit, 1 << bit) for bit in BITS if 1 << bit not in flags]
+    return {"clone": with_any(0, of_clone, answer), "clone3": Restriction(ENOSYS),
+            "unshare": with_any(0, flags, answer),
+            "setns": Restriction(answer, [*with_any(1, flags).denied, no_flag], entered)}
 
 
 def _personality(answer: Answer) -> Restriction:
     """Denies another personality than 0 and 0xffffffff, which asks for the present one: of the lower half some bit is
     set and the next one isn't, or it has more bits."""
-    mixed = [_masked(0, 1 << bit | 1 << (bit + 1) % WIDTH, 1 << bit) for bit in range(WIDTH)]
+    mixed = [masked(0, 1 << bit | 1 << (bit + 1) % len(BITS), 1 << bit) for bit in BITS]
     return Restriction(answer, [*mixed, (Condition(0, "SCMP_CMP_GT", LOWER_HALF, 0),)], among(0, (0, LOWER_HALF)))
 
 
 def _memory(answer: Answer) -> dict[str, Restriction]:
     """Denies memory that is to be written and executed."""
-    both = Restriction(answer, [_masked(2, 6, 6)], [_masked(2, 2, 0), _masked(2, 4, 0)])
-    return {"mmap": both, **dict.fromkeys(("mprotect", "pkey_mprotect"), _bits(2, 4, answer)),
-            "shmat": _bits(2, constants.numbers()["SHM_EXEC"], answer), "memfd_create": Restriction(answer)}
+    write, execute, attach = (constants.numbers()[name] for name in ("PROT_WRITE", "PROT_EXEC", "SHM_EXEC"))
+    return {"mmap": with_all(2, (write, execute), answer),
+            **dict.fromkeys(("mprotect", "pkey_mprotect"), with_any(2, [execute], answer)),
+            "shmat": with_any(2, [attach], answer), "memfd_create": Restriction(answer)}
 
 
-def _main_list(settings: Settings, reader: ListReader, answer: Answer) -> tuple[Answer, dict[str, Answer], int]:
+def _main_list(settings: StatedSettings, reader: GroupReader, answer: Answer) -> tuple[Answer, dict[str, Answer], int]:
     """The default of the main filter, its answers by names, and the line that they stand on."""
     of = settings.of
     if "seccomp.keep" in of:
         text, at = of["seccomp.keep"]
-        kept = dict.fromkeys(reader.names_of(ALWAYS_KEPT, at), ALLOW)
-        return answer, {**kept, **reader.answers_in(text, at, ALLOW, answer, settings)}, at
+        always = dict.fromkeys(reader.names_of(ALWAYS_ALLOWED, at), ALLOW)
+        return answer, {**always, **reader.answers_in(text, at, ALLOW, answer, settings)}, at
     if "seccomp.drop" in of:
         text, at = of["seccomp.drop"]
         return ALLOW, reader.answers_in(text, at, answer, ALLOW, settings), at
     text, at = of.get("seccomp") or of.get("seccomp.block-secondary") or ("", 0)
     if not at:
         return ALLOW, {}, 0
-    group = DENIED if settings.allows_debuggers else DENIED_WITHOUT_DEBUGGERS
+    group = DENIED_GROUP if settings.allows_debuggers else DENIED_WITHOUT_DEBUGGERS
     return ALLOW, reader.answers_in(f"{group},{text}" if "seccomp" in of else group, at, answer, ALLOW, settings), at
 
 
-def _restrictions(settings: Settings, answer: Answer) -> dict[str, tuple[Restriction, int]]:
+def _restrictions(settings: StatedSettings, answer: Answer) -> dict[str, tuple[Restriction, int]]:
     """What the filters beside the main one deny, by names, each with its line."""
-    found: dict[str, tuple[Restriction, int]] = {}
-    for name, read in (("protocol", lambda text, at: {"socket": _families(text, at)}),
-                       ("memory-deny-write-execute", lambda _, __: _memory(answer)),
-                       ("restrict-namespaces", lambda text, at: _namespaces(text, at, answer)),
-                       ("seccomp.block-secondary", lambda _, __: {"personality": _personality(answer)})):
-        if name in settings.of:
-            text, at = settings.of[name]
-            found.update((called, (restriction, at)) for called, restriction in read(text, at).items())
-    return found
+    readers: dict[str, Callable[[str, int], dict[str, Restriction]]] = {
+        "protocol": lambda text, at: {"socket": _families(text, at)},
+        "memory-deny-write-execute": lambda _, __: _memory(answer),
+        "restrict-namespaces": lambda text, at: _namespaces(text, at, answer),
+        "seccomp.block-secondary": lambda _, __: {"personality": _personality(answer)}}
+    return {name: (restriction, settings.of[setting][1]) for setting, restrictions_of in readers.items()
+            if setting in settings.of for name, restriction in restrictions_of(*settings.of[setting]).items()}
 
 
-def _rules_of(name: str, main: tuple[Answer, int], restricted: tuple[Restriction, int]) -> Iterator[Rule]:
-    """The rules of a syscall that two filters answer: the stricter answer counts, and of two errnos that of the newer
-    filter, which is the one of protocol, else the main one."""
-    (answer, at), (restriction, restricted_at) = main, restricted
-    denies = ORDER.index(restriction.answer.action) < ORDER.index(answer.action) or (
+def _rules_of(name: str, main: tuple[Answer, int], restricted: tuple[Restriction, int] | None) -> Iterator[Rule]:
+    """The rules of a syscall that one or two filters answer: the stricter answer counts, and of two errnos that of the
+    newer filter, which is the one of protocol, else the main one."""
+    (answer, at), (restriction, restricted_at) = main, restricted or (None, 0)
+    denies = restriction is not None and (
+        ORDER.index(restriction.answer.action) < ORDER.index(answer.action) or
         restriction.answer.action == answer.action and name == "socket")
     if not denies:
         yield Rule(name, answer, (), at)
@@ -291,10 +275,10 @@ def _global_action() -> str:
     """The error action of the machine's configuration. Raises UnknownRules if that changes the filters otherwise."""
     action = "EPERM"
     try:
-        text = _contents(os.path.join(FOLDER, CONFIGURATION), sandbox_rules.MOST_BYTES).decode("utf-8", "replace")
+        data = _contents(os.path.join(PROFILES, CONFIGURATION), sandbox_rules.MOST_LIST_BYTES)
     except OSError:
         return action
-    for line in text.split("\n"):
+    for line in data.decode("utf-8", "replace").split("\n"):
         name, _, value = line.strip().partition(" ")
         if name == "seccomp-error-action":
             action = value.strip()
@@ -303,33 +287,23 @@ def _global_action() -> str:
     return action
 
 
-def policy_of(settings: Settings, reader: ListReader) -> Policy:
+def policy_of(settings: StatedSettings, reader: GroupReader) -> Policy:
     """The rules that settings have together."""
     text, at = settings.of.get("seccomp-error-action") or (_global_action(), 0)
     answer = _answer_of(text, at)
     default, answers, line = _main_list(settings, reader, answer)
     restrictions = _restrictions(settings, answer)
     policy = Policy(default, remarks=list(dict.fromkeys(settings.remarks)))
-    number_of, unknown = sandbox_rules.knows(), []
-    for name in dict.fromkeys([*answers, *restrictions]):
-        if number_of(name, NATIVE) is None:
-            unknown.append(name)
-        main = answers.get(name, default), line
-        rules = [Rule(name, main[0], (), line)] if name not in restrictions \
-            else _rules_of(name, main, restrictions[name])
-        for rule in rules if number_of(name, NATIVE) is not None else ():
-            if rule.answer != default:
-                policy.add(rule)
-    sandbox_rules.remark_unknown(policy, unknown)
+    policy.add_known(rule for name in dict.fromkeys([*answers, *restrictions])
+                     for rule in _rules_of(name, (answers.get(name, default), line), restrictions.get(name)))
     policy.remarks.append("the profile is for x86-64 alone, and kills i386 and x32 syscalls, which firejail answers "
                           "otherwise")
     return policy
 
 
 def read(data: bytes) -> Policy:
-    """The rules of a profile."""
-    settings = Settings()
+    settings = StatedSettings()
     read_lines(data, settings)
     if not any(name in settings.of for name in SETTINGS if name != "seccomp-error-action"):
         raise ListError("it has no setting of seccomp that counts")
-    return policy_of(settings, ListReader())
+    return policy_of(settings, GroupReader())

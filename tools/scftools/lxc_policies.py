@@ -11,34 +11,28 @@ from collections.abc import Iterator
 
 from . import sandbox_rules, tables
 from .answers import ALLOW, MAX_ERRNO, Answer
-from .architectures import I386, NATIVE, X32
+from .architectures import I386, JUDGED, NATIVE, X32
 from .entries import GREATEST_VALUE, Condition
-from .sandbox_rules import Policy, Rule, error_at
-from .values import Pattern, dataclass
+from .sandbox_rules import KILL, Policy, Rule, error_at
+from .values import Pattern
 
-KILL = Answer("KILL_THREAD", 0)
-BEGINS = Pattern(rb"\s*[12](?![0-9])[^\n]*\n(?:allow|white|deny|black)list")
+SIGN = Pattern(rb"\A\s*[12](?![0-9])[^\n]*\n(?:allow|white|deny|black)list")
 # The sections of an x86-64 machine's architectures, and those that LXC knows of other machines.
 OURS = ("x86", "x32", "x86_64", "all")
 OTHERS = ("arm", "arm64", "loongarch64", "riscv64", "ppc", "ppc64", "ppc64le", "mips", "mips64", "mips64n32", "mipsel",
           "mipsel64", "mipsel64n32", "s390x")
-OPERATORS = {"!=": "NE", "<": "LT", "<=": "LE", "==": "EQ", ">=": "GE", ">": "GT", "&=": "MASKED_EQ"}
+LXC_OPERATORS = {"!=": "NE", "<": "LT", "<=": "LE", "==": "EQ", ">=": "GE", ">": "GT", "&=": "MASKED_EQ"}
 CONDITION = Pattern(r"[^\[]*\[\s*([+-]?[0-9][0-9a-fA-FxX]*),([^,]{1,23}),([^0-9^,]{1,30})(?:,([^,]{1,23}))?")
-ACTIONS = {"kill": KILL, "allow": ALLOW, "trap": Answer("TRAP", 0), "notify": Answer("USER_NOTIF", 0)}
+LXC_ACTIONS = {"kill": KILL, "allow": ALLOW, "trap": Answer("TRAP", 0), "notify": Answer("USER_NOTIF", 0)}
 # What reject_force_umount stands for: umount2 with MNT_FORCE (sys/mount.h) fails with EACCES.
 FORCE_UMOUNT, EACCES, MNT_FORCE = "reject_force_umount", Answer("ERRNO", 13), 1
-
-
-def is_policy(data: bytes) -> bool:
-    return BEGINS.match(data) is not None
 
 
 def _number(text: str, at: int) -> int:
     """A number as strtoull(3) reads it."""
     text = text.strip()
-    match = re.fullmatch(r"\+?(?:(0[xX][0-9a-fA-F]{1,16})|(0[0-7]{0,22})|([1-9][0-9]{0,19}))", text)
-    value = GREATEST_VALUE + 1 if match is None else int(match[1], 16) if match[1] else int(match[2], 8) if match[2] \
-        else int(match[3])
+    match = re.fullmatch(r"\+?(0[xX][0-9a-fA-F]{1,16}|0[0-7]{0,22}|[1-9][0-9]{0,19})", text)
+    value = int(re.sub("^0(?=[0-7])", "0o", match[1]), 0) if match else GREATEST_VALUE + 1
     if value > GREATEST_VALUE:
         raise error_at(at, f"'{text}' isn't a number")
     return value
@@ -52,7 +46,7 @@ def _action(text: str, at: int) -> Answer:
         if match is None or int(match[1]) > MAX_ERRNO:
             raise error_at(at, f"'{text}' isn't an errno up to {MAX_ERRNO}")
         return Answer("ERRNO", int(match[1]))
-    answer = next((answer for word, answer in ACTIONS.items() if text.startswith(word)), None)
+    answer = next((answer for word, answer in LXC_ACTIONS.items() if text.startswith(word)), None)
     if answer is None:
         raise error_at(at, f"'{text}' isn't an action of LXC")
     return answer
@@ -61,8 +55,8 @@ def _action(text: str, at: int) -> Answer:
 def _condition(text: str, at: int) -> Condition:
     match = CONDITION.match(text)
     index = _number(match[1], at) if match else 6
-    operator = OPERATORS.get(match[3], match[3].removeprefix("SCMP_CMP_")) if match else ""
-    if index >= 6 or operator not in OPERATORS.values():
+    operator = LXC_OPERATORS.get(match[3], match[3].removeprefix("SCMP_CMP_")) if match else ""
+    if index >= 6 or operator not in LXC_OPERATORS.values():
         raise error_at(at, f"'{text.strip()}]' isn't a condition")
     value, mask = _number(match[2], at), _number(match[4] or "0", at)
     # of a mask LXC's `value` is what the masked argument is compared with
@@ -71,25 +65,16 @@ def _condition(text: str, at: int) -> Condition:
 
 
 def _conditions(line: str, at: int) -> tuple[Condition, ...]:
-    if "[" not in line:
-        return ()
-    conditions = tuple(_condition(piece, at) for piece in [piece for piece in line.split("]") if piece][:6])
+    pieces = [piece for piece in line.split("]") if piece][:6] if "[" in line else ()
+    conditions = tuple(_condition(piece, at) for piece in pieces)
     if len({condition.index for condition in conditions}) < len(conditions):
         raise error_at(at, "libseccomp refuses two conditions on one argument")
     return conditions
 
 
-@dataclass(frozen=True)
-class _Statement:
-    """A rule as it is written."""
-
-    rule: Rule
-    # its section, as [x86]; empty if that is all
-    section: str
-
-
-def _statements(lines: list[tuple[int, str]], default: Answer, policy: Policy) -> Iterator[_Statement]:
-    """The rules of version 2; the default is that of rules without an action."""
+def _rules(lines: list[tuple[int, str]], default: Answer, policy: Policy) -> Iterator[tuple[Rule, str]]:
+    """The rules of version 2, each with its section, as [x86], empty if that is all; the default is that of rules
+    without an action."""
     section, is_ours = "", True
     for at, line in lines:
         if line.startswith("#") or not line:
@@ -102,17 +87,17 @@ def _statements(lines: list[tuple[int, str]], default: Answer, policy: Policy) -
             if not is_ours:
                 policy.remarks.append(f"line {at}: the rules of {line} are for other machines, and left out")
             continue
-        name, _, rest = line.partition(" ")
-        rest = rest.lstrip(" ")
-        answer = default if not is_ours or not rest or rest.startswith("#") else _action(rest, at)
-        if not is_ours or not name:
+        if not is_ours:
             continue
+        name, _, action = line.partition(" ")
+        action = action.lstrip(" ")
+        answer = default if not action or action.startswith("#") else _action(action, at)
+        if not name:
+            continue
+        rule = Rule(name, answer, _conditions(line, at), at)
         if name.startswith(FORCE_UMOUNT):
-            _conditions(line, at)
             rule = Rule("umount2", EACCES, (Condition(1, "SCMP_CMP_MASKED_EQ", MNT_FORCE, MNT_FORCE),), at)
-        else:
-            rule = Rule(name, answer, _conditions(line, at), at)
-        yield _Statement(rule, section)
+        yield rule, section
 
 
 def _numbers(lines: list[tuple[int, str]], policy: Policy) -> None:
@@ -128,38 +113,34 @@ def _numbers(lines: list[tuple[int, str]], policy: Policy) -> None:
         policy.add(Rule(names[0], ALLOW, (), at))
 
 
-def _with_architectures(policy: Policy, statements: list[_Statement]) -> None:
+def _add(policy: Policy, rules: list[tuple[Rule, str]]) -> None:
     """Adds the rules, and the architectures on which all of them count, or that have none of their names."""
-    number_of, without, unknown = sandbox_rules.knows(), {I386: [], X32: []}, []
-    for statement in statements:
-        rule = statement.rule
+    number_of, without = sandbox_rules.knows(), {I386: [], X32: []}
+    for rule, section in rules:
         if number_of(rule.name, NATIVE) is None:
-            unknown.append(rule.name)
             continue
         if rule.answer == policy.default:
             raise error_at(rule.line, f"LXC refuses a rule with the default's answer, {rule.answer}")
-        policy.add(rule)
         for oci, names in without.items():
-            table = tables.of_architecture(oci)
-            number = number_of(rule.name, oci)
+            table, number = tables.of_architecture(oci), number_of(rule.name, oci)
             if number is None or number < 0 and table is not None and table.number_of(rule.name) is not None:
                 names.append(rule.name)
-        if statement.section and statement.section.lower() != "[x86_64]":
-            policy.remarks.append(f"line {rule.line}: LXC applies the rules of {statement.section} to x86-64, too")
+        if section and section.lower() != "[x86_64]":
+            policy.remarks.append(f"line {rule.line}: LXC applies the rules of {section} to x86-64, too")
+    policy.add_known(rule for rule, _ in rules)
     policy.architectures = [NATIVE, *(oci for oci, names in without.items() if not names)]
-    policy.others = [Policy(policy.default, [rule for rule in policy.rules if rule.name not in names], [oci])
-                     for oci, names in without.items() if names]
-    sandbox_rules.remark_unknown(policy, unknown)
-    sandbox_rules.remark_others(policy, {oci: f"LXC makes no rule of {names[0]} there"
-                                         for oci, names in without.items() if names})
+    for oci, names in without.items():
+        if names:
+            rules_there = [rule for rule in policy.rules if rule.name not in names]
+            policy.others.append(Policy(policy.default, rules_there, [oci]))
+            policy.remarks.append(f"the profile leaves {JUDGED[oci].name} out: LXC makes no rule of {names[0]} there")
 
 
 def read(data: bytes) -> Policy:
-    """The rules of a policy."""
-    (_, version), (_, head), *rest = sandbox_rules.lines_of(data)
-    if rest and not rest[-1][1]:
+    (_, version), (_, head), *lines = sandbox_rules.lines_of(data)
+    if lines and not lines[-1][1]:
         # behind the last newline
-        rest.pop()
+        lines.pop()
     if version.strip() not in ("1", "2"):
         raise error_at(1, "it isn't a version that LXC reads")
     is_denylist = head.startswith(("denylist", "blacklist"))
@@ -167,10 +148,9 @@ def read(data: bytes) -> Policy:
         if is_denylist:
             raise error_at(2, "version 1 has allowlists alone")
         policy = Policy(KILL)
-        _numbers(rest, policy)
+        _numbers(lines, policy)
         return policy
     _, blank, action = head.partition(" ")
-    default = _action(action, 2) if blank else ALLOW if is_denylist else KILL
-    policy = Policy(default)
-    _with_architectures(policy, list(_statements(rest, KILL if is_denylist else ALLOW, policy)))
+    policy = Policy(_action(action, 2) if blank else ALLOW if is_denylist else KILL)
+    _add(policy, list(_rules(lines, KILL if is_denylist else ALLOW, policy)))
     return policy

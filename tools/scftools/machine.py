@@ -8,7 +8,7 @@ from __future__ import annotations
 import os
 import re
 import time
-from collections.abc import Iterable
+from collections.abc import Iterable, Iterator
 
 from . import machine_pass, output
 from .hold import PF_KTHREAD, why_no_filters
@@ -46,6 +46,15 @@ class Process:
     is_stuck: bool
     # the ID of the user who answers for it (Kernel.owner_of)
     owner: int
+
+
+def ancestors(process: Process, processes: dict[int, Process]) -> Iterator[int]:
+    """The number of a process and those of its ancestors, the nearest first."""
+    numbers: dict[int, None] = {}
+    while process is not None and process.number not in numbers:
+        numbers[process.number] = None
+        process = processes.get(process.parent)
+    return iter(numbers)
 
 
 @dataclass

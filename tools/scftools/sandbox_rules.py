@@ -7,12 +7,15 @@ from collections.abc import Callable, Iterable, Iterator, Sequence
 
 from . import libseccomp, multiplexed, output, program, tables
 from .answers import Answer
-from .architectures import JUDGED, NATIVE
+from .architectures import NATIVE
 from .entries import Condition
 from .values import dataclass, field
 
-# The most bytes of a list, lines, letters of a line and rules; and the most names that a remark lists.
-MOST_BYTES, MOST_LINES, LONGEST_LINE, MOST_RULES, MOST_LISTED = 1 << 20, 1 << 14, 1 << 15, 1 << 14, 8
+# The most bytes of a list, lines, letters of a line and rules; and the most names in a remark.
+MOST_LIST_BYTES, MOST_LINES, MOST_LETTERS, MOST_LIST_RULES, MOST_IN_REMARK = 1 << 20, 1 << 14, 1 << 15, 1 << 14, 8
+# Of an argument the sandboxes' programs compare the lower half alone, all or some.
+LOWER_HALF = 0xFFFFFFFF
+KILL, LOG = Answer("KILL_THREAD", 0), Answer("LOG", 0)
 # Letters that end a line for other programs, and for the sandbox don't.
 CONTROL_LETTERS = frozenset(map(chr, (*range(9), *range(11, 32), 127, 0x85, 0x2028, 0x2029)))
 Knows = Callable[[str, str], "int | None"]
@@ -59,9 +62,22 @@ class Policy:
     others: list[Policy] = field(default_factory=list)
 
     def add(self, rule: Rule) -> None:
-        if len(self.rules) == MOST_RULES:
-            raise ListError(f"it has more than {MOST_RULES} rules")
+        if len(self.rules) == MOST_LIST_RULES:
+            raise ListError(f"it has more than {MOST_LIST_RULES} rules")
         self.rules.append(rule)
+
+    def add_known(self, rules: Iterable[Rule]) -> None:
+        """Adds the rules whose answer isn't the default's and whose names libseccomp knows, with a remark on the names
+        that it doesn't, which the sandbox leaves out."""
+        number_of, unknown = knows(), {}
+        for rule in rules:
+            if number_of(rule.name, NATIVE) is None:
+                unknown[rule.name] = output.cut(rule.name, 64)
+            elif rule.answer != self.default:
+                self.add(rule)
+        if unknown:
+            self.remarks.append("left out, as by the sandbox, since libseccomp doesn't know them: "
+                                + output.some([*unknown.values()], MOST_IN_REMARK))
 
     def _covering(self) -> dict[str, Rule]:
         """By a syscall its first rule without conditions, which for libseccomp covers all others."""
@@ -81,7 +97,6 @@ class Policy:
                 yield f"line {rule.line} has no effect on {rule.name}: line {by.line} covers it"
 
     def profile(self) -> dict[str, object]:
-        """The OCI profile."""
         covering = self._covering()
         entries: dict[tuple[Answer, tuple[Condition, ...]], dict[str, set[int]]] = {}
         for rule in self.rules:
@@ -109,8 +124,8 @@ def lines_text(numbers: Iterable[int]) -> str:
 
 def lines_of(data: bytes) -> Iterator[tuple[int, str]]:
     """The lines of a list with their numbers, from 1 on."""
-    if len(data) > MOST_BYTES:
-        raise ListError(f"it has more than {MOST_BYTES} bytes")
+    if len(data) > MOST_LIST_BYTES:
+        raise ListError(f"it has more than {MOST_LIST_BYTES} bytes")
     try:
         text = data.decode("utf-8")
     except UnicodeDecodeError as error:
@@ -118,8 +133,8 @@ def lines_of(data: bytes) -> Iterator[tuple[int, str]]:
     for number, line in enumerate(text.split("\n"), 1):
         if number > MOST_LINES:
             raise ListError(f"it has more than {MOST_LINES} lines")
-        if len(line) > LONGEST_LINE:
-            raise error_at(number, f"it has more than {LONGEST_LINE} letters")
+        if len(line) > MOST_LETTERS:
+            raise error_at(number, f"it has more than {MOST_LETTERS} letters")
         if not CONTROL_LETTERS.isdisjoint(line):
             raise error_at(number, "it has a control character")
         yield number, line
@@ -136,16 +151,3 @@ def knows() -> Knows:
     Without a libseccomp any name may be known, and the tables tell the numbers."""
     library = libseccomp.installed()
     return library.number_of if library is not None else _number_in_tables
-
-
-def remark_unknown(policy: Policy, names: Iterable[str]) -> None:
-    """Adds a remark on names that libseccomp doesn't know, which the sandbox leaves out."""
-    left_out = list(dict.fromkeys(names))
-    if left_out:
-        policy.remarks.append("left out, as by the sandbox, since libseccomp doesn't know them: "
-                              + output.some([output.cut(name, 64) for name in left_out], MOST_LISTED))
-
-
-def remark_others(policy: Policy, why: dict[str, str]) -> None:
-    """Adds a remark on each architecture that the profile leaves out, by their OCI names."""
-    policy.remarks += [f"the profile leaves {JUDGED[oci].name} out: {reason}" for oci, reason in why.items()]

@@ -6,16 +6,16 @@ from collections.abc import Callable
 from . import firejail_lists, lxc_policies, program, snap_templates
 from .engines import Refused
 from .sandbox_rules import ListError, Policy
-from .values import dataclass
+from .values import Pattern, dataclass
 
 
 @dataclass(frozen=True)
 class Sandbox:
-    """A sandbox, and what its list is called: whether a text looks like one, and its reader, which raises ListError."""
+    """A sandbox, and what its list is called: what only such a list has, and its reader, which raises ListError."""
 
     name: str
     kind: str
-    is_list: Callable[[bytes], bool]
+    sign: Pattern
     read: Callable[[bytes], Policy]
 
     def profile_of(self, data: bytes, label: str) -> tuple[bytes, list[str]]:
@@ -28,11 +28,11 @@ class Sandbox:
             raise program.ToolError(f"{label}, {self.kind}: {why}", status) from why
 
 
-SANDBOXES = (Sandbox("LXC", "an LXC policy", lxc_policies.is_policy, lxc_policies.read),
-             Sandbox("snapd", "a snap's seccomp template", snap_templates.is_template, snap_templates.read),
-             Sandbox("firejail", "a firejail profile", firejail_lists.is_profile, firejail_lists.read))
+SANDBOXES = (Sandbox("LXC", "an LXC policy", lxc_policies.SIGN, lxc_policies.read),
+             Sandbox("snapd", "a snap's seccomp template", snap_templates.SIGN, snap_templates.read),
+             Sandbox("firejail", "a firejail profile", firejail_lists.SIGN, firejail_lists.read))
 
 
 def sandbox_of(data: bytes) -> Sandbox | None:
     """The sandbox whose list a text is."""
-    return next((sandbox for sandbox in SANDBOXES if sandbox.is_list(data)), None)
+    return next((sandbox for sandbox in SANDBOXES if sandbox.sign.search(data)), None)

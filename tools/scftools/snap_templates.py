@@ -13,32 +13,28 @@ import re
 from collections.abc import Iterator
 
 from . import constants, sandbox_rules
-from .answers import ALLOW, Answer
+from .answers import ALLOW
 from .architectures import I386, NATIVE
 from .entries import Condition
-from .sandbox_rules import ListError, Policy, Rule, UnknownRules, error_at
+from .sandbox_rules import LOG, LOWER_HALF, ListError, Policy, Rule, UnknownRules, error_at
+from .unit_restrictions import EPERM
 from .values import Pattern
 
-EPERM, LOG = Answer("ERRNO", 1), Answer("LOG", 0)
 # How snapd begins such a file; and the directives, each a line of its own, one of which may begin one too.
-BEGINS = Pattern(rb"\s*(?:#[^\n]*\n\s*)*?(?:# snap-seccomp version information:\n|@(?:unrestricted|complain)\s)")
+SIGN = Pattern(rb"\A\s*(?:#[^\n]*\n\s*)*?(?:# snap-seccomp version information:\n|@(?:unrestricted|complain)\s)")
 UNRESTRICTED, COMPLAIN = "@unrestricted", "@complain"
 # The operators, the longest first.
-OPERATORS = {">=": "GE", "<=": "LE", "!": "NE", "<": "LT", ">": "GT", "|": "MASKED_EQ", "": "EQ"}
+SNAP_OPERATORS = {">=": "GE", "<=": "LE", "!": "NE", "<": "LT", ">": "GT", "|": "MASKED_EQ", "": "EQ"}
 # The syscalls of which snap-seccomp compares the lower half of an argument, which may be negative.
 WITH_NEGATIVE = frozenset(
     "chown chown32 fchown fchown32 fchownat lchown lchown32 setgid setgid32 setregid setregid32 setresgid setresgid32 "
     "setreuid setreuid32 setresuid setresuid32 setuid setuid32 copy_file_range".split())
-LOWER_HALF, MOST_ARGUMENTS = 0xFFFFFFFF, 6
+MOST_ARGUMENTS = 6
 # Names of snap-seccomp that tables/arguments.symbols lacks: linux/quota.h, linux/dqblk_xfs.h, linux/ptrace.h.
-NAMES = {"Q_SYNC": 0x800001, "Q_QUOTAON": 0x800002, "Q_QUOTAOFF": 0x800003, "Q_GETFMT": 0x800004,
-         "Q_GETINFO": 0x800005, "Q_SETINFO": 0x800006, "Q_GETQUOTA": 0x800007, "Q_SETQUOTA": 0x800008,
-         "Q_XQUOTAON": 0x5801, "Q_XQUOTAOFF": 0x5802, "Q_XGETQUOTA": 0x5803, "Q_XSETQLIM": 0x5804,
-         "Q_XGETQSTAT": 0x5805, "Q_XQUOTARM": 0x5806, "PTRACE_PEEKUSER": 3, "AF_CONN": 123}
-
-
-def is_template(data: bytes) -> bool:
-    return BEGINS.match(data) is not None
+SNAP_CONSTANTS = {"Q_SYNC": 0x800001, "Q_QUOTAON": 0x800002, "Q_QUOTAOFF": 0x800003, "Q_GETFMT": 0x800004,
+                  "Q_GETINFO": 0x800005, "Q_SETINFO": 0x800006, "Q_GETQUOTA": 0x800007, "Q_SETQUOTA": 0x800008,
+                  "Q_XQUOTAON": 0x5801, "Q_XQUOTAOFF": 0x5802, "Q_XGETQUOTA": 0x5803, "Q_XSETQLIM": 0x5804,
+                  "Q_XGETQSTAT": 0x5805, "Q_XQUOTARM": 0x5806, "PTRACE_PEEKUSER": 3, "AF_CONN": 123}
 
 
 def _identifier(word: str, at: int) -> int:
@@ -52,7 +48,7 @@ def _identifier(word: str, at: int) -> int:
 
 def _number(word: str, name: str, at: int) -> int:
     """The number of an argument's word without its operator."""
-    named = NAMES.get(word, constants.numbers().get("AF_" + word[3:] if word.startswith("PF_") else word))
+    named = SNAP_CONSTANTS.get(word, constants.numbers().get("AF_" + word[3:] if word.startswith("PF_") else word))
     if named is not None:
         return named
     if re.fullmatch("-?[0-9]{1,10}", word):
@@ -65,16 +61,13 @@ def _number(word: str, name: str, at: int) -> int:
 
 
 def _condition(word: str, index: int, name: str, at: int) -> Condition:
-    operator = next(operator for operator in OPERATORS if word.startswith(operator))
-    if word.startswith(("u:", "g:")):
-        value = _identifier(word, at)
-    else:
-        value = _number(word[len(operator):], name, at)
+    operator = next(operator for operator in SNAP_OPERATORS if word.startswith(operator))
+    value = _identifier(word, at) if word.startswith(("u:", "g:")) else _number(word[len(operator):], name, at)
     if name in WITH_NEGATIVE:
         if operator:
             raise error_at(at, f"snap-seccomp compares the arguments of {name} only for a value")
         return Condition(index, "SCMP_CMP_MASKED_EQ", LOWER_HALF, value)
-    return Condition(index, f"SCMP_CMP_{OPERATORS[operator]}", value, value if operator == "|" else 0)
+    return Condition(index, f"SCMP_CMP_{SNAP_OPERATORS[operator]}", value, value if operator == "|" else 0)
 
 
 def _rules(lines: list[tuple[int, str]]) -> Iterator[Rule]:
@@ -95,21 +88,13 @@ def _rules(lines: list[tuple[int, str]]) -> Iterator[Rule]:
 
 
 def read(data: bytes) -> Policy:
-    """The rules of a template."""
     lines = list(sandbox_rules.lines_of(data))
     directives = {line.strip() for _, line in lines}
     rules = list(_rules(lines))
     if UNRESTRICTED in directives:
         return Policy(ALLOW, remarks=["it is unrestricted: snap-confine loads no filter"])
-    policy = Policy(LOG if COMPLAIN in directives else EPERM, architectures=(NATIVE, I386))
-    policy.is_multiplexed = True
-    number_of, unknown = sandbox_rules.knows(), []
-    for rule in rules:
-        if number_of(rule.name, NATIVE) is None:
-            unknown.append(rule.name)
-        else:
-            policy.add(rule)
-    if len(rules) == len(unknown):
+    policy = Policy(LOG if COMPLAIN in directives else EPERM, architectures=(NATIVE, I386), is_multiplexed=True)
+    policy.add_known(rules)
+    if not policy.rules:
         raise ListError("it allows no syscall")
-    sandbox_rules.remark_unknown(policy, unknown)
     return policy

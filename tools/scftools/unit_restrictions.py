@@ -62,7 +62,8 @@ class Restriction:
 Rules = dict[str, Restriction]
 
 
-def _masked(index: int, mask: int, value: int) -> Alternative:
+def masked(index: int, mask: int, value: int) -> Alternative:
+    """The bits of a mask are those of a value."""
     return (Condition(index, "SCMP_CMP_MASKED_EQ", mask, value),)
 
 
@@ -84,14 +85,14 @@ def outside(index: int, values: Sequence[int]) -> list[Alternative]:
     return [*([_compared(index, "LT", least)] if least else []), *between, _compared(index, "GT", greatest)]
 
 
-def _with_any(index: int, bits: Sequence[int]) -> Restriction:
+def with_any(index: int, bits: Sequence[int], answer: Answer = EPERM) -> Restriction:
     """Denies an argument that has any of some bits."""
-    return Restriction(EPERM, [_masked(index, bit, bit) for bit in bits], [_masked(index, sum(bits), 0)])
+    return Restriction(answer, [masked(index, bit, bit) for bit in bits], [masked(index, sum(bits), 0)])
 
 
-def _with_all(index: int, bits: Sequence[int]) -> Restriction:
+def with_all(index: int, bits: Sequence[int], answer: Answer = EPERM) -> Restriction:
     """Denies an argument that has all of some bits."""
-    return Restriction(EPERM, [_masked(index, sum(bits), sum(bits))], [_masked(index, bit, 0) for bit in bits])
+    return Restriction(answer, [masked(index, sum(bits), sum(bits))], [masked(index, bit, 0) for bit in bits])
 
 
 def _whole(names: Iterable[str], answer: Answer = EPERM) -> Rules:
@@ -108,9 +109,9 @@ def _namespaces(text: str, _: str) -> Rules:
     if permitted:
         # a 0 stands for any namespace
         others = [1 << at for at in range(GREATEST_VALUE.bit_length()) if 1 << at not in bits]
-        joins = Restriction(EPERM, [*_with_any(1, bits).denied, *among(1, [0])],
-                            [_masked(1, sum(bits) | bit, bit) for bit in others])
-    return {**dict.fromkeys(("clone", "unshare"), _with_any(0, bits)), "setns": joins, "clone3": Restriction(ENOSYS)}
+        joins = Restriction(EPERM, [*with_any(1, bits).denied, *among(1, [0])],
+                            [masked(1, sum(bits) | bit, bit) for bit in others])
+    return {**dict.fromkeys(("clone", "unshare"), with_any(0, bits)), "setns": joins, "clone3": Restriction(ENOSYS)}
 
 
 def _families(text: str, architecture: str) -> Rules:
@@ -134,11 +135,11 @@ def _memory(_: str, architecture: str) -> Rules:
     """MemoryDenyWriteExecute=: memory that is to be written and executed. i386's mmap(2) has its arguments in memory,
     and its shmat is one of ipc(2)."""
     write, execute, attach = (constants.numbers()[name] for name in ("PROT_WRITE", "PROT_EXEC", "SHM_EXEC"))
-    rules = dict.fromkeys(("mprotect", "pkey_mprotect"), _with_any(2, [execute]))
-    maps = _with_all(2, (write, execute))
+    rules = dict.fromkeys(("mprotect", "pkey_mprotect"), with_any(2, [execute]))
+    maps = with_all(2, (write, execute))
     if architecture == I386:
         return {**rules, "mmap2": maps, **_whole(["mmap"])}
-    return {**rules, "mmap": maps, "shmat": _with_any(2, [attach])}
+    return {**rules, "mmap": maps, "shmat": with_any(2, [attach])}
 
 
 def _realtime(_: str, __: str) -> Rules:
@@ -148,14 +149,14 @@ def _realtime(_: str, __: str) -> Rules:
 def _created(flags: int, mode: int) -> Restriction:
     """Denies opening with O_CREAT and a mode that has a bit of SXID; by the arguments with flags and mode."""
     create = constants.numbers()["O_CREAT"]
-    return Restriction(EPERM, [_masked(flags, create, create) + _masked(mode, bit, bit) for bit in SXID],
-                       [_masked(flags, create, 0), _masked(mode, sum(SXID), 0)])
+    return Restriction(EPERM, [masked(flags, create, create) + masked(mode, bit, bit) for bit in SXID],
+                       [masked(flags, create, 0), masked(mode, sum(SXID), 0)])
 
 
 def _sxid(_: str, __: str) -> Rules:
     """RestrictSUIDSGID=: files with S_ISUID or S_ISGID. openat2's flags can't be looked at."""
-    return {**dict.fromkeys(("chmod", "fchmod", "mkdir", "mknod", "creat"), _with_any(1, SXID)),
-            **dict.fromkeys(("fchmodat", "fchmodat2", "mkdirat", "mknodat"), _with_any(2, SXID)),
+    return {**dict.fromkeys(("chmod", "fchmod", "mkdir", "mknod", "creat"), with_any(1, SXID)),
+            **dict.fromkeys(("fchmodat", "fchmodat2", "mkdirat", "mknodat"), with_any(2, SXID)),
             "open": _created(1, 2), "openat": _created(2, 3), "openat2": Restriction(ENOSYS)}
 
 

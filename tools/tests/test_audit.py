@@ -13,7 +13,7 @@ from support.common import ALLOW, EPERM, LOADER, TOP, Case, filter_of, gate, jeq
 from support import json_schema
 from support.confined import processes
 from support.own_machine import OwnMachine, Systemd, podman_settings
-from scftools import audit, audit_output, container_files, firejail_programs, machine, output, snap_programs, tables
+from scftools import audit, audit_output, container_files, machine, output, sandbox_programs, tables
 from scftools.values import replace
 
 # What is configured for containers, and the same with one call more.
@@ -852,7 +852,7 @@ class Firejail(Case):
 
     def setUp(self):
         super().setUp()
-        patch = mock.patch.object(firejail_programs, "FOLDER", os.path.join(self.folder, "profile"))
+        patch = mock.patch.object(sandbox_programs, "FIREJAIL_SANDBOXES", os.path.join(self.folder, "profile"))
         patch.start()
         self.addCleanup(patch.stop)
         self.profile = self.file("p.profile", "seccomp.drop mkdir\n")
@@ -864,18 +864,18 @@ class Firejail(Case):
         # (while it is being executed, the kernel has no words of it yet)
         child.stdout.readline()
         self.file(f"profile/{child.pid}", f"{self.profile}\n")
-        return firejail_programs.Sandboxes({child.pid: process(child.pid)}).of_number[child.pid]
+        return sandbox_programs.Firejails({child.pid: process(child.pid)}).of_number[child.pid]
 
     def test_whose_a_process_is(self):
         for name, path in (("5", self.profile), ("7", "p"), ("x", self.profile), ("9", self.profile)):
             self.file(f"profile/{name}", f"{path}\n")
         parents = {1: 1, 5: 1, 6: 5, 7: 6, 8: 1}
         processes = {number: process(number, parent=parent) for number, parent in parents.items()}
-        sandboxes = firejail_programs.Sandboxes(processes)
+        sandboxes = sandbox_programs.Firejails(processes)
         self.assertEqual({number: sandbox.number for number in processes
                           if (sandbox := sandboxes.sandbox_of(processes[number])) is not None}, {5: 5, 6: 5, 7: 5})
         os.chown(os.path.join(self.folder, "profile", "5"), 12345, 12345)
-        self.assertEqual(firejail_programs.Sandboxes(processes).of_number, {})
+        self.assertEqual(sandbox_programs.Firejails(processes).of_number, {})
 
     def test_what_is_expected(self):
         expectations = audit.Expectations(audit.Options(tables.read(None)))
@@ -900,7 +900,7 @@ class Snaps(Case):
 
     def setUp(self):
         super().setUp()
-        patch = mock.patch.object(snap_programs, "FOLDER", self.folder)
+        patch = mock.patch.object(sandbox_programs, "SNAP_RULES", self.folder)
         patch.start()
         self.addCleanup(patch.stop)
         self.file("snap.web.run.src", self.RULES)
@@ -917,8 +917,8 @@ class Snaps(Case):
                           ("/system.slice/snap.web.run.service/inner", "snap.web.run"),
                           ("/system.slice/snapd.service", None), (f"{in_slice}/snap.web.scope", None),
                           ("/system.slice/snap.web.run.timer", None), ("/", None)):
-            self.assertEqual(snap_programs.tag_of(process(groups={"": path.encode()})), tag, path)
-        self.assertEqual(snap_programs.tags(), {"snap.web.run", "snap.classic.run"})
+            self.assertEqual(sandbox_programs.snap_tag_of(process(groups={"": path.encode()})), tag, path)
+        self.assertEqual(sandbox_programs.snap_tags(), {"snap.web.run", "snap.classic.run"})
 
     def test_what_is_expected(self):
         expected = self.expectations.of_snap("snap.web.run")

@@ -225,9 +225,9 @@ class Profiles(Lists):
     """firejail's: firejail(1), firejail-profile(5), and the filters of firejail 0.9.72."""
 
     def rules(self, text, default="ALLOW"):
-        settings = firejail_lists.Settings()
+        settings = firejail_lists.StatedSettings()
         firejail_lists.read_lines(text.encode(), settings)
-        policy = firejail_lists.policy_of(settings, firejail_lists.ListReader(groups))
+        policy = firejail_lists.policy_of(settings, firejail_lists.GroupReader(groups))
         self.assertEqual(str(policy.default), default)
         return {(rule.name, str(rule.answer)): rule.line for rule in policy.rules if not rule.conditions}, policy
 
@@ -255,7 +255,7 @@ class Profiles(Lists):
         self.assertIn("line 1: firejail leaves utime:log out", policy.remarks)
 
     def test_files_that_are_included(self):
-        kept, firejail_lists.FOLDER = firejail_lists.FOLDER, self.folder
+        kept, firejail_lists.PROFILES = firejail_lists.PROFILES, self.folder
         self.addCleanup(setattr, firejail_lists, "FOLDER", kept)
         self.file("a.inc", "seccomp.drop mkdir\ninclude a.local\ninclude gone.inc\n")
         rules, policy = self.rules("# x\ninclude a.inc\n")
@@ -267,7 +267,7 @@ class Profiles(Lists):
                 self.rules(text)
 
     def test_the_configuration_of_firejail(self):
-        kept, firejail_lists.FOLDER = firejail_lists.FOLDER, self.folder
+        kept, firejail_lists.PROFILES = firejail_lists.PROFILES, self.folder
         self.addCleanup(setattr, firejail_lists, "FOLDER", kept)
         self.file("firejail.config", "# seccomp no\nseccomp-error-action ENOSYS\nseccomp yes\n")
         self.assertEqual(self.rules("seccomp.drop mkdir\n")[0], {("mkdir", "ERRNO 38"): 1})
