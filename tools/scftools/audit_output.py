@@ -186,7 +186,6 @@ def _change_lines(earlier: Earlier, audit: Audit, lists_all: bool) -> Iterator[s
 
 
 def change_text(change: dict[str, object]) -> str:
-    """A line for a change."""
     was = f" (was {change['was']})" if change["was"] is not None else ""
     return f"{change['time']} {change['verdict'] or 'gone'}: {change['row']}{was}"
 
@@ -251,7 +250,6 @@ def head_json(audit: Audit, earlier: Earlier | None = None) -> dict[str, object]
 
 
 def as_json(audit: Audit, table: Table, earlier: Earlier | None = None) -> dict[str, object]:
-    """The audit as one object."""
     *rows, head = json_lines(audit, table, earlier)
     return {**head, "rows": rows}
 

@@ -145,7 +145,6 @@ def _surfaces(stacks: list[Stack], table_of: Table) -> list[Surface | None]:
 
 
 def _since(audit: Audit, earlier: Earlier | None) -> Iterator[Markup]:
-    """The changes since an earlier audit."""
     if earlier is None:
         return
     yield tag("h2", f"Since {output.escaped(earlier.time)}")
@@ -156,7 +155,6 @@ def _since(audit: Audit, earlier: Earlier | None) -> Iterator[Markup]:
 
 
 def _stacks(audit: Audit, table_of: Table) -> Iterator[Markup]:
-    """The surface of each distinct stack."""
     groups = Groups()
     stacks = [Named(f"stack {at}", surface, stack.description, stack_digest(stack.filters)) for at, (stack, surface)
               in enumerate(zip(audit.stacks, _surfaces(audit.stacks, table_of)))]

@@ -47,7 +47,6 @@ def rank(status: int) -> tuple[bool, int]:
 
 
 def worst(statuses: Iterable[int]) -> int:
-    """The status of several runs or parts."""
     return min(statuses, key=rank, default=SUCCESS)
 
 

@@ -90,14 +90,10 @@ def why_no_group(process: int, path: bytes) -> str:
 def groups_of(kernel: Kernel, process: int) -> dict[str, bytes]:
     """The control groups of a process, by the controllers of their hierarchies: if its main thread has ended, which the
     kernel shows in the root group of each hierarchy of version 1, those of another thread."""
-    return kernel.groups_of(living_thread(kernel, process))
-
-
-def living_thread(kernel: Kernel, process: int) -> int:
-    """The first thread of a process that hasn't ended; its main thread if all have."""
-    if not has_ended(kernel.status_of(process)):
-        return process
-    return next((thread for thread in kernel.threads_of(process) if not has_ended(kernel.status_of(thread))), process)
+    if has_ended(kernel.status_of(process)):
+        alive = (thread for thread in kernel.threads_of(process) if not has_ended(kernel.status_of(thread)))
+        process = next(alive, process)
+    return kernel.groups_of(process)
 
 
 def known_groups(roots: Sequence[bytes], path: bytes) -> Iterator[bytes]:

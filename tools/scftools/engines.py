@@ -214,17 +214,17 @@ def check(value: Any, members: dict[str, Any], where: str, setting: Setting) -> 
             _check_one(member, kind, where, name)
 
 
-def unknown_members(value: Any, members: dict[str, Any], where: str) -> Iterator[tuple[str, str]]:
-    """The members of an object and of those in it that no engine reads, each with where it stands."""
+def members_in(value: Any, members: dict[str, Any], where: str) -> Iterator[tuple[str, str, Any, Any]]:
+    """The members of an object and of those in it: where each stands, its name, its value, and its kind, None if no
+    engine reads it."""
     for name, member in value.items():
         kind = members.get(name)
-        if kind is None:
-            yield where, name
-        elif member is not None and isinstance(kind, dict):
-            yield from unknown_members(member, kind, where_in(where, name))
+        yield where, name, member, kind
+        if member is not None and isinstance(kind, dict):
+            yield from members_in(member, kind, where_in(where, name))
         elif member is not None and isinstance(kind, list) and isinstance(kind[0], dict):
             for index, inner in enumerate(member):
-                yield from unknown_members(inner, kind[0], where_in(where, name, index))
+                yield from members_in(inner, kind[0], where_in(where, name, index))
 
 
 def members_of(value: dict[str, Any] | None, setting: Setting) -> dict[str, Any]:
@@ -341,29 +341,20 @@ class Resolver:
         return value
 
     def tell_unread(self, top: dict[str, Any]) -> None:
-        """Reports the members that nothing reads, and refuses those that may be conditions."""
-        for where, name in unknown_members(top, SECCOMP, "the profile"):
+        """Reports the members that nothing reads, and refuses those that may be conditions; of those that only other
+        engines read each once."""
+        of_others: dict[str, str] = {}
+        for where, name, member, kind in members_in(top, SECCOMP, "the profile"):
             is_ignored = self.setting.ignored is None or name in self.setting.ignored
-            if where.startswith("entry ") and not is_ignored:
+            if kind is None and where.startswith("entry ") and not is_ignored:
                 raise Refused(f"{where} has a member '{excerpt(name)}', which no engine reads, and which may be a "
                               f"condition: --ignore {excerpt(name)} ignores it")
-            self.note(f"{where}: nothing reads '{excerpt(name)}'")
-        if self.setting.unread:
-            for where, name in self._of_other_engines(top):
-                self.note(f"{where}: {self.setting.engine} doesn't read '{name}'")
-
-    def _of_other_engines(self, top: dict[str, Any]) -> Iterator[tuple[str, str]]:
-        """The members that only other engines read, each once, and where it stands first."""
-        seen = set()
-        for index, entry in [(None, top), *enumerate(top.get("syscalls") or [])]:
-            where = "the profile" if index is None else f"entry {index}"
-            filters = [(f"{where}: {name}", entry.get(name) or {}) for name in ("includes", "excludes")]
-            holders = [(where, entry), *filters]
-            for inner, holder in holders[:1] if index is None else holders:
-                for name in self.setting.unread:
-                    if holder.get(name) is not None and name not in seen:
-                        seen.add(name)
-                        yield inner, name
+            if kind is None:
+                self.note(f"{where}: nothing reads '{excerpt(name)}'")
+            elif member is not None and name in self.setting.unread:
+                of_others.setdefault(name, where)
+        for name, where in of_others.items():
+            self.note(f"{where}: {self.setting.engine} doesn't read '{name}'")
 
     def resolved(self, value: Any) -> dict[str, Any]:
         """The profile that the engine makes in this setting."""
@@ -382,10 +373,10 @@ class Resolver:
             profile["architectures"] = architectures
         profile.update((name, top[name]) for name in PASSED_ON if name in top)
         profile["syscalls"] = [made for at, entry in enumerate(top.get("syscalls", []))
-                               for made in self.kept(at, entry)]
+                               for made in self.resolved_entry(at, entry)]
         return profile
 
-    def kept(self, at: int, raw_entry: dict[str, Any]) -> list[dict[str, Any]]:
+    def resolved_entry(self, at: int, raw_entry: dict[str, Any]) -> list[dict[str, Any]]:
         """The entry at this index, where the engine keeps it."""
         entry = members_of(raw_entry, self.setting)
         why = why_left_out(entry, self.setting, f"entry {at}")
@@ -407,18 +398,16 @@ class Resolver:
             if not entry.get("args") and answer != default:
                 for name in entry["names"]:
                     first.setdefault(name, answer)
-        kept_entries = []
-        for entry, answer, origin in zip(profile["syscalls"], answers, self.origins):
-            if not entry.get("args"):
-                for name in entry["names"]:
-                    if first.get(name, answer) != answer:
-                        self.note(f"{excerpt(name)} left out of an entry with {excerpt(entry['action'])}: another "
-                                  f"entry has it with {first[name].oci}")
-                entry["names"] = [name for name in entry["names"] if first.get(name, answer) == answer]
-            if entry["names"]:
-                kept_entries.append((entry, origin))
-        profile["syscalls"] = [entry for entry, _ in kept_entries]
-        self.origins = [origin for _, origin in kept_entries]
+        for entry, answer in zip(profile["syscalls"], answers):
+            if entry.get("args"):
+                continue
+            for name in entry["names"]:
+                if first.get(name, answer) != answer:
+                    self.note(f"{excerpt(name)} left out of an entry with {excerpt(entry['action'])}: another entry "
+                              f"has it with {first[name].oci}")
+            entry["names"] = [name for name in entry["names"] if first.get(name, answer) == answer]
+        self.origins = [origin for entry, origin in zip(profile["syscalls"], self.origins) if entry["names"]]
+        profile["syscalls"] = [entry for entry in profile["syscalls"] if entry["names"]]
 
 
 def resolve(value: Any, setting: Setting, tell: Callable[[str], None],

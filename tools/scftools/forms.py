@@ -21,8 +21,8 @@ MNEMONICS = "ld ldx st stx add sub mul div or and lsh rsh xor neg ja jeq jgt jge
 # What may stand before the first mnemonic: blanks, empty statements, comments; and a word, of which a colon makes a
 # label.
 BEFORE_MNEMONIC, MNEMONIC = Pattern(r"[\s;]+|//[^\n]*\n"), Pattern(r"([A-Za-z_]\w*)\s*(:?)")
-HEXADECIMAL_TEXT, ARRAY, DECIMALS, ASSEMBLER, LOG = ("hexadecimal text", "a C array", "decimals of tcpdump -ddd",
-                                                     "scf's assembler text", "a strace log")
+HEXADECIMAL_TEXT, ARRAY, DECIMALS, ASSEMBLER, STRACE_LOG = (
+    "hexadecimal text", "a C array", "decimals of tcpdump -ddd", "scf's assembler text", "a strace log")
 LOADING = Pattern(r"(?m)^[\[\]pid 0-9]{0,30}(?:seccomp\(SECCOMP_SET_MODE_FILTER|prctl\(PR_SET_SECCOMP), ")
 # What isn't a filter: how it begins, what it is, and what to do.
 OF_PROFILE = ": `scf compare FILTER PROFILE` compares a profile with a filter, `scf compile` makes its filter"
@@ -152,7 +152,7 @@ def _of_log(text: str) -> bytes | None:
 
 
 FORMS = ((HEXADECIMAL_TEXT, _of_hexadecimal), (DECIMALS, _of_decimals), (ARRAY, _of_array), (ASSEMBLER, _of_assembler),
-         (LOG, _of_log))
+         (STRACE_LOG, _of_log))
 
 
 def _forms_of(text: str, label: str) -> Iterator[Filter]:

@@ -9,6 +9,7 @@ whatever the worker hangs in. A watchdog kills the container if the hook is stop
 """
 from __future__ import annotations
 
+import contextlib
 import errno
 import json
 import math
@@ -17,7 +18,7 @@ import select
 import signal
 import stat
 import time
-from collections.abc import Callable, Iterator, Sequence
+from collections.abc import Callable, Sequence
 
 from . import containers, engines, hold, inputs, output, processes, program, verdicts, verify
 from .processes import Inspection, Kernel
@@ -59,24 +60,17 @@ class ContainerState:
         return f"container {output.escaped(self.name)}"
 
 
-def _member(state: dict[str, Any], name: str) -> str:
-    value = state.get(name)
-    if not isinstance(value, str) or not value:
-        raise ContainerError(f"the container's state has no {name}")
-    return value
-
-
 def container_of(data: bytes) -> ContainerState:
-    """The container of a state."""
     try:
         state = json.loads(data.decode("utf-8"))
     except (ValueError, RecursionError) as error:
         raise ContainerError("the container's state on standard input isn't JSON") from error
     if not isinstance(state, dict):
         raise ContainerError("the container's state isn't an object")
-    _member(state, "ociVersion")
-    name, status, bundle = (_member(state, member) for member in ("id", "status", "bundle"))
-    pid = state.get("pid")
+    for member in ("ociVersion", "id", "status", "bundle"):
+        if not isinstance(state.get(member), str) or not state[member]:
+            raise ContainerError(f"the container's state has no {member}")
+    name, status, bundle, pid = state["id"], state["status"], state["bundle"], state.get("pid")
     if type(pid) is not int or not 0 < pid < 2**31:
         raise ContainerError(f"the state of container {name} has no pid")
     if not bundle.startswith("/") or "\0" in bundle:
@@ -138,12 +132,10 @@ def members_of(kernel: Kernel, pid: int) -> containers.Container:
 
 
 def descendants(kernel: Kernel, pid: int) -> list[int]:
-    """A process and its descendants."""
     parents = {number: kernel.status_of(number).get("PPid") for number in kernel.processes()}
-    numbers, last = [pid], [pid]
-    while last:
-        last = [number for number, parent in parents.items() if parent in set(map(str, last)) and number not in numbers]
-        numbers += last
+    numbers = [pid]
+    for ancestor in numbers:
+        numbers += [number for number, parent in parents.items() if parent == str(ancestor) and number not in numbers]
     return numbers
 
 
@@ -154,14 +146,6 @@ def send_signal(file: int, number: int) -> int | None:
     except OSError as error:
         return error.errno
     return None
-
-
-def pidfds_of(pid: int) -> Iterator[int]:
-    """A pidfd of a process, if it exists."""
-    try:
-        yield os.pidfd_open(pid)
-    except OSError:
-        pass
 
 
 class ContainerProcess:
@@ -213,11 +197,13 @@ class ContainerProcess:
 
     def hold_others(self) -> dict[int, int]:
         """The pidfds of the other processes that run, each held before it was listed again."""
-        held = {pid: file for pid in self.running_others() for file in pidfds_of(pid)}
-        still = set(self.running_others())
-        for pid in held.keys() - still:
-            os.close(held[pid])
-        return {pid: file for pid, file in held.items() if pid in still}
+        held = {}
+        for pid in self.running_others():
+            with contextlib.suppress(OSError):
+                held[pid] = os.pidfd_open(pid)
+        for pid in held.keys() - set(self.running_others()):
+            os.close(held.pop(pid))
+        return held
 
     def running_others(self) -> list[int]:
         return [number for number in self.members.processes()
@@ -306,12 +292,12 @@ def failure(why: str, status: int = program.IO_ERROR) -> HookResult:
     return plain_finding(status, None, why)
 
 
-def report(finding: HookResult, is_json: bool, send: Callable[[object], None]) -> None:
-    """Sends a worker's finding: first the status and the verdict, then the explanation."""
-    send([finding.status, finding.verdict])
-    send(finding.lines())
+def send_result(result: HookResult, is_json: bool, send: Callable[[object], None]) -> None:
+    """Sends a worker's result: first the status and the verdict, then the explanation."""
+    send([result.status, result.verdict])
+    send(result.lines())
     if is_json:
-        send(finding.value())
+        send(result.value())
 
 
 def result_of(worker: Worker, seconds: float, is_json: bool, settle: Callable[[int], None]) -> HookResult:
@@ -355,7 +341,7 @@ class Examination:
         try:
             if self.kills:
                 self.watchdog = Watchdog(self.bark, time.monotonic() + self.seconds + GRACE)
-            worker = Worker(lambda send: report(run_safely(find), is_json, send),
+            worker = Worker(lambda send: send_result(run_safely(find), is_json, send),
                             [self.watchdog.end] if self.watchdog else [])
         except OSError as error:
             self.settle(program.IO_ERROR)

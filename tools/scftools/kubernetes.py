@@ -14,8 +14,8 @@ from .profiles import OCI_ACTIONS
 from .values import Any
 
 API, KIND = "security-profiles-operator.x-k8s.io/v1beta1", "SeccompProfile"
-OF_SPEC = ("defaultAction", "architectures", "listenerPath", "listenerMetadata", "syscalls", "flags")
-OF_ENTRY = ("names", "action", "errnoRet", "args")
+SPEC_MEMBERS = ("defaultAction", "architectures", "listenerPath", "listenerMetadata", "syscalls", "flags")
+ENTRY_MEMBERS = ("names", "action", "errnoRet", "args")
 GREATEST = (1 << 63) - 1
 
 
@@ -43,8 +43,8 @@ def _check(profile: dict[str, Any]) -> None:
 def printed(profile: dict[str, Any], name: str) -> str:
     """The text of an object by this name, whose spec is a profile: JSON, which is YAML, too. Raises Refused."""
     _check(profile)
-    entries = [{member: entry[member] for member in OF_ENTRY if member in entry}
+    entries = [{member: entry[member] for member in ENTRY_MEMBERS if member in entry}
                for entry in profile.get("syscalls") or []]
-    spec = {member: profile[member] for member in OF_SPEC if member in profile}
+    spec = {member: profile[member] for member in SPEC_MEMBERS if member in profile}
     value = {"apiVersion": API, "kind": KIND, "metadata": {"name": name}, "spec": {**spec, "syscalls": entries}}
     return json.dumps(value, indent=4) + "\n"

@@ -2,8 +2,10 @@
 of a user leads to what only root can read, and nothing of a user's passes for root's."""
 from __future__ import annotations
 
+import contextlib
 import os
 import stat
+from collections.abc import Iterator
 from itertools import islice
 
 from .ptrace import contents
@@ -96,34 +98,35 @@ def _opened(path: str) -> OwnedFile:
             os.close(file)
 
 
-def opened(path: str) -> OwnedFile:
-    """A file descriptor of a path; raises UnreadableFile if it can't be opened."""
+@contextlib.contextmanager
+def opened(path: str) -> Iterator[OwnedFile]:
+    """An open file or folder; raises UnreadableFile if it can't be opened or read."""
     try:
         if not path.startswith("/"):
             raise UnreadableFile(f"'{path}' isn't an absolute path")
-        return _opened(path)
+        place = _opened(path)
     except FileNotFoundError as error:
         raise Absent(f"there is no file '{path}'") from error
     except (OSError, ValueError) as error:
         raise UnreadableFile(f"'{path}' can't be read: {getattr(error, 'strerror', None) or error}") from error
+    try:
+        yield place
+    except OSError as error:
+        raise UnreadableFile(f"'{path}' can't be read: {error.strerror}") from error
+    finally:
+        os.close(place.file)
 
 
 def read(path: str, most: int, most_of_users: int | None = None) -> tuple[bytes, frozenset[int]]:
     """The bytes of a regular file, at most so many, and the users who could have changed them, with root among them if
     the file is root's and a folder on its path isn't; `most_of_users` is the limit if there are any."""
-    place = opened(path)
-    most = most_of_users if place.users and most_of_users is not None else most
-    try:
+    with opened(path) as place:
+        most = most_of_users if place.users and most_of_users is not None else most
         if not stat.S_ISREG(place.status.st_mode):
             raise UnreadableFile(f"'{path}' isn't a regular file")
         # (without waiting for whoever holds a lease on it)
-        opened_again = os.open(f"/proc/self/fd/{place.file}", os.O_RDONLY | os.O_NONBLOCK | os.O_CLOEXEC)
-        with open(opened_again, "rb") as file:
+        with open(os.open(f"/proc/self/fd/{place.file}", os.O_RDONLY | os.O_NONBLOCK | os.O_CLOEXEC), "rb") as file:
             data = file.read(most + 1)
-    except OSError as error:
-        raise UnreadableFile(f"'{path}' can't be read: {error.strerror}") from error
-    finally:
-        os.close(place.file)
     if len(data) > most:
         raise UnreadableFile(f"'{path}' has more than {most} bytes")
     return data, place.users | ({place.status.st_uid} if place.users else frozenset())
@@ -141,15 +144,9 @@ def names_in(path: str, most_of_users: int) -> tuple[list[str], bool]:
     """The names in a folder, of one that a user could have changed the first, so many, and whether these are all; none
     where it isn't there."""
     try:
-        place = opened(path)
+        with opened(path) as place, os.scandir(f"/proc/self/fd/{place.file}") as entries:
+            names = [entry.name for entry in (islice(entries, most_of_users + 1) if place.users else entries)]
     except Absent:
         return [], True
-    try:
-        with os.scandir(f"/proc/self/fd/{place.file}") as entries:
-            names = [entry.name for entry in (islice(entries, most_of_users + 1) if place.users else entries)]
-    except OSError as error:
-        raise UnreadableFile(f"'{path}' can't be read: {error.strerror}") from error
-    finally:
-        os.close(place.file)
     is_all = not place.users or len(names) <= most_of_users
     return (names if is_all else names[:most_of_users]), is_all

@@ -173,7 +173,6 @@ def look_at_process(kernel: Kernel, process: int, thread: int | None = None, pat
 
 def look_at_container(kernel: Kernel, container: Container, patience: float = PATIENCE,
                       is_forced: bool = False) -> Inspection:
-    """Reads all threads of all processes of a container."""
 
     def listed() -> dict[int, int]:
         return {thread: process for process in container.processes() for thread in kernel.threads_of(process)}

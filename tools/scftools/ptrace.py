@@ -71,6 +71,17 @@ def _without_octal(field: bytes) -> bytes:
     return ESCAPED_BYTE.sub(lambda match: bytes([int(match[1], 8)]), field)
 
 
+def _group_mounts(process: int | str) -> Iterator[tuple[bytes, list[bytes], bytes, bytes]]:
+    """The control group mounts that a process sees (proc_pid_mountinfo(5)): the type, the options, the group that is
+    mounted, and where."""
+    for line in contents(f"/proc/{process}/mountinfo").split(b"\n"):
+        fields, _, source = line.partition(b" - ")
+        kind, _, options = source.partition(b" ")
+        if kind in (b"cgroup", b"cgroup2") and fields.count(b" ") > 4:
+            root, place = map(_without_octal, fields.split(b" ")[3:5])
+            yield kind, options.rpartition(b" ")[2].split(b","), root, place
+
+
 def _namespace_files(process: int, kind: str) -> Iterator[int]:
     """The open namespace of a process, and those around it that this tool may see, one at a time, the innermost first
     (ioctl_ns(2)); none if there is no such process."""
@@ -193,25 +204,15 @@ class Kernel:
         return paths
 
     def mounted_groups(self, process: int) -> list[bytes]:
-        """The roots of the control group mounts that a process sees (proc_pid_mountinfo(5))."""
-        roots = []
-        for line in contents(f"/proc/{process}/mountinfo").split(b"\n"):
-            fields, _, source = line.partition(b" - ")
-            if source.startswith((b"cgroup ", b"cgroup2 ")) and fields.count(b" ") > 3:
-                roots.append(_without_octal(fields.split(b" ")[3]))
-        return roots
+        """The roots of the control group mounts that a process sees."""
+        return [root for _, _, root, _ in _group_mounts(process)]
 
     def group_owner(self, hierarchy: str, path: bytes) -> int | None:
         """The first user beside root who owns a control group of a hierarchy, or one above it; None if root owns all,
         or the hierarchy isn't mounted here."""
-        for line in contents("/proc/self/mountinfo").split(b"\n"):
-            fields, _, source = line.partition(b" - ")
-            kind, _, options = source.partition(b" ")
-            if kind != (b"cgroup" if hierarchy else b"cgroup2") or fields.count(b" ") < 5:
+        for kind, options, root, place in _group_mounts("self"):
+            if kind != (b"cgroup" if hierarchy else b"cgroup2") or hierarchy and hierarchy.encode() not in options:
                 continue
-            if hierarchy and hierarchy.encode() not in options.rpartition(b" ")[2].split(b","):
-                continue
-            root, place = map(_without_octal, fields.split(b" ")[3:5])
             if root != b"/" and path != root and not path.startswith(root + b"/"):
                 continue
             for part in path[len(root) if root != b"/" else 0:].strip(b"/").split(b"/"):

@@ -70,10 +70,10 @@ def _member(holder: dict[str, Any], path: Path, name: str, what: str, is_needed:
     return value
 
 
-def _word(holder: dict[str, Any], path: Path, name: str, known: tuple[str, ...], kind: str) -> None:
+def _word(holder: dict[str, Any], path: Path, name: str, words: tuple[str, ...], kind: str) -> None:
     """An action or an operator."""
     value = _member(holder, path, name, "a string", True)
-    if value not in known:
+    if value not in words:
         raise MemberFault(kind, [*path, name], f"is {_shown(value)}, which is none")
 
 
@@ -192,12 +192,13 @@ def _conflicting(fault: Fault, profile: bytes, judged: Tables) -> Call:
     """A record of the syscall on which two entries conflict: of the first architecture on which both name it."""
     number = fault.numbers["number"]
     entries = [profiles.entry_at(profile, fault.numbers[field]) for field in ("first", "second")]
-    listed = [entry["names"] for entry in entries if isinstance(entry, dict) and isinstance(entry.get("names"), list)]
+    listed = [{name for name in entry["names"] if isinstance(name, str)} for entry in entries
+              if isinstance(entry, dict) and isinstance(entry.get("names"), list)]
     for name, table in judged.of.items():
         architecture = architectures.JUDGED[name]
         is_its = architecture.first <= number <= architecture.last
         names = set(table.names_of(number - architecture.first)) if is_its else set()
-        if all(names.intersection(name for name in its if isinstance(name, str)) for its in listed) and names:
+        if names and all(names & entry_names for entry_names in listed):
             return Call(number, architecture.number)
     return Call(number)
 

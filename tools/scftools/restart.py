@@ -34,7 +34,7 @@ RETURN_COMPUTED, USER_NOTIF = 0x16, 0x7FC0
 # How often scf is asked about the threads of a process, which are stopped meanwhile; calls beyond begin anew. The steps
 # in which it follows their filters: the 28 of a unit of systemd take 230000, and some 30 ms. And of how many stacks the
 # regions are kept.
-MOST_ASKED, STEPS, MOST_KEPT = 200, "300000", 50
+MOST_ASKED, LOOKUP_STEPS, MOST_KEPT = 200, "300000", 50
 
 
 def restart_of(call: Call) -> Call:
@@ -148,7 +148,7 @@ class Restarts:
         """The answer of filters to a syscall, None if scf can't tell or was asked too often: by their regions, which it
         prints once for all syscalls."""
         if filters not in self.lookups and self.remaining_runs > 0:
-            printed = self.run(["answers", "--examples", f"--limit={STEPS}"], filters)
+            printed = self.run(["answers", "--examples", f"--limit={LOOKUP_STEPS}"], filters)
             self.lookups[filters] = Lookup(regions.read(printed))
         region = self.lookups[filters].of(call) if filters in self.lookups else None
         if region is not None or self.remaining_runs <= 0:

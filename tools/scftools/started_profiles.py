@@ -7,32 +7,32 @@ from .values import Any
 
 # The numbers of actions and operators, and libcontainer's names of architectures where they aren't OCI's in small
 # letters.
-ACTIONS = {number: f"SCMP_ACT_{name}" for number, name in enumerate(
+RUNC_ACTIONS = {number: f"SCMP_ACT_{name}" for number, name in enumerate(
     "KILL ERRNO TRAP ALLOW TRACE LOG NOTIFY KILL_THREAD KILL_PROCESS".split(), 1)}
-OPERATORS = {number: f"SCMP_CMP_{name}" for number, name in enumerate("EQ NE GT GE LT LE MASKED_EQ".split(), 1)}
-ARCHITECTURES = {"amd64": "X86_64", "arm64": "AARCH64"}
-
-
-def _errno(name: str, value: Any) -> dict[str, Any]:
-    return {} if value is None else {name: value}
+RUNC_OPERATORS = {number: f"SCMP_CMP_{name}" for number, name in enumerate("EQ NE GT GE LT LE MASKED_EQ".split(), 1)}
+RUNC_ARCHITECTURES = {"amd64": "X86_64", "arm64": "AARCH64"}
 
 
 def seccomp_of(state: Any) -> dict[str, Any] | None:
     """The settings in a state.json, as a config.json has them; None if the container has none. Raises LookupError,
     TypeError or AttributeError if they aren't as expected."""
-    kept = state["config"]["seccomp"]
-    if kept is None:
+    settings = state["config"]["seccomp"]
+    if settings is None:
         return None
-    entries = []
-    for call in kept["syscalls"] or ():
-        args = [{"index": one["index"], "value": one["value"], "valueTwo": one["value_two"],
-                 "op": OPERATORS[one["op"]]} for one in call["args"] or ()]
-        entries.append({"names": [call["name"]], "action": ACTIONS[call["action"]],
-                        **_errno("errnoRet", call.get("errnoRet")), **({"args": args} if args else {})})
-    names = [architectures.PREFIX + ARCHITECTURES.get(name, name.upper()) for name in kept["architectures"] or ()]
-    return {"defaultAction": ACTIONS[kept["default_action"]],
-            **_errno("defaultErrnoRet", kept.get("default_errno_ret")),
-            **({"architectures": names} if names else {}), "syscalls": entries}
+    entries = [_without_empty({
+        "names": [call["name"]], "action": RUNC_ACTIONS[call["action"]], "errnoRet": call.get("errnoRet"),
+        "args": [{"index": condition["index"], "value": condition["value"], "valueTwo": condition["value_two"],
+                  "op": RUNC_OPERATORS[condition["op"]]} for condition in call["args"] or ()]})
+               for call in settings["syscalls"] or ()]
+    names = [architectures.PREFIX + RUNC_ARCHITECTURES.get(name, name.upper())
+             for name in settings["architectures"] or ()]
+    return {**_without_empty({"defaultAction": RUNC_ACTIONS[settings["default_action"]], "architectures": names,
+                              "defaultErrnoRet": settings.get("default_errno_ret")}), "syscalls": entries}
+
+
+def _without_empty(members: dict[str, Any]) -> dict[str, Any]:
+    """The members that state something."""
+    return {name: value for name, value in members.items() if value not in (None, [])}
 
 
 def _comparable(seccomp: Any) -> object:
@@ -40,8 +40,8 @@ def _comparable(seccomp: Any) -> object:
     if not seccomp:
         return None
     rules = [(name, entry.get("action"), entry.get("errnoRet"),
-              tuple((one.get("index", 0), one.get("value", 0), one.get("valueTwo", 0), one.get("op"))
-                    for one in entry.get("args") or ()))
+              tuple((condition.get("index", 0), condition.get("value", 0), condition.get("valueTwo", 0),
+                     condition.get("op")) for condition in entry.get("args") or ()))
              for entry in seccomp.get("syscalls") or () for name in entry.get("names") or ()]
     return (seccomp.get("defaultAction"), seccomp.get("defaultErrnoRet"), seccomp.get("architectures") or [], rules)
 

@@ -90,7 +90,6 @@ def options_of(given):
 
 
 def earlier_in(name):
-    """The audit of an object that --json printed."""
     if name is None:
         return None
     try:
@@ -100,7 +99,6 @@ def earlier_in(name):
 
 
 def write(report, given, options, earlier):
-    """Writes the files that are asked for."""
     if given.prometheus is not None:
         output.replace_file(given.prometheus, audit_output.metrics(report))
     if given.html is not None:

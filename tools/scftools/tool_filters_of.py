@@ -34,7 +34,8 @@ import tempfile
 from . import c_arrays, filter_loads, filters, inputs, output, processes, program, strace, tracing, words
 from .processes import Stack
 
-OPTIONS = ("-f", "-v", "-e", f"trace={filter_loads.TRACED_CALLS}", "-e", "signal=none", "--quiet=attach,personality")
+STRACE_OPTIONS = ("-f", "-v", "-e", f"trace={filter_loads.TRACED_CALLS}", "-e", "signal=none",
+                  "--quiet=attach,personality")
 
 
 def read_words():
@@ -96,7 +97,7 @@ def of_program(options):
     """Runs the program: the stack that it loads, and its status."""
     with tempfile.TemporaryDirectory(prefix="scf-filters-of-") as folder:
         log = os.path.join(folder, "log")
-        status = tracing.run(log, OPTIONS, options.traced)
+        status = tracing.run(log, STRACE_OPTIONS, options.traced)
         return loaded_in(log, "the program", options.thread), status
 
 

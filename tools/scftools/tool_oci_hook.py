@@ -94,7 +94,6 @@ def judge(options, process):
 
 
 def tell(is_json, container, result, killed):
-    """Writes what was found."""
     lines = [hooks.verdict_line(container, result), *(kill.line for kill in killed), *result.lines()]
     if is_dry_run():
         lines.append(hooks.dry_run_line(result.status, "--kill" in sys.argv[1:]))

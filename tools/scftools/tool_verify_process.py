@@ -100,18 +100,13 @@ def is_configured(data, name, kernel, pid):
         value = verify.configuration_in(data)
         if value is None:
             return None
-        check_owner(kernel, pid, value)
+        why_not = verify.why_not_its(kernel, pid, value)
+        if why_not is not None:
+            raise program.ToolError(f"{why_not}: `podman inspect -f '{{{{.State.Pid}}}} {{{{.OCIConfigPath}}}}' NAME` "
+                                    "prints the first process of a container and its configuration")
         return verify.seccomp_in(value, name) is not None
     except verify.ContainerError as why:
         raise program.ToolError(f"{inputs.label(name)}: {why}", program.NEGATIVE) from why
-
-
-def check_owner(kernel, pid, value):
-    """Ends the tool where a configuration is known to be another container's than the process is in."""
-    why = verify.why_not_its(kernel, pid, value)
-    if why is not None:
-        raise program.ToolError(f"{why}: `podman inspect -f '{{{{.State.Pid}}}} {{{{.OCIConfigPath}}}}' NAME` prints "
-                                f"the first process of a container and its configuration")
 
 
 def read_profile(name, is_engines):

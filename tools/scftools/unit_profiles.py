@@ -19,11 +19,11 @@ def groups_of(settings: UnitSettings) -> list[list[str]]:
     groups: list[tuple[unit_restrictions.Rules, list[str]]] = []
     for oci in settings.architectures:
         rules = unit_restrictions.rules_of(settings.restrictions, oci)
-        group = next((group for its, group in groups if its == rules), None)
-        if group is None:
-            groups.append((rules, [oci]))
+        alike = [group for group_rules, group in groups if group_rules == rules]
+        if alike:
+            alike[0].append(oci)
         else:
-            group.append(oci)
+            groups.append((rules, [oci]))
     return [group for _, group in groups]
 
 

@@ -177,7 +177,6 @@ class ListReader:
 
     @functools.cached_property
     def groups(self) -> dict[str, list[str]]:
-        """systemd's groups of syscalls."""
         return self.ask()
 
     def calls_of(self, name: str, depth: int = 0) -> Iterator[str]:
@@ -328,10 +327,9 @@ def denied_by(shown: dict[str, str], allowed: CallList, reader: ListReader) -> d
     lenient = ListReader(reader.ask, reader.tell, libseccomp.Library().knows, is_lenient=True)
     listed = lenient.assigned(values)
     lenient.tell_unknown()
-    if listed is None or listed.is_inverted:
-        raise UnknownSettings("the list in its files differs from the one that systemd shows")
-    answers = {call: answer for call, answer in listed.calls.items() if answer is not None}
-    if not allowed.calls.keys() <= listed.calls.keys() - answers.keys():
+    calls = listed.calls if listed is not None else {}
+    answers = {call: answer for call, answer in calls.items() if answer is not None}
+    if listed is None or listed.is_inverted or not allowed.calls.keys() <= calls.keys() - answers.keys():
         raise UnknownSettings("the list in its files differs from the one that systemd shows")
     return answers
 

@@ -40,10 +40,9 @@ def _status_of(child: int) -> int | None:
     """Waits for a child and returns its status, negative for a signal; None if it was already reaped, as by the kernel
     if SIGCHLD is ignored."""
     try:
-        state = os.waitpid(child, 0)[1]
+        return os.waitstatus_to_exitcode(os.waitpid(child, 0)[1])
     except ChildProcessError:
         return None
-    return -os.WTERMSIG(state) if os.WIFSIGNALED(state) else os.WEXITSTATUS(state)
 
 
 class Watchdog:
