@@ -52,7 +52,7 @@ class Case:
     setting: Setting = Setting()
     profile: bytes | None = None
 
-    def keep(self, folder: str, said: Sequence[str]) -> None:
+    def keep(self, folder: str, lines: Sequence[str]) -> None:
         """Writes the case and what was said of it into a folder, from which it can be repeated."""
         os.makedirs(folder)
         files = {f"{place}.bpf": data for place, data in enumerate(self.filters)}
@@ -62,24 +62,24 @@ class Case:
                 "listener": self.setting.listener, "profile": self.profile is not None,
                 "calls": [line_of(call) for call in self.calls]}
         files["case.json"] = json.dumps(case, indent=1).encode()
-        files["said"] = "".join(f"{line}\n" for line in said).encode("utf-8", "surrogateescape")
+        files["said"] = "".join(f"{line}\n" for line in lines).encode("utf-8", "surrogateescape")
         for name, data in files.items():
             with open(os.path.join(folder, name), "wb") as file:
                 file.write(data)
 
     @classmethod
-    def kept(cls, folder: str) -> Case:
+    def read(cls, folder: str) -> Case:
         """The case of a folder; an OSError, or what a wrong text or type raises, where it holds none."""
-        def read(name: str) -> bytes:
+        def contents(name: str) -> bytes:
             with open(os.path.join(folder, name), "rb") as file:
                 return file.read()
 
-        case = json.loads(read("case.json"))
+        case = json.loads(contents("case.json"))
         calls = calls_of_kept(case)
-        filters = [read(f"{place}.bpf") for place in range(case["filters"])]
+        filters = [contents(f"{place}.bpf") for place in range(case["filters"])]
         if any(len(data) % 8 or len(data) > MOST_BYTES for data in filters):
             raise ValueError("a filter has no length of one")
-        profile = read("profile.json") if case["profile"] else None
+        profile = contents("profile.json") if case["profile"] else None
         for call in calls if profile is not None else ():
             # one that the small reading can't read is none
             kernel_profiles.answer_of(profile, call)
@@ -105,9 +105,9 @@ def calls_of_kept(case: dict[str, Any]) -> list[Call]:
     calls = [Call.read(line) for line in case["calls"]]
     # without calls it is a program
     refuse_unless(len(calls) in range(0 if count == 1 else 1, MOST_CALLS + 1), "calls")
-    found = [call for call in calls if call is not None and is_made(call)]
-    refuse_unless(len(found) == len(calls), "calls")
-    return found
+    calls_made = [call for call in calls if call is not None and is_made(call)]
+    refuse_unless(len(calls_made) == len(calls), "calls")
+    return calls_made
 
 
 def is_one_of(value: Any, numbers: range) -> bool:
@@ -159,10 +159,10 @@ class Asking:
             wrong += self._installed(refused[begin:begin + TOGETHER], -EINVAL)
         return wrong
 
-    def _installed(self, said: Sequence[tuple[Case, str]], wanted: int) -> list[tuple[Case, list[str]]]:
-        came = self.kernel.ask([case.filters[0] for case, _ in said], [])
-        return [(case, [f"scf check: {line}", f"the kernel: {told(answer)}"])
-                for (case, line), answer in zip(said, came.installed) if answer != wanted]
+    def _installed(self, checked: Sequence[tuple[Case, str]], wanted: int) -> list[tuple[Case, list[str]]]:
+        came = self.kernel.ask([case.filters[0] for case, _ in checked], [])
+        return [(case, [f"scf check: {line}", f"the kernel: {result_text(answer)}"])
+                for (case, line), answer in zip(checked, came.installed) if answer != wanted]
 
     def calls(self, case: Case) -> list[str]:
         """What comes of the calls otherwise than scf, or the reading of the profile, says; a line each."""
@@ -196,7 +196,7 @@ class Asking:
         while done < len(case.calls) and not wrong:
             came = self.kernel.ask(filters, case.calls[done:], case.setting)
             if not came.texts or any(answer is None or answer < 0 for answer in came.installed):
-                return [f"the kernel: {told(answer)}" for answer in came.installed]
+                return [f"the kernel: {result_text(answer)}" for answer in came.installed]
             for place, text in enumerate(came.texts):
                 call, answer = case.calls[done + place], answers[done + place]
                 wanted = self._comes(case, filters, call, answer, place, came.process)
@@ -237,7 +237,7 @@ class Asking:
         return max(place for place, rank in enumerate(ranks) if rank == min(ranks))
 
 
-def told(answer: int | None) -> str:
+def result_text(answer: int | None) -> str:
     """What the kernel did with a filter."""
     if answer is None:
         return "wasn't asked about the filter"
@@ -256,8 +256,8 @@ def kind_of_text(text: str) -> str:
 def value_of(call: Call, process: int) -> int:
     """What a call that does nothing gives where it is made."""
     names = {number: name for name, number in HARMLESS[call.architecture].items()}
-    own = {"getpid": process, "gettid": process, "getppid": os.getpid()}
-    return own.get(names.get(call.number, ""), -ENOSYS)
+    values = {"getpid": process, "gettid": process, "getppid": os.getpid()}
+    return values.get(names.get(call.number, ""), -ENOSYS)
 
 
 @dataclass(frozen=True)
@@ -283,17 +283,18 @@ def abilities(kernel: Kernel) -> Abilities:
         came = kernel.ask([], [kernel_child.call_at(site, number, ())])
         return came.texts == [kernel_child.returns(came.process)]
 
-    own = HARMLESS[X86_64]["getpid"]
+    getpid = HARMLESS[X86_64]["getpid"]
     strange = kernel.ask([], [kernel_child.call_at(kernel_child.SITE, 400000, ())]).texts
     trace, notify = (number.to_bytes(4, "little") for number in (0x7FF00001, 0x7FC00000))
-    call = kernel_child.call_at(kernel_child.SITE, own, ())
+    call = kernel_child.call_at(kernel_child.SITE, getpid, ())
     traced = kernel.ask([allow[:4] + trace], [call], Setting(traced=True)).texts
     listened = kernel.ask([allow[:4] + notify], [call], Setting(listener=0)).texts
     return Abilities(makes(kernel_child.GATE, HARMLESS[I386_NUMBER]["getpid"]),
-                     makes(kernel_child.SITE, 0x40000000 + own),
+                     makes(kernel_child.SITE, 0x40000000 + getpid),
                      traced != [] and traced[0].startswith("the tracer"),
                      listened != [] and listened[0].startswith("the listener"),
-                     has_filters() or strange != [kernel_child.returns(-ENOSYS)] or not makes(kernel_child.SITE, own))
+                     has_filters() or strange != [kernel_child.returns(-ENOSYS)]
+                     or not makes(kernel_child.SITE, getpid))
 
 
 def has_filters() -> bool:

@@ -240,8 +240,8 @@ class Kernel:
 
     def _map(self, place: int, size: int) -> None:
         flags = mmap.MAP_SHARED | mmap.MAP_ANONYMOUS | MAP_FIXED_NOREPLACE
-        found = self.library.mmap(place, size, mmap.PROT_READ | mmap.PROT_WRITE, flags, -1, 0)
-        if found != place:
+        mapped = self.library.mmap(place, size, mmap.PROT_READ | mmap.PROT_WRITE, flags, -1, 0)
+        if mapped != place:
             raise Unavailable(f"there is no memory to be had at {place:#x}")
 
     def _map_code(self, page: int, code: bytes) -> None:
@@ -261,7 +261,7 @@ class Kernel:
                    for data, room in zip(filters, rooms)]
         first = self._prepared(headers, setting)
         self._put_records(first, calls)
-        told: dict[int, str] = {}
+        events: dict[int, str] = {}
         self.process = self.start(CLONE_FILES | signal.SIGCHLD)
         if self.process < 0:
             raise Unavailable(f"no child can be made: {os.strerror(-self.process)}")
@@ -269,9 +269,9 @@ class Kernel:
         signal.setitimer(signal.ITIMER_REAL, PATIENCE)
         try:
             if setting.traced:
-                status = self._traced(len(first), told, setting.skips)
+                status = self._traced(len(first), events, setting.skips)
             elif setting.listener is not None:
-                status = self._listened(len(first), len(first) - len(filters) + setting.listener, told)
+                status = self._listened(len(first), len(first) - len(filters) + setting.listener, events)
             else:
                 status = os.waitpid(self.process, WALL)[1]
         finally:
@@ -280,7 +280,7 @@ class Kernel:
         records = [RECORDS + place * RECORD for place in range(len(first) - len(filters), len(first))]
         installed = [signed(self._long(record + RESULT)) if self._long(record + STATE) == RETURNED else None
                      for record in records]
-        return Came(self.process, installed, self._texts(len(first), calls, told, status))
+        return Came(self.process, installed, self._texts(len(first), calls, events, status))
 
     def _prepared(self, headers: Sequence[ctypes.Array], setting: Setting) -> list[tuple[int, ...]]:
         """The records of the calls that come first: signals, a tracer, the filters."""
@@ -322,7 +322,7 @@ class Kernel:
         if self.library.ptrace(request, self.process, place, data) < 0:
             raise Unavailable(f"a child can't be traced: {os.strerror(ctypes.get_errno())}")
 
-    def _traced(self, count: int, told: dict[int, str], skips: bool) -> int:
+    def _traced(self, count: int, events: dict[int, str], skips: bool) -> int:
         """Lets a traced child run, and keeps what its tracer is told."""
         message = ctypes.c_ulong()
         while True:
@@ -332,7 +332,7 @@ class Kernel:
             given = 0
             if status >> 16 == PTRACE_EVENT_SECCOMP:
                 self._ptrace(PTRACE_GETEVENTMSG, ctypes.addressof(message))
-                told[self._place() - count] = told.get(self._place() - count, "") + tracer_told(message.value)
+                events[self._place() - count] = events.get(self._place() - count, "") + tracer_told(message.value)
                 if skips:
                     self._ptrace(PTRACE_POKEUSER, -1, ORIG_RAX)
             elif self._place() < count:
@@ -341,7 +341,7 @@ class Kernel:
                 given = os.WSTOPSIG(status)
             self._ptrace(PTRACE_CONT, given)
 
-    def _listened(self, count: int, at: int, told: dict[int, str]) -> int:
+    def _listened(self, count: int, at: int, events: dict[int, str]) -> int:
         """Lets a child run whose filter has a listener, answers for it, and keeps what it is told."""
         record = RECORDS + at * RECORD
         while self._long(record + STATE) != RETURNED:
@@ -360,20 +360,20 @@ class Kernel:
             while True:
                 ready = dict(poll.poll())
                 if ready.get(listener, 0) & select.POLLIN:
-                    self._answer(listener, count, told)
+                    self._answer(listener, count, events)
                 elif ends in ready or listener in ready:
                     return os.waitpid(self.process, WALL)[1]
         finally:
             os.close(ends)
             os.close(listener)
 
-    def _answer(self, listener: int, count: int, told: dict[int, str]) -> None:
+    def _answer(self, listener: int, count: int, events: dict[int, str]) -> None:
         event = bytearray(80)
         try:
             fcntl.ioctl(listener, SECCOMP_IOCTL_NOTIF_RECV, event)
             token, _, _, number, arch, pointer, *arguments = struct.unpack("<QIIIIQ6Q", event)
             place = self._place() - count
-            told[place] = told.get(place, "") + listener_told(Call(number, arch, pointer, tuple(arguments)))
+            events[place] = events.get(place, "") + listener_told(Call(number, arch, pointer, tuple(arguments)))
             value, error, flags = listener_answer(place)
             fcntl.ioctl(listener, SECCOMP_IOCTL_NOTIF_SEND, struct.pack("<QqiI", token, value, error, flags))
         except OSError as error:
@@ -381,8 +381,8 @@ class Kernel:
             if error.errno not in (errno.ENOENT, errno.EINTR):
                 raise
 
-    def _texts(self, count: int, calls: Sequence[Call], told: dict[int, str], status: int) -> list[str]:
-        found = []
+    def _texts(self, count: int, calls: Sequence[Call], events: dict[int, str], status: int) -> list[str]:
+        texts = []
         for place, call in enumerate(calls):
             record = RECORDS + (count + place) * RECORD
             state = self._long(record + STATE)
@@ -401,5 +401,5 @@ class Kernel:
                 what = PROCESS_ENDS
             else:
                 what = f"the process ends with the wait status {status:#x}"
-            found.append(told.get(place, "") + what)
-        return found
+            texts.append(events.get(place, "") + what)
+        return texts

@@ -17,11 +17,11 @@ NR_URETPROBE, NR_UPROBE = 335, 336
 TAKEN = 7
 
 
-def one_answer(asking: Asking, answer: int, said: str, comes: str) -> list[str]:
+def one_answer(asking: Asking, answer: int, expected: str, comes: str) -> list[str]:
     """A filter that gives this answer to every call: what scf says of it, and what comes back."""
     data, call = packed([Insn(RET, answer)]), call_at(SITE, OWN, ())
     line, texts = asking.scf.decide([data], call), asking.kernel.ask([data], [call], Setting()).texts
-    return [] if (line, texts) == (said, [comes]) else [f"scf decide: {line}, not {said}",
+    return [] if (line, texts) == (expected, [comes]) else [f"scf decide: {line}, not {expected}",
                                                          f"the kernel: {texts}, not {comes}"]
 
 
@@ -52,22 +52,22 @@ def filters_of_most(repeated: Insn) -> bytes:
 
 def counts(asking: Asking) -> dict[str, int]:
     """How many filters of the most instructions the kernel takes into a stack, by what they are made of."""
-    found = {}
+    counted = {}
     for name, insn in (("loads", Insn(LD_WORD, 4)), ("returns", Insn(RET, ALLOW)), ("tests", Insn(JEQ, 1 << 31, 1, 2)),
                        ("divisions by X", Insn(DIV | X))):
         installed = asking.kernel.ask([filters_of_most(insn)] * (TAKEN + 1), []).installed
         taken = installed.index(-ENOMEM) if -ENOMEM in installed else len(installed)
-        found[name] = taken if installed[:taken] == [0] * taken else -1
-    return found
+        counted[name] = taken if installed[:taken] == [0] * taken else -1
+    return counted
 
 
 def translated(asking: Asking) -> list[str]:
     data, call = filters_of_most(Insn(RET, ALLOW)), call_at(SITE, OWN, ())
     lines = [asking.scf.decide([data] * count, call) for count in (TAKEN, TAKEN + 1)]
     wrong = [] if lines == ["ALLOW 0", "fault stack TooMany total 32796"] else [f"scf decide: {lines}"]
-    found = counts(asking)
-    right = found["loads"] == TAKEN and all(0 < count < TAKEN for name, count in found.items() if name != "loads")
-    return wrong + ([] if right else [f"the kernel takes so many filters of {MOST}: {found}"])
+    counted = counts(asking)
+    right = counted["loads"] == TAKEN and all(0 < count < TAKEN for name, count in counted.items() if name != "loads")
+    return wrong + ([] if right else [f"the kernel takes so many filters of {MOST}: {counted}"])
 
 
 def unasked(asking: Asking) -> list[str]:

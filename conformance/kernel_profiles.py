@@ -47,12 +47,12 @@ def answer_of(profile: bytes, call: Call) -> Answer:
     """What the profile says of a call: a foreign one ends the process, others have an entry's answer or the default."""
     if call.architecture != X86_64 or call.number >= FIRST_X32:
         return Answer("KILL_PROCESS", 0)
-    said = json.loads(profile)
-    for entry in said["syscalls"]:
+    value = json.loads(profile)
+    for entry in value["syscalls"]:
         if call.number in (TABLE.get(name) for name in entry["names"]):
             if all(holds(condition, call.arguments) for condition in entry.get("args", [])):
                 return answer_named(entry["action"], entry.get("errnoRet"))
-    return answer_named(said["defaultAction"], said.get("defaultErrnoRet"))
+    return answer_named(value["defaultAction"], value.get("defaultErrnoRet"))
 
 
 # Random profiles
@@ -64,36 +64,36 @@ def random_value(random_of: random.Random) -> int:
 
 def random_condition(random_of: random.Random, index: int) -> dict[str, Any]:
     op = random_of.choice(("NE", "LT", "LE", "EQ", "GE", "GT", "MASKED_EQ"))
-    found = {"index": index, "value": random_value(random_of), "op": f"SCMP_CMP_{op}"}
+    condition = {"index": index, "value": random_value(random_of), "op": f"SCMP_CMP_{op}"}
     if op == "MASKED_EQ":
-        found["value"] = random_of.choice((random_of.choice(MASKS), random_of.getrandbits(64)))
+        condition["value"] = random_of.choice((random_of.choice(MASKS), random_of.getrandbits(64)))
     if op == "MASKED_EQ" or random_of.random() < 0.2:
-        found["valueTwo"] = random_value(random_of)
-    return found
+        condition["valueTwo"] = random_value(random_of)
+    return condition
 
 
 def apart(random_of: random.Random, index: int) -> list[dict[str, Any]]:
     """Conditions on one argument that no call meets two of."""
     value, least = random_value(random_of), random_of.getrandbits(63)
 
-    def one(op: str, value: int, two: int | None = None) -> dict[str, Any]:
+    def condition(op: str, value: int, two: int | None = None) -> dict[str, Any]:
         return {"index": index, "op": f"SCMP_CMP_{op}", "value": value, **({} if two is None else {"valueTwo": two})}
 
     mask = random_of.choice((1 << random_of.randrange(64), 0xFFFFFFFF00000000, 3 << 31, LONG - 1))
-    other = value ^ (mask & -mask)
+    differing = value ^ (mask & -mask)
     return random_of.choice((
-        [one("EQ", value), one("NE", value)], [one("LT", value), one("GE", value)],
-        [one("LE", value), one("GT", value)], [one("EQ", value), one("EQ", (value + 1) % LONG)],
-        [one("MASKED_EQ", mask, value), one("MASKED_EQ", mask, other)],
-        [one("LT", least), one("EQ", least), one("GT", least)]))
+        [condition("EQ", value), condition("NE", value)], [condition("LT", value), condition("GE", value)],
+        [condition("LE", value), condition("GT", value)], [condition("EQ", value), condition("EQ", (value + 1) % LONG)],
+        [condition("MASKED_EQ", mask, value), condition("MASKED_EQ", mask, differing)],
+        [condition("LT", least), condition("EQ", least), condition("GT", least)]))
 
 
 def random_entry(random_of: random.Random, names: Sequence[str]) -> dict[str, Any]:
     action = random_of.choice(ACTIONS)
-    found: dict[str, Any] = {"names": list(names), "action": f"SCMP_ACT_{action}"}
+    entry: dict[str, Any] = {"names": list(names), "action": f"SCMP_ACT_{action}"}
     if action in ("ERRNO", "TRACE") and random_of.random() < 0.8:
-        found["errnoRet"] = random_of.choice((0, 1, 38, 4095, 4096, 65535, random_of.getrandbits(12)))
-    return found
+        entry["errnoRet"] = random_of.choice((0, 1, 38, 4095, 4096, 65535, random_of.getrandbits(12)))
+    return entry
 
 
 def entries_of(random_of: random.Random, names: Sequence[str]) -> list[dict[str, Any]]:
@@ -101,11 +101,11 @@ def entries_of(random_of: random.Random, names: Sequence[str]) -> list[dict[str,
     indices = random_of.sample(range(6), random_of.randrange(3))
     if random_of.random() < 0.45:
         index = random_of.randrange(6)
-        found = []
+        entries = []
         for condition in apart(random_of, index):
-            more = [random_condition(random_of, other) for other in indices if other != index]
-            found.append({**random_entry(random_of, names), "args": [condition, *more]})
-        return found
+            more = [random_condition(random_of, argument) for argument in indices if argument != index]
+            entries.append({**random_entry(random_of, names), "args": [condition, *more]})
+        return entries
     # alternatives with one answer
     entry = random_entry(random_of, names)
     many = random_of.choice((1, 1, 2, 3))
@@ -124,36 +124,36 @@ def random_profile(random_of: random.Random) -> bytes:
         entries += entries_of(random_of, group)
     random_of.shuffle(entries)
     default = random_of.choice(("ALLOW", "ERRNO", "ERRNO", "TRAP", "TRACE", "LOG", "NOTIFY", "KILL", "KILL_PROCESS"))
-    said: dict[str, Any] = {"defaultAction": f"SCMP_ACT_{default}", "syscalls": entries}
+    profile: dict[str, Any] = {"defaultAction": f"SCMP_ACT_{default}", "syscalls": entries}
     if default in ("ERRNO", "TRACE") and random_of.random() < 0.7:
-        said["defaultErrnoRet"] = random_of.choice((0, 38, 4095, 5000))
-    return json.dumps(said, indent=1).encode()
+        profile["defaultErrnoRet"] = random_of.choice((0, 38, 4095, 5000))
+    return json.dumps(profile, indent=1).encode()
 
 
 def constants(profile: bytes) -> dict[int, set[int]]:
     """For each argument the values that its conditions name, under -1 all of them."""
-    found: dict[int, set[int]] = {-1: {0, 1}}
+    values_of: dict[int, set[int]] = {-1: {0, 1}}
     for entry in json.loads(profile)["syscalls"]:
         for condition in entry.get("args", []):
             value, two = condition["value"], condition.get("valueTwo", 0)
             values = {value, two & value, two | (~value % LONG)} if condition["op"].endswith("MASKED_EQ") else {value}
-            found.setdefault(condition["index"], set()).update(values)
-            found[-1].update(values)
-    return found
+            values_of.setdefault(condition["index"], set()).update(values)
+            values_of[-1].update(values)
+    return values_of
 
 
 def calls_of(random_of: random.Random, profile: bytes, calls: Calls, count: int) -> list[Call]:
     """Calls at the corners of the profile's conditions, most of them of numbers that it may name."""
-    known, found = constants(profile), []
+    values_of, made = constants(profile), []
     numbers = sorted({number + about for number in TABLE.values() for about in (-1, 0, 0, 1)})
-    while len(found) < count:
+    while len(made) < count:
         site = random_of.choice(calls.sites) if random_of.random() < 0.2 else SITE
         number = random_of.choice((random_of.choice(numbers), random_of.choice(tuple(TABLE.values()))))
         if not calls.does_nothing(site, number):
             continue
         arguments = []
         for index in range(6):
-            values = sorted(known.get(index, known[-1]) if random_of.random() < 0.8 else known[-1])
+            values = sorted(values_of.get(index, values_of[-1]) if random_of.random() < 0.8 else values_of[-1])
             arguments.append((random_of.choice(values) + random_of.choice((0, 0, 1, -1))) % LONG)
-        found.append(call_at(site, number, arguments))
-    return found
+        made.append(call_at(site, number, arguments))
+    return made

@@ -99,14 +99,14 @@ def chosen_paths(last: Insn) -> Iterator[list[Insn]]:
     """Loads of a scratch word, stored on each path, on some, or on none."""
     for load in (LD_MEM, LDX_MEM):
         for store in (ST, STX):
-            for word, other in ((0, 1), (15, 14), (7, 7)):
+            for word, loaded in ((0, 1), (15, 14), (7, 7)):
                 for path in ([Insn(store, word)], [Insn(store, word), Insn(RET, 0)], [Insn(JA, 0), Insn(store, word)],
                              [Insn(JA, 1), Insn(store, word)], [Insn(RET, 0), Insn(store, word)],
                              [Insn(JEQ, 0, 1, 0), Insn(store, word)], [Insn(JEQ, 0, 0, 1), Insn(store, word)],
                              [Insn(JEQ, 0, 0, 0), Insn(store, word)],
-                             [Insn(JEQ, 0, 2, 0), Insn(store, word), Insn(JA, 1), Insn(store, other)],
-                             [Insn(JEQ, 0, 1, 0), Insn(store, word), Insn(store, other)]):
-                    yield [*path, Insn(load, other), last]
+                             [Insn(JEQ, 0, 2, 0), Insn(store, word), Insn(JA, 1), Insn(store, loaded)],
+                             [Insn(JEQ, 0, 1, 0), Insn(store, word), Insn(store, loaded)]):
+                    yield [*path, Insn(load, loaded), last]
                     yield [*path, Insn(load, word), last]
         # no path comes to the load
         yield [Insn(JA, 1), Insn(load, 3), last]
@@ -139,7 +139,7 @@ def random_program(random_of: random.Random) -> list[Insn]:
         elif change == 6 and len(program) > 1:
             del program[random_of.randrange(1, len(program)):]
         else:
-            scratch = [at for at, found in enumerate(program) if found.code in (ST, STX, LD_MEM, LDX_MEM)]
+            scratch = [at for at, insn in enumerate(program) if insn.code in (ST, STX, LD_MEM, LDX_MEM)]
             if scratch:
                 at = random_of.choice(scratch)
                 program[at] = program[at]._replace(k=random_of.randrange(17))
@@ -195,13 +195,13 @@ class Maker:
 
     def over(self, most: int) -> int:
         """How many instructions a jump leaps over: at most to the filter's last."""
-        left = min(most, self.length - len(self.program) - 2)
-        return self.random.choice((0, 1, 2, self.random.randint(0, left), min(left, 8))) if left >= 2 else 0
+        most = min(most, self.length - len(self.program) - 2)
+        return self.random.choice((0, 1, 2, self.random.randint(0, most), min(most, 8))) if most >= 2 else 0
 
     def scratch(self) -> int:
         """A word that is stored on each path to here, or -1."""
-        known = self.now & self.stored[len(self.program)]
-        return self.random.choice([place for place in range(16) if known >> place & 1] or [-1])
+        stored = self.now & self.stored[len(self.program)]
+        return self.random.choice([place for place in range(16) if stored >> place & 1] or [-1])
 
     def computation(self) -> Insn:
         choose = self.random.choice
@@ -350,16 +350,16 @@ def chosen_stacks() -> Iterator[list[list[Insn]]]:
 
 def constants(stack: Sequence[Sequence[Insn]]) -> dict[int, set[int]]:
     """For each word of the record the constants that stand behind a load of it, and for -1 all of them."""
-    found: dict[int, set[int]] = {-1: {0}}
+    values_of: dict[int, set[int]] = {-1: {0}}
     for program in stack:
         word = 0
         for insn in program:
             if insn.code == LD_WORD:
                 word = insn.k // 4
             elif insn.code in (*TESTS, *ALU, LD, LDX):
-                found.setdefault(word, set()).add(insn.k)
-                found[-1].add(insn.k)
-    return found
+                values_of.setdefault(word, set()).add(insn.k)
+                values_of[-1].add(insn.k)
+    return values_of
 
 
 class Calls:
@@ -379,16 +379,16 @@ class Calls:
         sites = [site for site in self.sites if not is_gate(site) or random_of.random() < 0.3]
         return random_of.choice(sites or [SITE])
 
-    def one(self, random_of: random.Random, known: dict[int, set[int]]) -> Call:
+    def call(self, random_of: random.Random, values_of: dict[int, set[int]]) -> Call:
         choose = random_of.choice
         site = self.site(random_of)
         arch = I386_NUMBER if is_gate(site) else X86_64
 
         def word(place: int) -> int:
-            own = sorted(known.get(place, known[-1]) if random_of.random() < 0.7 else known[-1])
+            values = sorted(values_of.get(place, values_of[-1]) if random_of.random() < 0.7 else values_of[-1])
             if random_of.random() < 0.2:
                 return choose((*CORNERS, random_of.getrandbits(32)))
-            return (choose(own) + choose((0, 0, 0, 1, -1))) % WORD
+            return (choose(values) + choose((0, 0, 0, 1, -1))) % WORD
 
         numbers = [number for number in (word(0), word(0), choose(NUMBERS)) if self.does_nothing(site, number)]
         if not numbers or random_of.random() < 0.3:
@@ -397,21 +397,21 @@ class Calls:
         return call_at(site, choose(numbers), arguments)
 
     def many(self, random_of: random.Random, stack: Sequence[Sequence[Insn]], count: int) -> list[Call]:
-        known = constants(stack)
-        return [self.one(random_of, known) for _ in range(count)]
+        values_of = constants(stack)
+        return [self.call(random_of, values_of) for _ in range(count)]
 
     def of_corners(self, random_of: random.Random, count: int) -> list[Call]:
         """Calls whose first two arguments have corners in both of their halves: first some pairs of low halves that
         tell most, as of an operand and its divisor or shift."""
-        found = []
+        calls = []
         first = [(0x80000001, 0), (0x80000001, 32), (0x80000001, 33), (0xFFFFFFFF, 0x7FFFFFFF), (1, 0xFFFFFFFF), (7, 7)]
         for place in range(count):
-            call = self.one(random_of, {-1: set(CORNERS)})
+            call = self.call(random_of, {-1: set(CORNERS)})
             words = [random_of.choice((*CORNERS, 5, 31, 32, 33, 64)) for _ in range(4)]
             words[:2] = first[place] if place < len(first) else words[:2]
-            found.append(replace(call, arguments=(words[0] | words[2] << 32, words[1] | words[3] << 32,
+            calls.append(replace(call, arguments=(words[0] | words[2] << 32, words[1] | words[3] << 32,
                                                   *call.arguments[2:])))
-        return found
+        return calls
 
 
 class I386Calls(Calls):

@@ -48,9 +48,9 @@ def record_of(region: Region) -> Call:
     """A record of a region: of an architecture that this machine has, and at one of the child's places, if the region
     has such records."""
     call = region.call
-    architecture = next((it for it in (X86_64, I386_NUMBER) if region.is_of(call.number, it)), call.architecture)
+    architecture = next((arch for arch in (X86_64, I386_NUMBER) if region.is_of(call.number, arch)), call.architecture)
     pointers = (site + 2 for site in SITES if kernel_child.is_gate(site) == (architecture == I386_NUMBER))
-    pointer = next((it for it in pointers if region.has({POINTER: it})), call.pointer)
+    pointer = next((place for place in pointers if region.has({POINTER: place})), call.pointer)
     return Call(call.number, architecture, pointer, call.arguments)
 
 
@@ -79,8 +79,8 @@ class Trial:
         self.kernel, self.filters = kernel, filters
         self.tried: Counter[str] = Counter()
         self.left_out: Counter[str] = Counter()
-        found = regions.of_filters(filters)
-        self.regions = [] if found is None else found
+        regions_found = regions.of_filters(filters)
+        self.regions = [] if regions_found is None else regions_found
         records: list[tuple[Call, Answer]] = []
         for region in self.regions:
             call = record_of(region)
@@ -90,8 +90,8 @@ class Trial:
             elif region.answer is not None:
                 records.append((call, region.answer))
         # those that end the child stand last
-        self.records = sorted(records, key=lambda it: it[1].action.startswith(("KILL", "UNNAMED")))
-        self.differences = list(self._differences()) if found is not None else ["scf answers: unfinished"]
+        self.records = sorted(records, key=lambda record: record[1].action.startswith(("KILL", "UNNAMED")))
+        self.differences = list(self._differences()) if regions_found is not None else ["scf answers: unfinished"]
 
     def _differences(self) -> Iterator[str]:
         """What comes of the records otherwise than scf says."""

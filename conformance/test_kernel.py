@@ -100,8 +100,8 @@ class Gate(Asked):
         seconds = taken() - before
         self.assertEqual(status, 0, lines)
         self.assertRegex(lines[-1], r"^[1-9][0-9]* passed, 0 failed(, [0-9]+ skipped)?$")
-        found = (re.match("([a-z0-9 ]+): ([0-9]+);", line) for line in lines)
-        counts = {each[1]: int(each[2]) for each in found if each}
+        matches = (re.match("([a-z0-9 ]+): ([0-9]+);", line) for line in lines)
+        counts = {each[1]: int(each[2]) for each in matches if each}
         self.assertGreater(counts["programs"], 2000)
         for kind in ("accepted", "Empty", "TooLong", "Code", "Load", "Scratch", "Divisor", "Shift", "Jump",
                      "LastNotReturn", "Unset"):
@@ -177,8 +177,8 @@ class Regions(Asked):
     def test_what_differs_is_seen(self):
         """Regions that have the answer of another one."""
         data = refusing(9)
-        wrong = [regions.Region(it.line, ALLOWED, it.entry, True, it.words, str(kernel_cases.line_of(it.call)))
-                 for it in regions.of_filters([data])]
+        wrong = [regions.Region(region.line, ALLOWED, region.entry, True, region.words,
+                                str(kernel_cases.line_of(region.call))) for region in regions.of_filters([data])]
         with mock.patch.object(regions, "of_filters", lambda _: wrong):
             trial = kernel_regions.Trial(the_kernel(), [data], True)
         self.assertEqual(len(trial.differences), 1)
@@ -246,11 +246,11 @@ class Planted(unittest.TestCase):
             raise unittest.SkipTest("this process has filters already")
         calls = programs.Calls(cls.abilities.i386, cls.abilities.x32)
         packed = programs.packed
-        cls.filters = [kernel_cases.Case("filter", [packed(one)], calls.of_corners(random.Random(f"{place}"), 12))
-                       for place, one in enumerate(programs.chosen_filters())]
-        cls.stacks = [kernel_cases.Case("stack", [*map(packed, one)], calls.many(random.Random(f"{place}"), one, 1))
-                      for place, one in enumerate(programs.chosen_stacks())]
-        cls.programs = [kernel_cases.Case("program", [packed(one)]) for one in programs.chosen_programs()][::-1]
+        cls.filters = [kernel_cases.Case("filter", [packed(program)], calls.of_corners(random.Random(f"{place}"), 12))
+                       for place, program in enumerate(programs.chosen_filters())]
+        cls.stacks = [kernel_cases.Case("stack", [*map(packed, stack)], calls.many(random.Random(f"{place}"), stack, 1))
+                      for place, stack in enumerate(programs.chosen_stacks())]
+        cls.programs = [kernel_cases.Case("program", [packed(program)]) for program in programs.chosen_programs()][::-1]
 
     def programs_differ(self, plant):
         """Whether any of the chosen programs is seen to differ."""
@@ -282,7 +282,7 @@ class Planted(unittest.TestCase):
             cases.append(kernel_cases.Case("i386", [programs.packed(made)],
                                            maker.many(random.Random(f"{place}"), [made], 12)))
         changes = ((lambda call: call, False), (lambda call: replace(call, architecture=X86_64), True),
-                   (lambda call: replace(call, arguments=tuple(it % WORD for it in call.arguments)), True))
+                   (lambda call: replace(call, arguments=tuple(value % WORD for value in call.arguments)), True))
         for change, differs in changes:
             asking = kernel_cases.Asking(self.kernel, Changed(change))
             self.assertEqual(any(asking.calls(case) for case in cases), differs)
@@ -357,7 +357,7 @@ class OfI386(Case):
         if self.run_words(["cc", "-m32", "-x", "c", "-o", program, "-"], OF_I386.encode())[0]:
             self.skipTest("no program of i386 can be built here")
         arguments = (0xFFFFFFFF, 0x80000000, 0x7FFFFFFF, 0xFFFFFFFE, 0x80000001, 0xDEADBEEF)
-        words = [(1, 0x40000003), *((4 + 2 * at, it) for at, it in enumerate(arguments)),
+        words = [(1, 0x40000003), *((4 + 2 * at, value) for at, value in enumerate(arguments)),
                  *((5 + 2 * at, 0) for at in range(6))]
         wrong = 2 * len(words)
         tests = b"".join(load(4 * word) + jeq(value, 0, wrong - 2 * at - 1) for at, (word, value) in enumerate(words))
@@ -404,7 +404,7 @@ class Reading(unittest.TestCase):
 
 
 class Kept(Asked):
-    def kept(self, place="case", **parts):
+    def case(self, place="case", **parts):
         folder = os.path.join(self.folder, place)
         case = {"name": "it", "filters": [ret(0x00050007)], "calls": [kernel_child.call_at(kernel_child.SITE, 39, ())]}
         kernel_cases.Case(**{**case, **parts}).keep(folder, ["a line"])
@@ -416,11 +416,11 @@ class Kept(Asked):
         for place, parts in enumerate(({}, {"calls": []}, {"filters": [insn(0x94, 1)], "calls": []},
                                        {"setting": Setting(traced=True)}, {"setting": Setting(listener=0)},
                                        {"filters": [], "profile": profile})):
-            status, lines = self.asked("--repeat", self.kept(f"{place}", **parts))
+            status, lines = self.asked("--repeat", self.case(f"{place}", **parts))
             self.assertEqual((status, lines[1:]), (0, wanted), parts)
 
     def test_a_folder_that_holds_no_case(self):
-        folder = self.kept()
+        folder = self.case()
         os.remove(os.path.join(folder, "0.bpf"))
         for name in (folder, self.folder, os.path.join(self.folder, "none")):
             status, out, err = self.run_words([PROGRAM, "--repeat", name])
@@ -437,7 +437,7 @@ class Kept(Asked):
             ("0xc000003e", "0x40000003"), ("ip 0x5", "ip 0x6"), ("args 0x0", f"args {1 << 64:#x}"))]
         rows += [{"traced": "x"}, {"traced": 0}, {"traced": True, "listener": 0}, {"profile": None}, {"profile": True}]
         rows += [{"listener": value} for value in ("y", 1, -1, False, 0.0)]
-        folder = self.kept()
+        folder = self.case()
         with open(os.path.join(folder, "case.json"), encoding="utf-8") as file:
             case = json.load(file)
         texts = [json.dumps({**case, **row}) for row in rows]
@@ -445,9 +445,9 @@ class Kept(Asked):
         for text in (*texts, "[" * 100000, "[]", "1", "{", b"\xff"):
             with self.subTest(text[:200]):
                 self.file("case/case.json", text)
-                self.assertRaises((ValueError, LookupError, TypeError, RecursionError), kernel_cases.Case.kept, folder)
+                self.assertRaises((ValueError, LookupError, TypeError, RecursionError), kernel_cases.Case.read, folder)
         self.file("case/case.json", json.dumps(case))
-        self.assertEqual(kernel_cases.Case.kept(folder).filters, [ret(0x00050007)])
+        self.assertEqual(kernel_cases.Case.read(folder).filters, [ret(0x00050007)])
 
     def test_such_members_are_no_traceback(self):
         for place, (parts, name, data) in enumerate((
@@ -455,7 +455,7 @@ class Kept(Asked):
                 ({"filters": [], "calls": []}, "said", b""), ({"filters": [ret(0)] * 2, "calls": []}, "said", b""),
                 ({"setting": Setting("x", "y")}, "said", b""), ({"calls": [Call(0)]}, "said", b""),
                 ({"filters": [], "profile": b'{"defaultAction": "SCMP_ACT_ALLOW"}'}, "said", b""))):
-            folder = self.kept(f"{place}", **parts)
+            folder = self.case(f"{place}", **parts)
             self.file(f"{place}/{name}", data)
             status, out, err = self.run_words([PROGRAM, "--repeat", folder])
             self.assertEqual(status, 3, (place, out, err))
@@ -465,29 +465,29 @@ class Kept(Asked):
         """A program that says the same of each filter stands in for scf."""
         tree = self.made_tree('#!/bin/sh\ncase $1 in check) echo "accepted 1" ;; *) echo "ERRNO 8" ;; esac\n')
         words = [os.path.join(tree, "conformance", "kernel"), "--repeat"]
-        status, out, err = self.run_words([*words, self.kept()])
+        status, out, err = self.run_words([*words, self.case()])
         self.assertEqual((status, err), (1, ""), out)
         self.assertEqual(out.split("\n")[1:-1], [
             "call nr 39 arch 0xc000003e ip 0x5c0f1e00402 args 0x0 0x0 0x0 0x0 0x0 0x0", "scf: ERRNO 8",
             "so that it comes: returns -8", "the kernel: returns -7", "0 passed, 1 failed"])
-        status, out, err = self.run_words([*words, self.kept("bad", filters=[ret(0) + insn(0x94, 1)], calls=[])])
+        status, out, err = self.run_words([*words, self.case("bad", filters=[ret(0) + insn(0x94, 1)], calls=[])])
         self.assertEqual((status, err), (1, ""), out)
         self.assertEqual(out.split("\n")[1:-1], [
             "scf check: accepted 1", "the kernel: refuses the filter with errno 22", "0 passed, 1 failed"])
         few = ["--programs=0", "--filters=1", "--i386=0", "--profiles=0", "--calls=1", "--seed=x"]
         status, out, err = self.run_words([words[0], *few])
         self.assertEqual((status, err), (1, ""), out)
-        kept = os.path.join(self.folder, "kernel-failures-x")
-        name = sorted(os.listdir(kept))[0]
-        self.assertEqual(sorted(os.listdir(os.path.join(kept, name))), ["0.bpf", "case.json", "said"])
-        with open(os.path.join(kept, name, "said"), encoding="utf-8") as file:
+        folder = os.path.join(self.folder, "kernel-failures-x")
+        name = sorted(os.listdir(folder))[0]
+        self.assertEqual(sorted(os.listdir(os.path.join(folder, name))), ["0.bpf", "case.json", "said"])
+        with open(os.path.join(folder, name, "said"), encoding="utf-8") as file:
             self.assertIn(f"repeat it by: conformance/kernel --repeat kernel-failures-x/{name}\n", file.read())
         self.assertIn(f"    kept in kernel-failures-x/{name}", out.split("\n"))
         status, out, err = self.run_words([words[0], *few, "--failures", b"\xff"])
         self.assertEqual((status, err), (1, ""), out)
         with open(os.path.join(os.fsencode(self.folder), b"\xff", name.encode(), b"said"), "rb") as file:
             self.assertIn(b"--repeat \xff/%s\n" % name.encode(), file.read())
-        status, lines = self.asked("--repeat", os.path.join(kept, name))
+        status, lines = self.asked("--repeat", os.path.join(folder, name))
         self.assertEqual((status, lines[-1]), (0, "1 passed, 0 failed"), lines)
 
 
