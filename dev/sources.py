@@ -1,5 +1,5 @@
-"""What dev/believe reads of the sources: which functions a crate exports, their clauses, and the definitions on which a
-clause stands.
+"""The sources as dev/believe reads them: the functions that a crate exports, their clauses, and the definitions on
+which a clause stands.
 
 Nothing is known here of types; names are followed as the imports of a file tell them.
 """
@@ -26,7 +26,7 @@ DEFINITION = re.compile(r"^(?:  (?=\w+ pub |pub (?:record|data) ))?(?:(?:abbrev|
 PARAMETERS = re.compile(r"^module _ ", re.M)
 CONSTRUCTOR = re.compile(r"^  (?:pub )?(?P<name>[^\s:]+) :", re.M)
 TYPE = re.compile(r"^(?:pub(?:\([^)]*\))? )?(?:struct|enum|trait|type) (?P<name>\w+)", re.M)
-RUST_USE = re.compile(r"^(?:pub )?use (?P<path>[\w:]+?)(?:::\{(?P<names>[^}]*)\}|::(?P<one>\w+))?(?: as \w+)?;", re.M)
+RUST_USE = re.compile(r"^(?:pub )?use (?P<path>[\w:]+?)(?:::\{(?P<names>[^}]*)\}|::(?P<name>\w+))?(?: as \w+)?;", re.M)
 HANDED_ON = re.compile(r"^pub use (?:crate::|self::)?([\w:]+?)(?:::\{([^}]*)\}|::(\w+|\*))(?: as \w+)?;", re.M)
 
 
@@ -37,7 +37,7 @@ def text_of(path: str) -> str:
 
 def without_comments(text: str, mark: str) -> str:
     """The text with its comments blanked, each line in its place."""
-    return re.sub(re.escape(mark) + r"[^\n]*", lambda found: " " * len(found[0]), text)
+    return re.sub(re.escape(mark) + r"[^\n]*", lambda match: " " * len(match[0]), text)
 
 
 def line_of(text: str, at: int) -> int:
@@ -56,12 +56,12 @@ def closing(text: str, at: int) -> int:
 
 def named(listed: str) -> dict[str, str]:
     """The names of a list in braces: what each is called here, and where it comes from."""
-    found = {}
-    for one in listed.split(","):
-        if one.strip():
-            name, _, here = one.strip().partition(" as ")
-            found[(here or name).strip()] = name.strip()
-    return found
+    sources = {}
+    for item in listed.split(","):
+        if item.strip():
+            name, _, here = item.strip().partition(" as ")
+            sources[(here or name).strip()] = name.strip()
+    return sources
 
 
 def crates_of(repository: str) -> list[str]:
@@ -69,18 +69,18 @@ def crates_of(repository: str) -> list[str]:
 
 
 def exports_of(folder: str, path: str, wanted: set[str] | None = None) -> list[tuple[str, set[str] | None]]:
-    """What a file hands on: pairs of a file and the names in it that are exported, None for all."""
+    """The exports of a file: pairs of a file and the names in it that are exported, None for all."""
     text = without_comments(text_of(path), "//")
-    found: list[tuple[str, set[str] | None]] = []
+    exported: list[tuple[str, set[str] | None]] = []
     for use in HANDED_ON.finditer(text):
         names = {"*"} if use[3] == "*" else set(named(use[2] or use[3]).values())
         if wanted is None or "*" in names or names & wanted:
-            found.append((use[1], None if "*" in names else names if wanted is None else names & wanted))
+            exported.append((use[1], None if "*" in names else names if wanted is None else names & wanted))
     for module in re.finditer(r"^pub mod (\w+);", text, re.M):
         if wanted is None:
-            found.append((module[1], None))
+            exported.append((module[1], None))
     pairs = []
-    for module, names in found:
+    for module, names in exported:
         target = os.path.join(folder, *module.split("::")) + ".rt"
         if os.path.isfile(target):
             pairs.append((target, names))
@@ -101,22 +101,22 @@ def exported_by(crate: str) -> dict[str, set[str] | None]:
 def calls_of(text: str, names: set[str] | None) -> Iterator[tuple[str, int]]:
     """The exported functions of a file, where these names of it are (None for all): their names, those of methods
     behind the name of a type or trait as in `Program::insns`, and their places."""
-    blocks = [(found.start(), closing(text, found.end() - 1), found["kind"], found["head"])
-              for found in BLOCK.finditer(text)]
-    for found in ITEM.finditer(text):
-        around = [block for block in blocks if block[0] <= found.start() < block[1]]
+    blocks = [(match.start(), closing(text, match.end() - 1), match["kind"], match["head"])
+              for match in BLOCK.finditer(text)]
+    for match in ITEM.finditer(text):
+        around = [block for block in blocks if block[0] <= match.start() < block[1]]
         behind = ""
         if not around:
-            is_exported = found["public"] and (names is None or found["name"] in names)
+            is_exported = match["public"] and (names is None or match["name"] in names)
         else:
             _, _, kind, head = around[-1]
             head = re.sub(r"^\s*<[^{]*?>\s+", " ", head)
             owner = re.search(r"\w+", head.split(" for ")[-1] if kind == "impl" else head)
             behind = f"{owner[0]}::" if owner else ""
             is_of_export = names is None or (owner and owner[0] in names)
-            is_exported = is_of_export and (found["public"] if kind == "impl" else kind == "pub trait")
+            is_exported = is_of_export and (match["public"] if kind == "impl" else kind == "pub trait")
         if is_exported:
-            yield behind + found["name"], found.end()
+            yield behind + match["name"], match.end()
 
 
 @dataclass(frozen=True)
@@ -189,21 +189,21 @@ class File:
         return Definition(self.crate, name, self.path, first, last, text)
 
     def _definitions(self) -> Iterator[tuple[str, Definition]]:
-        starts = [found for found in DEFINITION.finditer(self.text)]
-        for found, after in zip(starts, [*starts[1:], None]):
+        starts = list(DEFINITION.finditer(self.text))
+        for match, after in zip(starts, [*starts[1:], None]):
             end = after.start() if after else len(self.text)
-            parameters = PARAMETERS.search(self.text, found.end(), end)
-            made = self._made(found["name"], found.start(), parameters.start() if parameters else end)
+            parameters = PARAMETERS.search(self.text, match.end(), end)
+            made = self._made(match["name"], match.start(), parameters.start() if parameters else end)
             yield made.name, made
             if re.match(r"pub data\b", made.text):
                 for constructor in CONSTRUCTOR.finditer(made.text):
                     yield constructor["name"], made
 
     def _types(self) -> Iterator[tuple[str, Definition]]:
-        for found in TYPE.finditer(self.text):
-            end = re.compile(r"[;{]").search(self.text, found.end())
+        for match in TYPE.finditer(self.text):
+            end = re.compile(r"[;{]").search(self.text, match.end())
             stop = closing(self.text, end.start()) if end and end[0] == "{" else end.end() if end else len(self.text)
-            yield found["name"], self._made(found["name"], found.start(), stop)
+            yield match["name"], self._made(match["name"], match.start(), stop)
 
 
 class Repository:
@@ -230,18 +230,18 @@ class Repository:
     @functools.lru_cache(None)
     def types(self, crate: str) -> dict[str, Definition]:
         """The types of a crate's code by name."""
-        found: dict[str, Definition] = {}
+        definitions: dict[str, Definition] = {}
         source = os.path.join(self.top, "crates", crate, "src")
         for folder, _, names in sorted(os.walk(source)):
             for name in sorted(names):
                 if name.endswith(".rt"):
                     file = self.file(crate, os.path.relpath(os.path.join(folder, name), os.path.join(source, "..")))
-                    for known, made in file.definitions.items() if file else ():
-                        found.setdefault(known, made)
-        return found
+                    for type_name, made in file.definitions.items() if file else ():
+                        definitions.setdefault(type_name, made)
+        return definitions
 
     def imported(self, path: str, name: str | None) -> Definition | File | None:
-        """What an import stands for: a definition, a type of the code, or a file of definitions."""
+        """The definition, the type of the code, or the file of definitions that an import stands for."""
         crate, *steps = path.split(".")
         if crate not in self.crates or steps[:1] != ["specs"]:
             return None
@@ -254,39 +254,40 @@ class Repository:
         return file if file is None or name is None else file.definitions.get(name)
 
     def meant(self, file: File, name: str) -> Definition | None:
-        """What a name of a file stands for, which may stand behind the name of a module."""
-        first, *rest = name.split(".")
-        found: Definition | File | None = file.definitions.get(first)
-        if found is None and first in file.imports:
-            found = self.imported(*file.imports[first])
-        if isinstance(found, File):
-            return found.definitions.get(rest[0]) if rest else None
-        return found
+        """The definition that a name of a file stands for; the name may stand behind that of a module."""
+        first, *inner = name.split(".")
+        stands_for: Definition | File | None = file.definitions.get(first)
+        if stands_for is None and first in file.imports:
+            stands_for = self.imported(*file.imports[first])
+        if isinstance(stands_for, File):
+            return stands_for.definitions.get(inner[0]) if inner else None
+        return stands_for
 
     def type_meant(self, file: File, name: str) -> Definition | None:
-        """What the name of a type in a file of the code stands for."""
+        """The type that a name in a file of the code stands for."""
         if name in file.definitions:
             return file.definitions[name]
         for use in RUST_USE.finditer(file.text):
-            known = named(use["names"] or use["one"] or "")
-            if name in known:
+            names = named(use["names"] or use["name"] or "")
+            if name in names:
                 crate = use["path"].split("::")[0]
                 crate = file.crate if crate in ("crate", "super", "self") else crate
-                return self.types(crate).get(known[name]) if crate in self.crates else None
+                return self.types(crate).get(names[name]) if crate in self.crates else None
         return None
 
     def cited(self, file: File, text: str) -> dict[str, Definition]:
         """The definitions that a text of a file cites, by where they stand. A variable with the name of a definition
         counts as that one, so that none is missing."""
-        found = {}
+        definitions = {}
         words = set(QUALIFIED.findall(text))
         # an operator's marks stand between its operands
-        operators = {it for it in (*file.definitions, *file.imports) if words.issuperset(it.strip("◌").split("◌"))}
+        operators = {operator for operator in (*file.definitions, *file.imports)
+                     if words.issuperset(operator.strip("◌").split("◌"))}
         for name in words | operators:
             made = self.meant(file, name)
             if made:
-                found[f"{made.path}:{made.first}"] = made
-        return found
+                definitions[f"{made.path}:{made.first}"] = made
+        return definitions
 
     @functools.lru_cache(None)
     def stands_on(self, made: Definition) -> dict[str, Definition]:
@@ -295,20 +296,20 @@ class Repository:
         if file.is_spec:
             # a field of a record isn't cited by its own name
             return self.cited(file, re.sub(r"(?m)^  (?:pub )?[^\s:]+ :", " ", made.text))
-        found = {}
+        definitions = {}
         for name in set(re.findall(r"\b[A-Z]\w*", made.text)):
-            other = self.type_meant(file, name)
-            if other:
-                found[f"{other.path}:{other.first}"] = other
-        return found
+            definition = self.type_meant(file, name)
+            if definition:
+                definitions[f"{definition.path}:{definition.first}"] = definition
+        return definitions
 
-    def closure(self, found: dict[str, Definition]) -> dict[str, Definition]:
+    def closure(self, definitions: dict[str, Definition]) -> dict[str, Definition]:
         """These definitions and all on which they stand."""
-        left = list(found.values())
-        found = dict(found)
-        while left:
-            for key, made in self.stands_on(left.pop()).items():
-                if key not in found:
-                    found[key] = made
-                    left.append(made)
-        return found
+        pending = list(definitions.values())
+        definitions = dict(definitions)
+        while pending:
+            for key, made in self.stands_on(pending.pop()).items():
+                if key not in definitions:
+                    definitions[key] = made
+                    pending.append(made)
+        return definitions
