@@ -19,11 +19,12 @@ EMPTY_SET, FULL_SET = 0, 1
 ARGUMENT_COUNT = 6
 # The first variable that isn't a bit of an argument; the most steps of a run without --limit, of which real filters
 # take a hundredth; and for how many steps there may be a node.
-FIRST_UNTESTED, STEPS, NODE = 64 * ARGUMENT_COUNT, 1 << 19, 2
+FIRST_UNTESTED, MOST_STEPS, NODE = 64 * ARGUMENT_COUNT, 1 << 19, 2
 # Behind all variables.
 LEAF_VARIABLE = 1 << 32
 # The most alternatives for a set, and for all sets of a table together; the first of a set are tried in so many orders
-# of the arguments, and the later ones in two. With more steps than STEPS they may be more, in all as many as scf takes.
+# of the arguments, and the later ones in two. With more steps than MOST_STEPS they may be more, in all as many as scf
+# takes.
 ALTERNATIVES, ALL_ALTERNATIVES, FIRST, ORDERS = 64, 512, 16, 6
 MANY_ALTERNATIVES = 128, 4096
 # Values that follow each other are listed one by one up to so many; and a set's up to so many, if masks say it in fewer
@@ -40,13 +41,13 @@ class TooMany(Exception):
 class Steps:
     """The steps that sets may take, and how many of them are left; each takes a microsecond or two."""
 
-    def __init__(self, most: int = STEPS) -> None:
-        self.most = self.left = most
+    def __init__(self, most: int = MOST_STEPS) -> None:
+        self.most = self.remaining = most
 
     def spend(self, steps: int) -> None:
         """Counts steps. Raises TooMany."""
-        self.left -= steps
-        if self.left < 0:
+        self.remaining -= steps
+        if self.remaining < 0:
             raise TooMany
 
 
@@ -321,8 +322,8 @@ class _Cover:
     def _alternative(self, arguments: Sequence[int], order: Sequence[int]) -> Alternative:
         """An alternative that holds of these arguments, made as wide as the set allows, in this order."""
         sets = self.sets
-        conditions: dict[int, Condition | None] = {index: Condition(index, "SCMP_CMP_EQ", arguments[index], 0)
-                                              for index in self.indices}
+        conditions: dict[int, Condition | None] = {
+            index: Condition(index, "SCMP_CMP_EQ", arguments[index], 0) for index in self.indices}
         for index in order:
             others = sets.of_conditions(condition for at, condition in conditions.items() if at != index
                                         and condition is not None)
@@ -369,7 +370,7 @@ class Covers:
 
     def __init__(self, sets: Sets):
         self.sets, self._count = sets, 0
-        self._most, self._most_together = (ALTERNATIVES, ALL_ALTERNATIVES) if sets.steps.most <= STEPS else \
+        self._most, self._most_together = (ALTERNATIVES, ALL_ALTERNATIVES) if sets.steps.most <= MOST_STEPS else \
             MANY_ALTERNATIVES
         self._found: dict[int, list[Alternative] | None] = {FULL_SET: [()]}
 
@@ -384,13 +385,13 @@ class Covers:
         return alternatives
 
     def _search(self, arguments: int, is_listing: bool) -> list[Alternative] | None:
-        steps = Steps(self.sets.steps.left // 2)
+        steps = Steps(self.sets.steps.remaining // 2)
         sets = Sets(self.sets.bits, steps)
         try:
             alternatives = _Cover(sets, sets.copy(arguments, self.sets), is_listing, self._most).find()
         except (TooMany, TooManyAlternatives):
             alternatives = None
-        self.sets.spend(steps.most - max(steps.left, 0))
+        self.sets.spend(steps.most - max(steps.remaining, 0))
         self._count += self._most if alternatives is None else len(alternatives)
         return alternatives
 

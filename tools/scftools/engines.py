@@ -12,7 +12,7 @@ from collections.abc import Callable, Iterator, Sequence
 
 from . import architectures, output, profiles
 from .answers import ACTIONS_WITH_DATA, Answer
-from .profiles import NUMBER_TYPE, SECCOMP, TEXT_TYPE, VERSION_TYPE, Origin, where_in
+from .profiles import NUMBER_TYPE, SECCOMP_MEMBERS, TEXT_TYPE, VERSION_TYPE, Origin, where_in
 from .values import Any, dataclass, field
 
 # What a container has by default: moby's oci/caps, and containers-common's containers.conf.
@@ -344,7 +344,7 @@ class Resolver:
         """Reports the members that nothing reads, and refuses those that may be conditions; of those that only other
         engines read each once."""
         of_others: dict[str, str] = {}
-        for where, name, member, kind in members_in(top, SECCOMP, "the profile"):
+        for where, name, member, kind in members_in(top, SECCOMP_MEMBERS, "the profile"):
             is_ignored = self.setting.ignored is None or name in self.setting.ignored
             if kind is None and where.startswith("entry ") and not is_ignored:
                 raise Refused(f"{where} has a member '{excerpt(name)}', which no engine reads, and which may be a "
@@ -359,7 +359,7 @@ class Resolver:
     def resolved(self, value: Any) -> dict[str, Any]:
         """The profile that the engine makes in this setting."""
         value = self.seccomp_of(value)
-        check(value, SECCOMP, "linux.seccomp" if value is None else "the profile", self.setting)
+        check(value, SECCOMP_MEMBERS, "linux.seccomp" if value is None else "the profile", self.setting)
         top = members_of(value, self.setting)
         if not top.get("defaultAction"):
             raise Refused("there is no defaultAction")

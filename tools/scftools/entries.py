@@ -5,9 +5,20 @@ import json
 from collections.abc import Callable, Iterable, Sequence
 
 from .answers import Answer
-from .profiles import HOLDS, LONGEST_NUMBER
 from .values import Any, dataclass
 
+# No number that scf takes has more digits.
+LONGEST_NUMBER = 40
+# What each comparison tests of an argument and its value; for masks the value is the mask.
+HOLDS = {
+    "SCMP_CMP_NE": lambda argument, value, two: argument != value,
+    "SCMP_CMP_LT": lambda argument, value, two: argument < value,
+    "SCMP_CMP_LE": lambda argument, value, two: argument <= value,
+    "SCMP_CMP_EQ": lambda argument, value, two: argument == value,
+    "SCMP_CMP_GE": lambda argument, value, two: argument >= value,
+    "SCMP_CMP_GT": lambda argument, value, two: argument > value,
+    "SCMP_CMP_MASKED_EQ": lambda argument, value, two: argument & value == two & value,
+}
 # The greatest value of an argument, and of its lower half.
 GREATEST_VALUE, LOW_HALF = (1 << 64) - 1, (1 << 32) - 1
 
@@ -65,22 +76,24 @@ class Object(dict):
             seen: set[str] = set()
             # `add` returns None, so a name is kept if it was seen before
             self.repeated = tuple(dict.fromkeys(name for name, _ in pairs if name in seen or seen.add(name)))
-        for name in [name for name, value in self.items() if value is None]:
-            del self[name]
+        if None in self.values():
+            for name in [name for name, value in self.items() if value is None]:
+                del self[name]
 
 
-def read(data: bytes) -> Object | None:
-    """The seccomp object of a profile or a whole config.json; None if it can't be read."""
+def read(data: bytes, make: Callable[[Any], dict] = Object) -> Any:
+    """The seccomp object of a profile or a whole config.json, with objects that are made so; None if it can't be read.
+    A number larger than any that scf takes stays a string, and so does a fraction."""
     def whole(text: str) -> int | str:
         return int(text) if len(text) <= LONGEST_NUMBER else text
 
     try:
-        top = json.loads(data.decode("utf-8"), object_pairs_hook=Object, parse_int=whole, parse_float=str)
-        if isinstance(top, Object) and "defaultAction" not in top and "linux" in top:
+        top = json.loads(data.decode("utf-8"), object_pairs_hook=make, parse_int=whole, parse_float=str)
+        if isinstance(top, dict) and top.get("defaultAction") is None and top.get("linux") is not None:
             top = top["linux"]["seccomp"]
     except (ValueError, LookupError, TypeError, RecursionError):
         return None
-    return top if isinstance(top, Object) else None
+    return top if isinstance(top, dict) else None
 
 
 def default_of(top: Object) -> Answer:

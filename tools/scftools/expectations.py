@@ -9,12 +9,12 @@ from .answers import DOES, NUMBERS_OF_ERRNOS, Answer
 from .calls import OPTIONS, Call
 from .decisions import Numbering, Query
 from .questions import Asker
-from .strace import LONGEST_LINE
+from .strace import LONGEST_LOG_LINE
 from .tables import Table
 from .values import dataclass
 
 # What messages call the input, and the most bytes that are read of it.
-KIND, LONGEST_LIST = "file of rows", 1 << 62
+INPUT_KIND, LONGEST_LIST = "file of rows", 1 << 62
 ROW = re.compile(r"([^=]+)=\s*([A-Z_]+)(?:\s+(\S+))?")
 
 
@@ -59,7 +59,7 @@ def _data(text: str | None, action: str) -> int | None:
         else int(text, 0)
 
 
-def _row(line: int, text: str, numbering: Numbering, rest: dict[str, str]) -> ExpectedRow:
+def _row(line: int, text: str, numbering: Numbering, defaults: dict[str, str]) -> ExpectedRow:
     def fails(what: str) -> program.ToolError:
         return program.ToolError(f"line {line} of the rows {what}: {output.escaped(output.cut(text, 80))}")
 
@@ -74,25 +74,25 @@ def _row(line: int, text: str, numbering: Numbering, rest: dict[str, str]) -> Ex
     except ValueError:
         raise fails("has an answer whose data isn't a number") from None
     arguments = dict(zip(OPTIONS[3:], map(numbering.argument, words[1:])))
-    call = Query((("nr", numbering.number_of(words[0])), *{**rest, **arguments}.items())).call
+    call = Query((("nr", numbering.number_of(words[0])), *{**defaults, **arguments}.items())).call
     if call is None:
         raise fails("has a value that isn't a number")
     return ExpectedRow(line, match[1].strip(), call, match[2], data)
 
 
-def read(name: str, numbering: Numbering, rest: dict[str, str]) -> Iterator[ExpectedRow]:
-    """The rows of a file, line by line; a line that begins with `#` is a comment. `rest` are the fields of each record
-    that a row doesn't give."""
-    kept, line = b"", 0
-    for piece in [*inputs.pieces(name, KIND, LONGEST_LIST), b"\n"]:
-        *whole, kept = (kept + piece).split(b"\n")
-        if len(kept) > LONGEST_LINE:
-            raise program.ToolError(f"line {line + len(whole) + 1} of the rows has more than {LONGEST_LINE} bytes")
-        for one in whole:
+def read(name: str, numbering: Numbering, defaults: dict[str, str]) -> Iterator[ExpectedRow]:
+    """The rows of a file, line by line; a line that begins with `#` is a comment. `defaults` are the fields of each
+    record that a row doesn't give."""
+    unfinished, line = b"", 0
+    for piece in [*inputs.pieces(name, INPUT_KIND, LONGEST_LIST), b"\n"]:
+        *whole, unfinished = (unfinished + piece).split(b"\n")
+        if len(unfinished) > LONGEST_LOG_LINE:
+            raise program.ToolError(f"line {line + len(whole) + 1} of the rows has more than {LONGEST_LOG_LINE} bytes")
+        for row in whole:
             line += 1
-            text = one.decode("utf-8", "surrogateescape").strip()
+            text = row.decode("utf-8", "surrogateescape").strip()
             if text and not text.startswith("#"):
-                yield _row(line, text, numbering, rest)
+                yield _row(line, text, numbering, defaults)
 
 
 class Answers:

@@ -24,14 +24,13 @@ CALL_NUMBERS = {
             "msgctl": 14, "shmat": 21, "shmdt": 22, "shmget": 23, "shmctl": 24},
 }
 
-
 # The OCI names of the architectures that have both.
-ARCHITECTURES = [oci for oci, row in JUDGED.items() if row.multiplexes]
+MULTIPLEXING = [oci for oci, row in JUDGED.items() if row.multiplexes]
 
 
 def is_multiplexed(name: str, architecture: str) -> bool:
     """Whether socketcall or ipc makes a syscall of an architecture, too."""
-    return architecture in ARCHITECTURES and any(name in numbers for numbers in CALL_NUMBERS.values())
+    return architecture in MULTIPLEXING and any(name in numbers for numbers in CALL_NUMBERS.values())
 
 
 def rules_of(entry: dict[str, Any], most: int | None = None) -> Iterator[dict[str, Any]]:
@@ -42,8 +41,8 @@ def rules_of(entry: dict[str, Any], most: int | None = None) -> Iterator[dict[st
     alternatives = [conditions] if len(set(indices)) == len(indices) else [[condition] for condition in conditions]
     for name in dict.fromkeys(entry["names"]):
         for multiplexer, numbers in CALL_NUMBERS.items():
-            first = {"index": 0, "value": numbers.get(name), "op": "SCMP_CMP_EQ"}
             for all_of in alternatives if name in numbers else ():
+                first = {"index": 0, "value": numbers[name], "op": "SCMP_CMP_EQ"}
                 others = [condition for condition in all_of if condition.get("index", 0) != 0]
                 yield {**entry, "names": [multiplexer], "args": [first, *others]}
 
@@ -54,8 +53,8 @@ def with_rules(profile: dict[str, Any], note: Callable[[str], None] = lambda _: 
     each entry the index of its own; at most so many conditions of an entry are read. Engines pass on no entry whose
     answer is the default's."""
     entries_of = profile["syscalls"]
-    if set(ARCHITECTURES).isdisjoint(profile.get("architectures", ())):
-        note(f"no rule of socketcall or ipc is added: architectures has none of {', '.join(ARCHITECTURES)}")
+    if set(MULTIPLEXING).isdisjoint(profile.get("architectures", ())):
+        note(f"no rule of socketcall or ipc is added: architectures has none of {', '.join(MULTIPLEXING)}")
         return profile, list(range(len(entries_of)))
     default = Answer.of_profile(profile["defaultAction"], profile.get("defaultErrnoRet"))
     differs = [Answer.of_profile(entry["action"], entry.get("errnoRet")) != default for entry in entries_of]

@@ -10,9 +10,9 @@ from collections.abc import Iterator, Sequence
 from . import output, profiles, tables
 from .answers import ERRNOS, MAX_ERRNO
 from .architectures import NATIVE, NUMBERS, PREFIX, X32
-from .entries import Object
+from .entries import HOLDS, Object
 from .findings import MOST, Finding, listed
-from .profiles import ALLOWING, HOLDS, OCI_ACTIONS
+from .profiles import ALLOWING, OCI_ACTIONS
 from .tables import Tables
 from .values import dataclass
 
@@ -119,8 +119,6 @@ def of_architecture_names(top: Object) -> Iterator[Finding]:
                       {"architectures": architectures})
 
 
-# How similar a member must be to be the nearest.
-LIKENESS = 0.7
 COMMENT = "comment"
 # What only engines read, in their own profiles (Seccomp and Syscall in containers-common's pkg/seccomp/types.go,
 # and in moby's profiles/seccomp/seccomp.go).
@@ -139,8 +137,7 @@ class Members:
     def _near(self, name: str, known: Sequence[str]) -> str | None:
         """The member most similar to this one, ignoring case."""
         self.nearest -= 1
-        lower = {it.lower(): it for it in known}
-        return lower.get(tables.most_like(name.lower(), lower, LIKENESS) or "") if self.nearest >= 0 else None
+        return tables.nearest_member(name, known) if self.nearest >= 0 else None
 
     def of_object(self, value: Object, members: dict[str, object], where: str, place: int | None) -> Iterator[Finding]:
         """The members of an object that aren't read, and those that are repeated."""
@@ -171,7 +168,7 @@ class Members:
 
     def of_profile(self, top: Object) -> Iterator[Finding]:
         """The members of the profile, its entries and their conditions."""
-        yield from self.of_object(top, profiles.SECCOMP, "the profile", None)
+        yield from self.of_object(top, profiles.SECCOMP_MEMBERS, "the profile", None)
         for place, entry in enumerate(top.get("syscalls", [])):
             yield from self.of_object(entry, profiles.ENTRY, f"entry {place}", place)
             for at, condition in enumerate(entry.get("args", [])):

@@ -9,12 +9,12 @@ from __future__ import annotations
 from collections import Counter
 from collections.abc import Iterable, Iterator, Sequence
 
-from . import (answer_sets, architectures, client, constants, engines, other_abis, output, profiles, program, questions,
-               regions, runtimes, tables)
+from . import (answer_sets, architectures, client, constants, engines, other_abis, output, profile_inputs, profiles,
+               program, questions, regions, runtimes, tables)
 from .answer_sets import FIRST_OPEN, FIRST_UPPER, Answers
 from .answers import DISPOSITIONS, ENOSYS, FIRST_X32, Answer
 from .architectures import JUDGED, NATIVE, Architecture
-from .argument_sets import EMPTY_SET, FIRST_UNTESTED, FULL_SET, STEPS, Alternative, Covers, Sets, Steps, TooMany
+from .argument_sets import EMPTY_SET, FIRST_UNTESTED, FULL_SET, MOST_STEPS, Alternative, Covers, Sets, Steps, TooMany
 from .client import Refusal
 from .compare import Comparison
 from .explanation import join_names
@@ -125,13 +125,12 @@ class FilterAnswers:
         if any(word is None for word, _ in answers):
             return "its answer is computed"
         variables = set().union(*(self.sets.variables(arguments) for _, arguments in answers))
-        if any(FIRST_UNTESTED <= it < FIRST_UPPER for it in variables):
+        if any(FIRST_UNTESTED <= variable < FIRST_UPPER for variable in variables):
             return "its answer depends on the instruction pointer"
-        if any(it >= FIRST_OPEN for it in variables):
+        greatest = max(variables, default=0)
+        if greatest >= FIRST_OPEN:
             return "its answer depends on a comparison or computation that no operator makes"
-        if any(it >= FIRST_UPPER for it in variables):
-            return "its answer depends on the upper half of an argument"
-        return None
+        return "its answer depends on the upper half of an argument" if greatest >= FIRST_UPPER else None
 
     def why_not(self, answers: Answers, default: Answer) -> str | None:
         """Why no profile with a default answers the calls of a number so, or None."""
@@ -230,8 +229,8 @@ class Draft:
             known_names.update(draft.filters.table.names())
         order = sorted(entries, key=lambda key: (bool(key[1]), -DISPOSITIONS.index(key[0].disposition)))
         listed = [entry_of(sorted(entries[key]), *key) for key in order]
-        return {**default.default(),
-                "architectures": [draft.filters.architecture.oci for draft in drafts], "syscalls": listed}
+        return {**default.default(), "architectures": [draft.filters.architecture.oci for draft in drafts],
+                "syscalls": listed}
 
 
 # What holds of filters beside a profile that is no less, or no more, permissive than they.
@@ -276,7 +275,7 @@ def reading_of(profile: dict[str, object]) -> str:
 
 def own_steps() -> Steps:
     """The steps in which filters are followed: as many as --limit gives, if they are more than without."""
-    return Steps(max(STEPS, constants.number_in(client.limits.get("limit", "")) or 0))
+    return Steps(max(MOST_STEPS, constants.number_in(client.limits.get("limit", "")) or 0))
 
 
 @dataclass(frozen=True)
@@ -514,7 +513,7 @@ def _of_answers(request: ProfileRequest, answers: FilterAnswers, relation: str) 
     request = replace(request, has_stub=answers.end != FIRST_X32)
     same = _same(request, answers)
     if same is not None:
-        stub = [runtimes.stub_note(same.stub)] if same.stub else []
+        stub = [profile_inputs.stub_note(same.stub)] if same.stub else []
         remarks = [*same.reading_remarks, *_covered(request, same.architectures), *stub]
         return Result(program.SUCCESS, same.text, remarks, [same])
     if relation == SAME:
@@ -523,9 +522,8 @@ def _of_answers(request: ProfileRequest, answers: FilterAnswers, relation: str) 
         return Result(program.UNKNOWN, "".join(f"{line}\n" for line in lines), [], bounds)
     bound = _bound(request, answers, relation)
     if bound is None:
-        return Result(program.UNKNOWN, "",
-                      [f"no profile was found that scf proves to be {RELATION_TEXTS[relation]} than the "
-                                            f"filters"])
-    return Result(program.SUCCESS, bound.text,
-                  [*_differences(request, answers, bound), *bound.reading_remarks,
-                   *_covered(request, bound.architectures)], [bound])
+        return Result(program.UNKNOWN, "", [f"no profile was found that scf proves to be {RELATION_TEXTS[relation]} "
+                                            "than the filters"])
+    remarks = [*_differences(request, answers, bound), *bound.reading_remarks,
+               *_covered(request, bound.architectures)]
+    return Result(program.SUCCESS, bound.text, remarks, [bound])

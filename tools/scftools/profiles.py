@@ -9,33 +9,21 @@ import json
 import re
 from collections.abc import Iterator, Sequence
 
-from . import json_places
+from . import entries, json_places
+from .entries import LONGEST_NUMBER
 from .values import Any, Pattern, dataclass
 
 DEEPEST_JSON = 127
 # Half of a character, which stands alone.
 SURROGATE = Pattern("[\ud800-\udfff]")
 # A member of YAML.
-YAML = Pattern(r"^[A-Za-z_][A-Za-z0-9_.-]{0,80}:(?:\s|\Z)", re.M)
-# No number that scf takes has more digits.
-LONGEST_NUMBER = 40
+YAML_MEMBER = Pattern(r"^[A-Za-z_][A-Za-z0-9_.-]{0,80}:(?:\s|\Z)", re.M)
 # The default actions that allow what no rule names.
 ALLOWING = ("SCMP_ACT_ALLOW", "SCMP_ACT_LOG")
 OCI_ACTIONS = tuple(f"SCMP_ACT_{action}" for action in
                     "ALLOW LOG ERRNO TRACE TRAP NOTIFY KILL KILL_THREAD KILL_PROCESS".split())
 # The actions that take an errno; a sandbox's reading has also TRAP's data so.
 WITH_ERRNO, TRAP = ("SCMP_ACT_ERRNO", "SCMP_ACT_TRACE"), "SCMP_ACT_TRAP"
-# What each comparison tests of an argument and its value; for masks the value is the mask.
-HOLDS = {
-    "SCMP_CMP_NE": lambda argument, value, two: argument != value,
-    "SCMP_CMP_LT": lambda argument, value, two: argument < value,
-    "SCMP_CMP_LE": lambda argument, value, two: argument <= value,
-    "SCMP_CMP_EQ": lambda argument, value, two: argument == value,
-    "SCMP_CMP_GE": lambda argument, value, two: argument >= value,
-    "SCMP_CMP_GT": lambda argument, value, two: argument > value,
-    "SCMP_CMP_MASKED_EQ": lambda argument, value, two: argument & value == two & value,
-}
-
 # The members of a profile, in the form of the OCI runtime specification (config-linux.md: Seccomp) and in those of the
 # engines (profiles/seccomp of moby, pkg/seccomp of containers-common), each with what its value is: a text, a whole
 # number from 0 to 2^64-1, a version of a kernel, a list of what stands in it, or an object of such members.
@@ -43,19 +31,17 @@ TEXT_TYPE, NUMBER_TYPE, VERSION_TYPE = "text", "number", "version"
 FILTER = {"caps": [TEXT_TYPE], "arches": [TEXT_TYPE], "minKernel": VERSION_TYPE}
 ARGUMENT = {"index": NUMBER_TYPE, "value": NUMBER_TYPE, "valueTwo": NUMBER_TYPE, "op": TEXT_TYPE}
 ENTRY = {"names": [TEXT_TYPE], "name": TEXT_TYPE, "action": TEXT_TYPE, "errnoRet": NUMBER_TYPE, "errno": TEXT_TYPE,
-         "args": [ARGUMENT],
-         "comment": TEXT_TYPE, "includes": FILTER, "excludes": FILTER}
+         "args": [ARGUMENT], "comment": TEXT_TYPE, "includes": FILTER, "excludes": FILTER}
 ARCH_MAP = {"architecture": TEXT_TYPE, "subArchitectures": [TEXT_TYPE]}
-SECCOMP = {"defaultAction": TEXT_TYPE, "defaultErrnoRet": NUMBER_TYPE, "defaultErrno": TEXT_TYPE,
-           "architectures": [TEXT_TYPE],
-           "archMap": [ARCH_MAP], "syscalls": [ENTRY], "flags": [TEXT_TYPE], "listenerPath": TEXT_TYPE,
-           "listenerMetadata": TEXT_TYPE}
-CONFIG_MEMBERS = {**SECCOMP, "linux": {"seccomp": SECCOMP}}
+SECCOMP_MEMBERS = {
+    "defaultAction": TEXT_TYPE, "defaultErrnoRet": NUMBER_TYPE, "defaultErrno": TEXT_TYPE,
+    "architectures": [TEXT_TYPE], "archMap": [ARCH_MAP], "syscalls": [ENTRY], "flags": [TEXT_TYPE],
+    "listenerPath": TEXT_TYPE, "listenerMetadata": TEXT_TYPE}
+CONFIG_MEMBERS = {**SECCOMP_MEMBERS, "linux": {"seccomp": SECCOMP_MEMBERS}}
 
 # Letters that encoding/json of Go takes for others in the name of a member (equalFoldRight in fold.go): of ASCII those
 # of the other case, and U+017F and U+212A.
 _FOLD = {**{upper: upper + 32 for upper in range(ord("A"), ord("Z") + 1)}, 0x17F: ord("s"), 0x212A: ord("k")}
-
 
 # How a profile is read unless a container runtime reads it (`--reading` of scf): by its words, or so with TRAP's data.
 STRICT, SANDBOX = BY_WORDS = "strict", "sandbox"
@@ -109,16 +95,8 @@ class Profile:
 
 @functools.lru_cache(2)
 def _top(data: bytes) -> dict[str, Any]:
-    """The seccomp object of a profile, or of a whole config.json; nothing in it if it can't be read. A number larger
-    than any that scf takes stays a string, and so does a fraction."""
-    try:
-        top = json.loads(data.decode("utf-8"), parse_float=str,
-                         parse_int=lambda text: int(text) if len(text) <= LONGEST_NUMBER else text)
-        if isinstance(top, dict) and top.get("defaultAction") is None and top.get("linux") is not None:
-            top = top["linux"]["seccomp"]
-    except (ValueError, LookupError, TypeError, RecursionError):
-        return {}
-    return top if isinstance(top, dict) else {}
+    """The seccomp object of a profile, or of a whole config.json; nothing in it if it can't be read."""
+    return entries.read(data, dict) or {}
 
 
 def architectures_of(data: bytes) -> tuple[str, ...]:
@@ -129,10 +107,15 @@ def architectures_of(data: bytes) -> tuple[str, ...]:
     return tuple(name for name in names if isinstance(name, str)) if isinstance(names, list) else ()
 
 
+def _listed(top: dict[str, Any]) -> list[object]:
+    """The entries of an object; none if it has no list of them."""
+    listed = top.get("syscalls")
+    return listed if isinstance(listed, list) else []
+
+
 def entry_at(data: bytes, place: int) -> object:
     """The entry at an index of `syscalls`, from 0 on, or None if it can't be read."""
-    entries = _top(data).get("syscalls")
-    return entries[place] if isinstance(entries, list) and place < len(entries) else None
+    return next(iter(_listed(_top(data))[place:place + 1]), None)
 
 
 @functools.lru_cache(2)
@@ -140,12 +123,10 @@ def read(data: bytes) -> Profile | None:
     """The default and the names of a profile, or None if it can't be read."""
     top = _top(data)
     try:
-        names = [name for entry in top.get("syscalls") or [] for name in entry["names"]]
+        texts = [top["defaultAction"], *(name for entry in top.get("syscalls") or () for name in entry["names"])]
     except (LookupError, TypeError):
         return None
-    if not isinstance(top.get("defaultAction"), str) or not all(isinstance(name, str) for name in names):
-        return None
-    return Profile(top["defaultAction"], names)
+    return Profile(texts[0], texts[1:]) if all(isinstance(text, str) for text in texts) else None
 
 
 @functools.lru_cache(1024)
@@ -217,9 +198,8 @@ def misread_members(data: bytes) -> list[Misread]:
 
 def _objects(top: dict[str, Any]) -> Iterator[tuple[str, object, dict[str, Any]]]:
     """The objects of a profile in which something is read: each with where it is, and the members that are known."""
-    yield "the profile", top, SECCOMP
-    entries = top.get("syscalls")
-    for index, entry in enumerate(entries if isinstance(entries, list) else ()):
+    yield "the profile", top, SECCOMP_MEMBERS
+    for index, entry in enumerate(_listed(top)):
         where = where_in("the profile", "syscalls", index)
         yield where, entry, ENTRY
         conditions = entry.get("args") if isinstance(entry, dict) else None
@@ -237,13 +217,9 @@ def unread_members(data: bytes) -> Iterator[tuple[str, str, Sequence[str]]]:
 
 def errno_by_name(data: bytes) -> str | None:
     """Where a profile has an errno by name, which only podman reads, or None if it has none."""
-    if not any(member in data for member in (b'errno"', b'defaultErrno"', b"\\u")):
-        return None
-    top = _top(data)
-    entries = top.get("syscalls")
-    holders = [("the profile", "defaultErrno", top)]
-    holders += [(f"entry {at}", "errno", entry)
-                for at, entry in enumerate(entries if isinstance(entries, list) else ())]
+    top = _top(data) if any(member in data for member in (b'errno"', b'defaultErrno"', b"\\u")) else {}
+    holders = [("the profile", "defaultErrno", top), *((f"entry {at}", "errno", entry)
+                                                       for at, entry in enumerate(_listed(top)))]
     errnos = ((where, name, holder.get(name)) for where, name, holder in holders if isinstance(holder, dict))
     return next((f"{where} has {name} {json.dumps(value)}" for where, name, value in errnos if value), None)
 
@@ -296,7 +272,7 @@ def _foreign_syntax(text: str, at: int) -> str | None:
 def malformed(error: json.JSONDecodeError) -> str:
     """A sentence on what is malformed in a text, and where."""
     text, at = error.doc, error.pos
-    if YAML.search(text) and text.lstrip()[:1] not in ("{", "["):
+    if YAML_MEMBER.search(text) and text.lstrip()[:1] not in ("{", "["):
         return "it is YAML: convert it to JSON, as `yq -o json` does"
     what = _foreign_syntax(text, at)
     # where a comma lacks, the next value isn't the one that is meant

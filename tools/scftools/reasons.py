@@ -7,7 +7,8 @@ from collections.abc import Iterator, Sequence
 from . import bundles, client, profiles, program
 from .answers import Answer
 from .calls import Call
-from .profiles import HOLDS, Origin
+from .entries import HOLDS
+from .profiles import Origin
 from .tables import Tables
 from .values import Pattern, dataclass
 from .verdicts import Fault

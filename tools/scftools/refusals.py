@@ -12,9 +12,10 @@ from . import architectures, client, explanation, inputs, json_places, output, p
 from .architectures import NATIVE
 from .calls import Call
 from .client import Fault, Refusal
+from .entries import HOLDS, LONGEST_NUMBER
 from .filters import LONGEST_STACK, MORE_OF_OLDER, Filter
 from .json_places import Path
-from .profiles import HOLDS, LONGEST_NUMBER, OCI_ACTIONS, DerivedProfile, Origin
+from .profiles import OCI_ACTIONS, DerivedProfile, Origin
 from .tables import Tables
 from .values import Any
 

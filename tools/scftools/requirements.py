@@ -214,7 +214,7 @@ class Judges:
 
 def find(log: Trace, judges: Judges) -> Needs:
     """The calls of a log, by their architectures and numbers, each judged."""
-    counts = log.foreign.count, log.cut.count, log.left.count, log.unread.count, log.lost.count
+    counts = log.foreign.count, log.cut.count, log.not_remembered.count, log.unread.count, log.lost.count
     needs = Needs([], {}, dict(zip(UNJUDGED, counts)), log.fault, taken=judges.taken)
     traced: list[TracedCall] = []
     for (architecture, name, values), seen in log.calls.items():

@@ -2,26 +2,21 @@
 
 scf reads a profile as they do (`--reading`; RUNTIMES.md has the rules). The tools know the rest: which engine
 resolves the profile before, what a runtime refuses beside it, the names that this machine's libseccomp knows, its rules
-of socketcall and ipc on i386, and the numbers from which on runc answers ENOSYS: on each architecture in the list the
-one above all that the profile names. Of the i386 syscalls that socketcall and ipc make, too, libseccomp tells runc no
-number above 0, so ENOSYS may be the answer to those that are made directly (findLastSyscalls of
-libcontainer/seccomp/patchbpf, and __PNR_semget and the like of seccomp.h).
+of socketcall and ipc, and where runc's stub begins.
 """
 from __future__ import annotations
 
 import os
-from collections.abc import Callable, Iterator, Sequence
+from collections.abc import Iterator, Sequence
 
-from . import engines, inputs, libseccomp, multiplexed, output, profile_inputs, profiles, program, tables
+from . import architectures, engines, inputs, libseccomp, multiplexed, profile_inputs, profiles, program, tables
 from .answers import MAX_ERRNO, Answer
 from .architectures import JUDGED, NATIVE, NUMBERS, PREFIX
 from .engines import Origin, Refused, Setting, answer_of, excerpt, excerpts
-from .explanation import join_names
-from .libseccomp import Library
 from .profile_inputs import ProfileInput
-from .profiles import OCI_ACTIONS, SANDBOX
+from .profiles import SANDBOX
 from .tables import Tables
-from .values import Any, dataclass, field, replace
+from .values import Any, dataclass, replace
 from .words import Parser
 
 RUNC, CRUN = "runc", "crun"
@@ -99,61 +94,6 @@ def setting_of_words(options: Any, parser: Parser) -> Setting:
         parser.error(str(why))
 
 
-@dataclass(frozen=True)
-class AppliedProfile:
-    """A profile as a runtime is given it."""
-
-    runtime: Runtime
-    # but for names that libseccomp doesn't know
-    profile: dict[str, Any]
-    # the same with libseccomp's own rules for i386, for scf, which reads it as the runtime does
-    data: bytes
-    # the index of each entry of the latter in the user's profile
-    origins: Sequence[Origin]
-    # what is to be known of the whole; and entry by entry, what an engine left out or the runtime reads otherwise
-    remarks: Sequence[str]
-    notes: Sequence[str] = ()
-    # by the OCI name of an architecture, the least number of a record that runc answers with ENOSYS
-    stub: dict[str, int] = field(default_factory=dict)
-    # the entries that the engine passes on, of which some may have only names that libseccomp doesn't know
-    passed_on: Sequence[Origin] = ()
-
-    @property
-    def input(self) -> ProfileInput:
-        """The profile for scf."""
-        return ProfileInput(self.data, self.origins, self.stub, self.passed_on)
-
-    def stub_notes(self, stub: dict[str, int]) -> Iterator[str]:
-        """The notes on a filter that begins with a stub at these numbers."""
-        yield stub_note(stub)
-        names = {name for entry in self.profile["syscalls"] for name in entry["names"]}
-        for architecture, first in stub.items():
-            table = tables.of_architecture(architecture)
-            numbers = {} if table is None else {name: table.number_of(name) for name in names}
-            covered = sorted(name for name, number in numbers.items()
-                             if number is not None and JUDGED[architecture].first + number >= first)
-            if covered:
-                shown = output.some(covered, engines.MAX_LISTED)
-                yield (f"so it answers {JUDGED[architecture].name}'s {shown}, though the profile names them, unless "
-                       "socketcall or ipc makes them: libseccomp tells runc no number of theirs")
-
-    def describe(self) -> Iterator[str]:
-        """Notes on the profile and its entries."""
-        yield from engines.at_most(self.notes)
-        yield from self.remarks
-        if self.stub:
-            first, *more = self.stub_notes(self.stub)
-            yield f"not in the profile: {first}"
-            yield from more
-
-
-def stub_note(stub: dict[str, int]) -> str:
-    """The note on a filter that begins with runc's stub."""
-    firsts = [("" if name == NATIVE else f"of {JUDGED[name].name} ") + f"from {first - JUDGED[name].first} on"
-              for name, first in stub.items()]
-    return f"runc answers the numbers {join_names(firsts)}, above all that the profile names, with ENOSYS"
-
-
 def _short_errno(holder: dict[str, Any], name: str) -> dict[str, int]:
     """The member of an errno, of which libseccomp takes 16 bits."""
     return {} if holder.get(name) is None else {name: holder[name] & 0xFFFF}
@@ -164,29 +104,26 @@ def _has_all(conditions: Sequence[dict[str, Any]]) -> bool:
     return all(condition.get("op") == "SCMP_CMP_MASKED_EQ" and not condition.get("value") for condition in conditions)
 
 
-@dataclass
 class _Application:
-    """The making of what a runtime is given out of a resolved profile."""
+    """The making of what a runtime is given out of a resolved profile, on a machine with this OCI name of its own
+    architecture."""
 
-    runtime: Runtime
-    library: Library | None
-    # what a name has as its number on an architecture: by the library, or without one by the tables
-    number_of: Callable[[str, str], int | None]
-    # the OCI name of the machine's own architecture
-    native: str
-    remarks: list[str] = field(default_factory=list)
-    unknown: dict[str, None] = field(default_factory=dict)
-
-    @property
-    def is_runc(self) -> bool:
-        return self.runtime.program == RUNC
+    def __init__(self, runtime: Runtime, native: str):
+        self.runtime, self.native = runtime, native
+        self.is_runc = runtime.program == RUNC
+        self.most_conditions = None if self.is_runc else CRUN_CONDITIONS
+        self.library = libseccomp.installed()
+        # a name's number on an architecture: by the library, or without one by the tables
+        self.number_of = _number_in_tables if self.library is None else self.library.number_of
+        self.remarks: list[str] = []
+        self.unknown: dict[str, None] = {}
 
     def refuse(self, why: str) -> None:
         raise Refused(f"{self.runtime.program} refuses the profile: {why}")
 
     def check_action(self, action: str, number: int | None, where: str) -> None:
         """Refuses an action, or its errno, that the runtime or libseccomp refuses."""
-        if action not in OCI_ACTIONS:
+        if action not in profiles.OCI_ACTIONS:
             self.refuse(f"{where} has an unknown action: '{excerpt(action)}'")
         if number is None:
             return
@@ -218,37 +155,39 @@ class _Application:
             self.refuse(f"a name of {where} is empty")
         numbers = {name: self.number_of(name, self.native) for name in entry["names"]}
         self.unknown.update({name: None for name, number in numbers.items() if number is None})
-        count = len(entry.get("args", ()))
-        if not self.is_runc and count > CRUN_CONDITIONS:
-            self.remarks.append(f"{where} has {count} conditions, of which crun takes the first {CRUN_CONDITIONS}")
+        count, most = len(entry.get("args", ())), self.most_conditions
+        if most is not None and count > most:
+            self.remarks.append(f"{where} has {count} conditions, of which crun takes the first {most}")
         names = [name for name, number in numbers.items() if number is not None]
         return {**entry, "names": names, **_short_errno(entry, "errnoRet")}
 
     def notes_on(self, profile: dict[str, Any], origins: Sequence[Origin]) -> Iterator[str]:
         """Which entries the runtime reads otherwise than by their words (Readings.antt has the rules)."""
         who, default = self.runtime.program, answer_of(profile["defaultAction"], profile.get("defaultErrnoRet"))
-        answers = [answer_of(entry["action"], entry.get("errnoRet")) for entry in profile["syscalls"]]
-        first: dict[str, tuple[Answer, Origin]] = {}
-        for entry, answer, origin in zip(profile["syscalls"], answers, origins):
-            conditions = entry.get("args", [])[:None if self.is_runc else CRUN_CONDITIONS]
-            is_repeated = len({condition.get("index", 0) for condition in conditions}) < len(conditions)
+        handed: list[tuple[Sequence[str], Answer, Origin]] = []
+        unconditional: dict[str, tuple[Answer, Origin]] = {}
+        for entry, origin in zip(profile["syscalls"], origins):
+            answer = answer_of(entry["action"], entry.get("errnoRet"))
             if answer == default:
                 yield f"{who} leaves out {origin.describe()}: its answer is the default's"
                 continue
+            handed.append((entry["names"], answer, origin))
+            conditions = entry.get("args", [])[:self.most_conditions]
+            is_repeated = len({condition.get("index", 0) for condition in conditions}) < len(conditions)
             if is_repeated:
                 yield f"{who} reads the conditions of {origin.describe()} as alternatives: two are on one argument"
             if any(map(_has_all, [[condition] for condition in conditions] if is_repeated else [conditions])):
                 for name in entry["names"]:
-                    first.setdefault(name, (answer, origin))
-        for entry, answer, origin in zip(profile["syscalls"], answers, origins):
+                    unconditional.setdefault(name, (answer, origin))
+        for names, answer, origin in handed:
             covered: dict[int, list[str]] = {}
-            for name in entry["names"] if answer != default else ():
-                counting, by = first.get(name, (answer, origin))
-                if counting != answer:
-                    covered.setdefault(by.index, []).append(name)
-            for index, names in covered.items():
-                yield (f"{who} leaves {excerpts(names)} out of entry {origin.index}: entry {index}, which has no "
-                       "conditions, covers all such syscalls")
+            for name in names:
+                first_answer, first = unconditional.get(name, (answer, origin))
+                if first_answer != answer:
+                    covered.setdefault(first.index, []).append(name)
+            for index, covered_names in covered.items():
+                yield (f"{who} leaves {excerpts(covered_names)} out of entry {origin.index}: entry {index}, which has "
+                       "no conditions, covers all such syscalls")
 
     def stub_of(self, profile: dict[str, Any]) -> dict[str, int]:
         """By architecture the least number of a record that runc answers with ENOSYS (findLastSyscalls of patchbpf)."""
@@ -264,18 +203,19 @@ class _Application:
         data = profiles.DerivedProfile(engines.to_bytes(handed))
         data.reading = self.runtime.program
         names = {name for entry in handed["syscalls"] for name in entry["names"]}
-        for architecture in JUDGED:
-            table = tables.of_architecture(architecture)
-            absent = frozenset(name for name in names if (self.number_of(name, architecture) or 0) < 0
-                               and table is not None and table.number_of(name) is not None
+        confined = {self.native, architectures.of_machine(), *handed.get("architectures", ())}
+        for architecture in confined.intersection(JUDGED):
+            table = tables.of_architecture(architecture) or tables.Table(b"")
+            absent = frozenset(name for name in names.intersection(table.names())
+                               if (self.number_of(name, architecture) or 0) < 0
                                and not multiplexed.is_multiplexed(name, architecture))
             if absent:
                 data.absent = {**data.absent, architecture: absent}
         return data
 
-    def tell(self, architectures: Sequence[str]) -> None:
+    def tell(self, listed: Sequence[str]) -> None:
         """Notes what the runtime confines beside the list, and the names that are left out."""
-        if architectures and self.native not in architectures:
+        if listed and self.native not in listed:
             self.remarks.append(f"{JUDGED[self.native].name} syscalls are confined too, though architectures lacks "
                                 f"{self.native}")
         if self.library is None:
@@ -286,7 +226,7 @@ class _Application:
             self.remarks.append(f"left out, since this machine's libseccomp {self.library.version} doesn't know "
                                 f"them: {names}")
 
-    def run(self, profile: dict[str, Any], origins: Sequence[Origin]) -> AppliedProfile:
+    def run(self, profile: dict[str, Any], origins: Sequence[Origin]) -> ProfileInput:
         """A resolved profile as the runtime is given it. Raises Refused."""
         self.check_action(profile["defaultAction"], profile.get("defaultErrnoRet"), "the default")
         if self.is_runc:
@@ -302,10 +242,10 @@ class _Application:
             if name not in NUMBERS:
                 self.refuse(f"it knows no architecture '{excerpt(name)}'")
         self.tell(given.get("architectures", ()))
-        handed, places = multiplexed.with_rules(given, most=None if self.is_runc else CRUN_CONDITIONS)
+        handed, places = multiplexed.with_rules(given, most=self.most_conditions)
         given_origins = [origin for entry, origin in entries if entry["names"]]
-        return AppliedProfile(self.runtime, given, self.read_as(handed), [given_origins[place] for place in places],
-                              self.remarks, list(self.notes_on(given, given_origins)), self.stub_of(given), origins)
+        return ProfileInput(self.read_as(handed), [given_origins[place] for place in places], self.stub_of(given),
+                            origins, self.runtime, given, self.remarks, list(self.notes_on(given, given_origins)))
 
 
 def _number_in_tables(name: str, architecture: str) -> int | None:
@@ -317,55 +257,51 @@ def _number_in_tables(name: str, architecture: str) -> int | None:
     return -1 if numbers else None
 
 
-def _refuse_engines(value: Any, program: str) -> None:
+def _refuse_engines(seccomp: Any, program_name: str) -> None:
     """Refuses what only engines read, where there is none."""
-    value = value if isinstance(value, dict) else {}
-    entries = value.get("syscalls")
-    entries = [entry for entry in entries if isinstance(entry, dict)] if isinstance(entries, list) else []
-    unread = [name for name in ("archMap", "defaultErrno") if value.get(name)]
+    top = seccomp if isinstance(seccomp, dict) else {}
+    listed = top.get("syscalls")
+    entries = [entry for entry in listed if isinstance(entry, dict)] if isinstance(listed, list) else []
+    unread = [name for name in ("archMap", "defaultErrno") if top.get(name)]
     unread += [name for name in ("includes", "excludes", "name", "errno") if any(entry.get(name) for entry in entries)]
     if unread:
-        engine = "podman" if program == RUNC else "docker"
-        raise Refused(f"{program} doesn't read {unread[0]}: it is an engine's profile, which --runtime docker resolves "
-                      f"for runc, --runtime podman for crun, and `scf resolve-profile --engine {engine} --runtime "
-                      f"{program}` for {engine} with {program}")
+        engine = "podman" if program_name == RUNC else "docker"
+        raise Refused(f"{program_name} doesn't read {unread[0]}: it is an engine's profile, which --runtime docker "
+                      "resolves for runc, --runtime podman for crun, and `scf resolve-profile --engine "
+                      f"{engine} --runtime {program_name}` for {engine} with {program_name}")
 
 
-def setting_of(runtime: Runtime) -> Setting:
-    """The container that a runtime's engine resolves a profile for: with the engine's capabilities, on this kernel."""
-    return Setting(engines.capabilities_of(runtime.engine or "none"), engines.kernel_of(os.uname().release), False,
-                   runtime.engine)
+def setting_of(runtime: Runtime, caps: str | None = None, machine: str | None = None) -> Setting:
+    """The container that a runtime's engine resolves a profile for: by default with the engine's capabilities, on this
+    machine, and on this kernel."""
+    return profile_inputs.setting_of(runtime.engine or "none" if caps is None else caps, runtime.engine, machine)
 
 
-def applied(value: Any, name: str, setting: Setting | None = None, keeps_first: bool = False) -> AppliedProfile:
+def applied(value: Any, name: str, setting: Setting | None = None, keeps_first: bool = False) -> ProfileInput:
     """The profile as the runtime of a name is given it, of a profile's value, or of a whole config.json, that
     `engines.read` read; on request without later answers to a syscall. Raises Refused if the runtime, or the engine
     before it, refuses it or reads it otherwise than it is spelled."""
     runtime = RUNTIMES[name]
     setting = setting or setting_of(runtime)
     notes: list[str] = []
-    if isinstance(value, dict) and value.get("linux") is not None:
+    is_config = isinstance(value, dict) and value.get("linux") is not None
+    if is_config and value.get("defaultAction") is not None:
+        raise Refused("both defaultAction and linux are at the top: is it a profile or a config.json?")
+    if is_config or setting.engine is None:
         # of a whole config.json the engine has done its part, and the other members aren't read
-        if value.get("defaultAction") is not None:
-            raise Refused("both defaultAction and linux are at the top: is it a profile or a config.json?")
         setting = replace(setting, engine=None, ignored=None)
-        seccomp = (value["linux"] or {}).get("seccomp") if isinstance(value["linux"], dict) else None
-        _refuse_engines(seccomp, runtime.program)
-    elif setting.engine is None:
-        _refuse_engines(value, runtime.program)
-        setting = replace(setting, ignored=None)
     resolver = engines.Resolver(setting, notes.append)
+    if setting.engine is None:
+        _refuse_engines(resolver.seccomp_of(value), runtime.program)
     resolved = resolver.resolved(value)
     if keeps_first:
         resolver.keep_first(resolved)
-    library = libseccomp.installed()
-    number_of = _number_in_tables if library is None else library.number_of
-    application = _Application(runtime, library, number_of, setting.native).run(resolved, resolver.origins)
-    remarks = list(application.remarks)
+    profile = _Application(runtime, setting.native).run(resolved, resolver.origins)
+    remarks = list(profile.remarks)
     if setting.engine is not None and setting.source is not None:
         names = ", ".join(capability[4:] for capability in setting.capabilities) or "none"
         remarks.append(f"resolved for the capabilities of {setting.source}: {names}")
-    return replace(application, remarks=remarks, notes=list(dict.fromkeys([*notes, *application.notes])))
+    return replace(profile, remarks=remarks, notes=list(dict.fromkeys([*notes, *profile.notes])))
 
 
 def as_read(value: dict[str, Any], judged: Tables) -> tuple[bytes, Tables]:
@@ -377,7 +313,7 @@ def as_read(value: dict[str, Any], judged: Tables) -> tuple[bytes, Tables]:
     return given.data, replace(judged, stub=given.stub)
 
 
-def applied_in(data: bytes, path: str, name: str, setting: Setting, is_strict: bool | None = False) -> AppliedProfile:
+def applied_in(data: bytes, path: str, name: str, setting: Setting, is_strict: bool | None = False) -> ProfileInput:
     """The profile that was read of a file, as a runtime is given it; ends the tool where it refuses it, or if strict
     for members that nothing reads; without a word on these if that is None."""
     data = profile_inputs.plain(data, path)
@@ -411,21 +347,16 @@ def text_of(options: Any) -> bytes:
 
 
 def input_in(data: bytes, options: Any, is_strict: bool | None = False) -> ProfileInput:
-    """What was read of a profile that a command line names: with `--runtime` as that runtime reads it, and what is to
-    be known of that is printed."""
+    """The profile in what was read of the input that a command line names: with `--runtime` as that runtime reads it,
+    and what is to be known of that is printed."""
     runtime = RUNTIMES.get(options.runtime)
     if runtime is None:
         given = profile_inputs.profile_in(data, options.profile, options.caps, False, bool(is_strict), options.machine)
         return given.read_by(options.runtime)
-    setting = setting_of(runtime)
-    try:
-        capabilities = setting.capabilities if options.caps is None else engines.capabilities_of(options.caps)
-    except ValueError as why:
-        raise program.ToolError(str(why)) from why
-    setting = replace(setting, capabilities=capabilities, machine=options.machine or setting.machine)
-    given = applied_in(data, options.profile, options.runtime, setting, is_strict)
+    setting = setting_of(runtime, options.caps, options.machine)
+    given = applied_in(data, options.profile, runtime.name, setting, is_strict)
     program.say(*given.describe())
-    return given.input
+    return given
 
 
 def read(options: Any) -> ProfileInput:

@@ -16,10 +16,10 @@ from .values import Pattern, dataclass, field
 # The values that arguments may have, by their indexes; None if they aren't known.
 Arguments = "dict[int, tuple[int, ...] | None]"
 # The most bytes that are read of a log, of a line, of a syscall that isn't finished yet and of an argument.
-LONGEST_LOG, LONGEST_LINE, LONGEST_BEGINNING, LONGEST_ARGUMENT = 1 << 30, 1 << 16, 1 << 13, 1 << 12
+LONGEST_LOG, LONGEST_LOG_LINE, LONGEST_BEGINNING, LONGEST_ARGUMENT = 1 << 30, 1 << 16, 1 << 13, 1 << 12
 # The most unfinished syscalls and the most with other names or arguments that are kept; how many more are counted; and
 # the most processes.
-PENDING, MOST_REMEMBERED, LEFT, PROCESSES = 10000, 1000, 100000, 1 << 20
+PENDING, MOST_REMEMBERED, MOST_NOT_REMEMBERED, PROCESSES = 10000, 1000, 100000, 1 << 20
 # At most so many processes that are creating one are considered for the architecture of a new process.
 MAKERS = 100
 # The mode in which processes of a machine's own architecture run, as strace calls it.
@@ -59,8 +59,7 @@ CLONE = {"flags": 0, "child_stack": 1, "parent_tid": 2, "parent_tidptr": 2, "chi
 # On other architectures the last two are swapped (CONFIG_CLONE_BACKWARDS in arch/Kconfig of Linux).
 CLONE_BACKWARDS = {**CLONE, "tls": 3, "child_tidptr": 4}
 REGISTER_ORDER = {"preadv2": (6, (0, 1, 2, 3, 5)), "pwritev2": (6, (0, 1, 2, 3, 5)), "futex": (6, (0, 1)),
-                  "ptrace": (4, (0, 1)),
-         "msgget": (3, (0,)), "semget": (4, (0, 1)), "shmget": (4, (0, 1))}
+                  "ptrace": (4, (0, 1)), "msgget": (3, (0,)), "semget": (4, (0, 1)), "shmget": (4, (0, 1))}
 # How many of the first arguments stand so in their registers, where not all do: a number of 64 bits takes two of 32,
 # mmap2 has pages where strace prints bytes, i386 has some arguments in memory, and x32 an offset whole.
 SPLIT = {"_llseek": 1, "arm_fadvise64_64": 1, "arm_sync_file_range": 1, "fadvise64": 1, "fadvise64_64": 1,
@@ -206,7 +205,7 @@ def modes_of(architecture: str) -> dict[str, str]:
 class Seen:
     """How often something stands in logs, and in which line of which one first; 0 is no line."""
 
-    line: int
+    line: int = 0
     count: int = 0
     log: str = ""
 
@@ -227,15 +226,15 @@ class Log:
     # the tables of architectures
     tables: dict[str, Table] = field(default_factory=dict)
     # the architecture of what doesn't say it
-    own: str = NATIVE
+    own_architecture: str = NATIVE
     calls: dict[tuple[str, str, tuple], Seen] = field(default_factory=dict)
     # syscalls of architectures without a table
-    foreign: Seen = field(default_factory=lambda: Seen(0))
-    unread: Seen = field(default_factory=lambda: Seen(0))
+    foreign: Seen = field(default_factory=Seen)
+    unread: Seen = field(default_factory=Seen)
     # lines of syscalls that have a number, without a result or without a beginning
-    cut: Seen = field(default_factory=lambda: Seen(0))
+    cut: Seen = field(default_factory=Seen)
     # syscalls with other names or arguments than those that are kept
-    left: Seen = field(default_factory=lambda: Seen(0))
+    not_remembered: Seen = field(default_factory=Seen)
     _names: set[tuple[str, str]] = field(default_factory=set)
     # what strace prints by a name, by architecture and name
     _known: dict[tuple[str, str], dict[str, int]] = field(default_factory=dict)
@@ -249,7 +248,7 @@ class Log:
     _other: str | None = None
     # the pieces of a line that is broken by messages of strace, and how many more characters are kept
     _broken: list[str] = field(default_factory=list)
-    _room: int = LONGEST_LINE
+    _room: int = LONGEST_LOG_LINE
     _line: int = 0
     # whether the current line is longer than what is read of it
     _is_long: bool = False
@@ -270,8 +269,8 @@ class Log:
             return
         if self._broken:
             line = "".join([*self._broken, line])
-            self._broken, self._room = [], LONGEST_LINE
-        self._is_long = len(line) >= LONGEST_LINE
+            self._broken, self._room = [], LONGEST_LOG_LINE
+        self._is_long = len(line) >= LONGEST_LOG_LINE
         leader = LEADER.match(line)
         assert leader
         who = self._who(leader[1] or leader[2])
@@ -300,7 +299,7 @@ class Log:
         name. They are kept for the names that have a number."""
         numbered = self._known.get((architecture, name))
         if numbered is None:
-            multiplexers = multiplexed.CALL_NUMBERS.items() if architecture in multiplexed.ARCHITECTURES else ()
+            multiplexers = multiplexed.CALL_NUMBERS.items() if architecture in multiplexed.MULTIPLEXING else ()
             names = [name, *(multiplexer for multiplexer, its in multiplexers if name in its)]
             numbers = {syscall: self.number_of(architecture, syscall) for syscall in names}
             numbered = {syscall: number for syscall, number in numbers.items() if number is not None}
@@ -315,7 +314,7 @@ class Log:
         numbers = () if nr is None else self._numbered(architecture, name).values()
         if nr is None or nr in numbers:
             return architecture
-        for mode in modes_of(self.own).values():
+        for mode in modes_of(self.own_architecture).values():
             if nr in self._numbered(mode, name).values():
                 self._enter(who, mode)
                 return mode
@@ -336,13 +335,14 @@ class Log:
         """The architecture of a process that comes up: that of those of which one makes it; where none is seen to, it
         isn't the log's own once that of any process wasn't."""
         if self._other is None:
-            return self.own
+            return self.own_architecture
         if self._makers and len(self._makers) <= MAKERS:
-            return next((oci for oci in map(self._architecture_of, self._makers) if oci != self.own), self.own)
+            made = map(self._architecture_of, self._makers)
+            return next((oci for oci in made if oci != self.own_architecture), self.own_architecture)
         return self._other
 
     def _architecture_of(self, who: str | None) -> str:
-        return self._architectures.get(who, self.own)
+        return self._architectures.get(who, self.own_architecture)
 
     def _add(self, who: str | None, line: Line) -> None:
         name = CALL_NAME.match(line.text)
@@ -353,7 +353,7 @@ class Log:
             self._call(who, line, name)
         elif mode:
             for key in (mode[1], who):
-                self._enter(key, modes_of(self.own).get(mode[2], ""))
+                self._enter(key, modes_of(self.own_architecture).get(mode[2], ""))
         elif line.text.startswith("+++ "):
             self._pending_ends(who)
             if who is not None:
@@ -367,7 +367,7 @@ class Log:
     def _enter(self, who: str | None, architecture: str) -> None:
         """A process is in a mode from now on."""
         self._architectures[who] = architecture
-        self._other = architecture if architecture != self.own else self._other
+        self._other = architecture if architecture != self.own_architecture else self._other
 
     def _begin(self, who: str | None, line: Line) -> None:
         """Keeps a syscall that isn't finished yet."""
@@ -414,12 +414,12 @@ class Log:
             self._is_raw = RAW_BEGIN.match(line.text) is not None
         architecture = self.architecture_of(who, name[1], line.nr)
         numbered = self._numbered(architecture, name[1])
-        if not (is_cut or self._is_long or len(line.text) >= LONGEST_LINE or " = " in line.text):
+        if not (is_cut or self._is_long or len(line.text) >= LONGEST_LOG_LINE or " = " in line.text):
             self._count(self.cut if numbered else self.unread, line.number)
             return
         if line.text.startswith(FORKS):
             self._forked(who, line.text)
-        if architecture != self.own and architecture not in self.tables:
+        if architecture != self.own_architecture and architecture not in self.tables:
             self._count(self.foreign, line.number)
             return
         for named in [named for named in numbered if line.nr in (None, numbered[named])] or [name[1]]:
@@ -445,9 +445,9 @@ class Log:
             count_before = len(self.calls)
             is_first = count_before >= MOST_REMEMBERED and call not in self._names and self.number_of(*call) is not None
             if count_before >= 2 * MOST_REMEMBERED or count_before >= MOST_REMEMBERED and not is_first:
-                return self.left
+                return self.not_remembered
             self._names.add(call)
-            seen = self.calls[(*call, values)] = Seen(0)
+            seen = self.calls[(*call, values)] = Seen()
         return seen
 
     def _forked(self, who: str | None, text: str) -> None:
@@ -473,7 +473,7 @@ def _pieces(name: str) -> Iterator[bytes]:
         yield piece
 
 
-def lines(name: str, most: int = LONGEST_LINE) -> Iterator[str]:
+def lines(name: str, most: int = LONGEST_LOG_LINE) -> Iterator[str]:
     """The lines of a log (`-` is standard input), of each at most so many characters."""
     unread_part = b""
     for piece in _pieces(name):
@@ -488,7 +488,7 @@ def lines(name: str, most: int = LONGEST_LINE) -> Iterator[str]:
 
 def is_log(data: bytes) -> bool:
     """Whether some of the first lines of a text are strace's."""
-    for line in data[:LONGEST_LINE].decode("latin-1").split("\n")[:100]:
+    for line in data[:LONGEST_LOG_LINE].decode("latin-1").split("\n")[:100]:
         text = line[LEADER.match(line).end():]
         if CALL_NAME.match(text) and " = " in text:
             return True

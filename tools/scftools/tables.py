@@ -11,8 +11,8 @@ from .values import Pattern, dataclass, field, replace
 TABLE_LINE = Pattern(rb"(?m)^[ \t]*([A-Za-z_][A-Za-z0-9_]*)[ \t]+0*([0-9]{1,10})[ \t]*\r?$")
 # At most so many unknown names are listed, and longer ones get no nearest name.
 MOST_LISTED, LONGEST_NAME = 20, 64
-# The least similarity of a nearest name (difflib's ratio): two swapped letters in a name of four.
-NEAR = 0.75
+# The least similarity of a nearest name (difflib's ratio), two swapped letters in a name of four, and of a member.
+NEAR, NEAR_MEMBER = 0.75, 0.7
 
 
 class Table:
@@ -196,6 +196,12 @@ def most_like(name: str, names: Iterable[str], least: float = NEAR) -> str | Non
     from difflib import get_close_matches  # pylint: disable=import-outside-toplevel
 
     return next(iter(get_close_matches(name, list(names), 1, least)), None)
+
+
+def nearest_member(name: str, members: Iterable[str]) -> str | None:
+    """The member of an object most similar to this one, whatever its letters' case; None if none is similar."""
+    by_letters = {member.lower(): member for member in members}
+    return by_letters.get(most_like(name.lower(), by_letters, NEAR_MEMBER) or "")
 
 
 def nearest(name: str, *among: Table) -> str | None:

@@ -60,7 +60,7 @@ def resolved(path, options):
         value = engines.read(profile_inputs.read_engines(path))
         if options.runtime is not None:
             given = runtimes.applied(value, options.runtime, options.setting)
-            return given.input, [*engines.at_most(given.notes), *given.remarks]
+            return given, [*engines.at_most(given.notes), *given.remarks]
         profile, origins = engines.resolve(value, options.setting, notes.append, options.keep_first)
         return profile_inputs.ProfileInput(engines.to_bytes(profile), origins), notes
     except engines.Refused as why:

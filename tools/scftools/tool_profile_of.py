@@ -75,8 +75,7 @@ def main():
     architecture = architectures.judged_in(options.arch)
     others = [name for name in architectures.JUDGED if name != architecture.oci] if options.arch is None else []
     request = profile_of.ProfileRequest(filters.read_stack(options.filters), tables.read(options.table, architecture),
-                                        architecture,
-                                 options.runtime, others,
+                                        architecture, options.runtime, others,
                                         has_trap_data=options.runtime is None and options.kubernetes is None)
     try:
         result = profile_of.of_request(request, options.relation)

@@ -69,9 +69,9 @@ def main():
         value = engines.read(data)
         setting = replace(options.setting, keeps_comments=getattr(data, "has_comments", False))
         if options.runtime is not None:
-            found = runtimes.applied(value, options.runtime, setting, options.keep_first)
-            program.say(*found.describe())
-            profile = found.profile
+            given = runtimes.applied(value, options.runtime, setting, options.keep_first)
+            program.say(*given.describe())
+            profile = given.profile
         else:
             profile, _ = engines.resolve(value, setting, program.say, options.keep_first)
         if options.multiplexed:

@@ -12,17 +12,17 @@ import json
 import re
 from collections.abc import Callable, Iterator, Sequence
 
-from . import architectures, audit_records, output, profile_inputs, program, strace
+from . import architectures, audit_records, kubernetes, output, program, strace
 from .architectures import JUDGED, NATIVE
 from .calls import SKIPPED
 from .engines import Refused
 from .profiles import ALLOWING
-from .strace import LEFT, MOST_REMEMBERED
+from .strace import MOST_NOT_REMEMBERED, MOST_REMEMBERED
 from .tables import Table
 from .values import Pattern
 
 # How an object of Kubernetes begins as YAML.
-YAML = ("apiVersion:", "kind:")
+YAML_BEGINNINGS = ("apiVersion:", "kind:")
 NAME, HEXADECIMAL = "[a-z_][a-z0-9_]{0,63}", Pattern("0x[0-9a-f]{1,16}")
 # perf trace: `0.017 ( 0.002 ms): ls/1234 brk() = 0x1`; one that was interrupted ends with `...`, and goes on behind
 # `... [continued]: `.
@@ -44,7 +44,7 @@ NO_SYSCALLS = frozenset("switch procexit procinfo signaldeliver page_fault drop 
 SEVERAL = {"accept": "accept4", "dup": "dup2 or dup3", "epoll_create": "epoll_create1", "epoll_wait": "epoll_pwait",
            "eventfd": "eventfd2", "inotify_init": "inotify_init1", "pipe": "pipe2", "signalfd": "signalfd4"}
 # Names of sysdig's own for one syscall.
-OWN = {"pread": "pread64", "prlimit": "prlimit64", "pwrite": "pwrite64", "umount": "umount2"}
+SYSDIG_NAMES = {"pread": "pread64", "prlimit": "prlimit64", "pwrite": "pwrite64", "umount": "umount2"}
 # What the programs print beside syscalls.
 HEADINGS = Pattern(r"#| Summary of events:$| +syscall +calls +errors| +\(msec\)|[ -]*$|"
                    r" .{1,64} \([0-9]{1,10}\), [0-9]+ events|Attach(?:ing|ed) [0-9]+ probes?")
@@ -53,12 +53,13 @@ LOST = Pattern(audit_records.SUPPRESSED.pattern + r"|\ALOST ([0-9]{1,18}) events
 
 
 class Trace(strace.Log):
-    """What stands in logs: syscalls by their names and the values of those arguments that are asked for."""
+    """The syscalls of logs, by their names and the values of those arguments that are asked for."""
 
-    def __init__(self, looked_at: Callable[[str, str], tuple[int, ...]], tables: dict[str, Table], own: str = NATIVE):
-        super().__init__(looked_at, tables, own)
+    def __init__(self, looked_at: Callable[[str, str], tuple[int, ...]], tables: dict[str, Table],
+                 own_architecture: str = NATIVE):
+        super().__init__(looked_at, tables, own_architecture)
         # syscalls that a log says it lost
-        self.lost = strace.Seen(0)
+        self.lost = strace.Seen()
         # what is the matter with the first record that can't be read
         self.fault = ""
         # the syscalls of perf trace that were interrupted, by thread and name
@@ -83,12 +84,12 @@ class Trace(strace.Log):
 
     def _by_name(self, number: int, name: str, count: int = 1) -> None:
         """Counts a syscall by its name, in the log's own architecture."""
-        self.keep(number, self.own, name, {}, count)
+        self.keep(number, self.own_architecture, name, {}, count)
 
     def _by_number(self, number: int, nr: int, arguments: dict[int, int], count: int = 1,
                    architecture: int | None = None) -> None:
         """Counts a syscall by its number in a record, and that of its architecture, by default the log's own."""
-        of = architectures.of_record(JUDGED[self.own].number if architecture is None else architecture, nr)
+        of = architectures.of_record(JUDGED[self.own_architecture].number if architecture is None else architecture, nr)
         if nr == SKIPPED:
             self._count(self.unread, number, count)
         elif of is None or of not in self.tables:
@@ -96,8 +97,8 @@ class Trace(strace.Log):
         else:
             nr -= JUDGED[of].first
             names = self.tables[of].names_of(nr)
-            known = {at: (it & strace.GREATEST_ARGUMENTS[of],) for at, it in arguments.items()}
-            self.keep(number, of, names[0] if names else f"syscall_{nr:#x}", known, count)
+            values = {at: (value & strace.GREATEST_ARGUMENTS[of],) for at, value in arguments.items()}
+            self.keep(number, of, names[0] if names else f"syscall_{nr:#x}", values, count)
 
     def _is_record(self, number: int, line: str) -> bool:
         """An audit record, of whatever type."""
@@ -106,9 +107,9 @@ class Trace(strace.Log):
             return audit_records.OTHER.search(line) is not None
         try:
             if kind[0] in audit_records.SYSCALL_KINDS:
-                found = audit_records.syscall_in(line, kind[1], self.tables)
-                values = {at: int(it, 16) for at, it in enumerate(found.arguments) if HEXADECIMAL.fullmatch(it)}
-                self._by_number(number, found.number, values, architecture=found.architecture)
+                record = audit_records.syscall_in(line, kind[1], self.tables)
+                values = {at: int(text, 16) for at, text in enumerate(record.arguments) if HEXADECIMAL.fullmatch(text)}
+                self._by_number(number, record.number, values, architecture=record.architecture)
             else:
                 record = audit_records.record_in(line, kind[1], self.tables)
                 self._by_number(number, record.number, {}, architecture=record.architecture)
@@ -118,10 +119,10 @@ class Trace(strace.Log):
         return True
 
     def _is_perfs(self, number: int, line: str) -> bool:
-        found = PERF.match(line)
-        if not found:
+        match = PERF.match(line)
+        if not match:
             return False
-        thread, continued, begun = found.groups()
+        thread, continued, begun = match.groups()
         if continued:
             if (thread, continued) in self._interrupted:
                 del self._interrupted[thread, continued]
@@ -134,49 +135,49 @@ class Trace(strace.Log):
         return True
 
     def _is_counted(self, number: int, line: str) -> bool:
-        found = COUNTED.match(line)
-        if found:
-            self._by_name(number, found[1], int(found[2]))
-        return found is not None
+        match = COUNTED.match(line)
+        if match:
+            self._by_name(number, match[1], int(match[2]))
+        return match is not None
 
     def _is_map(self, number: int, line: str) -> bool:
-        found = MAP.match(line)
-        key = found[1].strip() if found else ""
+        match = MAP.match(line)
+        key = match[1].strip() if match else ""
         probe = PROBE.fullmatch(key)
-        if found and probe:
-            self._by_name(number, probe[1], int(found[2]))
-        elif found and re.fullmatch("[0-9]{1,10}", key) and int(key) <= SKIPPED:
-            self._by_number(number, int(key), {}, int(found[2]))
+        if match and probe:
+            self._by_name(number, probe[1], int(match[2]))
+        elif match and re.fullmatch("[0-9]{1,10}", key) and int(key) <= SKIPPED:
+            self._by_number(number, int(key), {}, int(match[2]))
         else:
             return False
         return True
 
     def _is_sys_enter(self, number: int, line: str) -> bool:
-        found = SYS_ENTER.search(line)
-        if found:
-            values = [int(it, 16) for it in found[2].split(", ")]
-            self._by_number(number, int(found[1]) % (1 << 32), dict(enumerate(values)))
-        return found is not None
+        match = SYS_ENTER.search(line)
+        if match:
+            values = [int(text, 16) for text in match[2].split(", ")]
+            self._by_number(number, int(match[1]) % (1 << 32), dict(enumerate(values)))
+        return match is not None
 
     def _is_sysdigs(self, number: int, line: str) -> bool:
-        found = SYSDIG.match(line)
-        if not found:
+        match = SYSDIG.match(line)
+        if not match:
             return False
-        name, generic = found[2], GENERIC.search(line, found.end())
-        if found[1] == "<" or name in NO_SYSCALLS:
+        name, generic = match[2], GENERIC.search(line, match.end())
+        if match[1] == "<" or name in NO_SYSCALLS:
             return True
         if name == "syscall" and generic is None:
             self._count(self.unread, number)
         elif name == "syscall":
             self._by_name(number, generic[1])
         else:
-            self._by_name(number, f"{name} or {SEVERAL[name]}" if name in SEVERAL else OWN.get(name, name))
+            self._by_name(number, f"{name} or {SEVERAL[name]}" if name in SEVERAL else SYSDIG_NAMES.get(name, name))
         return True
 
     def add_profile(self, text: str) -> None:
         """Takes a profile that was made of a log: each syscall that it allows, with arguments that aren't known."""
         try:
-            spec = profile_inputs.spec_of(text.encode("utf-8", "surrogateescape"))
+            spec = kubernetes.spec_of(text.encode("utf-8", "surrogateescape"))
             entries = json.loads(text if spec is None else spec)["syscalls"]
             names = [name for entry in entries if entry["action"] in ALLOWING for name in entry["names"]]
         except Refused as why:
@@ -189,26 +190,26 @@ class Trace(strace.Log):
                 self._by_name(1, name)
 
 
-def _read(name: str, lines: Iterator[str], found: Trace) -> None:
+def _read(name: str, lines: Iterator[str], trace: Trace) -> None:
     """Takes the lines of a log, or the text of a profile, which is an object or Kubernetes' YAML."""
-    found.begin(name)
+    trace.begin(name)
     numbered = enumerate(lines, 1)
-    first = next(((number, line) for number, line in numbered if line.strip()), (1, ""))
-    if first[1].lstrip()[:1] == "{" or first[1].startswith(YAML) or first[1].rstrip() == "---":
-        found.add_profile("\n".join([first[1], *(line for _, line in numbered)]))
+    number, line = next(((number, line) for number, line in numbered if line.strip()), (1, ""))
+    if line.lstrip()[:1] == "{" or line.startswith(YAML_BEGINNINGS) or line.rstrip() == "---":
+        trace.add_profile("\n".join([line, *(line for _, line in numbered)]))
         return
-    for number, line in itertools.chain([first], numbered):
-        found.add(number, line)
-        if found.left.count > LEFT:
-            raise program.ToolError(f"the log has more than {MOST_REMEMBERED + LEFT} syscalls with other names or "
-                                    "arguments: log fewer syscalls by strace -e trace=..")
-    found.end()
+    for number, line in itertools.chain([(number, line)], numbered):
+        trace.add(number, line)
+        if trace.not_remembered.count > MOST_NOT_REMEMBERED:
+            raise program.ToolError(f"the log has more than {MOST_REMEMBERED + MOST_NOT_REMEMBERED} syscalls with "
+                                    "other names or arguments: log fewer syscalls by strace -e trace=..")
+    trace.end()
 
 
 def read(names: Sequence[str], looked_at: Callable[[str, str], tuple[int, ...]], tables: dict[str, Table],
-         own: str) -> Trace:
+         architecture: str) -> Trace:
     """The contents of some logs (`-` is standard input), with the requested arguments of each syscall."""
-    found = Trace(looked_at, tables, own)
+    trace = Trace(looked_at, tables, architecture)
     for name in names:
-        _read(name, strace.lines(name), found)
-    return found
+        _read(name, strace.lines(name), trace)
+    return trace

@@ -11,8 +11,8 @@ from . import (client, compare_output, engines, filters, output, profiles, progr
 from .compare import Comparison
 from .filters import Filter
 from .processes import Inspection, Kernel, Stack, threads_text
+from .profile_inputs import ProfileInput
 from .ptrace import PROC_PID_INIT_INO
-from .runtimes import AppliedProfile
 from .stack_comparison import StackComparison
 from .tables import Table
 from .values import Any, Pattern, dataclass, field, replace
@@ -76,7 +76,7 @@ class Request:
     # None for all architectures that the profile names
     scope: str | None = None
     relation: str = verdicts.SAME
-    applied: AppliedProfile | None = None
+    applied: ProfileInput | None = None
     # the OCI names of architectures of which another profile speaks
     elsewhere: tuple[str, ...] = ()
     # those of which nothing is known

@@ -229,7 +229,7 @@ class Drawn(Case):
             entries += [{"includes": {name: value}} for name in profiles.FILTER for value in ODD]
             given = [{"defaultAction": ERRNO, "syscalls": [{"names": ["a"], "action": ALLOW, **entry}]}
                      for entry in entries]
-            given += [{"defaultAction": ERRNO, **{name: value}} for name in profiles.SECCOMP for value in ODD
+            given += [{"defaultAction": ERRNO, **{name: value}} for name in profiles.SECCOMP_MEMBERS for value in ODD
                       if name != "defaultAction"]
             given += [{"defaultAction": ERRNO, "defaultErrno": value} for value in ERRNOS]
             self.alike(engine, given)

@@ -4,7 +4,7 @@ import unittest
 
 from support.common import Case, filter_of
 
-from scftools import engines, kubernetes, profile_inputs
+from scftools import engines, kubernetes
 from scftools.words import is_object_name
 from test_profile_inputs import HAS_YAML, OBJECT, SPEC, YAML
 
@@ -18,7 +18,7 @@ class Objects(unittest.TestCase):
                                                               SPEC["syscalls"][1]]}
         text = kubernetes.printed(profile, "profile1")
         self.assertEqual(json.loads(text), {**OBJECT, "metadata": {"name": "profile1"}})
-        self.assertEqual(json.loads(profile_inputs.spec_of(text.encode())), SPEC)
+        self.assertEqual(json.loads(kubernetes.spec_of(text.encode())), SPEC)
 
     def test_what_no_object_states(self):
         call = READS["syscalls"][0]

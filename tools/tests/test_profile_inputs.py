@@ -9,7 +9,7 @@ from support.common import TOP, Case, filter_of, profile_of, tool
 
 sys.path.append(os.path.join(TOP, "tools"))
 
-from scftools import engines, profile_inputs  # noqa: E402
+from scftools import engines, kubernetes  # noqa: E402
 
 ALLOW, ERRNO = "SCMP_ACT_ALLOW", "SCMP_ACT_ERRNO"
 # As the documentation of the Security Profiles Operator has them.
@@ -38,7 +38,7 @@ SPEC = {"defaultAction": ERRNO, "architectures": ["SCMP_ARCH_X86_64"], "syscalls
     {"action": ALLOW, "names": ["read", "write", "exit_group"]},
     {"action": ALLOW, "names": ["socket"], "args": [{"index": 0, "value": 40, "op": "SCMP_CMP_NE"}]}]}
 OBJECT = {"apiVersion": "security-profiles-operator.x-k8s.io/v1beta1", "kind": "SeccompProfile", "spec": SPEC}
-HAS_YAML = any(os.path.exists(os.path.join(folder, "yaml")) for folder in profile_inputs.FOLDERS)
+HAS_YAML = any(os.path.exists(os.path.join(folder, "yaml")) for folder in kubernetes.YAML_FOLDERS)
 
 
 class Unread(Case):
@@ -125,15 +125,15 @@ class Kubernetes(Case):
     @unittest.skipUnless(HAS_YAML, "there is no PyYAML here")
     def test_yaml(self):
         self.is_plain(self.file("object.yaml", YAML))
-        self.assertEqual(json.loads(profile_inputs.spec_of(YAML.encode())), SPEC)
+        self.assertEqual(json.loads(kubernetes.spec_of(YAML.encode())), SPEC)
 
     def test_without_pyyaml(self):
         os.chmod(self.folder, 0o777)
         self.file("yaml.py", "")
-        folders, profile_inputs.FOLDERS = profile_inputs.FOLDERS, ("/nonexistent", self.folder)
-        self.addCleanup(setattr, profile_inputs, "FOLDERS", folders)
+        folders, kubernetes.YAML_FOLDERS = kubernetes.YAML_FOLDERS, ("/nonexistent", self.folder)
+        self.addCleanup(setattr, kubernetes, "YAML_FOLDERS", folders)
         with self.assertRaises(engines.Refused) as caught:
-            profile_inputs.spec_of(YAML.encode())
+            kubernetes.spec_of(YAML.encode())
         self.assertIn("PyYAML isn't installed (Debian's python3-yaml)", str(caught.exception))
 
     @unittest.skipUnless(HAS_YAML, "there is no PyYAML here")
@@ -162,7 +162,7 @@ class Kubernetes(Case):
         """A comment of a profile may be anything."""
         for comment in ("SeccompProfile", '"apiVersion" "kind"'):
             text = json.dumps({"defaultAction": ERRNO, "comment": comment, "syscalls": []})
-            self.assertIsNone(profile_inputs.spec_of(text.encode()))
+            self.assertIsNone(kubernetes.spec_of(text.encode()))
         for kind, says in (("Pod", "of the kind Pod, not SeccompProfile"), ("List", "of the kind List")):
             path = self.file("o.json", json.dumps({**OBJECT, "kind": kind}))
             self.assertIn(says, self.run_tool("ask", path)[2])
