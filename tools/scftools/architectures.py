@@ -23,7 +23,6 @@ NUMBERS = {f"{PREFIX}{name}": number for name, number in {
     "S390": 0x00000016, "S390X": 0x80000016, "SHEB": 0x0000002A, "SH": 0x4000002A}.items()}
 OTHER_NAMES = {"I386": "X86", "AMD64": "X86_64", "ARM64": "AARCH64"}
 
-
 # In these numbers: the machine is little-endian, and has 64 bits.
 LITTLE_ENDIAN, WIDE = 0x40000000, 0x80000000
 
@@ -170,7 +169,7 @@ def _refuse_big_endian(name: str | None) -> None:
     """Raises ToolError if an architecture is big-endian."""
     if name in NUMBERS and not NUMBERS[name] & LITTLE_ENDIAN:
         raise program.ToolError(f"{name} is big-endian: its filters and records have another byte order, which scf "
-                              "doesn't read")
+                                "doesn't read")
 
 
 def judged_in(text: str | None) -> Architecture:
@@ -198,8 +197,8 @@ def number_in(text: str) -> str:
     meant = next((name for name, number in NUMBERS.items() if text == f"{number:08x}"), None)
     if meant is not None:
         raise program.ToolError(f"--arch {text} is ambiguous: write 0x{text} for {meant}, as the audit log has it, or "
-                              f"{int(text):#x} for the decimal number")
+                                f"{int(text):#x} for the decimal number")
     if re.match("[A-Za-z_]", text):
         raise program.ToolError(f"unknown architecture '{text}': write a name such as i386, x32 or SCMP_ARCH_AARCH64, "
-                              f"or a number")
+                                "or a number")
     return text

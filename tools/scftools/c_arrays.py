@@ -28,7 +28,7 @@ OPERATIONS = {"BitOr": operator.or_, "BitAnd": operator.and_, "LShift": SHIFTS[0
 X32_BIT = {"__X32_SYSCALL_BIT": 0x40000000, "X32_SYSCALL_BIT": 0x40000000}
 # The most numbers, operators and brackets of an expression; and the most instructions that are read, one more than a
 # filter may have (linux/bpf_common.h: BPF_MAXINSNS).
-MOST_WORDS, MOST_ROWS = 99, 4097
+LONGEST_EXPRESSION, MOST_ROWS = 99, 4097
 
 
 class NotAnArray(Exception):
@@ -76,8 +76,8 @@ def value_of(text: str) -> int:
             raise NotAnArray(f"{parts[0]} can't be shifted by {parts[1]}")
         return operation(*parts)
 
-    words = list(itertools.islice(_words(text), MOST_WORDS + 1))
-    if len(words) > MOST_WORDS:
+    words = list(itertools.islice(_words(text), LONGEST_EXPRESSION + 1))
+    if len(words) > LONGEST_EXPRESSION:
         raise NotAnArray("an expression is too long, or nested too deep")
     try:
         return value(ast.parse(" ".join(words), mode="eval").body) % (1 << 64)

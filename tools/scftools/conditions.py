@@ -38,9 +38,8 @@ def _is_null_test(condition: Condition, greatest: int) -> bool:
     """Whether a condition only tests whether an address, up to the greatest, is 0."""
     if condition.op == "SCMP_CMP_MASKED_EQ":
         return condition.value & greatest == greatest and condition.two == 0
-    return (condition.op, condition.value) in (("SCMP_CMP_EQ", 0), ("SCMP_CMP_NE", 0), ("SCMP_CMP_GT", 0),
-                                               ("SCMP_CMP_LE", 0),
-                                   ("SCMP_CMP_GE", 1), ("SCMP_CMP_LT", 1))
+    return (condition.op.removeprefix("SCMP_CMP_"), condition.value) in (
+        ("EQ", 0), ("NE", 0), ("GT", 0), ("LE", 0), ("GE", 1), ("LT", 1))
 
 
 def _of_value(entry: Entry, place: int, condition: Condition, greatest: int) -> Iterator[Finding]:
@@ -58,45 +57,39 @@ def _of_value(entry: Entry, place: int, condition: Condition, greatest: int) -> 
 Named = Mapping[Owners, Sequence[str]]
 
 
-@dataclass(frozen=True)
-class Argument:
+def _kinds_of(entry: Entry, index: int, judged: Tables) -> tuple[Named, ...]:
     """Which of an entry's syscalls lack an argument, of which it is an address, and of which it has 64 bits and the
     kernel reads 32."""
-
-    lacking: Named
-    addresses: Named
-    halves: Named
-
-    @classmethod
-    def of(cls, entry: Entry, index: int, judged: Tables) -> Argument:
-        by_owners: tuple[dict[Owners, list[str]], ...] = ({}, {}, {})
-        for name in entry.names:
-            having = list(judged.numbers_of(name))
-            kinds = {oci: constants.kinds_on(oci)[name] for oci in having if name in constants.kinds_on(oci)}
-            whole = [oci for oci in having if JUDGED[oci].greatest > LOW_HALF]
-            for its, among, letter in zip(by_owners, (having, having, whole), ("", constants.ADDRESS, constants.HALF)):
-                on = [oci for oci in among if oci in kinds and kinds[oci][index:index + 1] == letter]
-                if on:
-                    its.setdefault(Owners.of(on, among, judged), []).append(name)
-        return cls(*by_owners)
+    named: tuple[dict[Owners, list[str]], ...] = ({}, {}, {})
+    for name in entry.names:
+        having = list(judged.numbers_of(name))
+        letters = {oci: constants.kinds_on(oci)[name][index:index + 1] for oci in having
+                   if name in constants.kinds_on(oci)}
+        whole = [oci for oci in having if JUDGED[oci].greatest > LOW_HALF]
+        for names, among, letter in zip(named, (having, having, whole), ("", constants.ADDRESS, constants.HALF)):
+            on = [oci for oci in among if letters.get(oci) == letter]
+            if on:
+                names.setdefault(Owners.of(on, among, judged), []).append(name)
+    return named
 
 
-def _of_argument(entry: Entry, place: int, condition: Condition, argument: Argument,
+def _of_argument(entry: Entry, place: int, condition: Condition, kinds: tuple[Named, ...],
                  greatest: int) -> Iterator[Finding]:
     """Findings about a condition and the argument that it tests."""
     where, more = f"entry {entry.place}, condition {place}", {"entry": entry.place, "condition": place}
-    for on, names in argument.lacking.items():
-        yield Finding("no-such-argument", f"{where}: {listed(names, 'and')} {'has' if len(names) == 1 else 'have'} "
-                      f"no argument {condition.index} (the first is 0){on.where}, and the kernel doesn't read its "
-                      "register", {**more, "names": names, **on.as_json()})
-    for on, names in argument.addresses.items() if not _is_null_test(condition, greatest) else ():
-        yield Finding("pointer-argument",
-                      f"{where}: argument {condition.index} of {listed(names, 'and')}{on.where} is an "
-                      "address: a filter can't see what it points to", {**more, "names": names, **on.as_json()})
-    for on, names in argument.halves.items() if condition.op == "SCMP_CMP_EQ" and condition.value > LOW_HALF else ():
-        yield Finding("high-half", f"{where}: the kernel reads 32 bits of argument {condition.index} of "
-                      f"{listed(names, 'and')}{on.where}, and {condition.value:#x} has more: a program that passes "
-                      f"{condition.value & LOW_HALF:#x} doesn't meet it", {**more, "names": names, **on.as_json()})
+    (lacking, addresses, halves), index, value = kinds, condition.index, condition.value
+    sentences = [("no-such-argument", on, names, f"{where}: {listed(names, 'and')} "
+                  f"{'has' if len(names) == 1 else 'have'} no argument {index} (the first is 0){on.where}, and the "
+                  "kernel doesn't read its register") for on, names in lacking.items()]
+    if not _is_null_test(condition, greatest):
+        sentences += [("pointer-argument", on, names, f"{where}: argument {index} of {listed(names, 'and')}{on.where} "
+                       "is an address: a filter can't see what it points to") for on, names in addresses.items()]
+    if condition.op == "SCMP_CMP_EQ" and value > LOW_HALF:
+        sentences += [("high-half", on, names, f"{where}: the kernel reads 32 bits of argument {index} of "
+                       f"{listed(names, 'and')}{on.where}, and {value:#x} has more: a program that passes "
+                       f"{value & LOW_HALF:#x} doesn't meet it") for on, names in halves.items()]
+    for kind, on, names, text in sentences:
+        yield Finding(kind, text, {**more, "names": names, **on.as_json()})
 
 
 def of_conditions(entries: Sequence[Entry], judged: Tables) -> Iterator[Finding]:
@@ -105,10 +98,10 @@ def of_conditions(entries: Sequence[Entry], judged: Tables) -> Iterator[Finding]
         on = {oci for name in entry.names for oci in judged.numbers_of(name)} or judged.of
         greatest = max(JUDGED[oci].greatest for oci in on)
         tested = {condition.index for condition in entry.conditions}
-        kinds = {index: Argument.of(entry, index, judged) for index in tested}
-        for place, one in enumerate(entry.conditions):
-            yield from _of_value(entry, place, one, greatest)
-            yield from _of_argument(entry, place, one, kinds[one.index], greatest)
+        kinds = {index: _kinds_of(entry, index, judged) for index in tested}
+        for place, condition in enumerate(entry.conditions):
+            yield from _of_value(entry, place, condition, greatest)
+            yield from _of_argument(entry, place, condition, kinds[condition.index], greatest)
 
 
 def of_unions(judged: Tables, entries: Sequence[Entry]) -> Iterator[Finding]:
@@ -203,9 +196,9 @@ def of_denials(judged: Tables, watches: Mapping[str, Watch], entries: Sequence[E
     """The evaded denials on architectures whose arguments have an upper half."""
     evaded: dict[Evasion, list[str]] = {}
     whole = [architecture for architecture in judged.of if JUDGED[architecture].greatest > LOW_HALF]
-    for one in whole:
-        for evasion in _evasions(watches[one], entries):
-            evaded.setdefault(evasion, []).append(one)
+    for oci in whole:
+        for evasion in _evasions(watches[oci], entries):
+            evaded.setdefault(evasion, []).append(oci)
     for evasion, on in evaded.items():
         numbers = judged.numbers_of(evasion.name)
         owners = Owners.of(on, [architecture for architecture in whole if architecture in numbers], judged)

@@ -90,7 +90,8 @@ def group_numbers(group: str) -> list[int]:
         filters = [_contents(path, MOST_FILTER_BYTES) for path in paths if os.path.exists(path)]
     if done.returncode:
         raise ListError(f"'{group}' isn't a group of the installed firejail")
-    instructions = [each for data in filters for each in [*struct.iter_unpack("<HBBI", data)][HEAD_INSTRUCTIONS:]]
+    instructions = [instruction for data in filters
+                    for instruction in [*struct.iter_unpack("<HBBI", data)][HEAD_INSTRUCTIONS:]]
     return list(dict.fromkeys(k for code, _, _, k in instructions if code == COMPARE_NUMBER))
 
 

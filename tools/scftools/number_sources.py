@@ -19,7 +19,6 @@ FIRST_LINE = Pattern(r"^[ \t\r]*([^ \t\r\n#][^\n]*)", re.M)
 # A count, numbers that mips reserves, and names in capital letters, such as SYSCALL_BASE, are no syscalls.
 NO_SYSCALL = Pattern(r"syscalls|(?:reserved|unused)[0-9]+|[^a-z]*")
 
-
 # The numbers that are asked of libseccomp; x86-64's end far below.
 MOST_NUMBERS = 4096
 

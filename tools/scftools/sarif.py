@@ -30,26 +30,25 @@ class Places:
     def __init__(self, data: bytes, name: str, findings: list[Finding]):
         self.uri = "stdin" if name == "-" else urllib.parse.quote(os.path.relpath(name))
         self._text = data.decode("utf-8", "replace")
-        paths = {(*within, *_path_of(it)) for it in findings for within in WITHIN}
+        paths = {(*within, *_path_of(finding)) for finding in findings for within in WITHIN}
         self._indexes = json_places.indexes_of(self._text, paths)
 
     def of(self, finding: Finding) -> dict[str, Any]:
-        found: dict[str, Any] = {"artifactLocation": {"uri": self.uri}}
-        for within in reversed(WITHIN):
-            index = self._indexes.get((*within, *_path_of(finding)))
-            if index is not None:
-                line, column = json_places.line_and_column(self._text, index)
-                return {**found, "region": {"startLine": line, "startColumn": column}}
-        return found
+        location: dict[str, Any] = {"artifactLocation": {"uri": self.uri}}
+        indexes = (self._indexes.get((*within, *_path_of(finding))) for within in reversed(WITHIN))
+        index = next((index for index in indexes if index is not None), None)
+        if index is not None:
+            line, column = json_places.line_and_column(self._text, index)
+            location["region"] = {"startLine": line, "startColumn": column}
+        return location
 
 
 def _results(report: Report, grades: Mapping[str, str], places: Places) -> Iterator[dict[str, Any]]:
-    for finding in report.findings.all():
-        yield {"ruleId": finding.kind, "level": grades[finding.kind], "message": {"text": finding.text},
-               "locations": [{"physicalLocation": places.of(finding)}]}
-    for finding in report.undecided.all():
-        yield {"ruleId": finding.kind, "kind": "open", "level": "none", "message": {"text": finding.text},
-               "locations": [{"physicalLocation": places.of(finding)}]}
+    for findings, is_decided in ((report.findings, True), (report.undecided, False)):
+        for finding in findings.all():
+            level = {"level": grades[finding.kind]} if is_decided else {"kind": "open", "level": "none"}
+            yield {"ruleId": finding.kind, **level, "message": {"text": finding.text},
+                   "locations": [{"physicalLocation": places.of(finding)}]}
 
 
 def as_sarif(report: Report, grades: Mapping[str, str], rules: Mapping[str, str], data: bytes, name: str) -> dict:

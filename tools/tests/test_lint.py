@@ -62,7 +62,7 @@ class Linted(Case):
         ended, out, err = self.run_lint(given, "--json", *words)
         self.assertEqual((ended, err), (status, ""))
         findings = [it for it in json.loads(out)["findings"] if it["kind"] in kinds]
-        self.assertEqual([it.pop("grade") for it in findings], [lint.KINDS[it["kind"]] for it in findings])
+        self.assertEqual([it.pop("grade") for it in findings], [lint.FINDING_KINDS[it["kind"]] for it in findings])
         return findings
 
     def effects(self, *entries, default=ERRNO, **members):
@@ -1383,7 +1383,7 @@ class Runtimes(Linted):
         given = {"ociVersion": "1.0.2", "linux": {"seccomp": profile(
             entry("reed", arg=1), entry("mount", comment="lint: ignore dangerous-call"), entry("ptrace"))}}
         for runtime in ("runc", "crun"):
-            findings, _ = self.of_runtime(given, runtime, kinds=tuple(lint.KINDS))
+            findings, _ = self.of_runtime(given, runtime, kinds=tuple(lint.FINDING_KINDS))
             self.assertEqual([(it["kind"], it["entry"]) for it in findings],
                              [("unread-member", 0), ("unknown-name", 0), ("dangerous-call", 2)])
 
@@ -1487,7 +1487,7 @@ class Gate(Linted):
             run, = log["runs"]
             self.assertEqual((set(log), log["version"]), ({"$schema", "version", "runs"}, "2.1.0"))
             rules = {it["id"]: it for it in run["tool"]["driver"]["rules"]}
-            self.assertEqual(set(rules), set(lint.KINDS))
+            self.assertEqual(set(rules), set(lint.FINDING_KINDS))
             self.assertTrue(all(it["shortDescription"]["text"] for it in rules.values()))
             lines = data.decode().split("\n")
             places = {}
