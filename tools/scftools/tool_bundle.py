@@ -25,20 +25,12 @@ import sys
 
 from . import bundles, inputs, output, program
 
-USAGE = """usage: {} KIND FILE [KIND FILE ..]
 
-Prints several files as one bundle: each FILE, a file or a pipe, after a header `KIND COUNT`.
-
-KIND is one of:
-  filter, profile, table     the table is x86-64's
-  table-x86, table-aarch64 .. the table of another architecture, by its OCI name
-  beside, beside-profile     a filter or a profile of the other side of `scf compare`
-  stub-table, stub-table-x86 ..
-                             the first number that runc answers with ENOSYS, of that table's architecture
-
-scf compares a bundle over all records, unless --architectures is given; `scf compare` compares files on each
-architecture that the profile names. So the same filter and profile can be `same` by files and `differs` by a bundle.
-"""
+def help_text():
+    """The tool's docstring, its usage first, under the name by which the tool was called."""
+    summary, usage, *paragraphs = __doc__.split("\n\n")
+    usage = usage.strip().replace("scf bundle", output.escaped(program.name()), 1)
+    return "\n\n".join([f"usage: {usage}", summary, *paragraphs])
 
 
 def parts_of(words):
@@ -64,7 +56,7 @@ def refuse(text):
 def main():
     words = sys.argv[1:]
     if words[:1] in (["--help"], ["-h"]):
-        output.put(USAGE.format(output.escaped(program.name())))
+        output.put(help_text())
         return program.SUCCESS
     if words == ["--version"]:
         output.put_line(program.version())
