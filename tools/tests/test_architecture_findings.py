@@ -1,20 +1,14 @@
 """lint's wide and unlisted: values of more than 32 bits, and names that no listed architecture has."""
 import json
-import os
 import random
-import sys
-import unittest
 
-from support.common import I386, TOP, Case
+from support.common import I386, Case
 from support.oci import ALLOW, ERRNO, NATIVE, X32, X86, condition, entry, profile
 from support.seccomp_library import NEEDED, Library, answer_of
 from support.stand_in import StandIn, unpacked, words_of
-
-sys.path.append(os.path.join(TOP, "tools"))
-
-import kernel_profiles  # noqa: E402
-from scftools import architecture_findings, entries, tables  # noqa: E402
-from scftools.calls import Call  # noqa: E402
+import kernel_profiles
+from scftools import architecture_findings, entries, tables
+from scftools.calls import Call
 
 AARCH64, ARM, S390 = map("SCMP_ARCH_{}".format, ("AARCH64", "ARM", "S390"))
 OPERATORS = ("NE", "LT", "LE", "EQ", "GE", "GT", "MASKED_EQ")
@@ -111,7 +105,3 @@ class Unlisted(Linted):
         given = profile(entry("set_tls", "no_such_call"))
         self.assertEqual([item["names"] for item in self.found("unlisted", given)], [["set_tls"]])
         self.assertEqual([item["name"] for item in self.found("unknown-name", given)], ["no_such_call"])
-
-
-if __name__ == "__main__":
-    unittest.main()

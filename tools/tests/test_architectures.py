@@ -2,14 +2,10 @@
 import json
 import os
 import re
-import sys
 import unittest
 
 from support.common import ALLOW, EPERM, I386, TOP, X32, X86_64, Case, jeq, load, ret
-
-sys.path.append(os.path.join(TOP, "tools"))
-
-from scftools import architectures, program  # noqa: E402
+from scftools import architectures, program
 
 AUDIT, MACHINES = "/usr/include/linux/audit.h", "/usr/include/linux/elf-em.h"
 # Each answers ERRNO 1 to one architecture, and allows all else.

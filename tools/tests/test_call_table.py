@@ -3,14 +3,10 @@ import ctypes
 import ctypes.util
 import os
 import re
-import sys
 import unittest
 
 from support.common import I386, TABLE, TOP, Case, limited, part, tool
-
-sys.path.append(os.path.join(TOP, "tools"))
-
-from scftools import architectures, tables  # noqa: E402
+from scftools import architectures, tables
 
 HEADER = """#ifndef _ASM_UNISTD_64_H
 /* #define __NR_commented 9 */

@@ -4,7 +4,6 @@ import os
 import signal
 import sys
 import time
-import unittest
 from unittest import mock
 
 from support.common import TOP, Case, comes
@@ -127,7 +126,3 @@ class Ignored(Case):
         for words in (("verify-process", "--version"), ("check", self.file("f", bytes.fromhex("06000000 0000ff7f")))):
             status, out, err = self.run_tool(*words, preexec_fn=lambda: signal.signal(signal.SIGCHLD, signal.SIG_IGN))
             self.assertEqual((status, err), (0, ""), out)
-
-
-if __name__ == "__main__":
-    unittest.main()

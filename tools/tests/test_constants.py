@@ -12,10 +12,7 @@ import sys
 import unittest
 
 from support.common import ALLOW, EPERM, I386, TABLE, TOP, X86_64, Case, for_developers, insn, jeq, load, ret
-
-sys.path.append(os.path.join(TOP, "tools"))
-
-from scftools import constants, strace  # noqa: E402
+from scftools import constants, strace
 
 X32, ALL_ONES = 0x40000000, (1 << 64) - 1
 
@@ -306,7 +303,3 @@ class OtherArchitectures(Case):
         self.assertIn("// socketcall of i386: to 4, else 5", self.run_tool("list", self.file("f.bpf", data))[1])
         self.assertIn("// preadv: to", self.run_tool("list", self.file("n.bpf", data.replace(
             load(4) + jeq(I386, 0, 3), load(4) + jeq(X86_64, 0, 3)).replace(jeq(102, 0, 1), jeq(295, 0, 1))))[1])
-
-
-if __name__ == "__main__":
-    unittest.main()

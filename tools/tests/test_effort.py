@@ -1,14 +1,9 @@
 """The limits of comparisons: a tool ends soon, however long its filters may be explored, and says what it left out."""
 import json
-import os
-import sys
 
-from support.common import (ALLOW, EPERM, GATE, TABLE, TOP, Case, filter_of, insn, jeq, jge, limited, load, part,
-                            profile_of, ret, taken)
-
-sys.path.append(os.path.join(TOP, "tools"))
-
-from scftools import client, program  # noqa: E402
+from support.common import (ALLOW, EPERM, GATE, TABLE, Case, filter_of, insn, jeq, jge, limited, load, part, profile_of,
+                            ret, taken)
+from scftools import client, program
 
 # Seconds of a processor, and bytes of address space, that a tool and all that it runs may take.
 SECONDS, MEMORY = 30, 500 << 20

@@ -2,17 +2,12 @@
 import json
 import os
 import random
-import sys
-import unittest
 
 from support import engine_code
-from support.common import TOP, Case
+from support.common import Case
+from support.oci import ALLOW, ERRNO
+from scftools import engines, profiles
 
-sys.path.append(os.path.join(TOP, "tools"))
-
-from scftools import engines, profiles  # noqa: E402  pylint: disable=wrong-import-position
-
-ALLOW, ERRNO = "SCMP_ACT_ALLOW", "SCMP_ACT_ERRNO"
 # Each member of a profile by a text in which a mark stands for its name, and what is found by the path of the right
 # member in what an engine makes of it.
 MEMBERS = {
@@ -233,7 +228,3 @@ class Drawn(Case):
                       if name != "defaultAction"]
             given += [{"defaultAction": ERRNO, "defaultErrno": value} for value in ERRNOS]
             self.alike(engine, given)
-
-
-if __name__ == "__main__":
-    unittest.main()

@@ -1,14 +1,11 @@
 """tools/decide --expect: rows of syscalls with the answers that are expected, against a second machine."""
 import json
 import random
-import sys
-import unittest
 
 from support.common import ALLOW, EPERM, I386, KILL_PROCESS, X86_64, filter_of, insn, jeq, load, ret
 from support.stand_in import StandIn
 from test_starts import Counting
-
-from scftools.calls import Call  # noqa: E402
+from scftools.calls import Call
 
 # socket of AF_NETLINK is denied, another architecture's syscalls kill.
 DATA = (load(4) + jeq(X86_64, 1, 0) + ret(KILL_PROCESS) + load(0) + jeq(41, 0, 2) + load(16) + jeq(16, 1, 0)
@@ -83,7 +80,3 @@ class Expectations(Counting):
         self.assertEqual((status, lines[0], err), (1, "fault filter Jump at 0", ""))
         status, lines, err = self.decided("read = ALLOW", "--json", data=jeq(0, 9, 0) + ret(ALLOW))
         self.assertEqual((status, json.loads(lines[0])["calls"][0]["fault"]["kind"]), (1, "Jump"))
-
-
-if __name__ == "__main__":
-    sys.exit(unittest.main())

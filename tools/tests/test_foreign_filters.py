@@ -1,17 +1,13 @@
 """Filters that libseccomp makes for other machines' architectures: compared with their profile, and asked beside what
 scf compiles and what the profile says."""
 import json
-import os
 import subprocess
-import sys
 
 from support import seccomp_library
-from support.common import CORE, TOP, Case, part
+from support.common import CORE, Case, part
+from support.oci import condition
 from support.seccomp_library import NEEDED, Library
-
-sys.path.append(os.path.join(TOP, "tools"))
-
-from scftools import architectures  # noqa: E402
+from scftools import architectures
 
 NATIVE = "SCMP_ARCH_X86_64"
 # (libseccomp 2.5.4 knows no loongarch64)
@@ -21,10 +17,6 @@ HIGH, CLONE_NEWUSER = 1 << 32, 0x10000000
 CALLS = ("read", "socket", "personality 8", "personality 9", f"personality {HIGH + 8}", "clone 17",
          f"clone {CLONE_NEWUSER}", f"clone {HIGH}", "ioctl 0 21522", "ioctl 0 21521", f"ioctl 0 {HIGH + 21522}",
          "lseek 0 0 7", "lseek 0 0 8", f"lseek 0 0 {HIGH}", "exit_group", "prctl 1", "4095", "0xffffffff")
-
-
-def condition(index, op, value, two=0):
-    return {"index": index, "op": f"SCMP_CMP_{op}", "value": value, "valueTwo": two}
 
 
 def profile_for(name):

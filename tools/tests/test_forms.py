@@ -3,14 +3,10 @@ import os
 import shutil
 import struct
 import subprocess
-import sys
 import unittest
 
-from support.common import ALLOW, CORE, EPERM, TOP, Case, filter_of, insn, jeq, load, part, profile_of, ret
-
-sys.path.append(os.path.join(TOP, "tools"))
-
-from scftools import c_arrays, forms, program  # noqa: E402
+from support.common import ALLOW, CORE, EPERM, Case, filter_of, insn, jeq, load, part, profile_of, ret
+from scftools import c_arrays, forms, program
 
 FILTER = filter_of([0, 1, 231])
 ROWS = list(struct.iter_unpack("<HBBI", FILTER))
@@ -240,7 +236,3 @@ class Expressions(unittest.TestCase):
             self.assertEqual(c_arrays.value_of(text), value, text)
         self.assertEqual(EPERM, c_arrays.value_of("SECCOMP_RET_ERRNO | EPERM"))
         self.assertEqual(jeq(1, 0, 0), insn(c_arrays.value_of("BPF_JMP | BPF_JEQ"), 1))
-
-
-if __name__ == "__main__":
-    unittest.main()

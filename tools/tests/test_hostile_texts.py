@@ -8,7 +8,6 @@ import os
 import struct
 import subprocess
 import sys
-import unittest
 
 from support.common import ALLOW, CORE, PATIENCE, TOP, Case, limited, profile_of, ret, tool
 
@@ -266,7 +265,3 @@ class Texts(Case):
     def test_cores(self):
         for what, data in CORES.items():
             self.ends(what, tool("why"), "--core", self.file("core", data))
-
-
-if __name__ == "__main__":
-    unittest.main()

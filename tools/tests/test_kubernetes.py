@@ -3,7 +3,6 @@ import json
 import unittest
 
 from support.common import Case, filter_of
-
 from scftools import engines, kubernetes
 from scftools.words import is_object_name
 from test_profile_inputs import HAS_YAML, OBJECT, SPEC, YAML

@@ -1,6 +1,5 @@
 """scftools/launch.py: a tool that fails by an error of its own ends with no verdict's status, and says so in a line."""
 import os
-import unittest
 
 from support.common import TOP, Case
 
@@ -42,7 +41,3 @@ class Failing(Case):
     def test_what_was_printed_stays(self):
         out, _ = self.fails("check", "from . import output\ndef main():\n    output.put_line('first')\n    1 / 0\n")
         self.assertEqual(out, "first\n")
-
-
-if __name__ == "__main__":
-    unittest.main()

@@ -738,7 +738,3 @@ class Alike(Case):
             compared += words[0] in ("compare", "answers") and not done.stdout.startswith(b"fault ")
         self.assertGreater(refused, self.COUNT // 8)
         self.assertGreater(compared, self.COUNT // 8)
-
-
-if __name__ == "__main__":
-    unittest.main()

@@ -12,12 +12,9 @@ from support.common import TABLE, TOP, Case, comes, part, profile_of, taken
 from support.stand_in import StandIn
 from test_output import HOSTILE
 from test_runtimes import MOBY, PODMAN
-
-sys.path.append(os.path.join(TOP, "tools"))
-
-import kernel_profiles  # noqa: E402
-from scftools import client, constants, lint, oddities, tables, watchlist  # noqa: E402
-from scftools.calls import Call  # noqa: E402
+import kernel_profiles
+from scftools import client, constants, lint, oddities, tables, watchlist
+from scftools.calls import Call
 
 ALLOW, ERRNO, TOP_OF = "SCMP_ACT_ALLOW", "SCMP_ACT_ERRNO", (1 << 64) - 1
 NATIVE, I386, X32, AARCH64, ARM = (f"SCMP_ARCH_{it}" for it in ("X86_64", "X86", "X32", "AARCH64", "ARM"))
@@ -275,7 +272,6 @@ class Members(Linted):
         self.assertTrue(found[0]["text"].endswith(": action is repeated, and the last one is taken"))
         # the last is taken
         self.assertEqual(self.run_tool("ask", "--nr=0", self.file("q.json", text))[1].split("\n")[0], "ALLOW 0 entry 0")
-
 
     def test_lists_that_stand_twice(self):
         """A second list's entries are decoded into those of the first (Decoder in encoding/json)."""
@@ -641,7 +637,6 @@ class Architectures(Linted):
         self.assertEqual(unknown("SCMP_ARCH_AMD64", "x86", "SCMP_ARCH_ARM64", "SCMP_ARCH_NONSENSE"), [
             ("SCMP_ARCH_AMD64", "SCMP_ARCH_X86_64"), ("x86", "SCMP_ARCH_X86"), ("SCMP_ARCH_ARM64", "SCMP_ARCH_AARCH64"),
             ("SCMP_ARCH_NONSENSE", None)])
-
 
     def test_flags_that_it_does_not_have(self):
         def unknown(flags):

@@ -5,14 +5,10 @@ import importlib
 import os
 import pickle
 import re
-import sys
 import unittest
 
 from support.common import TOP
-
-sys.path.append(os.path.join(TOP, "tools"))
-
-from scftools import client, values  # noqa: E402
+from scftools import client, values
 
 FOLDER = os.path.join(TOP, "tools", "scftools")
 # What is dear to import and rarely needed, and those of our modules that only some runs of a tool need: each is imported

@@ -3,19 +3,15 @@ import json
 import os
 import random
 import re
-import sys
 import unittest
 
-from support.common import I386, TOP, Case
+from support.common import I386, Case
 from support.oci import ALLOW, ERRNO, NATIVE, X32, X86, condition, entry, profile
 from support.seccomp_library import NEEDED, Conflict, Library, answer_of
 from support.stand_in import StandIn, unpacked, words_of
-
-sys.path.append(os.path.join(TOP, "tools"))
-
-import kernel_profiles  # noqa: E402
-from scftools import multiplexed, tables  # noqa: E402
-from scftools.calls import Call  # noqa: E402
+import kernel_profiles
+from scftools import multiplexed, tables
+from scftools.calls import Call
 
 HEADERS = {"socketcall": ("/usr/include/linux/net.h", r"^#define SYS_(\w+)\s+(\d+)"),
            "ipc": ("/usr/include/linux/ipc.h", r"^#define ((?:SEM|MSG|SHM)\w+)\s+(\d+)")}
@@ -204,7 +200,3 @@ class BesideLibseccomp(unittest.TestCase):
                          for entry_added in with_rules(given)["syscalls"] if entry_added["names"] == ["socketcall"]]
         self.assertEqual((first["names"], first["args"]), (second["names"], second["args"]))
         self.assertNotEqual(first["action"], second["action"])
-
-
-if __name__ == "__main__":
-    unittest.main()

@@ -9,17 +9,14 @@ import subprocess
 import sys
 import unittest
 
-from support.common import TOP, Case, limited, profile_of, taken, tool
-
-sys.path.append(os.path.join(TOP, "tools"))
-
-from scftools import strace, tables  # noqa: E402
-from scftools.architectures import AARCH64, ARM, I386, JUDGED, NATIVE, X32  # noqa: E402
+from support.common import Case, limited, profile_of, taken, tool
+from support.oci import ALLOW, ERRNO
+from scftools import strace, tables
+from scftools.architectures import AARCH64, ARM, I386, JUDGED, NATIVE, X32
 
 TABLE = tables.read(None)
 TABLES = tables.of_architectures(JUDGED, TABLE).of
 
-ALLOW, ERRNO = "SCMP_ACT_ALLOW", "SCMP_ACT_ERRNO"
 HIGH = 1 << 64
 # What each least profile allows.
 ALWAYS = ["restart_syscall", "rt_sigreturn", "exit", "exit_group"]

@@ -5,11 +5,8 @@ import subprocess
 import sys
 import unittest
 
-from support.common import CORE, SCF, TOP, X86_64, Case, filter_of, profile_of, tool
-
-sys.path.append(os.path.join(TOP, "tools"))
-
-from scftools import output, verdicts  # noqa: E402
+from support.common import CORE, SCF, X86_64, Case, filter_of, profile_of, tool
+from scftools import output, verdicts
 
 SAME, DIFFERS = filter_of([0, 1]), filter_of([0, 1, 231])
 FORGED_CALL = "41 socket differs args 0x0 0x0 0x0 0x0 0x0 0x0 filter ALLOW 0 profile ERRNO 1"

@@ -1,13 +1,8 @@
 """Faults of profiles: which member each is about, and the line and column at which it stands."""
-import os
-import sys
 import unittest
 
-from support.common import TOP, Case, filter_of, profile_of
-
-sys.path.append(os.path.join(TOP, "tools"))
-
-from scftools import json_places  # noqa: E402
+from support.common import Case, filter_of, profile_of
+from scftools import json_places
 
 
 class Places(Case):
@@ -123,7 +118,3 @@ class Paths(unittest.TestCase):
         for path, text in ((["syscalls", 3, "args", 0, "op"], "syscalls[3].args[0].op"), ([], ""), (["a b"], '["a b"]'),
                            (["a", "\x1b"], 'a["\\u001b"]'), (["x" * 99], f'["{"x" * 40}.."]'), ([0, 1], "[0][1]")):
             self.assertEqual(json_places.path_text(path), text)
-
-
-if __name__ == "__main__":
-    unittest.main()

@@ -2,16 +2,12 @@
 import json
 import os
 import subprocess
-import sys
 import unittest
 
-from support.common import TOP, Case, filter_of, profile_of, tool
+from support.common import Case, filter_of, profile_of, tool
+from support.oci import ALLOW, ERRNO
+from scftools import engines, kubernetes
 
-sys.path.append(os.path.join(TOP, "tools"))
-
-from scftools import engines, kubernetes  # noqa: E402
-
-ALLOW, ERRNO = "SCMP_ACT_ALLOW", "SCMP_ACT_ERRNO"
 # As the documentation of the Security Profiles Operator has them.
 YAML = """---
 apiVersion: security-profiles-operator.x-k8s.io/v1beta1
@@ -267,7 +263,3 @@ class Made(Case):
         out = self.run_tool("ask", "--nr=0", "--caps=none", self.file("e.json", engine))[1]
         self.assertNotIn("line 1", out)
         self.assertIn("in the original file that is entry 1 (read)", out)
-
-
-if __name__ == "__main__":
-    unittest.main()

@@ -3,7 +3,6 @@ import json
 import os
 import random
 import subprocess
-import sys
 from unittest import mock
 
 from support import several
@@ -11,12 +10,9 @@ from support.common import (ALLOW, EPERM, KILL_PROCESS, KILL_THREAD, TOP, X32, X
                             ret, tool)
 from support.seccomp_library import NEEDED, Library
 from support.stand_in import StandIn, unpacked
-
-sys.path.append(os.path.join(TOP, "tools"))
-
-from scftools import answers  # noqa: E402
-from scftools.calls import Call  # noqa: E402
-from scftools.profile_of import TRAP_DATA_TEXT  # noqa: E402
+from scftools import answers
+from scftools.calls import Call
+from scftools.profile_of import TRAP_DATA_TEXT
 
 MOST = (1 << 64) - 1
 TRAP, USER_NOTIF, TRACE, LOG = 0x00030000, 0x7FC00000, 0x7FF00000, 0x7FFC0000

@@ -8,10 +8,7 @@ import sys
 
 from support.common import (ALLOW, CORE, EPERM, I386, KILL_PROCESS, TABLE, TOP, UNKNOWN_ZERO, X86_64, Case, filter_of,
                             insn, jeq, jge, load, part, profile_of, ret, tool)
-
-sys.path.append(os.path.join(TOP, "tools"))
-
-from scftools import tables  # noqa: E402
+from scftools import tables
 
 TOOLS = ("ask", "bundle", "check", "compare", "compare-profiles", "compile", "decide", "explain", "lint", "list",
          "needs", "run", "surface", "why")

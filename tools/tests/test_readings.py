@@ -194,7 +194,3 @@ class TestStubs(unittest.TestCase):
         for text in (b"4294967295", b"000000000000000000000000000004"):
             given = ALLOWED + TABLE + part("stub-table", text)
             self.assertEqual(core("ask", "--nr=3", given=given), (b"ERRNO 1 default\n", 0))
-
-
-if __name__ == "__main__":
-    unittest.main()

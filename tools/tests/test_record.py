@@ -8,12 +8,9 @@ import subprocess
 import sys
 import unittest
 
-from support.common import ALLOW, EPERM, LOADER, TOP, X86_64, Case, jeq, load, ret, tool
-
-sys.path.append(os.path.join(TOP, "tools"))
-
-from scftools import c_arrays, filter_loads, forms, strace  # noqa: E402
-from scftools.architectures import NATIVE  # noqa: E402
+from support.common import ALLOW, EPERM, LOADER, X86_64, Case, jeq, load, ret, tool
+from scftools import c_arrays, filter_loads, forms, strace
+from scftools.architectures import NATIVE
 
 # Filters that allow all but a syscall that nobody makes.
 FIRST, SECOND, THIRD = (load(4) + jeq(X86_64, 0, 2) + load(0) + jeq(number, 1, 0) + ret(ALLOW) + ret(EPERM)
@@ -241,7 +238,3 @@ class Recorded(Traced):
         self.assertEqual(least["defaultAction"], "SCMP_ACT_ERRNO")
         status, out, _ = self.run_python("record", "print('ran')", "--profile", self.file("bad", b"{}"), "least.json")
         self.assertEqual((status, out.split("\n")[0]), (1, "fault profile Missing"))
-
-
-if __name__ == "__main__":
-    unittest.main()

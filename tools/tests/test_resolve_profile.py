@@ -3,18 +3,13 @@ import json
 import os
 
 from support.common import CORE, TABLE, Case, part
+from support.oci import ALLOW, ERRNO, entry
 
-ALLOW, ERRNO = "SCMP_ACT_ALLOW", "SCMP_ACT_ERRNO"
 MAP = [{"architecture": "SCMP_ARCH_AARCH64", "subArchitectures": ["SCMP_ARCH_ARM"]},
        {"architecture": "SCMP_ARCH_X86_64", "subArchitectures": ["SCMP_ARCH_X86", "SCMP_ARCH_X32"]}]
 DOCKER = {"CHOWN", "DAC_OVERRIDE", "FSETID", "FOWNER", "MKNOD", "NET_RAW", "SETGID", "SETUID", "SETFCAP", "SETPCAP",
-          "NET_BIND_SERVICE", "SYS_CHROOT",
-          "KILL", "AUDIT_WRITE"}
+          "NET_BIND_SERVICE", "SYS_CHROOT", "KILL", "AUDIT_WRITE"}
 PODMAN = DOCKER - {"MKNOD", "NET_RAW", "AUDIT_WRITE"}
-
-
-def entry(*names, **members):
-    return {"names": list(names), "action": ALLOW, **members}
 
 
 def engine(*entries, **members):
@@ -53,8 +48,9 @@ class ResolveProfile(Case):
         self.assertEqual(self.resolved(given), (given, ""))
 
     def test_what_says_nothing_goes(self):
-        given = engine(entry("read", comment="why", includes={}, excludes={"caps": [], "arches": None}, args=None,
-                             errnoRet=None), archMap=[], architectures=[])
+        nothing = {"comment": "why", "includes": {}, "excludes": {"caps": [], "arches": None}, "args": None,
+                   "errnoRet": None}
+        given = engine({**entry("read"), **nothing}, archMap=[], architectures=[])
         self.assertEqual(self.resolved(given), (engine(entry("read")), ""))
 
     def test_includes_of_capabilities_want_all(self):
@@ -218,7 +214,7 @@ class ResolveProfile(Case):
                             ({"defaultAction": "A", "syscalls": {}}, "syscalls isn't a list"),
                             (engine(entry("a", includes=[1])), "includes isn't an object"),
                             (engine(entry("a", includes={"caps": "CAP_KILL"})), "caps isn't a list of strings"),
-                            (engine(entry("a", args={})), "args isn't a list"),
+                            (engine({**entry("a"), "args": {}}), "args isn't a list"),
                             (engine(entry("a", args=[1])), "args 0 isn't an object"),
                             (engine(entry(1)), "names isn't a list of strings"),
                             (engine(archMap={"a": 1}), "archMap isn't a list"),

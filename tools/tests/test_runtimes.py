@@ -11,21 +11,17 @@ from unittest import mock
 
 from support import oci
 from support.common import ALLOW as ALLOWED
-from support.common import TABLE, TOP, Case, insn, jeq, load, part, ret, stub
+from support.common import TABLE, Case, insn, jeq, load, part, ret, stub
 from support.confined import ended, started
 from support.drawn_profiles import drawn_profile
 from support.oci import ALLOW, ERRNO, X32, X86, condition, entry
 from support.oci import NATIVE as X86_64
 from support.second_reading import by_words
-
-sys.path.append(os.path.join(TOP, "tools"))
-
-# pylint: disable=wrong-import-position
-from scftools import client, engines, inputs, libseccomp, processes, runtimes, tables, verdicts  # noqa: E402
-from scftools.architectures import JUDGED  # noqa: E402
-from scftools.compare import Comparison  # noqa: E402
-from scftools.filters import Filter  # noqa: E402
-from scftools.values import replace  # noqa: E402
+from scftools import client, engines, inputs, libseccomp, processes, runtimes, tables, verdicts
+from scftools.architectures import JUDGED
+from scftools.compare import Comparison
+from scftools.filters import Filter
+from scftools.values import replace
 
 LOG, TRAP, TRACE, KILL = "SCMP_ACT_LOG", "SCMP_ACT_TRAP", "SCMP_ACT_TRACE", "SCMP_ACT_KILL_PROCESS"
 NAMES = sorted(tables.read(None).names())
@@ -683,7 +679,3 @@ class VerifyProcess(Case):
 def compiled(given):
     """The filter of a profile on x86-64 as its runtime reads it, without a stub."""
     return client.compile_profile(given.data, tables.of_profile(given.data, tables.read(None), is_native=True))
-
-
-if __name__ == "__main__":
-    unittest.main()

@@ -10,7 +10,6 @@ import random
 import re
 import struct
 import subprocess
-import sys
 import unittest
 from unittest import mock
 
@@ -19,13 +18,10 @@ from support.common import PROGRAM, TOP, Case, insn, jeq, jge, load, ret
 from support.seccomp_library import NEEDED, Conflict, Library
 from support.stand_in import StandIn, unpacked
 from test_library import OUT, RELATIONS, python_module
-
-sys.path.append(os.path.join(TOP, "tools"))
-
-from scftools import bundles, client, filters, runtimes, tables, verdicts, verify  # noqa: E402
-from scftools.architectures import JUDGED  # noqa: E402
-from scftools.calls import Call  # noqa: E402
-from scftools.filters import Filter  # noqa: E402
+from scftools import bundles, client, filters, runtimes, tables, verdicts, verify
+from scftools.architectures import JUDGED
+from scftools.calls import Call
+from scftools.filters import Filter
 
 # How many profiles are drawn to be held against libscf, against the program, and to be counted by kinds; and how many
 # records are tried of a syscall that has conditions.
@@ -557,7 +553,3 @@ class BesideLibseccomp(unittest.TestCase):
             self.assertEqual(scf(["compare", "--architectures"], parts).split("\n")[0], "same", (seed, profile))
             count += 1
         self.assertGreater(count, 8)
-
-
-if __name__ == "__main__":
-    unittest.main()

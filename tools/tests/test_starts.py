@@ -2,15 +2,11 @@
 import json
 import os
 import shutil
-import sys
 
-from support.common import (ALLOW, EPERM, I386, PROGRAM, TABLE, TOP, X86_64, Case, filter_of, insn, jeq, jge, load,
+from support.common import (ALLOW, EPERM, I386, PROGRAM, TABLE, X86_64, Case, filter_of, insn, jeq, jge, load,
                             profile_of, ret, stub)
 from support.confined import Confined, here
-
-sys.path.append(os.path.join(TOP, "tools"))
-
-from scftools import tables  # noqa: E402
+from scftools import tables
 
 # What `lint` finds nothing of.
 NAMES = ("read write exit exit_group rt_sigaction rt_sigreturn nanosleep restart_syscall mmap munmap faccessat "

@@ -12,14 +12,10 @@ import tempfile
 import unittest
 
 from support.common import TOP, Case, profile_of
+from support.oci import ALLOW, ERRNO
 from test_runtimes import ALONE, BUSYBOX, config
+from scftools import architectures, requirements, tables, traces
 
-sys.path.append(os.path.join(TOP, "tools"))
-
-# pylint: disable=wrong-import-position
-from scftools import architectures, requirements, tables, traces  # noqa: E402
-
-ALLOW, ERRNO = "SCMP_ACT_ALLOW", "SCMP_ACT_ERRNO"
 NETLINK_AUDIT, SO_RCVBUFFORCE = 9, 33
 SECCOMP_RECORD = 1326
 TIMES = "11/27/26 05:35:00.752"
@@ -385,7 +381,3 @@ class Containers(Case):
 
     def test_crun(self):
         self.tried("crun")
-
-
-if __name__ == "__main__":
-    sys.exit(unittest.main())
