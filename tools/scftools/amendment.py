@@ -10,7 +10,7 @@ from collections.abc import Collection, Iterator
 
 from . import answers, constants, entries, filters
 from .client import Refusal
-from .entries import GREATEST_VALUE, LOW_HALF, Object
+from .entries import EQUAL, GREATEST_VALUE, LOW_HALF, MASKED, NOT_EQUAL, Object
 from .events import Event
 from .filters import BPF_MAXINSNS
 from .reasons import Reason
@@ -19,7 +19,6 @@ from .values import dataclass
 from .verdicts import SAME
 
 ALLOW_ACTION = "SCMP_ACT_ALLOW"
-EQUAL, MASKED, UNEQUAL = "SCMP_CMP_EQ", "SCMP_CMP_MASKED_EQ", "SCMP_CMP_NE"
 
 
 @dataclass(frozen=True)
@@ -55,9 +54,9 @@ def conditions_of(event: Event, name: str, tested: Collection[int]) -> list[dict
     """Conditions that hold of those known arguments of a syscall that an entry tests, or that programs give by
     constants: not of addresses, nor of numbers that differ from run to run, such as descriptors."""
     kinds, words = constants.kinds().get(name, ""), []
-    known = {index: values[0] for index, values in enumerate(event.arguments) if values is not None}
+    values_of = {index: values[0] for index, values in enumerate(event.arguments) if values is not None}
     for index, values in enumerate(event.arguments[:len(kinds)]):
-        family = constants.family_of(name, index, known)
+        family = constants.family_of(name, index, values_of)
         has_names = family is not None and len(family.of_mask) + len(family.bits) > 1
         if values is None or kinds[index] == constants.ADDRESS or not has_names and index not in tested:
             continue
@@ -118,7 +117,7 @@ class AmendmentSearch:
         if any(condition["op"] != EQUAL for condition in (*conditions, *present.values())) or present.keys() - indices:
             return
         denial = {key: entry[key] for key in ("action", "errnoRet") if key in entry}
-        others = [{"names": [self.name], **denial, "args": [*present.values(), {**condition, "op": UNEQUAL}]}
+        others = [{"names": [self.name], **denial, "args": [*present.values(), {**condition, "op": NOT_EQUAL}]}
                   for condition in conditions if condition["index"] not in present]
         allowed: dict[str, object] = {"names": [self.name], "action": ALLOW_ACTION, "args": conditions}
         if self.top["defaultAction"] == ALLOW_ACTION:

@@ -12,11 +12,12 @@ from . import answers, architectures, output
 from .answers import FIRST_X32
 from .filters import BY_X, JEQ, JGE, JGT, JUMP, RETURN_CONSTANT
 from .listing import ARCHITECTURE, NUMBER, RETURNS, Instruction, Known, instructions, known_facts, name_of, word_name
+from .regions import GREATEST_WORD
 from .tables import Table
 from .values import dataclass, field
 
-# The greatest value of a word, and the most ranges that an edge names.
-GREATEST_WORD, MOST_RANGES = 0xFFFFFFFF, 12
+# The most ranges that an edge names.
+MOST_RANGES = 12
 # Ranges of values, in their order, each with its first and its last one.
 Ranges = list[tuple[int, int]]
 MARK = ", penwidth=3, color=red"

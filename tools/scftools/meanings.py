@@ -54,7 +54,7 @@ STATUSES = {
     127: "the shell found no such command: it isn't scf's status"}
 COLOUR = Pattern(r"\x1b\[[0-9;]*m")
 # What a log may put before a line: anything up to a mark or a time.
-BEFORE = Pattern(r".*?(?:[]:|>]|[0-9]Z|\d\d:\d\d:\d\d\S*)\s+")
+LOG_PREFIX = Pattern(r".*?(?:[]:|>]|[0-9]Z|\d\d:\d\d:\d\d\S*)\s+")
 ANSWER_LINE = Pattern(r"(?:filter |profile |beside )?([A-Z_]+ (?:0x[0-9a-f]+|[0-9]+))"
                    r"(?: (steps [0-9]+|entry [0-9]+|default|foreign))?")
 STATUS = Pattern(r"(?:.*\b)?(?:exit(?:ed)?|status|code)\b\D*([0-9]{1,3})\D*", re.I)
@@ -149,6 +149,6 @@ def of(line: str, table: Table) -> list[str]:
     sentences = list(_of_fault(line, table))
     while not sentences and line:
         sentences = _of_whole(line, table)
-        before = BEFORE.match(line)
+        before = LOG_PREFIX.match(line)
         line = line[before.end():] if before else ""
     return sentences

@@ -40,8 +40,8 @@ class Needless:
 
 
 # A name of an entry, by the entry's index; and a syscall: the OCI name of an architecture, and a number of its table.
-Named = tuple[int, str]
-Syscall = tuple[str, int]
+EntryName = tuple[int, str]
+ArchitectureNumber = tuple[str, int]
 
 
 class Met:
@@ -49,7 +49,7 @@ class Met:
 
     def __init__(self) -> None:
         steps = Steps()
-        self._sets = {one.bits: Sets(one.bits, steps) for one in JUDGED.values()}
+        self._sets = {architecture.bits: Sets(architecture.bits, steps) for architecture in JUDGED.values()}
         self._found: dict[tuple[int, int], int] = {}
 
     def of(self, name: str) -> Sets:
@@ -64,17 +64,17 @@ class Met:
             self._found[key] = sets.union(map(sets.of_conditions, entry.alternatives))
         return self._found[key]
 
-    def are_all(self, others: Sequence[Entry], name: str, those: int = FULL_SET) -> bool:
+    def are_all(self, others: Sequence[Entry], name: str, arguments: int = FULL_SET) -> bool:
         """Whether some arguments, or all, each meet one of some entries. Takes away what meets an entry that the least
         of them meet, until none are left or these meet no entry."""
         sets = self.of(name)
-        while those:
+        while arguments:
             sets.spend(len(others))
-            least = sets.least(those)
-            other = next((it for it in others if it.is_met(least)), None)
+            least = sets.least(arguments)
+            other = next((entry for entry in others if entry.is_met(least)), None)
             if other is None:
                 return False
-            those = sets.without(those, self.by(other, name))
+            arguments = sets.without(arguments, self.by(other, name))
         return True
 
     def is_within(self, entry: Entry, others: Sequence[Entry], name: str) -> bool:
@@ -93,24 +93,27 @@ class Search:
 
     def __init__(self, judged: Tables, top: Object, data: bytes, default: Answer, entries: Sequence[Entry]):
         self.judged, self.top, self.filter, self.default, self.met = judged, top, data, default, Met()
-        self.entries = {it.place: it for it in entries}
-        self.gone: set[Named] = set()
+        self.entries = {entry.place: entry for entry in entries}
+        self.gone: set[EntryName] = set()
         # names of which it is undecided, each with the verdict
-        self.undecided: list[tuple[Named, Verdict]] = []
+        self.undecided: list[tuple[EntryName, Verdict]] = []
         names = dict.fromkeys(name for entry in entries for name in entry.names)
-        self._syscalls: dict[str, Sequence[Syscall]] = {it: tuple(judged.numbers_of(it).items()) for it in names}
-        self._having: dict[Syscall, dict[Named, Entry]] = {}
+        self._syscalls: dict[str, Sequence[ArchitectureNumber]] = {
+            name: tuple(judged.numbers_of(name).items()) for name in names}
+        self._having: dict[ArchitectureNumber, dict[EntryName, Entry]] = {}
         for entry in entries:
             for name in entry.names:
                 for call in self._syscalls[name]:
                     self._having.setdefault(call, {})[entry.place, name] = entry
 
-    def _beside(self, entry: Entry, call: Syscall) -> list[Entry]:
+    def _beside(self, entry: Entry, call: ArchitectureNumber) -> list[Entry]:
         """The other entries that have a syscall, without what is removed. Only as a runtime reads them one may answer
         otherwise, and has all calls."""
-        others = [it for at, it in self._having[call].items() if at not in self.gone and it.place != entry.place]
-        return [it for it in others if it.answer == entry.answer or it.answer != self.default and _takes_all(it)
-                and not (_takes_all(entry) and entry.place < it.place)]
+        others = (other for named, other in self._having[call].items()
+                  if named not in self.gone and other.place != entry.place)
+        return [other for other in others if other.answer == entry.answer
+                or other.answer != self.default and _takes_all(other)
+                and not (_takes_all(entry) and entry.place < other.place)]
 
     def _is_greatest(self, entry: Entry, name: str) -> bool:
         """Whether an entry alone names the greatest number of an architecture, behind which runc's stub begins."""
@@ -120,7 +123,7 @@ class Search:
             and all(at in self.gone or at[0] == entry.place for at in self._having[oci, number])
             for oci, number in self._syscalls[name])
 
-    def _answers(self, entry: Entry, call: Syscall) -> bool:
+    def _answers(self, entry: Entry, call: ArchitectureNumber) -> bool:
         """Whether an entry alone answers some arguments of a syscall. Raises TooMany."""
         beside = self._beside(entry, call)
         return not beside and not entry.conditions or not self.met.is_within(entry, beside, call[0])
@@ -147,23 +150,23 @@ class Search:
 
     def verdict(self) -> Verdict:
         """What scf says of the profile without what is left out."""
-        kept = (replace(it, names=tuple(name for name in it.names if (it.place, name) not in self.gone))
-                for it in self.entries.values())
-        profile, judged = runtimes.as_read({**self.top, "syscalls": [it.as_json() for it in kept if it.names]},
-                                           self.judged)
+        remaining = (replace(entry, names=tuple(name for name in entry.names if (entry.place, name) not in self.gone))
+                     for entry in self.entries.values())
+        syscalls = [entry.as_json() for entry in remaining if entry.names]
+        profile, judged = runtimes.as_read({**self.top, "syscalls": syscalls}, self.judged)
         return verdicts.compared([self.filter], profile, judged, judged.words).verdict
 
     def _why(self, entry: Entry, names: Sequence[str]) -> tuple[str, tuple[int, ...]]:
         if entry.answer == self.default:
             return BY_DEFAULT, ()
         calls = [call for name in names for call in self._syscalls[name]]
-        having = [{it.place for it in self._beside(entry, call)} for call in calls]
+        having = [{other.place for other in self._beside(entry, call)} for call in calls]
         try:
-            if all(self.met.is_within(entry, [], one) for one, _ in calls):
+            if all(self.met.is_within(entry, [], oci) for oci, _ in calls):
                 return BY_NONE, ()
             for place in sorted(set.intersection(*having)):
                 other = self.entries[place]
-                if all(self.met.is_within(entry, [other], one) for one, _ in calls):
+                if all(self.met.is_within(entry, [other], oci) for oci, _ in calls):
                     return ONE if other.answer == entry.answer else INSTEAD, (place,)
         except TooMany:
             pass
@@ -174,7 +177,7 @@ class Search:
         self._leave_out()
         verdict = self.verdict() if self.gone else None
         if verdict is not None and verdict.word != SAME:
-            self.undecided, self.gone = [(it, verdict) for it in sorted(self.gone)], set()
+            self.undecided, self.gone = [(left_out, verdict) for left_out in sorted(self.gone)], set()
         for entry in self.entries.values():
             names = tuple(name for name in entry.names if (entry.place, name) in self.gone)
             if names:
@@ -196,7 +199,7 @@ class Conflict:
 def _pairs(entries: Sequence[Entry], judged: Tables) -> Iterator[tuple[Entry, Entry, str, list[str]]]:
     """Pairs of entries with different answers to one syscall, and the architectures that have it, in the order of the
     second."""
-    having: dict[Syscall, list[Entry]] = {}
+    having: dict[ArchitectureNumber, list[Entry]] = {}
     taken = {call for entry in entries if judged.reading not in BY_WORDS and _takes_all(entry)
              for name in entry.names for call in judged.numbers_of(name).items()}
     for entry in entries:
@@ -214,16 +217,16 @@ def conflicts(judged: Tables, default: Answer, entries: Sequence[Entry], most: i
     """Entries that conflict, each two once, at most so many of them. Raises TooMany."""
     seen: set[tuple[int, int]] = set()
     met = Met()
-    counting = [it for it in entries if judged.reading in BY_WORDS or it.answer != default]
+    counting = [entry for entry in entries if judged.reading in BY_WORDS or entry.answer != default]
     for count, (first, second, name, on) in enumerate(_pairs(counting, judged)):
         if count >= PAIRS or len(seen) >= most:
             return
         places = first.place, second.place
-        both = {} if places in seen else {it: met.of(it).both(met.by(first, it), met.by(second, it)) for it in on}
-        where = [it for it, those in both.items() if those]
+        both = {} if places in seen else {oci: met.of(oci).both(met.by(first, oci), met.by(second, oci)) for oci in on}
+        where = [oci for oci, arguments in both.items() if arguments]
         if where:
             seen.add(places)
-            one = JUDGED[where[0]]
-            call = Call(one.first + judged.numbers_of(name)[one.oci], one.number,
-                        arguments=met.of(one.oci).least(both[one.oci]))
+            architecture = JUDGED[where[0]]
+            call = Call(architecture.first + judged.numbers_of(name)[architecture.oci], architecture.number,
+                        arguments=met.of(architecture.oci).least(both[architecture.oci]))
             yield Conflict(first, second, name, Owners.of(where, on, judged), call)

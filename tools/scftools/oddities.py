@@ -17,19 +17,19 @@ from .tables import Tables
 from .values import dataclass
 
 # The names of the OCI runtime specification (config-linux, seccomp), which are libseccomp's.
-ARCHITECTURES = tuple(NUMBERS)
-FLAGS = tuple(f"SECCOMP_FILTER_FLAG_{it}" for it in "TSYNC LOG SPEC_ALLOW WAIT_KILLABLE_RECV".split())
+OCI_ARCHITECTURES = tuple(NUMBERS)
+FLAGS = tuple(f"SECCOMP_FILTER_FLAG_{name}" for name in "TSYNC LOG SPEC_ALLOW WAIT_KILLABLE_RECV".split())
 # Other names for these architectures.
 ALIASES = {"AMD64": "X86_64", "X86-64": "X86_64", "X64": "X86_64", "ARM64": "AARCH64"}
 
 
 def _places(top: Object) -> dict[str, int]:
     """The first entry of each name."""
-    found: dict[str, int] = {}
+    places: dict[str, int] = {}
     for place, entry in enumerate(top.get("syscalls", [])):
         for name in entry["names"]:
-            found.setdefault(name, place)
-    return found
+            places.setdefault(name, place)
+    return places
 
 
 def of_names(top: Object, judged: Tables) -> Iterator[Finding]:
@@ -54,13 +54,13 @@ def of_names(top: Object, judged: Tables) -> Iterator[Finding]:
                           {"entry": place, "names": twice})
 
 
-def _near(name: str, prefix: str, known: Sequence[str], count: int) -> str | None:
+def _near(name: str, prefix: str, words: Sequence[str], count: int) -> str | None:
     """The word most like a name behind their common prefix, if one is much like it; none for a name that comes after so
     many."""
     if count >= tables.MOST_LISTED or len(name) > tables.LONGEST_NAME:
         return None
     last = name.upper().removeprefix(prefix)
-    likely = tables.most_like(ALIASES.get(last, last), [it[len(prefix):] for it in known])
+    likely = tables.most_like(ALIASES.get(last, last), [word[len(prefix):] for word in words])
     return prefix + likely if likely else None
 
 
@@ -76,17 +76,17 @@ def _words(top: Object) -> Iterator[tuple[str, str, object]]:
         if isinstance(entry, Object):
             yield f"entry {place}", "action", entry.get("action")
             conditions = entry.get("args")
-            for at, one in enumerate(conditions if isinstance(conditions, list) else []):
-                if isinstance(one, Object):
-                    yield f"entry {place}, condition {at}", "operator", one.get("op")
+            for at, condition in enumerate(conditions if isinstance(conditions, list) else []):
+                if isinstance(condition, Object):
+                    yield f"entry {place}, condition {at}", "operator", condition.get("op")
 
 
 def of_words(top: Object) -> Iterator[Finding]:
     """Unknown actions and operators, for which scf refuses a profile."""
-    known = {"action": OCI_ACTIONS, "operator": tuple(HOLDS)}
-    wrong = (it for it in _words(top) if isinstance(it[2], str) and it[2] not in known[it[1]])
+    words_of = {"action": OCI_ACTIONS, "operator": tuple(HOLDS)}
+    wrong = (given for given in _words(top) if isinstance(given[2], str) and given[2] not in words_of[given[1]])
     for at, (where, kind, word) in enumerate(wrong):
-        near = _near(str(word), "SCMP_ACT_" if kind == "action" else "SCMP_CMP_", known[kind], at)
+        near = _near(str(word), "SCMP_ACT_" if kind == "action" else "SCMP_CMP_", words_of[kind], at)
         yield Finding(f"unknown-{kind}", f"{where}: {output.cut(str(word))} is no {kind}{_nearest(near)}",
                       {"where": where, "name": word, "nearest": near})
 
@@ -94,8 +94,8 @@ def of_words(top: Object) -> Iterator[Finding]:
 def of_flags(top: Object) -> Iterator[Finding]:
     """Flags that the OCI specification doesn't have."""
     given = top.get("flags")
-    flags = [it for it in given if isinstance(it, str)] if isinstance(given, list) else []
-    for at, name in enumerate(it for it in dict.fromkeys(flags) if it not in FLAGS):
+    flags = [flag for flag in given if isinstance(flag, str)] if isinstance(given, list) else []
+    for at, name in enumerate(flag for flag in dict.fromkeys(flags) if flag not in FLAGS):
         near = _near(name, "SECCOMP_FILTER_FLAG_", FLAGS, at)
         yield Finding("unknown-flag", f"flags: the OCI specification has no {output.cut(name)}{_nearest(near)}",
                       {"name": name, "nearest": near})
@@ -105,9 +105,9 @@ def of_architecture_names(top: Object) -> Iterator[Finding]:
     """Architectures that the OCI specification doesn't have, and a list with x86-64 and without x32, which matters
     unless the default denies."""
     architectures = top.get("architectures", [])
-    unknown = (it for it in dict.fromkeys(architectures) if it not in ARCHITECTURES)
+    unknown = (name for name in dict.fromkeys(architectures) if name not in OCI_ARCHITECTURES)
     for at, name in enumerate(unknown):
-        near = _near(name, PREFIX, ARCHITECTURES, at)
+        near = _near(name, PREFIX, OCI_ARCHITECTURES, at)
         yield Finding("unknown-architecture", f"architectures: the OCI specification has no {output.cut(name)}, and "
                       f"runc and crun refuse what they don't know{_nearest(near)}", {"name": name, "nearest": near})
     default = top["defaultAction"]
@@ -122,10 +122,10 @@ def of_architecture_names(top: Object) -> Iterator[Finding]:
 COMMENT = "comment"
 # What only engines read, in their own profiles (Seccomp and Syscall in containers-common's pkg/seccomp/types.go,
 # and in moby's profiles/seccomp/seccomp.go).
-ENGINES = {"defaultErrno": "only podman reads defaultErrno, an errno's name or its number as a string, and takes it "
-                           "for defaultErrnoRet",
-           "errno": "only podman reads errno, an errno's name or its number as a string, and takes it for errnoRet",
-           "name": "only engines read name, and none takes it beside names"}
+ENGINE_MEMBERS = {
+    **{name: f"only podman reads {name}, an errno's name or its number as a string, and takes it for {name}Ret"
+       for name in ("defaultErrno", "errno")},
+    "name": "only engines read name, and none takes it beside names"}
 
 
 @dataclass
@@ -134,23 +134,24 @@ class Members:
 
     nearest: int = MOST
 
-    def _near(self, name: str, known: Sequence[str]) -> str | None:
+    def _near(self, name: str, members: Sequence[str]) -> str | None:
         """The member most similar to this one, ignoring case."""
         self.nearest -= 1
-        return tables.nearest_member(name, known) if self.nearest >= 0 else None
+        return tables.nearest_member(name, members) if self.nearest >= 0 else None
 
     def of_object(self, value: Object, members: dict[str, object], where: str, place: int | None) -> Iterator[Finding]:
         """The members of an object that aren't read, and those that are repeated."""
         at = {} if place is None else {"entry": place}
-        known, folded = [it for it in members if it not in ENGINES], {profiles.folded(it) for it in members}
+        read_members = [member for member in members if member not in ENGINE_MEMBERS]
+        folded = set(map(profiles.folded, members))
         for name in value:
-            if name in known or name == COMMENT:
+            if name in read_members or name == COMMENT:
                 continue
             if name in members:
-                yield Finding("engine-member", f"{where}: {ENGINES[name]}: resolve-profile does so",
+                yield Finding("engine-member", f"{where}: {ENGINE_MEMBERS[name]}: resolve-profile does so",
                               {**at, "member": name})
             elif profiles.folded(name) not in folded:
-                near = self._near(name, known)
+                near = self._near(name, read_members)
                 nearest = f"; the nearest that is read is {near}" if near else ""
                 yield Finding("unread-member", f"{where}: nothing reads {output.cut(name)}{nearest}",
                               {**at, "member": name, "nearest": near})
@@ -177,15 +178,15 @@ class Members:
 
 def misread(data: bytes) -> Iterator[Finding]:
     """Members that Go programs (runc, Docker, podman) read as others, and scf and crun don't."""
-    for one in profiles.misread_members(data):
-        if one.name != one.read_as:
-            yield Finding("folded-member", f"{one.describe()}; scf and crun don't",
-                          {"where": one.where, "member": one.name, "read_as": one.read_as})
+    for member in profiles.misread_members(data):
+        if member.name != member.read_as:
+            yield Finding("folded-member", f"{member.describe()}; scf and crun don't",
+                          {"where": member.where, "member": member.name, "read_as": member.read_as})
 
 
 # The errnos that the kernel uses internally (include/linux/errno.h).
-INTERNAL = {512: "ERESTARTSYS", 513: "ERESTARTNOINTR", 514: "ERESTARTNOHAND", 515: "ENOIOCTLCMD",
-            516: "ERESTART_RESTARTBLOCK"}
+INTERNAL_ERRNOS = {512: "ERESTARTSYS", 513: "ERESTARTNOINTR", 514: "ERESTARTNOHAND", 515: "ENOIOCTLCMD",
+                   516: "ERESTART_RESTARTBLOCK"}
 # The greatest errno that programs know (EHWPOISON in asm-generic/errno.h).
 LAST_ERRNO = max(133, *ERRNOS)
 # What an action needs: a listener (seccomp_unotify(2)) or a tracer with PTRACE_O_TRACESECCOMP.
@@ -204,9 +205,9 @@ def _why_odd(number: int) -> str | None:
     """What is odd about an errno, if anything is."""
     if number == 0:
         return "the syscall isn't executed, and returns 0 as if it had succeeded"
-    if number in INTERNAL:
-        return (f"{INTERNAL[number]}, which the kernel uses internally and no program knows: it reaches the program as "
-                "it is, or, if a signal arrives, the kernel may take it for its own")
+    if number in INTERNAL_ERRNOS:
+        return (f"{INTERNAL_ERRNOS[number]}, which the kernel uses internally and no program knows: it reaches the "
+                "program as it is, or, if a signal arrives, the kernel may take it for its own")
     if number > MAX_ERRNO:
         return f"the kernel returns {MAX_ERRNO} instead, and libseccomp takes none above {MAX_ERRNO - 1}"
     if number == MAX_ERRNO:

@@ -83,20 +83,20 @@ def _escaped(text: str) -> Markup:
 
 
 def joined(pieces: Iterable[object], between: str = "") -> Markup:
-    return Markup(between.join(escaped(it) for it in pieces))
+    return Markup(between.join(escaped(piece) for piece in pieces))
 
 
 def tag(name: str, *pieces: object, **attributes: object) -> Markup:
     """An element. An attribute is written `class_` for `class`, and `data_label` for `data-label`; None is left out."""
-    shown = "".join(f' {it.rstrip("_").replace("_", "-")}="{escaped(value)}"' for it, value in attributes.items()
-                    if value is not None)
+    shown = "".join(f' {attribute.rstrip("_").replace("_", "-")}="{escaped(value)}"'
+                    for attribute, value in attributes.items() if value is not None)
     return Markup(f"<{name}{shown}>{joined(pieces)}</{name}>")
 
 
 def listed(items: Iterable[object]) -> Markup:
     """A list of items; nothing without any."""
-    found = [tag("li", it) for it in items]
-    return tag("ul", *found) if found else Markup("")
+    elements = [tag("li", item) for item in items]
+    return tag("ul", *elements) if elements else Markup("")
 
 
 def table(head: Iterable[object], rows: Iterable[Iterable[object]], kind: str) -> Markup:
@@ -105,8 +105,8 @@ def table(head: Iterable[object], rows: Iterable[Iterable[object]], kind: str) -
     names = list(head)
     body = [tag("tr", *(tag("td", cell, data_label=name if kind == "rows" else None)
                         for name, cell in zip(names, row))) for row in rows]
-    made = tag("table", tag("thead", tag("tr", *(tag("th", it, scope="col") for it in names))), tag("tbody", *body),
-               class_=kind)
+    headings = tag("tr", *(tag("th", heading, scope="col") for heading in names))
+    made = tag("table", tag("thead", headings), tag("tbody", *body), class_=kind)
     return tag("div", made, class_="scroll") if kind == "scroll" else made
 
 
@@ -123,7 +123,7 @@ def document(title: str, *pieces: object) -> str:
             f"<meta http-equiv=\"Content-Security-Policy\" content=\"{escaped(policy)}\">\n"
             "<meta name=\"viewport\" content=\"width=device-width, initial-scale=1\">\n"
             f"<title>{escaped(title)}</title>\n<style>{STYLE}</style>\n</head>\n<body>\n"
-            + "\n".join(escaped(it) for it in pieces) + "\n</body>\n</html>\n")
+            + "\n".join(escaped(piece) for piece in pieces) + "\n</body>\n</html>\n")
 
 
 def _made_by() -> Markup:
@@ -135,7 +135,7 @@ def _made_by() -> Markup:
 def c_call(call: Call, table: Table) -> str:
     """A syscall as a statement in C; one of another ABI as a comment, since only assembly makes it."""
     names = table.names_of(call.number) if call.is_native else []
-    arguments = ", ".join(f"{it:#x}" for it in call.arguments)
+    arguments = ", ".join(f"{argument:#x}" for argument in call.arguments)
     if not call.is_native:
         return f"/* {call.describe(table)}, with {arguments} */"
     return f"syscall({f'SYS_{names[0]}' if names else call.number}, {arguments});"
@@ -148,8 +148,8 @@ def of_comparison(comparison: Comparison, report: Report, added: Sequence[str], 
     colour = "good" if verdict is not None and verdict.holds else "bad"
     shown = [preformatted([c_call(verdict.call, comparison.table)])] if verdict is not None and verdict.call else []
     return document(f"comparison: {word}", tag("h1", tag("span", word, class_=colour)), _made_by(),
-                    listed(f"{it.name}: {it.count} instructions" for it in comparison.filters), *shown,
-                    preformatted([*report.brief, *(f"# {it}" for it in added)]), tag("p", "To repeat it:"),
+                    listed(f"{each.name}: {each.count} instructions" for each in comparison.filters), *shown,
+                    preformatted([*report.brief, *(f"# {line}" for line in added)]), tag("p", "To repeat it:"),
                     preformatted([command]), tag("p", OF_COMPARISON, class_="faint"))
 
 
@@ -179,60 +179,61 @@ def _cell(rows: list[surfaces.Row]) -> str:
     return f"{SOME}: {', '.join(shown + [f'{unknown} not known'] * bool(unknown)) or 'denied'} of {len(rows)}"
 
 
-def stack(one: Named, groups: Groups) -> Iterator[Markup]:
+def stack(named: Named, groups: Groups) -> Iterator[Markup]:
     """All syscalls of a stack, group by group, each with what decides."""
-    yield tag("h3", f"{one.name}: ", one.description, id=one.anchor)
-    if one.digest is not None:
-        yield tag("p", "SHA-256 ", tag("code", one.digest, class_="long"))
-    if one.surface is None:
+    yield tag("h3", f"{named.name}: ", named.description, id=named.anchor)
+    if named.digest is not None:
+        yield tag("p", "SHA-256 ", tag("code", named.digest, class_="long"))
+    if named.surface is None:
         yield tag("p", "scf refuses this stack.")
         return
-    yield listed(surface_output.of_whole(one.surface))
-    for group, rows in surface_output.grouped(one.surface.rows, groups):
-        calls = listed(joined([tag("code", " or ".join(it.names)), f" {it.said}",
-                               *(f"; {detail}" for detail in surface_output.details(it))]) for it in rows)
-        yield tag("details", tag("summary", f"{group}: {_cell(rows)}"), tag("div", calls, id=f"{one.anchor}-{group}"))
+    yield listed(surface_output.of_whole(named.surface))
+    for group, rows in surface_output.grouped(named.surface.rows, groups):
+        calls = listed(joined([tag("code", " or ".join(row.names)), f" {row.said}",
+                               *(f"; {detail}" for detail in surface_output.details(row))]) for row in rows)
+        yield tag("details", tag("summary", f"{group}: {_cell(rows)}"), tag("div", calls, id=f"{named.anchor}-{group}"))
 
 
-def matrix(found: Sequence[Named], groups: Groups) -> Iterator[Markup]:
+def matrix(stacks: Sequence[Named], groups: Groups) -> Iterator[Markup]:
     """Groups of syscalls by stacks."""
     yield tag("h2", "Groups of syscalls by stack")
-    by_stack = [dict(surface_output.grouped(it.surface.rows, groups)) if it.surface is not None else {} for it in found]
-    head = ["group", *(tag("a", it.name, href=f"#{it.anchor}") for it in found)]
-    lines = [[group, *(tag("a", _cell(rows[group]), href=f"#{one.anchor}-{group}") if group in rows else DENIED
-                       for one, rows in zip(found, by_stack))]
+    by_stack = [dict(surface_output.grouped(named.surface.rows, groups)) if named.surface is not None else {}
+                for named in stacks]
+    head = ["group", *(tag("a", named.name, href=f"#{named.anchor}") for named in stacks)]
+    lines = [[group, *(tag("a", _cell(rows[group]), href=f"#{named.anchor}-{group}") if group in rows else DENIED
+                       for named, rows in zip(stacks, by_stack))]
              for group in groups.order if any(group in rows for rows in by_stack)]
     yield table(head, lines, "scroll")
 
 
-def dangerous(found: Sequence[Named], table_of: Table) -> Iterator[Markup]:
+def dangerous(stacks: Sequence[Named], table_of: Table) -> Iterator[Markup]:
     """The dangerous syscalls by stacks."""
     yield tag("h2", "Dangerous syscalls by stack")
-    said = [{name: row for row in it.surface.rows for name in row.names} if it.surface is not None else {}
-            for it in found]
+    rows_of = [{name: row for row in named.surface.rows for name in row.names} if named.surface is not None else {}
+               for named in stacks]
     lines: list[list[object]] = []
     for name, danger in watchlist.dangerous().items():
         if table_of.number_of(name) is None:
             continue
-        only = "".join(f" if argument {it.index} has {it.value:#x}" for it in danger.conditions)
+        only = "".join(f" if argument {condition.index} has {condition.value:#x}" for condition in danger.conditions)
         lines.append([joined([tag("code", name), only]),
                       *(tag("span", rows[name].said, class_="good" if rows[name].said == DENIED else "warn")
-                        if name in rows else "not known" for rows in said), danger.reason])
-    yield table(["syscall", *(it.name for it in found), "why"], lines, "scroll")
+                        if name in rows else "not known" for rows in rows_of), danger.reason])
+    yield table(["syscall", *(named.name for named in stacks), "why"], lines, "scroll")
 
 
 def of_blocks(blocks: Sequence[StackSurface]) -> Iterator[Named]:
     """The stacks of `scf surface`, and those that they are compared with."""
     for at, block in enumerate(block for block in blocks if block.filters):
-        told = ", ".join(it.name for it in block.filters)
-        yield Named(f"stack {at}", block.surface, told)
+        names = ", ".join(bpf_filter.name for bpf_filter in block.filters)
+        yield Named(f"stack {at}", block.surface, names)
         if block.beside is not None:
             yield Named(f"beside {at}", block.beside.sides[1], "the filters beside it")
 
 
 def of_surfaces(blocks: Sequence[StackSurface], table_of: Table) -> str:
     """The page of blocks."""
-    groups, found = Groups(), list(of_blocks(blocks))
+    groups, stacks = Groups(), list(of_blocks(blocks))
     return document("What these filters allow", tag("h1", "What these filters allow"), _made_by(),
-                    tag("p", OF_SURFACES, class_="faint"), *matrix(found, groups), *dangerous(found, table_of),
-                    tag("h2", "Stacks"), *(piece for it in found for piece in stack(it, groups)))
+                    tag("p", OF_SURFACES, class_="faint"), *matrix(stacks, groups), *dangerous(stacks, table_of),
+                    tag("h2", "Stacks"), *(piece for named in stacks for piece in stack(named, groups)))

@@ -14,6 +14,8 @@ from .values import Pattern, dataclass
 from .verdicts import Fault
 
 REASON_LINE = Pattern(r"(\w+ \w+) (?:entry ([0-9]+)|(default)|(foreign)|(stub))")
+# What a profile answers to a syscall of an architecture that it isn't judged for, and why, as scf prints it.
+FOREIGN = "KILL_PROCESS 0 foreign"
 BY_STUB = "by the ENOSYS that runc puts before the filter"
 # At most so many characters of an entry are printed.
 LONGEST_ENTRY = 400

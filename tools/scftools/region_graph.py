@@ -12,10 +12,10 @@ from .surface_output import wrapped
 from .tables import Table
 
 # The most names of a node, and the width of their lines; the most lines of an edge.
-MOST_NODE_NAMES, WIDTH, LINES = 40, 60, 12
+MOST_NODE_NAMES, NODE_WIDTH, MOST_EDGE_LINES = 40, 60, 12
 UNTESTED, UNDECIDED_TESTS = "any value", "tests that aren't decided"
 # The conditions on arguments by their names, and the region where they hold together.
-Path = "tuple[dict[str, str], Region]"
+TestedRegion = "tuple[dict[str, str], Region]"
 
 
 def _shown(texts: Sequence[str], most: int) -> list[str]:
@@ -45,10 +45,11 @@ class Picture:
             self.statements.append(f"{name} [label={quoted(label)}];")
             for target, texts in edges.items():
                 lines = [line for text in texts for line in text.replace(" or ", "\nor ").split("\n")]
-                self.statements.append(f"{name} -> {target} [label={quoted(chr(10).join(_shown(lines, LINES)))}];")
+                shown = "\n".join(_shown(lines, MOST_EDGE_LINES))
+                self.statements.append(f"{name} -> {target} [label={quoted(shown)}];")
         return self._names[key]
 
-    def node(self, paths: Sequence[Path]) -> str:
+    def node(self, paths: Sequence[TestedRegion]) -> str:
         """The node from which these paths begin."""
         answers = dict.fromkeys(self._answer(region) for _, region in paths)
         names = [name for tests, _ in paths for name in tests]
@@ -57,7 +58,7 @@ class Picture:
         if not names:
             return self._test(UNDECIDED_TESTS, {answer: [""] for answer in answers})
         tested = max(dict.fromkeys(names), key=names.count)
-        behind: dict[str, list[Path]] = {}
+        behind: dict[str, list[TestedRegion]] = {}
         for tests, region in paths:
             others = {name: text for name, text in tests.items() if name != tested}
             behind.setdefault(tests.get(tested, UNTESTED), []).append((others, region))
@@ -69,7 +70,7 @@ class Picture:
     def syscalls(self, names: Sequence[str], target: str) -> None:
         """The node of syscalls from which their tests, or their answer, follow."""
         first, name = list(names[:MOST_NODE_NAMES]), f"syscalls{len(self.statements)}"
-        lines = wrapped([*(f"{name}," for name in first[:-1]), first[-1]], WIDTH)
+        lines = wrapped([*(f"{name}," for name in first[:-1]), first[-1]], NODE_WIDTH)
         label = "\n".join(lines + _shown(names, MOST_NODE_NAMES)[MOST_NODE_NAMES:])
         self.statements += [f"{name} [label={quoted(label)}];", f"all -> {name};", f"{name} -> {target};"]
 

@@ -4,15 +4,12 @@ from __future__ import annotations
 from collections.abc import Iterator, Sequence
 
 from .architectures import Architecture
-from .entries import Condition
+from .entries import AT_LEAST, AT_MOST, EQUAL, MASKED, NOT_EQUAL, Condition
 from .listing import ARGUMENTS
 from .regions import FREE, GREATEST_WORD, POINTER, Numbers, Region, Word
 from .row_conditions import condition_text, name_of
 from .tables import Table
 from .values import dataclass, field
-
-EQUAL, NOT_EQUAL, AT_LEAST, AT_MOST, MASKED = (f"SCMP_CMP_{operator}"
-                                               for operator in ("EQ", "NE", "GE", "LE", "MASKED_EQ"))
 
 
 @dataclass

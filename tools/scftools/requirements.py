@@ -14,7 +14,7 @@ from .answers import ALLOWED, KILL_PROCESS, Answer
 from .architectures import JUDGED, NATIVE, Architecture, of_machine
 from .calls import Call
 from .engines import PASSED_ON
-from .entries import Object
+from .entries import EQUAL, Object
 from .profiles import ALLOWING
 from .regions import Lookup
 from .strace import Seen
@@ -34,9 +34,6 @@ TAKEN = ("a log that doesn't say its architecture is taken as {}'s, since the pr
          "another")
 # The most entries with conditions for one name, and the most syscalls to judge, each with each of its values.
 CONDITIONS, MOST_WAYS = 64, 2000
-EQUAL = "SCMP_CMP_EQ"
-# What a profile answers to a syscall of an architecture that it isn't judged for, and why, as scf prints it.
-FOREIGN = "KILL_PROCESS 0 foreign"
 # What each least profile allows where an architecture has it: a process calls these, which a log needn't show, to
 # continue after a stop or a signal, and to end.
 ALWAYS_CALLED = ("restart_syscall", "rt_sigreturn", "exit", "exit_group", "sigreturn")
@@ -172,10 +169,10 @@ class Judge:
         if denied:
             call, by = denied[0]
             return Judgement(traced, DEPENDS if allowed else NOT_ALLOWED, by.line, allowed[0][0] if allowed else None,
-                             (call, by.answer), by.line == FOREIGN)
+                             (call, by.answer), by.line == reasons.FOREIGN)
         if allowed:
             return Judgement(traced, ALLOWED, allowed=allowed[0][0])
-        return Judgement(traced, NOT_ALLOWED, FOREIGN, denied=(call, KILL_PROCESS), is_foreign=True)
+        return Judgement(traced, NOT_ALLOWED, reasons.FOREIGN, denied=(call, KILL_PROCESS), is_foreign=True)
 
 
 class Judges:

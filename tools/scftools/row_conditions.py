@@ -13,7 +13,7 @@ from .architectures import I386, Architecture
 from .argument_sets import ALL_ALTERNATIVES, ALL_LISTED, EMPTY_SET, Alternative, TooMany
 from .client import Refusal
 from .constants import Family
-from .entries import LOW_HALF, Condition
+from .entries import AT_LEAST, AT_MOST, EQUAL, LOW_HALF, MASKED, NOT_EQUAL, Condition
 from .filters import Filter
 from .profile_of import UNFINISHED_TEXT, FilterAnswers, ProfileRequest, entry_of, own_steps
 from .questions import EVERYTHING, NOTHING, Asker
@@ -21,7 +21,7 @@ from .surfaces import Row, Surface
 from .values import dataclass
 from .verdicts import NO_LESS, NO_MORE, SAME
 
-SIGNS = {"SCMP_CMP_EQ": "==", "SCMP_CMP_NE": "!=", "SCMP_CMP_LE": "<=", "SCMP_CMP_GE": ">="}
+SIGNS = {EQUAL: "==", NOT_EQUAL: "!=", AT_MOST: "<=", AT_LEAST: ">="}
 # So many alternatives on one argument or more are printed as a set of values, if it has at most so many.
 LEAST_LISTED, MOST_VALUES = 4, 16
 # The most rules that scf takes.
@@ -79,11 +79,11 @@ def _value_text(value: int, family: Family | None) -> str:
 def _values_of(condition: Condition, bits: int) -> tuple[bool, set[int]] | None:
     """Whether a condition compares only the lower half of an argument of 64 bits, and for which values, if these are
     few."""
-    if condition.op == "SCMP_CMP_EQ":
+    if condition.op == EQUAL:
         return False, {condition.value}
     is_half = bits > 32 and condition.value <= LOW_HALF
     free = [1 << at for at in range(32 if is_half else bits) if not condition.value >> at & 1]
-    if condition.op != "SCMP_CMP_MASKED_EQ" or 1 << len(free) > MOST_VALUES:
+    if condition.op != MASKED or 1 << len(free) > MOST_VALUES:
         return None
     values = {condition.two}
     for bit in free:
@@ -107,20 +107,21 @@ def condition_text(condition: Condition, syscall: str, others: Alternative, arch
     """A condition on so many bits of an argument as people write it, among those that hold together, on the
     architecture of this OCI name."""
     syscall = syscall if (architecture, syscall) != IN_MEMORY else ""
-    known = {beside.index: beside.value if beside.op == "SCMP_CMP_EQ" else beside.two for beside in others
-             if beside.op == "SCMP_CMP_EQ" or (beside.op, beside.value) == ("SCMP_CMP_MASKED_EQ", LOW_HALF)}
-    family, name = constants.family_of(syscall, condition.index, known, architecture), name_of(syscall, condition.index)
+    known_values = {beside.index: beside.value if beside.op == EQUAL else beside.two for beside in others
+                    if beside.op == EQUAL or (beside.op, beside.value) == (MASKED, LOW_HALF)}
+    family = constants.family_of(syscall, condition.index, known_values, architecture)
+    name = name_of(syscall, condition.index)
     op, value, bits_met = condition.op, condition.value, condition.two
-    if op == "SCMP_CMP_LE" and family is not None and not family.mask and not value & value + 1 and \
+    if op == AT_MOST and family is not None and not family.mask and not value & value + 1 and \
             family.bit_names(value):
         return f"{name} & ~{_together(_bits_text(value, family))} == 0"
-    if op in ("SCMP_CMP_LE", "SCMP_CMP_GE"):
+    if op in (AT_MOST, AT_LEAST):
         return f"{name} {SIGNS[op]} {_number(value)}"
-    if op != "SCMP_CMP_MASKED_EQ":
+    if op != MASKED:
         return f"{name} {SIGNS[op]} {_value_text(value, family)}"
-    found = _values_of(condition, bits)
-    if found is not None and len(found[1]) > 1 and bits_met and not _are_flags(found[1], family):
-        return _set_text(name, found[0], found[1], family)
+    met = _values_of(condition, bits)
+    if met is not None and len(met[1]) > 1 and bits_met and not _are_flags(met[1], family):
+        return _set_text(name, met[0], met[1], family)
     is_half = value == LOW_HALF
     is_whole = is_half or family is not None and family.mask and value & family.mask == family.mask
     shown = _value_text(bits_met, family) if is_whole and (bits_met or is_half) else \
@@ -130,13 +131,13 @@ def condition_text(condition: Condition, syscall: str, others: Alternative, arch
 
 def _values(alternatives: Sequence[Alternative], bits: int) -> tuple[bool, set[int]] | None:
     """The values of the only argument, or of its lower half, that several alternatives compare, if they are few."""
-    found = [_values_of(condition, bits) for alternative in alternatives for condition in alternative]
+    met = [_values_of(condition, bits) for alternative in alternatives for condition in alternative]
     indices = {tuple(condition.index for condition in alternative) for alternative in alternatives}
-    if len(alternatives) < LEAST_LISTED or len(indices) > 1 or len(found) > len(alternatives) or None in found or \
-            len({is_half for is_half, _ in found}) > 1:
+    if len(alternatives) < LEAST_LISTED or len(indices) > 1 or len(met) > len(alternatives) or None in met or \
+            len({is_half for is_half, _ in met}) > 1:
         return None
-    values = set().union(*(values for _, values in found))
-    return (found[0][0], values) if len(values) <= MOST_VALUES else None
+    values = set().union(*(values for _, values in met))
+    return (met[0][0], values) if len(values) <= MOST_VALUES else None
 
 
 def answer_text(answer: Answer) -> str:
@@ -167,11 +168,11 @@ class Conditions:
     def _where(self, alternatives: Sequence[Alternative]) -> str:
         """Conditions of which some hold."""
         name, architecture = self.names[0], self.architecture
-        found = _values(alternatives, architecture.bits)
-        if found is not None:
+        listed = _values(alternatives, architecture.bits)
+        if listed is not None:
             index = alternatives[0][0].index
             family = constants.family_of(name, index, {}, architecture.oci)
-            return _set_text(name_of(name, index), *found, family)
+            return _set_text(name_of(name, index), *listed, family)
         return " or ".join(" and ".join(condition_text(condition, name, alternative, architecture.oci,
                                                        architecture.bits) for condition in alternative)
                            for alternative in alternatives)

@@ -191,11 +191,11 @@ class Surface:
     @property
     def other_machines(self) -> list[Architecture]:
         """The architectures of other machines of which some syscall isn't denied, if this machine's are all denied."""
-        own = {self.asker.architecture, *(access.abi for access in self.foreign)}
+        known_abis = {self.asker.architecture, *(access.abi for access in self.foreign)}
         is_denied = {*self.counts} == {DENIED} and not self.unnamed.not_denied and not self.unnamed.undecided and \
             other_abis.are_none(self.foreign)
         return [architecture for architecture in JUDGED.values() if is_denied and self.foreign
-                and architecture not in own
+                and architecture not in known_abis
                 and other_abis.of_abi(self.asker.filters, self.regions, architecture).not_denied is not None]
 
     def add_others(self) -> None:

@@ -98,18 +98,18 @@ def read_words():
 
 def read_files(names, table, options):
     """The profile and the filters among some files, told apart by their first bytes: a profile is an object."""
-    profile, found = None, []
+    profile, stack = None, []
     reading = runtimes.reading_of(options.runtime)
     for name in names:
         data = inputs.read(name, "profile")
         if not profile_inputs.looks_like_profile(data):
-            found.append(filters.filter_in(name, data))
+            stack.append(filters.filter_in(name, data))
         elif profile is not None:
             raise program.ToolError(f"'{name}' is a second profile: give one, and filters")
         else:
             profile = profiles.read_as(profile_inputs.profile_in(data, name, options.caps).data, reading)
     trial = trials.Trial(replace(tables.native_alone(table.data), reading=reading))
-    return causes.Inputs(trial, profile, found, options.native)
+    return causes.Inputs(trial, profile, stack, options.native)
 
 
 def started(process):
@@ -154,10 +154,10 @@ def of_process(options, files, table):
     that it has, if it runs."""
     begun = started(options.pid)
     since = None if begun is None else begun - TOLERANCE
-    found = events.read((line for line in records() if audit_records.is_of(line, options.pid, since)), table)
+    log = events.read((line for line in records() if audit_records.is_of(line, options.pid, since)), table)
     if not options.words:
-        files = causes.Inputs(files.trial, None, filters_of(options.pid) if begun is not None and found.events else [])
-    return found, files
+        files = causes.Inputs(files.trial, None, filters_of(options.pid) if begun is not None and log.events else [])
+    return log, files
 
 
 def read(options, files, table):
@@ -165,9 +165,9 @@ def read(options, files, table):
     if options.core is not None:
         from . import cores  # pylint: disable=import-outside-toplevel
 
-        found = events.EventLog()
-        found.add(cores.read(options.core))
-        return found, files
+        log = events.EventLog()
+        log.add(cores.read(options.core))
+        return log, files
     if options.pid is not None:
         return of_process(options, files, table)
     lines = strace.lines("-") if options.line == "-" else options.line.split("\n")
@@ -178,8 +178,8 @@ def main():
     options = read_words()
     table = tables.read(options.table)
     files = read_files(options.words, table, options)
-    found, files = read(options, files, table)
-    report = cause_report.of(found, files, options.all)
+    log, files = read(options, files, table)
+    report = cause_report.of(log, files, options.all)
     if options.pid is not None:
         report.lacking = lacking(options.pid)
     if options.json:

@@ -149,7 +149,8 @@ def seccomp_in(value: Any, name: str) -> dict[str, Any] | None:
     linux = member(value, "linux", name)
     seccomp = None if linux is None else member(linux, "seccomp", name)
     says = [profiles.folded(member_name) for member_name in ("defaultAction", "syscalls")]
-    is_empty = isinstance(seccomp, dict) and not any(it for one, it in seccomp.items() if profiles.folded(one) in says)
+    is_empty = isinstance(seccomp, dict) and not any(given for member_name, given in seccomp.items()
+                                                     if profiles.folded(member_name) in says)
     return None if seccomp is None or is_empty else {"linux": {"seccomp": seccomp}}
 
 

@@ -32,7 +32,8 @@ def _has(index: int, mask: int, value: int) -> Condition:
 # futex_wait_restart): sleeps that aren't until a time (TIMER_ABSTIME is 1), poll, and FUTEX_WAIT and FUTEX_WAIT_BITSET
 # (0 and 9 under FUTEX_CMD_MASK) with a timeout. Others, as ppoll and select, begin anew or end with EINTR. Those of
 # time64 are i386's and arm's.
-_IS_NO_TIME, _WAITS = (_has(1, 1, 0),), [(_has(1, 0x7F, it), Condition(3, "SCMP_CMP_NE", 0, 0)) for it in (0, 9)]
+_IS_NO_TIME = (_has(1, 1, 0),)
+_WAITS = [(_has(1, 0x7F, operation), Condition(3, "SCMP_CMP_NE", 0, 0)) for operation in (0, 9)]
 RESTARTED: tuple[tuple[str, tuple[Condition, ...]], ...] = (
     ("nanosleep", ()), ("clock_nanosleep", _IS_NO_TIME), ("clock_nanosleep_time64", _IS_NO_TIME), ("poll", ()),
     *((name, waits) for name in ("futex", "futex_time64") for waits in _WAITS))
@@ -84,33 +85,33 @@ class Dangerous:
 @functools.lru_cache(None)
 def dangerous() -> dict[str, Dangerous]:
     """The syscalls that make a sandbox useless, from the list."""
-    found: dict[str, Dangerous] = {}
+    calls: dict[str, Dangerous] = {}
     for line in program.lines_of("dangerous.calls"):
         parts = LINE.fullmatch(line.strip())
         if parts:
             bits = int(parts[3], 16) if parts[3] else None
             conditions = () if bits is None else (_has(int(parts[2]), bits, bits),)
-            found[parts[1]] = Dangerous(parts[4], conditions)
-    return found
+            calls[parts[1]] = Dangerous(parts[4], conditions)
+    return calls
 
 
 @functools.lru_cache(None)
 def meant() -> dict[str, list[tuple[Condition, ...]]]:
     """The syscalls that are looked for, each with the conditions of which its arguments are to meet some."""
-    found: dict[str, list[tuple[Condition, ...]]] = {}
-    for name, conditions in (*((name, it.conditions) for name, it in dangerous().items()),
-                             *(it for one in NEEDED for it in (*one.users, (one.name, ())))):
-        found.setdefault(name, []).append(conditions)
-    return found
+    conditions_of: dict[str, list[tuple[Condition, ...]]] = {}
+    for name, conditions in (*((name, danger.conditions) for name, danger in dangerous().items()),
+                             *(user for needed in NEEDED for user in (*needed.users, (needed.name, ())))):
+        conditions_of.setdefault(name, []).append(conditions)
+    return conditions_of
 
 
 class Watch:
     """What a profile with these regions allows of the list to an architecture, with some or with all arguments; nothing
     is known if they are None, which is unfinished."""
 
-    def __init__(self, one: Architecture, table: Table, found: Sequence[Region] | None):
-        self.architecture, self.table, self.is_finished = one, table, found is not None
-        self._numbers, self._sets = Numbers(found, one), Sets(one.bits, Steps())
+    def __init__(self, architecture: Architecture, table: Table, profile_regions: Sequence[Region] | None):
+        self.architecture, self.table, self.is_finished = architecture, table, profile_regions is not None
+        self._numbers, self._sets = Numbers(profile_regions, architecture), Sets(architecture.bits, Steps())
         self._allowed: dict[str, tuple[Region, tuple[int, ...]] | None] = {}
 
     def has(self, name: str) -> bool:
@@ -128,17 +129,18 @@ class Watch:
         return self._allowed[name]
 
     def _find_allowed(self, name: str) -> tuple[Region, tuple[int, ...]] | None:
-        sets, those = self._sets, meant()[name]
-        for one in self.regions_of(name):
-            if one.answer is not None and one.answer.allows:
-                found = sets.both(arguments_of(sets, one), sets.union(sets.of_conditions(it) for it in those))
-                if found:
-                    return one, sets.least(sets.possible(found))
+        sets = self._sets
+        for region in self.regions_of(name):
+            if region.answer is not None and region.answer.allows:
+                arguments = sets.both(arguments_of(sets, region), sets.union(map(sets.of_conditions, meant()[name])))
+                if arguments:
+                    return region, sets.least(sets.possible(arguments))
         return None
 
     def denied(self, name: str) -> Region | None:
         """A region in which a syscall isn't allowed."""
-        return next((it for it in self.regions_of(name) if it.answer is not None and not it.answer.allows), None)
+        return next((region for region in self.regions_of(name)
+                     if region.answer is not None and not region.answer.allows), None)
 
     def how(self, name: str) -> str | None:
         """How a syscall is allowed, None if it isn't: a verdict if that is undecided."""
@@ -149,25 +151,25 @@ class Watch:
     def at(self, name: str, first: int = 0) -> Region | None:
         """The region of a syscall with this first argument, and zeros behind it."""
         given = {index: first if index == 0 else 0 for index in range(6)}
-        return next((it for it in self.regions_of(name) if it.has(given)), None)
+        return next((region for region in self.regions_of(name) if region.has(given)), None)
 
-    def users(self, one: Needed) -> list[str]:
+    def users(self, needed: Needed) -> list[str]:
         """The users of a syscall that are allowed, or of which that is undecided."""
-        return [name for name in dict.fromkeys(name for name, _ in one.users)
+        return [name for name in dict.fromkeys(name for name, _ in needed.users)
                 if self.has(name) and (not self.is_finished or self.allowed(name))]
 
-    def lacks(self, one: Needed) -> bool | None:
+    def lacks(self, needed: Needed) -> bool | None:
         """Whether a syscall isn't always allowed, but users of it are, and whether that is decided; None if it is."""
-        if not self.users(one) or self.is_finished and not self.denied(one.name):
+        if not self.users(needed) or self.is_finished and not self.denied(needed.name):
             return None
         return self.is_finished
 
     def keeps_from(self, newer: str, older: str, first_arguments: Sequence[int]) -> Region | None:
         """The denial of a newer syscall by which libc doesn't call the older one, which is allowed; None if there is
         none."""
-        denied, instead = self.at(newer), [self.at(older, it) for it in first_arguments]
+        denied, instead = self.at(newer), [self.at(older, argument) for argument in first_arguments]
         is_kept = denied and denied.answer.denies and denied.answer != ENOSYS and \
-            any(it and it.answer.allows for it in instead)
+            any(region and region.answer.allows for region in instead)
         return denied if is_kept else None
 
     def void(self, name: str, conditional: Collection[str]) -> tuple[int, Answer, tuple[str, ...]] | None:
@@ -177,19 +179,19 @@ class Watch:
         if name in conditional or denied is None or denied.entry is None or denied.answer == ENOSYS or \
                 not denied.answer.denies:
             return None
-        others = {it: self.at(it) for it in SIBLINGS[name].split() if it not in conditional}
-        allowed = tuple(it for it, one in others.items() if one is not None and one.answer.allows)
+        others = {sibling: self.at(sibling) for sibling in SIBLINGS[name].split() if sibling not in conditional}
+        allowed = tuple(sibling for sibling, region in others.items() if region is not None and region.answer.allows)
         return (denied.entry, denied.answer, allowed) if allowed else None
 
 
 def _allowed(name: str, danger: Dangerous, watch: Watch, owners: Owners) -> Finding:
     """A dangerous syscall that is allowed, always or with some arguments, or of which that is undecided."""
-    number, how, found = watch.table.number_of(name) or 0, watch.how(name), watch.allowed(name)
+    number, how, allowed = watch.table.number_of(name) or 0, watch.how(name), watch.allowed(name)
     more: dict[str, object] = {"name": name, "number": number, "reason": danger.reason}
-    if found is None:
+    if allowed is None:
         return Finding("dangerous-call", f"undecided whether {owners.named(name, number)} is allowed: {how}"
                        f"{owners.also}", {**more, **owners.as_json()}, False)
-    region, arguments = found
+    region, arguments = allowed
     shown = list(map(hex, arguments))
     some = "" if how == ALWAYS else f" with some arguments, such as {' '.join(shown)},"
     called = owners.named(" or ".join(watch.table.names_of(number)), number)
@@ -210,7 +212,7 @@ def of_dangerous(judged: Tables, watches: Mapping[str, Watch]) -> Iterator[Findi
     """The dangerous syscalls that are allowed, or of which that is undecided; what the default allows together."""
     by_default: dict[Owners, list[str]] = {}
     for name, danger in dangerous().items():
-        how = {one: watch.how(name) for one, watch in watches.items() if watch.has(name)}
+        how = {oci: watch.how(name) for oci, watch in watches.items() if watch.has(name)}
         for answer, owners in by_owners(how, judged):
             allowed = watches[owners.first].allowed(name)
             if answer == ALWAYS and allowed and allowed[0].entry is None:
@@ -222,22 +224,22 @@ def of_dangerous(judged: Tables, watches: Mapping[str, Watch]) -> Iterator[Findi
             _allowed(names[0], dangerous()[names[0]], watches[owners.first], owners)
 
 
-def _lacking(one: Needed, watch: Watch, owners: Owners) -> Finding:
-    users, denied = watch.users(one), watch.denied(one.name)
+def _lacking(needed: Needed, watch: Watch, owners: Owners) -> Finding:
+    users, denied = watch.users(needed), watch.denied(needed.name)
     more: dict[str, object] = {"names": users, **owners.as_json()}
-    called = owners.named(one.name, watch.table.number_of(one.name) or 0)
+    called = owners.named(needed.name, watch.table.number_of(needed.name) or 0)
     if denied is None:
-        return Finding(one.kind, f"undecided whether {called} is always allowed{owners.also}", more, False)
-    return Finding(one.kind, f"{listed(users, 'and')} {'is' if len(users) == 1 else 'are'} allowed, and {called} "
-                   f"is not: {one.why} is answered {denied.by} {denied.answer.describe()}{owners.also}",
+        return Finding(needed.kind, f"undecided whether {called} is always allowed{owners.also}", more, False)
+    return Finding(needed.kind, f"{listed(users, 'and')} {'is' if len(users) == 1 else 'are'} allowed, and {called} "
+                   f"is not: {needed.why} is answered {denied.by} {denied.answer.describe()}{owners.also}",
                    {**more, "entry": denied.entry})
 
 
 def of_needed(judged: Tables, watches: Mapping[str, Watch]) -> Iterator[Finding]:
     """A finding if a syscall isn't always allowed, but others that need it are, or if that is undecided."""
-    for one in NEEDED:
-        is_decided = {name: watch.lacks(one) for name, watch in watches.items() if watch.has(one.name)}
-        yield from (_lacking(one, watches[owners.first], owners) for _, owners in by_owners(is_decided, judged))
+    for needed in NEEDED:
+        is_decided = {name: watch.lacks(needed) for name, watch in watches.items() if watch.has(needed.name)}
+        yield from (_lacking(needed, watches[owners.first], owners) for _, owners in by_owners(is_decided, judged))
 
 
 def of_fallbacks(judged: Tables, watches: Mapping[str, Watch]) -> Iterator[Finding]:
@@ -245,20 +247,20 @@ def of_fallbacks(judged: Tables, watches: Mapping[str, Watch]) -> Iterator[Findi
     for newer, older, first_arguments in FALLBACKS:
         numbers = judged.numbers_of(newer)
         denials = {name: watches[name].keeps_from(newer, older, first_arguments) for name in numbers}
-        kept = {name: it and (it.answer, it.by, it.entry) for name, it in denials.items()}
-        for (answer, by, entry), owners in by_owners(kept, judged):
+        denial_of = {name: denial and (denial.answer, denial.by, denial.entry) for name, denial in denials.items()}
+        for (answer, by, entry), owners in by_owners(denial_of, judged):
             yield Finding("no-fallback", f"{owners.named(newer, numbers[owners.first])} is answered {by} {answer}, and "
                           f"{older} is allowed: libc calls {older} instead only after ENOSYS, which is errno "
                           f"{ENOSYS.data}{owners.also}",
                           {"name": newer, "instead": older, "entry": entry, **owners.as_json()})
 
 
-def of_siblings(judged: Tables, watches: Mapping[str, Watch], found: Sequence[Entry]) -> Iterator[Finding]:
+def of_siblings(judged: Tables, watches: Mapping[str, Watch], entries: Sequence[Entry]) -> Iterator[Finding]:
     """Denials by an entry that another syscall makes void. One with ENOSYS isn't meant to keep a program from anything,
     but to lead it to the other one; entries with conditions are left out."""
-    conditional = {name for it in found if it.conditions for name in it.names}
-    for name in dict.fromkeys(name for it in found for name in it.names if name in SIBLINGS):
-        void = {one: watches[one].void(name, conditional) for one in judged.numbers_of(name)}
+    conditional = {name for entry in entries if entry.conditions for name in entry.names}
+    for name in dict.fromkeys(name for entry in entries for name in entry.names if name in SIBLINGS):
+        void = {oci: watches[oci].void(name, conditional) for oci in judged.numbers_of(name)}
         for (entry, answer, others), on in by_owners(void, judged):
             yield Finding("sibling-allowed", f"{name} is denied{on.where} by entry {entry} ({answer}), and "
                           f"{listed(others, 'and')}, which can do the same, {'is' if len(others) == 1 else 'are'} "

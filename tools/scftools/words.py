@@ -176,7 +176,8 @@ class Parser(argparse.ArgumentParser):
         options = sys.argv[1:sys.argv.index("--")] if "--" in sys.argv else sys.argv[1:]
         given = (word.partition("=")[0] for word in options)
         flags = [flag for action in self._actions for flag in action.option_strings]
-        wrong = next((it for it in given if re.fullmatch("--?[A-Za-z][A-Za-z0-9-]+", it) and it not in flags), None)
+        wrong = next((word for word in given
+                      if re.fullmatch("--?[A-Za-z][A-Za-z0-9-]+", word) and word not in flags), None)
         shown = [flag for action in self._actions if action.help != argparse.SUPPRESS for flag in action.option_strings]
         if wrong is None:
             return None
