@@ -4,16 +4,12 @@ import itertools
 import json
 import os
 import random
-import sys
 
-from support.common import (ALLOW, CORE, EPERM, KILL_PROCESS, TOP, X32, X86_64, Case, filter_of, insn, jeq, jge, load,
+from support.common import (ALLOW, CORE, EPERM, KILL_PROCESS, X32, X86_64, Case, filter_of, insn, jeq, jge, load,
                             part, ret)
 from support.confined import NEWEST, OLDEST, Confined, here
 from support.stand_in import StandIn
-
-sys.path.append(os.path.join(TOP, "tools"))
-
-from scftools import answers, calls  # noqa: E402
+from scftools import answers, calls
 
 READ, WRITE, SOCKET, CLONE = 0, 1, 41, 56
 ENOSYS, TRACE, LOG = 0x00050026, 0x7FF00000, 0x7FFC0000

@@ -2,14 +2,11 @@
 import fcntl
 import os
 import signal
-import sys
 import time
 from unittest import mock
 
-from support.common import TOP, Case, comes
-
-sys.path.insert(0, os.path.join(TOP, "tools"))
-from scftools import child, program  # noqa: E402 pylint: disable=wrong-import-position
+from support.common import Case, comes
+from scftools import child, program
 
 
 class Child(Case):

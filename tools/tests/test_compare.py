@@ -2,11 +2,9 @@
 import json
 import os
 import re
-import shutil
-import unittest
 
 from support.common import (ALLOW, CORE, EPERM, I386, KILL_PROCESS, KILL_THREAD, TABLE, UNKNOWN_ZERO, X86_64, Case,
-                            filter_of, insn, jeq, jge, load, needs, part, profile_of, ret, tool)
+                            filter_of, insn, jeq, jge, load, needs, part, profile_of, ret)
 from scftools import bundles, client, compare, profiles, tables
 
 READ, WRITE, EXIT_GROUP = 0, 1, 231
@@ -100,20 +98,6 @@ class Compare(Case):
             self.assertIn(f"call nr {number} arch {arch:#x} ", out)
             self.assertIn(f"# the syscall is {says}", out)
 
-    def test_pipes_and_standard_input(self):
-        for words, given in ((("-", self.profile), filter_of([READ, WRITE])),
-                             ((self.same, "-"), profile_of("read", "write")),
-                             ((self.same, "/dev/stdin"), profile_of("read", "write"))):
-            self.assertEqual(self.run_tool("compare", *words, given=given), (0, "same\n", ""))
-        status, out, err = self.run_tool("compare", "-", "-")
-        self.assertEqual((status, out), (2, ""))
-        self.assertIn("only one input can be '-'", err)
-
-    @unittest.skipUnless(shutil.which("bash"), "there is no bash here")
-    def test_pipes_of_a_shell(self):
-        self.assertEqual(self.run_words(["bash", "-c", '"$1" --table <(cat "$2") <(cat "$3") <(cat "$4")', "-",
-                                         tool("compare"), TABLE, self.same, self.profile]), (0, "same\n", ""))
-
     def test_a_whole_config(self):
         config = b'{"ociVersion":"1.0.2","linux":{"seccomp":' + profile_of("read", "write") + b"}}"
         self.assertEqual(self.run_tool("compare", self.same, self.file("config.json", config)), (0, "same\n", ""))
@@ -128,15 +112,6 @@ class Compare(Case):
                                                   self.file("f.bpf", data), allows)[1])
                 members = report["calls"][0] if words == ("--calls",) else report
                 self.assertEqual(members["call"]["pointer"], pointer, (words, report))
-
-    def test_wrong_files(self):
-        for words in (("none.bpf", self.profile), (self.same, "none.json"), (self.folder, self.profile),
-                      (self.same, self.folder),
-                      ("--table", "none", self.same, self.profile), ("--table", self.folder, self.same, self.profile)):
-            status, out, err = self.run_tool("compare", *words)
-            self.assertEqual((status, out), (2, ""), words)
-            self.assertNotEqual(err, "")
-            self.assertNotIn("Traceback", err)
 
     def test_faults_have_their_sentence(self):
         status, out, _ = self.run_tool("compare", self.file("jump.bpf", jeq(0, 9, 0) + ret(ALLOW)), self.profile)
@@ -253,10 +228,6 @@ class Compare(Case):
             status, out, _ = self.run_tool("compare", "--native", self.wrong, profile)
             self.assertEqual(status, 1)
             self.assertTrue(out.endswith(f"{added}# syscalls in the table that differ: 1\n# {call}\n"), out)
-
-    def test_output_that_fails(self):
-        status, _, err = self.closed_output("compare", self.wrong, self.profile)
-        self.assertEqual((status, err), (3, "compare: the output failed: No space left on device\n"))
 
     @needs("--native")
     def test_native(self):
@@ -525,12 +496,6 @@ class Decide(Case):
         self.assertEqual((status, out), (2, ""))
         self.assertIn("the table has no syscall 'no_such_call'", err)
 
-    @unittest.skipUnless(shutil.which("bash"), "there is no bash here")
-    def test_pipes_of_a_shell(self):
-        out = self.run_words(["bash", "-c", '"$1" --table <(echo own 1) --nr own <(cat "$2")', "-", tool("decide"),
-                              self.filter])[1]
-        self.assertTrue(out.startswith("ERRNO 1\n# the syscall is own (1)\n"), out)
-
     def test_each_option_is_handed_on(self):
         for at in range(6):
             for half in range(2):
@@ -576,11 +541,6 @@ class Decide(Case):
             status, out, err = self.run_tool("decide", *words)
             self.assertEqual((status, out), (2, ""), words)
             self.assertNotIn("Traceback", err)
-
-    def test_output_that_fails(self):
-        status, _, err = self.closed_output("decide", "--nr=0", self.filter)
-        self.assertEqual(status, 3)
-        self.assertIn("the output failed", err)
 
 
 class Explain(Case):

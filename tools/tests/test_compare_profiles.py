@@ -2,20 +2,16 @@
 import json
 import os
 import random
-import sys
 import unittest
 
-from support.common import TABLE, TOP, Case, ret, tool
+from support.common import TABLE, Case, ret, tool
 from support.confined import ended, started
 from test_why import reading
-
-sys.path.append(os.path.join(TOP, "tools"))
-
-import kernel_profiles  # noqa: E402
-from kernel_profiles import answer_of  # noqa: E402
-from scftools import changes, tables  # noqa: E402
-from scftools.calls import Call  # noqa: E402
-from scftools.profile_inputs import ProfileInput  # noqa: E402
+import kernel_profiles
+from kernel_profiles import answer_of
+from scftools import changes, tables
+from scftools.calls import Call
+from scftools.profile_inputs import ProfileInput
 
 ALLOW, ERRNO = "SCMP_ACT_ALLOW", "SCMP_ACT_ERRNO"
 NOT_40 = [{"index": 0, "value": 40, "op": "SCMP_CMP_NE"}]
@@ -212,15 +208,6 @@ class Program(Case):
         status, out, err = self.run_tool("compare-profiles", "none", "none")
         self.assertEqual((status, out, err), (2, "", "compare-profiles: there is no file 'none'\n"))
 
-    def test_inputs_without_an_end(self):
-        given = self.file("p.json", READ_WRITE)
-        for words, status, says in (((given, "/dev/zero"), 3, "fault profile TooLong"),
-                                    (("--caps=none", "/dev/zero", given), 2, "has more than 4194304 bytes"),
-                                    (("--table=/dev/zero", given, given), 2, "has more than 4194304 bytes")):
-            exit_status, out, err = self.run_tool("compare-profiles", *words)
-            self.assertEqual(exit_status, status, words)
-            self.assertIn(says, out + err)
-
     def test_unfinished(self):
         status, lines = self.compared(READ_WRITE, READ_WRITE, "--limit", "0", "--table",
                                       self.file("t", b"read 0\nwrite 1\n"))
@@ -253,11 +240,6 @@ esac
         self.assertEqual(out.count("\n# not known: allow more splits and steps, --splits N --limit N\n"), 1)
         status, out, _ = self.run_words([os.path.join(tree, "tools", "compare-profiles"), "--no-more", given, given])
         self.assertEqual((status, out.split("\n")[0]), (4, "undecided at 3".partition(" ")[0]))
-
-    def test_output_that_fails(self):
-        given = self.file("p.json", READ_WRITE)
-        status, _, err = self.closed_output("compare-profiles", given, given)
-        self.assertEqual((status, err), (3, "compare-profiles: the output failed: No space left on device\n"))
 
 
 class Engines(Case):
@@ -460,11 +442,3 @@ class RandomProfiles(unittest.TestCase):
                 self.assertIn(MORE if degree(before) < degree(after) else LESS, kinds, (old, new, call))
             elif before != after:
                 self.assertTrue(kinds, (old, new, call))
-
-
-class TheTable(unittest.TestCase):
-    def test_the_names_of_these_tests(self):
-        with open(TABLE, "rb") as file:
-            table = tables.Table(file.read())
-        for name, number in (("read", 0), ("write", 1), ("open", 2), ("socket", 41), ("mount", 165)):
-            self.assertEqual(table.number_of(name), number)

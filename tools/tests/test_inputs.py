@@ -74,6 +74,11 @@ class Limits(Case):
                     (("compile", "--table", endless, self.profile), 2, table),
                     (("explain", "--table", endless, "same"), 2, table),
                     (("bundle", "filter", endless), 2, f"has more than {FILTER} bytes"),
+                    (("surface", endless), 3, too_long), (("surface", "--table", endless, self.filter), 2, table),
+                    (("surface", self.filter, "--beside", endless), 3, too_long),
+                    (("compare-profiles", self.profile, endless), 3, "fault profile TooLong\n"),
+                    (("compare-profiles", "--caps=none", endless, self.profile), 2, table),
+                    (("compare-profiles", "--table", endless, self.profile, self.profile), 2, table),
                     (("bundle", "profile", endless), 2, table), (("bundle", "table", endless), 2, table)):
                 with self.subTest(words=words):
                     self.ends(words, status, says)
@@ -188,6 +193,7 @@ class Words(Case):
             table = file.read()
         for words, given in ((("compare", "-", self.profile), filter_of([0])),
                              (("compare", self.filter, "-"), profile_of("read")),
+                             (("compare", self.filter, "/dev/stdin"), profile_of("read")),
                              (("compare", "--table=-", self.filter, self.profile), table),
                              (("decide", "--table=-", self.filter), table),
                              (("decide", "--calls-from=-", self.filter), b"read\n"), (("run", "-"), filter_of([0])),
@@ -204,7 +210,8 @@ class Words(Case):
 
     @unittest.skipUnless(shutil.which("bash"), "there is no bash here")
     def test_pipes_of_a_shell(self):
-        for words in ('compare <(cat "$1") <(cat "$2")', 'decide --calls-from <(echo read) <(cat "$1")',
+        for words in ('compare --table <(echo read 0) <(cat "$1") <(cat "$2")',
+                      'decide --calls-from <(echo read) <(cat "$1")',
                       'run <(cat "$1")', 'check <(cat "$1") <(cat "$1")', 'list <(cat "$1")',
                       'compile --table <(echo read 0) <(cat "$2") >/dev/null'):
             done = self.run_words(["bash", "-c", f'"$0"/{words}', os.path.dirname(tool("")), self.filter,
@@ -212,13 +219,17 @@ class Words(Case):
             self.assertEqual(done[0::2], (0, ""), words)
 
     def test_files_that_are_not_there(self):
-        for words in (("compare", "none", self.profile), ("decide", "none"), ("run", "none"), ("check", "none"),
-                      ("list", "none"), ("compile", "none"), ("decide", "--calls-from=none", self.filter),
+        for words in (("compare", "none", self.profile), ("compare", self.filter, "none"),
+                      ("compare", "--table", "none", self.filter, self.profile), ("decide", "none"),
+                      ("run", "none"), ("check", "none"), ("list", "none"), ("compile", "none"),
+                      ("decide", "--calls-from=none", self.filter),
                       ("explain", "--table=none", "same"), ("bundle", "filter", "none")):
             status, out, err = self.run_tool(*words)
             self.assertEqual((status, out), (2, ""), words)
             self.assertIn("there is no file 'none'", err)
-        for words in (("run", self.folder), ("check", self.folder), ("compile", self.folder), ("run", "")):
+        for words in (("run", self.folder), ("check", self.folder), ("compile", self.folder), ("run", ""),
+                      ("compare", self.folder, self.profile), ("compare", self.filter, self.folder),
+                      ("compare", "--table", self.folder, self.filter, self.profile)):
             status, out, err = self.run_tool(*words)
             self.assertEqual((status, out), (2, ""), words)
             self.assertNotIn("Traceback", err)

@@ -172,7 +172,3 @@ class Owners(unittest.TestCase):
                     self.assertEqual(kernel.owner_of(child.pid, 12345 if "unshare" not in command else 7), 12345)
                 finally:
                     child.kill()
-
-
-if __name__ == "__main__":
-    unittest.main()

@@ -11,7 +11,6 @@ from support.common import (ALLOW, EPERM, I386, TABLE, UNKNOWN_ZERO, X86_64, Cas
                             part, ret)
 from support.stand_in import StandIn
 from test_surface import gate, of_number
-
 from scftools import architectures, client, flow_graph, regions, tables
 from scftools.calls import Call
 from scftools.program import ToolError
@@ -254,7 +253,3 @@ class Reader(unittest.TestCase):
             client.answers = lambda *_, status=status, out=out: client.Run(status, out)
             with self.assertRaises(ToolError):
                 regions.of_filters([])
-
-
-if __name__ == "__main__":
-    unittest.main()

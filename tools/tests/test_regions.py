@@ -224,7 +224,3 @@ class OfProgram(Regions):
             return None
         self.assertEqual(done.returncode, 0, done.stdout[:99])
         return done.stdout.decode()
-
-
-if __name__ == "__main__":
-    unittest.main()

@@ -2,20 +2,15 @@
 machine's answers to each call at which something can change; and foreign calls."""
 import itertools
 import json
-import os
 import re
-import sys
 from unittest import mock
 
-from support.common import (ALLOW, CORE, EPERM, I386, KILL_PROCESS, KILL_THREAD, TOP, X32, X86_64, Case, filter_of,
+from support.common import (ALLOW, CORE, EPERM, I386, KILL_PROCESS, KILL_THREAD, X32, X86_64, Case, filter_of,
                             gate, insn, jeq, jge, load, needs, part, ret)
 from support.confined import Confined, here
 from support.stand_in import StandIn
-
-sys.path.append(os.path.join(TOP, "tools"))
-
-import kernel_profiles  # noqa: E402
-from scftools import answers, calls, client, other_abis, tables  # noqa: E402
+import kernel_profiles
+from scftools import answers, calls, client, other_abis
 
 READ, WRITE, SOCKET, GETPID, EXIT_GROUP = 0, 1, 41, 39, 231
 ENOSYS, TRAP, USER_NOTIF, TRACE, LOG = 0x00050026, 0x00030000, 0x7FC00000, 0x7FF00000, 0x7FFC0000
@@ -186,10 +181,6 @@ class Relations(Case):
         """Of the stack that holds only together, neither filter does by itself."""
         for number in PAIRS["only both together"][0]:
             self.assertEqual(self.judged([number], ALLOWS_READ, "no more", "all"), "more")
-
-    def test_both_flags(self):
-        for options in (["--no-more", "--no-less"], ["--no-less", "--no-more", "--native"]):
-            self.assertEqual(self.says([ret(ALLOW)], ALLOWS, *options), (2, ["fault command Flags"]))
 
     def test_a_limit(self):
         for relation in RELATIONS.values():
@@ -395,10 +386,3 @@ class VerifyProcess(Confined):
         self.assertEqual((report["verdict"], stack["relation"]), ("no more", "no more"))
         self.assertEqual(stack["foreign"], [{"kind": kind.name, "is_decided": True, "not_denied": []}
                                             for kind in other_abis.ABIS])
-
-
-class TheTable(Case):
-    def test_the_names_of_these_tests(self):
-        table = tables.read(None)
-        for name, number in NAMES.items():
-            self.assertEqual(table.number_of(name), number, name)

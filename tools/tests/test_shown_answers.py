@@ -3,7 +3,6 @@ it is an internal error, and no verdict."""
 import json
 import os
 import stat
-import unittest
 from unittest import mock
 
 from support.common import PROGRAM, Case, filter_of, profile_of
@@ -99,7 +98,3 @@ class Modules(Case):
             block = judge.judge(stack, Request(profile_of("read"), judge.table))
         self.assertEqual((block.verdict, block.why[:42]),
                          (audit.NOT_KNOWN, "internal error: the filters answer ERRNO 1"))
-
-
-if __name__ == "__main__":
-    unittest.main()

@@ -11,22 +11,18 @@ import re
 import shutil
 import struct
 import subprocess
-import sys
 import termios
 import unittest
 from unittest import mock
 
-from support.common import (ALLOW, EPERM, I386, KILL_PROCESS, KILL_THREAD, PROGRAM, TABLE, TOP, UNKNOWN_ZERO, X32,
+from support.common import (ALLOW, EPERM, I386, KILL_PROCESS, KILL_THREAD, TABLE, TOP, UNKNOWN_ZERO, X32,
                             X86_64, Case, filter_of, gate, insn, jeq, jge, load, ret, tool)
 from support.confined import NEWEST, OLDEST, Confined, here
 from support.stand_in import StandIn
 from test_why import random_filter
-
-sys.path.append(os.path.join(TOP, "tools"))
-
-from scftools import (answers, architectures, client, processes, questions, stack_surfaces,  # noqa: E402
+from scftools import (answers, architectures, client, processes, questions, stack_surfaces,
                       surface_output, surfaces, tables)
-from scftools.calls import Call  # noqa: E402
+from scftools.calls import Call
 
 READ, WRITE, GETPID, SOCKET, EXIT_GROUP = 0, 1, 39, 41, 231
 NAMES = {"read": READ, "write": WRITE, "getpid": GETPID, "socket": SOCKET, "exit_group": EXIT_GROUP, "too": READ}
@@ -532,14 +528,6 @@ class Program(Case):
         status, _, err = self.closed_output("surface", self.file("f", good))
         self.assertEqual((status, err.split("\n")[0]), (3, "surface: the output failed: No space left on device"))
 
-    def test_inputs_without_an_end(self):
-        for words, status, says in ((("/dev/zero",), 3, "fault filter TooLong"),
-                                    (("--table=/dev/zero", "f"), 2, "has more than 4194304 bytes"),
-                                    ((self.file("f", ret(ALLOW)), "--beside", "/dev/zero"), 3, "fault filter TooLong")):
-            exit_status, out, err = self.run_tool("surface", *words)
-            self.assertEqual(exit_status, status, words)
-            self.assertIn(says, out + err)
-
     def test_what_is_not_understood_ends_it(self):
         """Of a call without a line the relation is taken to hold: so each line must be understood, and the status."""
         for printed, status in (("more\\n0 read more\\n1 wri-te more", 1), ("no more", 1), ("more", 0), ("", 0),
@@ -553,16 +541,6 @@ class Program(Case):
         expected = self.said([filter_of([READ])])
         status, out, _ = self.run_tool("surface", "--table", self.table, "-", given=filter_of([READ]))
         self.assertEqual((status, out.split("\n")[:-1]), expected)
-
-    def test_how_often_scf_is_run(self):
-        """Few runs: the time of a surface is a small multiple of one comparison's."""
-        counted = os.path.join(self.folder, "counted")
-        tree = self.made_tree(f'#!/bin/sh\necho "$*" >>"{counted}"\nexec {PROGRAM} "$@"\n')
-        self.run_words([os.path.join(tree, "tools", "surface"), self.file("f", filter_of(range(200)))])
-        with open(counted, encoding="utf-8") as file:
-            # (--version has a launcher build scf, which no comparison waits for)
-            ran = [line for line in file.read().split("\n")[:-1] if line != "--version"]
-        self.assertEqual(ran, ["answers --examples"])
 
 
 class Terminal(Case):

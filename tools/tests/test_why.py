@@ -6,18 +6,14 @@ import random
 import re
 import shutil
 import subprocess
-import sys
 import unittest
 
-from support.common import (ALLOW, CORE, EPERM, I386, KILL_PROCESS, TOP, X86_64, Case, comes, filter_of, insn, jeq,
+from support.common import (ALLOW, CORE, EPERM, I386, KILL_PROCESS, X86_64, Case, comes, filter_of, insn, jeq,
                             load, profile_of, ret)
 from support.stand_in import StandIn
-
-sys.path.append(os.path.join(TOP, "tools"))
-
-import kernel_profiles  # noqa: E402
-from scftools import listing, reasons, tables  # noqa: E402
-from scftools.calls import Call  # noqa: E402
+import kernel_profiles
+from scftools import listing, reasons, tables
+from scftools.calls import Call
 
 X32, WORD = 0x40000000, (1 << 32) - 1
 NATIVE = load(4) + jeq(X86_64, 1, 0) + ret(KILL_PROCESS) + load(0) + insn(0x35, X32, 0, 1) + ret(KILL_PROCESS)
