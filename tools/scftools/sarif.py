@@ -7,7 +7,7 @@ import urllib.parse
 from collections.abc import Iterator, Mapping
 
 from . import json_places
-from .findings import Finding, Report
+from .findings import Finding, LintReport
 from .values import Any
 
 SCHEMA = "https://docs.oasis-open.org/sarif/sarif/v2.1.0/errata01/os/schemas/sarif-schema-2.1.0.json"
@@ -43,7 +43,7 @@ class Places:
         return location
 
 
-def _results(report: Report, grades: Mapping[str, str], places: Places) -> Iterator[dict[str, Any]]:
+def _results(report: LintReport, grades: Mapping[str, str], places: Places) -> Iterator[dict[str, Any]]:
     for findings, is_decided in ((report.findings, True), (report.undecided, False)):
         for finding in findings.all():
             level = {"level": grades[finding.kind]} if is_decided else {"kind": "open", "level": "none"}
@@ -51,7 +51,7 @@ def _results(report: Report, grades: Mapping[str, str], places: Places) -> Itera
                    "locations": [{"physicalLocation": places.of(finding)}]}
 
 
-def as_sarif(report: Report, grades: Mapping[str, str], rules: Mapping[str, str], data: bytes, name: str) -> dict:
+def as_sarif(report: LintReport, grades: Mapping[str, str], rules: Mapping[str, str], data: bytes, name: str) -> dict:
     """A log with one run, whose rules are the kinds of findings. If scf refuses the profile its fault is a message, and
     the run didn't succeed."""
     places = Places(data, name, [*report.findings, *report.undecided])

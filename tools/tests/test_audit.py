@@ -16,10 +16,9 @@ from support.own_machine import OwnMachine, Systemd, podman_settings
 from scftools import audit, audit_output, container_files, machine, output, sandbox_programs, tables
 from scftools.values import replace
 
-# What is configured for containers, and the same with one call more.
+# What is configured for containers, the same with another errno, and with one syscall more that is denied.
 STATED = {"defaultAction": "SCMP_ACT_ALLOW", "architectures": ["SCMP_ARCH_X86_64"],
           "syscalls": [{"names": ["mount", "ptrace"], "action": "SCMP_ACT_ERRNO", "errnoRet": 1}]}
-WITH_MOUNT = {**STATED, "syscalls": [{"names": ["ptrace"], "action": "SCMP_ACT_ERRNO", "errnoRet": 1}]}
 OTHER_ERRNO = {**STATED, "syscalls": [{"names": ["mount", "ptrace"], "action": "SCMP_ACT_ERRNO", "errnoRet": 13}]}
 STRICTER = {**STATED, "syscalls": [{"names": ["mount", "ptrace", "chroot"], "action": "SCMP_ACT_ERRNO", "errnoRet": 1}]}
 
@@ -1442,7 +1441,3 @@ class Words(Case):
             status, out, err = self.run_tool("audit", *words)
             self.assertEqual((status, out), (2, ""), words)
             self.assertRegex(err, r"audit: [^\n]*\n\Z")
-
-
-if __name__ == "__main__":
-    unittest.main()

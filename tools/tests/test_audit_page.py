@@ -152,7 +152,3 @@ class Pages(Case):
         self.assertEqual(done.returncode, 0)
         self.assertNotIn(b"CONSOLE", done.stderr)
         self.assertIn(b"<strong class=\"long\">\"&gt;&lt;script&gt;alert(1)&lt;/script&gt;", done.stdout)
-
-
-if __name__ == "__main__":
-    unittest.main()

@@ -13,12 +13,8 @@ import unittest
 import unittest.mock
 
 from support.common import ALLOW, I386, KILL_PROCESS, LOADER, PATIENCE, TOP, X86_64, Case, jeq, module, profile_of, ret
-
-sys.path.append(os.path.join(TOP, "tools"))
-
-# pylint: disable=wrong-import-position
-from scftools import audit_records, cores, events, filters, tables  # noqa: E402
-from scftools.diagnosis import AnsweringStack  # noqa: E402
+from scftools import audit_records, cores, events, filters, tables
+from scftools.diagnosis import AnsweringStack
 
 TABLE = tables.read(None)
 SOCKET, AF_NETLINK, NETLINK_AUDIT = 41, 16, 9
@@ -840,7 +836,3 @@ class Exceptions(Causes):
             meets = number == SOCKET and first == 0x100000010 and third & 0xFFFFFFFF == 9 and last & 0xF0 == 0x30
             call = events.Call(number, arguments=(first, 0, third, 0, 0, last))
             self.assertEqual(str(stack.answer(call)), "TRAP 0" if meets else "ERRNO 1")
-
-
-if __name__ == "__main__":
-    sys.exit(unittest.main())

@@ -240,7 +240,3 @@ class Mistakes(Confined):
             self.skipTest("this isn't the machine's own PID namespace")
         self.assertIn(" is in no container with this configuration, which has a PID namespace of its own: `podman inspect "
                       "-f '{{.State.Pid}} {{.OCIConfigPath}}' NAME` prints", self.says(str(child.pid), path))
-
-
-if __name__ == "__main__":
-    unittest.main()

@@ -1,5 +1,4 @@
 """scftools.containers: the container's own control group, as runtimes and systemd name and mount it."""
-import sys
 import unittest
 import unittest.mock
 
@@ -111,7 +110,3 @@ class Groups(Case):
         kernel.namespaces_of = lambda _: [(1, 1)]
         container = containers.container_of(kernel, 7)
         self.assertEqual((container.processes(), containers.others_note(kernel, container)), ([7, 8], None))
-
-
-if __name__ == "__main__":
-    sys.exit(unittest.main())

@@ -288,7 +288,3 @@ class Logs(Denials):
         self.assertEqual(status, 4)
         self.assertIn("such failures: 1000", lines[0])
         self.assertEqual(lines[-1], "# with too many different arguments, which aren't judged: 7")
-
-
-if __name__ == "__main__":
-    sys.exit(unittest.main())

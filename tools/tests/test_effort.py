@@ -12,8 +12,6 @@ SECONDS, MEMORY = 30, 500 << 20
 BITS = GATE + load(16) + b"".join(insn(0x45, 1 << at % 32, 0, 1) for at in range(4080)) + ret(ALLOW) * 2
 ORDERS = GATE + b"".join(load(16 + 4 * (at % 12)) + jge(at // 12 * 1000 + 500, 0, 1) + load(16)
                          for at in range(1300)) + ret(ALLOW)
-TOLD = ("all comparisons together took 6 s of CPU time, the most without --limit: what 1000 steps don't decide is "
-        "unfinished")
 
 
 class Slow(Case):

@@ -2,7 +2,6 @@
 import json
 import os
 import subprocess
-import unittest
 
 from support.common import PATIENCE, Case, limited, tool
 
@@ -129,7 +128,3 @@ class Hostile(Case):
         path = self.file("p", engine({"names": ["read"], "action": ALLOW}))
         self.assertEqual(self.run_tool("resolve-profile", path, stdout=write)[::2], (-13, ""))
         os.close(write)
-
-
-if __name__ == "__main__":
-    unittest.main()

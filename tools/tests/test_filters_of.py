@@ -10,7 +10,7 @@ import sys
 import time
 import unittest
 
-from support.common import (ALLOW, EPERM, I386, KILL_PROCESS, PATIENCE, SCF, TOP, X86_64, comes, jeq, jge, load, module,
+from support.common import (ALLOW, EPERM, I386, KILL_PROCESS, PATIENCE, TOP, X86_64, comes, jeq, jge, load, module,
                             profile_of, ret, tool)
 from support.confined import CHILD, NEWEST, OLDEST, OTHER, Confined, ended, here, processes, status_of
 from support.own_machine import remove_groups
@@ -18,7 +18,7 @@ from scftools import containers, filters
 
 filters_of = module("filters-of")
 ALLOWS_ALL = b'{"defaultAction":"SCMP_ACT_ALLOW"}'
-MOUNT, UMOUNT2, CHROOT = 165, 166, 161
+MOUNT, UMOUNT2 = 165, 166
 ROOT = unittest.skipIf(os.geteuid(), "only root may do this")
 
 
@@ -708,8 +708,3 @@ class Containers(Confined):
                              "crun", "runc")
         status, out, err = self.run_tool("verify-process", str(pid), os.path.join(self.folder, "box/config.json"))
         self.assertEqual((status, err, out.split("\n")[0]), (0, "", "same"))
-
-
-if __name__ == "__main__":
-    assert SCF
-    unittest.main()

@@ -8,7 +8,6 @@ import shutil
 import signal
 import subprocess
 import time
-import unittest
 
 from support.common import TOP, comes, tool
 from support.confined import here
@@ -411,7 +410,3 @@ class Podman(Containers):
 
     def config_of(self, identifier):
         return f"{self.folder}/podman/root/vfs-containers/{identifier}/userdata/config.json"
-
-
-if __name__ == "__main__":
-    unittest.main()

@@ -4,18 +4,14 @@ import json
 import os
 import signal
 import subprocess
-import sys
 import threading
 import time
-import unittest
 from unittest import mock
 
-from support.common import ALLOW, KILL_PROCESS, PATIENCE, TOP, X86_64, comes, insn, jeq, jge, load, ret, tool
+from support.common import ALLOW, KILL_PROCESS, PATIENCE, X86_64, comes, insn, jeq, jge, load, ret, tool
 from support.confined import Confined, FakeKernel, here, let_on, status_of
 from test_filters_of import MOUNT, UMOUNT2, refuses, refusing
-
-sys.path.insert(0, os.path.join(TOP, "tools"))
-from scftools import hold, hooks, processes, program, tables, verify  # noqa: E402 pylint: disable=wrong-import-position
+from scftools import hold, hooks, processes, program, tables, verify
 
 NO_MEMBER = object()
 
@@ -593,7 +589,3 @@ class Inside(Hook):
             self.assertEqual([call.args for call in log.call_args_list], [(level, "differs"),
                                                                           (level, "# \\x1b[2J\\x0a%s")])
             self.assertEqual(opened.call_args.args[0], "oci-hook")
-
-
-if __name__ == "__main__":
-    unittest.main()

@@ -168,7 +168,3 @@ class Files(Case):
         with self.assertRaises(UnreadableFile):
             owned_files.names_in(os.path.join(self.folder, "a/b/c"), 2)
         self.assertTrue(stat.S_ISDIR(os.stat(where).st_mode))
-
-
-if __name__ == "__main__":
-    unittest.main()

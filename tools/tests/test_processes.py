@@ -9,7 +9,6 @@ import subprocess
 import sys
 import threading
 import time
-import unittest
 from unittest import mock
 
 from support.common import ALLOW, PATIENCE, Case, comes, ret
@@ -614,7 +613,3 @@ try:
 except processes.Unreadable as why:
     print(why)
 """
-
-
-if __name__ == "__main__":
-    unittest.main()

@@ -410,7 +410,3 @@ class Numbers(Case):
             self.assertEqual(restart.restart_of(call), Call(number, architecture, registers["rip"] & mask, arguments))
         x32 = Call(0x40000000 | NANOSLEEP)
         self.assertEqual(restart.restart_of(x32).number, 0x40000000 | RESTART)
-
-
-if __name__ == "__main__":
-    unittest.main()

@@ -27,7 +27,7 @@ from scftools.filters import Filter
 # records are tried of a syscall that has conditions.
 PROFILES, BY_PROGRAM, DRAWS, RECORDS = int(os.environ.get("SCF_SEVERAL_PROFILES", "4000")), 60, 4000, 12
 IN_PROCESS = unittest.skipUnless(os.path.exists(os.path.join(OUT, "libscf.so.0")), "libscf isn't built: library/build")
-ALLOW, EPERM, KILLS = 0x7FFF0000, 0x50001, 0x80000000
+ALLOW, EPERM = 0x7FFF0000, 0x50001
 X86_64, I386, X32 = 0xC000003E, 0x40000003, 0x40000000
 NAMED = ["SCMP_ARCH_X86_64", "SCMP_ARCH_X86", "SCMP_ARCH_X32"]
 MACHINE = StandIn()

@@ -11,12 +11,9 @@ import sys
 import time
 import unittest
 
-from .common import ALLOW, EPERM, LOADER, PATIENCE, TOP, Case, comes, jeq, load, ret
-
-sys.path[:0] = [os.path.join(TOP, "tools"), os.path.join(TOP, "conformance")]
-from kernel_child import (SECCOMP_IOCTL_NOTIF_RECV,  # noqa: E402 pylint: disable=wrong-import-position
-                          SECCOMP_IOCTL_NOTIF_SEND)
-from scftools import processes, ptrace  # noqa: E402 pylint: disable=wrong-import-position
+from .common import ALLOW, EPERM, LOADER, PATIENCE, Case, comes, jeq, load, ret
+from kernel_child import SECCOMP_IOCTL_NOTIF_RECV, SECCOMP_IOCTL_NOTIF_SEND
+from scftools import processes, ptrace
 
 # Its words: a JSON list, for each thread the names of its filters' files, oldest first; the main thread's is the first.
 # Each thread is put under its own filters, the main one last, since threads that are begun later inherit them. It

@@ -26,7 +26,7 @@ from .stand_in import StandIn
 
 # The program itself, which is asked many times; `build_program` has the launcher build it where there is none.
 LONG, WORD = (1 << 64) - 1, (1 << 32) - 1
-LD, LDX, TAX, TXA, NEG, ST, STX, RET, RET_A = 0x20, 0x01, 0x07, 0x87, 0x84, 0x02, 0x03, 0x06, 0x16
+LD, LDX, TAX, TXA, NEG, ST, RET, RET_A = 0x20, 0x01, 0x07, 0x87, 0x84, 0x02, 0x06, 0x16
 # Loads of a constant, and of scratch words to A and to X.
 LD_K, LD_M, LDX_M = 0x00, 0x60, 0x61
 ADD, SUB, MUL, DIV, OR, AND, LSH, RSH, XOR = 0x04, 0x14, 0x24, 0x34, 0x44, 0x54, 0x64, 0x74, 0xA4
