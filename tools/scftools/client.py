@@ -29,6 +29,9 @@ limits: dict[str, str] = {}
 SPENT = (f"all comparisons together took {SECONDS} s of CPU time, the most without --limit: what {FEW_STEPS} steps "
          f"don't decide is unfinished")
 FAULT = Pattern(r"fault ([a-z]+) ([A-Za-z0-9]+)((?: [a-z]+ [0-9]+)*)")
+# A tool's first questions, which it doesn't ask again: the words and bytes that scf was run on, and the run.
+MOST_KEPT_RUNS = 64
+_kept_runs: dict[tuple[tuple[str, ...], bytes], Run] = {}
 _is_spent_reported = False
 # The CPU time of scf's comparisons since the limits began to count, in seconds; None if they count from the start of
 # the tool on, with its own time.
@@ -154,6 +157,17 @@ def run(words: Sequence[str], given: bytes | None = b"", seconds: float | None =
     After so many seconds of CPU time it is killed, and the result is empty and UNKNOWN. If scf isn't built, its
     launcher builds it first, which takes long; without `may_build` the result is then empty and NOT_BUILT.
     """
+    if given is None or not program.is_tool:
+        return _run(words, given, seconds, may_build)
+    question = tuple(words), given
+    done = _kept_runs.get(question) or _run(words, given, seconds, may_build)
+    if done.out and len(_kept_runs) < MOST_KEPT_RUNS:
+        _kept_runs[question] = done
+    return done
+
+
+def _run(words: Sequence[str], given: bytes | None, seconds: float | None, may_build: bool) -> Run:
+    """The run of scf that `run` needs."""
     path, before = _command()
     if path == SCF and not may_build:
         return Run(NOT_BUILT, b"")

@@ -9,9 +9,6 @@ from .answers import Answer
 from .calls import Call
 from .verdicts import Report, decision
 
-# The most calls of a report of which each is answered again by a start of its own.
-MOST_STARTS = 8
-
 
 def check(shown_report: Report, filters: Sequence[bytes], others: Sequence[bytes] | None = None) -> Report:
     """Returns a report once filters, oldest first, have answered each call in it again, and so have the others that
@@ -23,15 +20,15 @@ def check(shown_report: Report, filters: Sequence[bytes], others: Sequence[bytes
     shown = [verdict for verdict in shown if verdict.call is not None and verdict.call.pointer is not None]
     calls = [*dict.fromkeys((verdict.call, verdict.filters, verdict.profile) for verdict in shown)]
     for side, stack in ((1, filters), (2, others)):
-        answer_of = _answers(stack, len(calls)) if stack is not None and calls else None
+        answer_of = _answers(stack) if stack is not None and calls else None
         for row in calls if answer_of is not None else ():
             _check_answer(row[0], row[side], answer_of)
     return shown_report
 
 
-def _answers(filters: Sequence[bytes], count: int) -> Callable[[Call], Answer | str]:
-    """The answers of filters to so many calls, or a line in place of one: of many by one start of scf."""
-    lookup = _lookup(tuple(filters)) if count > MOST_STARTS else regions.Lookup(None)
+def _answers(filters: Sequence[bytes]) -> Callable[[Call], Answer | str]:
+    """The answers of filters to calls, or a line in place of one: by their regions, which are asked for once."""
+    lookup = _lookup(tuple(filters))
 
     def answer_of(call: Call) -> Answer | str:
         region = lookup.of(call)

@@ -69,7 +69,7 @@ class Starts(Counting):
         other = load(4) + jeq(I386, 0, 1) + ret(ALLOW) + data
         self.assertEqual(self.starts("profile-of", self.file("f.bpf", other), said="profile-of: the profile covers "
                                      "x86-64 and x32 syscalls\nprofile-of: i386: some syscalls are allowed, such as "
-                                     "restart_syscall (0): ALLOW; --arch i386 prints its profile\n"), 4)
+                                     "restart_syscall (0): ALLOW; --arch i386 prints its profile\n"), 3)
 
     def test_profile_of_runc(self):
         """The stub is one side's with the profile, so that nothing is compared twice."""
@@ -97,7 +97,11 @@ class Starts(Counting):
         stated = {"defaultAction": "SCMP_ACT_ERRNO", "architectures": ["SCMP_ARCH_X86_64"],
                   "syscalls": [{"names": NAMES, "action": "SCMP_ACT_ALLOW"}]}
         first = self.file("runc.json", json.dumps(stated))
-        self.assertEqual(self.starts("compare-profiles", "--runtime", "runc", first, first), 3)
+        stated["syscalls"][0]["names"] = NAMES[::-1]
+        other = self.file("other.json", json.dumps(stated))
+        self.assertEqual(self.starts("compare-profiles", "--runtime", "runc", first, other), 3)
+        # what is asked twice is asked once
+        self.assertEqual(self.starts("compare-profiles", "--runtime", "runc", first, first), 2)
 
 
 class OfProcesses(Confined, Counting):
