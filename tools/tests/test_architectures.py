@@ -92,7 +92,7 @@ class Sources(unittest.TestCase):
         rows = architectures.JUDGED.values()
         names = [row.oci.removeprefix(architectures.PREFIX).lower().replace("_", "") for row in rows]
         for pattern, path in ((r'^row_of .*\(codes "SCMP_ARCH_(\w+)"\)', "crates/scf_insn/specs/Architectures.antt"),
-                              (r'^ +"SCMP_ARCH_(\w+)",$', "crates/scf_insn/src/architecture.rt"),
+                              (r'"SCMP_ARCH_(\w+)"', "crates/scf_insn/src/architecture.rt"),
                               (r"^    SCF_TABLE_(\w+) = ", "library/scf.h"),
                               (r"ROW\((\w+), ", "library/architectures.h"),
                               (r'\{"(\w+)", 0x', "library/go/scf.go"),
