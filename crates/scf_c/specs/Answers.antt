@@ -7,7 +7,7 @@ use Rattle.scf_insn.specs.declared.answer.Answer.{Answer}
 use Rattle.scf_facts.specs.declared.bits.Bits.{Bits}
 use Rattle.scf_facts.specs.declared.interval.Interval.{Interval}
 use Rattle.scf_facts.specs.WordSets.{NumberFacts}
-use Rattle.scf_compare.specs.Sides.{Behavior}
+use Rattle.scf_compare.specs.Sides.{Behavior, no_side}
 use Rattle.scf_compare.specs.declared.origin.Origin.{Origin}
 use Rattle.scf_compare.specs.declared.origin.Origin.TheVariants.{Filter, Profile}
 use Rattle.scf_compare.specs.declared.region.Region.{Region}
@@ -36,7 +36,7 @@ use Rattle.scf_tool.specs.declared.verify_fault.VerifyFault.TheVariants.{Memory}
 
 -- these are the regions of a side over some records, within a limit of steps
 abbrev pub AreOfRecords : Behavior → ℕ → Records → Regions → Type 0
-AreOfRecords side limit records regions = AreListed side records.scope limit regions
+AreOfRecords side limit records regions = AreListed side no_side records.scope limit regions
 
 -- Walks over several sets of records come to their regions, or to none, only if the limit of all steps is below their
 -- sizes together.
@@ -89,15 +89,15 @@ index_of_origin (Filter filter index) = index
 index_of_origin (Profile reason) = 0
 
 abbrev pub numbers_of_region : Region → RegionNumbers
-numbers_of_region region = record {
-  answer = option_map_or (λ (answer : Answer). answer.0) region.answer 0;
-  is_known = bit_of (is_some region.answer);
+numbers_of_region region = let side = region.leaf.left in record {
+  answer = option_map_or (λ (answer : Answer). answer.0) side.answer 0;
+  is_known = bit_of (is_some side.answer);
   is_exact = bit_of region.is_exact;
   has_example = bit_of (is_some region.example);
-  reason = reason_of_origin region.origin;
-  entry = entry_of_origin region.origin;
-  filter = filter_of_origin region.origin;
-  index = index_of_origin region.origin;
+  reason = reason_of_origin side.origin;
+  entry = entry_of_origin side.origin;
+  filter = filter_of_origin side.origin;
+  index = index_of_origin side.origin;
   fact_count = length (facts_of region);
   example = option_map_or call_of region.example no_call;
   reserved = 0 ∷ 0 ∷ 0 ∷ 0 ∷ [];

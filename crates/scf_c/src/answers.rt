@@ -72,7 +72,7 @@ fn explore(
         (AreOfRecords (behavior_of side.now) limit records)) }
 {
     word_sets_start_exact();
-    regions_of::<WordSets>(alloc, side, records.scope, limit)
+    regions_of::<WordSets>(alloc, side, &Side::Stack(&[]), records.scope, limit)
 }
 
 /// The regions of a side over each of several sets of records. None if the walks together take more steps than the
@@ -199,11 +199,12 @@ fn bit_of(is: bool) -> u32
 fn numbers_of_region(region: &Region, fact_count: usize) -> RegionNumbers
     ensures { result ≡ record (numbers_of_region region.now) { fact_count = fact_count } }
 {
-    let (reason, entry, filter, index) = match region.origin {
+    let side = region.leaf.left;
+    let (reason, entry, filter, index) = match side.origin {
         Origin::Filter { filter, index } => (0, 0, filter, index),
         Origin::Profile(reason) => (reason_number(reason), entry_of(reason), 0, 0),
     };
-    let answer = match region.answer {
+    let answer = match side.answer {
         Some(answer) => answer.0,
         None => 0,
     };
@@ -213,7 +214,7 @@ fn numbers_of_region(region: &Region, fact_count: usize) -> RegionNumbers
     };
     RegionNumbers {
         answer,
-        is_known: bit_of(region.answer.is_some()),
+        is_known: bit_of(side.answer.is_some()),
         is_exact: bit_of(region.is_exact),
         has_example: bit_of(region.example.is_some()),
         reason,

@@ -76,7 +76,8 @@ pub use Rattle.scf_compare.specs.declared.step.Step.{Step}
 pub use Rattle.scf_compare.specs.declared.step.Step.TheVariants.{Branch}
 pub use Rattle.scf_compare.specs.declared.value.Decision.{Decision}
 pub use Rattle.scf_compare.specs.declared.verdict.Verdict.{Verdict}
-pub use Rattle.scf_compare.specs.internal.Leaves.{AreWordsIn, IsFirstUndecided, IsSideLeaf, WereSeen, side_leaves}
+pub use Rattle.scf_compare.specs.Leaves.{IsSideLeaf}
+pub use Rattle.scf_compare.specs.internal.Leaves.{AreWordsIn, IsFirstUndecided, WereSeen, side_leaves}
 pub use Rattle.scf_compare.specs.internal.Filters.{ComesTo, EndsWith, IsFilterEnd, IsStepOf, filter_size, filter_tree}
 pub use Rattle.scf_compare.specs.internal.ControlFlow.{IsInside, UsesScratch, control_flow_at, size_of_flow}
 pub use Rattle.scf_compare.specs.internal.Frontier.{GivesAnswer, IsAhead, IsExact, IsFrontier, LearnsAmong, open_size}

@@ -3,7 +3,7 @@ use Rattle.std.specs.Prelude.{IfNone}
 use Rattle.scf_compare.specs.Sides.{CanEndAt, StackCanEndAt, StackIsOpenAt, origin_index}
 use Rattle.scf_compare.specs.declared.origin.Origin.{Origin}
 use Rattle.scf_compare.specs.declared.origin.Origin.TheVariants.{Filter, Profile as OfReason}
-use Rattle.scf_compare.specs.internal.Leaves.{SideTells}
+use Rattle.scf_compare.specs.Leaves.{SideTells}
 use Rattle.scf_compare.specs.internal.Stacks.{FirstAnswer, IsEndAt, NextAnswers}
 use Rattle.scf_compare.proofs.Common.{EndsWith, Contains, FilterLeaf, None, Some, IsSideLeaf, Operation, SideLeaf, control_flow_at, refl, stack_behavior, ◌≡◌, ◌⊎◌, ℕ, ◌+◌, ◌*◌, ◌-◌, ◌<◌, ◌≤◌, List, [], ◌∷◌, length, drop, arith, Option, IfSome, slice_get-get_or, Answer, Insn, RunAnswers, one_answers, stack_paths, tree_size, IsFilterEnd, IsStackLeaf, filter_at}
 use Rattle.scf_compare.proofs.Rules.{contains_here, drop_here}

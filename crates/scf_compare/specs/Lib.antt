@@ -1,6 +1,7 @@
 pub mod Effort
 pub mod Findings
 pub mod Headline
+pub mod Leaves
 pub mod Limits
 pub mod Masked
 pub mod Paths

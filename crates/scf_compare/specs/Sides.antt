@@ -117,6 +117,10 @@ stack_behavior filters = record {
   is_masked = λ masks. All (IsMaskedProgram masks) filters;
 }
 
+-- no side: a stack without filters, beside which a side is walked by itself
+abbrev pub no_side : Behavior
+no_side = stack_behavior []
+
 -- a profile, which has no instructions and always knows its answer: its size is its spread
 abbrev pub profile_behavior : Profile → Behavior
 profile_behavior p = record {

@@ -12,11 +12,11 @@ use crate::step::Step;
 use scf_facts::WordFacts;
 use scf_insn::{Answer, CallRecord};
 
-/// A leaf of a comparison's tree: what is known of both answers.
+/// A leaf of the tree of two sides: what each of them answers the records that come to it.
 #[derive(Clone, Copy)]
-pub(crate) struct PairLeaf {
-    pub(crate) left: SideLeaf,
-    pub(crate) right: SideLeaf,
+pub struct PairLeaf {
+    pub left: SideLeaf,
+    pub right: SideLeaf,
 }
 
 /// Two sides that are asked about the same words, as one tree of questions.

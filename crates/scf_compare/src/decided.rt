@@ -2,7 +2,8 @@
 
 ghost use Rattle.std.specs.Prelude.{IfNone, IfSome};
 ghost use Rattle.scf_insn.specs.Words.{IsWords};
-ghost use Rattle.scf_compare.specs.internal.Leaves.{IsSideLeaf, side_leaves};
+ghost use Rattle.scf_compare.specs.Leaves.{IsSideLeaf};
+ghost use Rattle.scf_compare.specs.internal.Leaves.{side_leaves};
 ghost use Rattle.scf_compare.specs.declared.step.Step.{Step};
 ghost use Rattle.scf_compare.specs.internal.Trees.{Costs, IsLaterNode, IsProper, IsStep, pending_size, pending_tree};
 

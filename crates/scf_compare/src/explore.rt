@@ -4,8 +4,8 @@ ghost use Rattle.std.specs.Prelude.{◌≡◌, ◌↔◌, ℕ, List, IsTrue, fal
 ghost use Rattle.scf_insn.specs.Words.{IsRecord, words_of};
 ghost use Rattle.scf_facts.specs.Masks.{AreFew};
 ghost use Rattle.scf_compare.specs.Findings.{WordsRelated};
-ghost use Rattle.scf_compare.specs.internal.Leaves.{AreWordsIn, IsFirstUndecided, IsLeaf, IsUndecidedLeaf, WereSeen};
-ghost use Rattle.scf_compare.specs.internal.Leaves.{KnowsBoth, Tells, told_end};
+ghost use Rattle.scf_compare.specs.Leaves.{IsLeaf, KnowsBoth, Tells};
+ghost use Rattle.scf_compare.specs.internal.Leaves.{AreWordsIn, IsFirstUndecided, IsUndecidedLeaf, WereSeen, told_end};
 ghost use Rattle.scf_compare.specs.internal.Frontier.{IsFrontier, IsExact};
 ghost use Rattle.scf_compare.specs.internal.Stages.{IsExplored, IsFound, IsJudged, IsStageAfter, finding_of_all};
 
@@ -30,8 +30,8 @@ pub(crate) enum Judged {
 
 /// Whether both answers are known at a leaf, and the relation holds of them.
 fn is_related<C: Comparison>(comparison: &C, leaf: PairLeaf) -> bool
-    ensures related { IsTrue result → (words : List ℕ) → Tells (C.compared comparison.now) leaf words
-        → WordsRelated (C.compared comparison.now) words }
+    ensures related { let compared = C.compared comparison.now in IsTrue result
+        → (words : List ℕ) → Tells compared.left compared.right leaf words → WordsRelated compared words }
     ensures undecided { result ≡ false → IsUndecidedLeaf (C.compared comparison.now) leaf }
 {
     match (leaf.left.answer, leaf.right.answer) {
@@ -42,7 +42,7 @@ fn is_related<C: Comparison>(comparison: &C, leaf: PairLeaf) -> bool
 
 /// Where a leaf is undecided: on the left side, unless only the right one's answer isn't known.
 fn open_end_of<C: Comparison>(comparison: &C, leaf: PairLeaf) -> (Which, usize)
-    requires { IsLeaf (C.compared comparison.now) leaf }
+    requires { let compared = C.compared comparison.now in IsLeaf compared.left compared.right leaf }
     ensures open { IsFirstUndecided (C.compared comparison.now) result }
     ensures told { result ≡ told_end leaf }
 {
@@ -79,11 +79,12 @@ pub(crate) fn judge<C: Comparison, F: WordFacts>(
 ) -> Judged
     requires { (words : List ℕ) → F.allows facts.now (F.level facts.now) words
         → AreWordsIn (C.compared comparison.now) words }
-    ensures judged { IsJudged (C.compared comparison.now)
-        (λ words. F.allows facts.now (F.level facts.now) words × Tells (C.compared comparison.now) leaf words) result }
-    ensures exact { (masks : ℕ) → AreFew masks → F.refutes_among facts.now (F.level facts.now) masks → KnowsBoth leaf
+    ensures judged { let compared = C.compared comparison.now in IsJudged compared
+        (λ words. F.allows facts.now (F.level facts.now) words × Tells compared.left compared.right leaf words) result }
+    ensures exact { let compared = C.compared comparison.now in
+        (masks : ℕ) → AreFew masks → F.refutes_among facts.now (F.level facts.now) masks → KnowsBoth leaf
         → ((words : List ℕ) → F.allows facts.now (F.level facts.now) words
-        → Tells (C.compared comparison.now) leaf words)
+        → Tells compared.left compared.right leaf words)
         → result ≡ Judged.Open → ⊥ }
 {
     if is_related(comparison, leaf) || facts.is_empty() {

@@ -2,7 +2,8 @@
 
 ghost use Rattle.std.specs.Prelude.{◌≡◌, ◌<◌, ◌↔◌, ◌⊎◌, [], ℕ, Option, List, OnOk, IfOk, length};
 ghost use Rattle.scf_facts.specs.Levels.{IsSameLevel};
-ghost use Rattle.scf_compare.specs.internal.Leaves.{AreWordsIn, IsLeaf, pair_leaves};
+ghost use Rattle.scf_compare.specs.Leaves.{IsLeaf};
+ghost use Rattle.scf_compare.specs.internal.Leaves.{AreWordsIn, pair_leaves};
 ghost use Rattle.scf_compare.specs.internal.Frontier.{GivesAnswer, LearnsAmong, IsFrontier, IsWhole, StaysWhole};
 ghost use Rattle.scf_compare.specs.internal.Frontier.{HasOpened, first_open_after};
 ghost use Rattle.scf_compare.specs.internal.Stages.{FindsNothing, GoesOver, IsStageAfter, IsTaken, IsWholeStage};
@@ -145,8 +146,9 @@ pub(crate) fn ask<C: Comparison, F: WordFacts>(
 ) -> Result<C::Node, Memory>
     requires frontier { IsFrontier F.WordFacts (C.tree comparison.now)
         (AreWordsIn (C.compared comparison.now)) frontier.old }
-    requires proper { let step = Step.Branch atom if_true if_false in
-        IsProper (C.tree comparison.now known.now) (IsLeaf (C.compared comparison.now)) step }
+    requires proper { let compared = C.compared comparison.now in
+        let step = Step.Branch atom if_true if_false in
+        IsProper (C.tree comparison.now known.now) (IsLeaf compared.left compared.right) step }
     ensures opened { IfOk result (λ next. ((frontier.new ≡ frontier.old) × ((next ≡ if_true) ⊎ (next ≡ if_false)))
         ⊎ ((next ≡ if_true) × HasOpened F.WordFacts frontier.old frontier.new
         (record { known = known.now; node = if_false; asked = atom }))) }

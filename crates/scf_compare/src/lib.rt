@@ -38,9 +38,9 @@
 //! splits have fixed go along (`fixed_bits`); where all are, there is one record, and both sides answer it. So with
 //! enough splits (`budget`) every comparison ends with `Holds` or `Fails`, else with `Undecided`.
 //!
-//! Everything that one side answers is found by the same steps (`regions`): it is walked beside a stack without
-//! filters, whose tree is one leaf, and at each leaf what the store knows is kept as a region (`region`), with the
-//! answer, its origin (`origin`) and a record.
+//! Everything that two sides answer is found by the same steps (`regions`): at each leaf what the store knows is kept
+//! as a region (`region`), with both answers, their origins (`origin`) and a record. A side by itself is walked beside a
+//! stack without filters, whose tree is one leaf.
 //!
 //! A stack of filters is walked oldest first (`stack`). Of the profiles of several architectures each is asked in turn
 //! whether the call is its architecture's, and the later ones where it isn't (`profiles`). The proofs of the walk speak
@@ -88,6 +88,7 @@ mod verdict;
 
 pub use budget::{Limit, Splits};
 pub use comparer::{compare, compare_sides, compare_sides_within, compare_stack};
+pub use comparison::PairLeaf;
 pub use finding::{Finding, Which};
 pub use laws::{
     both_ways_is_one_disposition, headline, holds_over_ranges, holds_through, holds_turned,
@@ -100,5 +101,6 @@ pub use region::Region;
 pub use regions::{Regions, regions_of};
 pub use scf_profile::{Relation, Scope};
 pub use side::Side;
+pub use side_tree::SideLeaf;
 pub use tree_sizes::{effort, effort_sides, effort_stack};
 pub use verdict::Verdict;

@@ -4,9 +4,10 @@
 ghost use Rattle.std.specs.Prelude.{◌≡◌, ◌*◌, ℕ, List};
 ghost use Rattle.scf_insn.specs.Words.{IsWords};
 ghost use Rattle.scf_compare.specs.Findings.{compared_in};
+ghost use Rattle.scf_compare.specs.Leaves.{IsSideLeaf};
 ghost use Rattle.scf_compare.specs.declared.side_tree.SideLeaf.{SideLeaf};
 ghost use Rattle.scf_compare.specs.declared.step.Step.{Step};
-ghost use Rattle.scf_compare.specs.internal.Leaves.{IsSideLeaf, pair_leaves};
+ghost use Rattle.scf_compare.specs.internal.Leaves.{pair_leaves};
 ghost use Rattle.scf_compare.specs.internal.Pairs.{pair_tree, tree_behind};
 ghost use Rattle.scf_compare.specs.internal.Trees.{IsProper, IsStep};
 

@@ -1,25 +1,22 @@
-//! Regions: the records that come to one leaf of a side's tree.
+//! Regions: the records that come to one leaf of the tree of two sides.
 
 ghost use Rattle.std.specs.Prelude.{◌≡◌, ℕ, List, IfNone, IfOk, IfSome, IsTrue, true};
 ghost use Rattle.scf_facts.specs.Masks.{AreFew};
 ghost use Rattle.scf_compare.specs.internal.Regions.{IsRegionOf};
 
-use crate::origin::Origin;
-use crate::side_tree::SideLeaf;
+use crate::comparison::PairLeaf;
 use scf_facts::{Snapshot, Snapshots};
-use scf_insn::{Answer, CallRecord, Memory};
+use scf_insn::{CallRecord, Memory};
 
-/// Records that come to one leaf of a side's tree.
+/// Records that come to one leaf of the tree of two sides.
 #[derive(Drop)]
 pub struct Region {
     /// What is known of their words.
     pub words: Snapshot,
     /// One record with such words, if one is found.
     pub example: Option<CallRecord>,
-    /// Their answer, if it is known.
-    pub answer: Option<Answer>,
-    /// Where the answer comes from; if it isn't known, where runs end.
-    pub origin: Origin,
+    /// What both sides answer them.
+    pub leaf: PairLeaf,
     /// Whether every record with such words comes to the leaf, and there is one. Otherwise a test on the path wasn't
     /// decided: such a record may come to another leaf.
     pub is_exact: bool,
@@ -29,7 +26,7 @@ pub struct Region {
 /// `is_whole` says that all of these words come to the leaf.
 pub(crate) fn region_of<F: Snapshots>(
     facts: &F,
-    leaf: SideLeaf,
+    leaf: PairLeaf,
     is_whole: bool,
 ) -> Result<Option<Region>, Memory>
     ensures some { IfOk result (λ found. IfSome found (
@@ -48,8 +45,7 @@ pub(crate) fn region_of<F: Snapshots>(
     Ok(Some(Region {
         words: facts.snapshot()?,
         example,
-        answer: leaf.answer,
-        origin: leaf.origin,
+        leaf,
         is_exact: is_whole && example.is_some(),
     }))
 }

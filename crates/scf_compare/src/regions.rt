@@ -1,25 +1,26 @@
-//! What a side answers to the records of a scope, as regions of records.
+//! What two sides answer to the records of a scope, as regions of records.
 
-ghost use Rattle.std.specs.Prelude.{◌≡◌, ◌<◌, ◌↔◌, ℕ, List, All, AllPairs, None, IsTrue, IfOk, IfSome, IfNone, length};
-ghost use Rattle.std.specs.Prelude.{IsSome, OnOk};
+ghost use Rattle.std.specs.Prelude.{◌≡◌, ◌*◌, ◌<◌, ◌↔◌, ℕ, List, All, AllPairs, None, IsTrue, IfOk, IfSome, IfNone};
+ghost use Rattle.std.specs.Prelude.{OnOk, length};
 ghost use Rattle.scf_profile.specs.Scope.{IsInScope};
 ghost use Rattle.scf_compare.specs.Regions.{AreRegions, IsCovered, IsDecidedRegion};
 ghost use Rattle.scf_facts.specs.Masks.{AreFew};
-ghost use Rattle.scf_compare.specs.Sides.{IsMaskedSide, IsPlainSide, behavior_of};
+ghost use Rattle.scf_compare.specs.Leaves.{KnowsBoth};
+ghost use Rattle.scf_compare.specs.Sides.{IsMaskedSide, IsPlainSide, behavior_of, effort_of_sides};
 ghost use Rattle.scf_compare.specs.internal.Leaves.{AreWordsIn};
 ghost use Rattle.scf_compare.specs.internal.Frontier.{IsExact, IsFrontier, IsWhole, first_open_after, first_open_left};
 ghost use Rattle.scf_compare.specs.internal.Regions.{AreRegionsAt, AreRegionsSoFar, IsAdded};
 ghost use Rattle.scf_compare.specs.internal.Stages.{FindsNothing, IsStageAfter};
 
 use crate::by_number::ByNumber;
-use crate::comparison::Comparison;
+use crate::comparison::{Comparison, PairLeaf};
 use crate::frontier::{Frontier, Stage, ask, take_branch};
 use crate::pair::Pair;
 use crate::profiles::ProfilesSide;
 use crate::region::{Region, region_of};
 use crate::scope::facts_of;
 use crate::side::Side;
-use crate::side_tree::{SideLeaf, SideTree};
+use crate::side_tree::SideTree;
 use crate::stack::StackSide;
 use crate::step::Step;
 use scf_facts::{Atom, Snapshots};
@@ -34,55 +35,92 @@ pub struct Regions {
     pub steps: u64,
 }
 
-/// What a side answers to the records of a scope. Each of them lies in a region, and exact regions don't overlap. None
-/// if that takes more than `limit` steps; a walk takes at most as many as the side's size.
+/// What two sides answer to the records of a scope. Each record lies in a region, and exact regions don't overlap. None
+/// if that takes more than `limit` steps; a walk takes at most as many as the exact effort. A side by itself is walked
+/// beside a stack without filters, of size 1.
 ///
-/// With a store that starts exact, a plain side has exact regions with known answers alone, and so has one whose masks
+/// With a store that starts exact, plain sides have exact regions with known answers alone, and so have two whose masks
 /// have few bits together.
 pub fn regions_of<F: Snapshots>(
     alloc: Global,
-    side: &Side<'_>,
+    left: &Side<'_>,
+    right: &Side<'_>,
     scope: Scope,
     limit: u64,
 ) -> Result<Option<Regions>, Memory>
     ensures regions { IfOk result (λ found. IfSome found
-        (AreRegions (behavior_of side.now) (IsInScope scope) limit)) }
-    ensures unfinished { IfOk result (λ found. IfNone found (limit < (behavior_of side.now).size)) }
-    ensures decided { IsTrue F.starts_exact → IsPlainSide side.now
+        (AreRegions (behavior_of left.now) (behavior_of right.now) (IsInScope scope) limit)) }
+    ensures unfinished { IfOk result (λ found. IfNone found (limit < effort_of_sides left.now right.now)) }
+    ensures decided { IsTrue F.starts_exact → IsPlainSide left.now → IsPlainSide right.now
         → IfOk result (λ found. IfSome found (λ regions. All IsDecidedRegion regions.list.items)) }
-    ensures by_masks { IsTrue F.starts_exact → (masks : ℕ) → AreFew masks → IsMaskedSide masks side.now
+    ensures by_masks { IsTrue F.starts_exact → (masks : ℕ) → AreFew masks
+        → IsMaskedSide masks left.now → IsMaskedSide masks right.now
         → IfOk result (λ found. IfSome found (λ regions. All IsDecidedRegion regions.list.items)) }
 {
-    match *side {
+    match *left {
         Side::Stack(filters) => {
-            let tree = StackSide { filters };
-            regions_of_tree::<F, StackSide<'_>>(alloc, tree, scope, limit)
+            let left = StackSide { filters };
+            regions_beside::<F, StackSide<'_>>(alloc, left, right, scope, limit)
         }
         Side::Profile(profile) => {
-            let tree = ByNumber::new(profile);
-            regions_of_tree::<F, ByNumber<'_>>(alloc, tree, scope, limit)
+            let left = ByNumber::new(profile);
+            regions_beside::<F, ByNumber<'_>>(alloc, left, right, scope, limit)
         }
         Side::Profiles(profiles) => {
-            let tree = ProfilesSide { profiles };
-            regions_of_tree::<F, ProfilesSide<'_>>(alloc, tree, scope, limit)
+            let left = ProfilesSide { profiles };
+            regions_beside::<F, ProfilesSide<'_>>(alloc, left, right, scope, limit)
         }
     }
 }
 
-/// The regions of a side. It is walked beside a stack without filters, whose tree is one leaf.
-fn regions_of_tree<F: Snapshots, L: SideTree + Drop>(
+/// The regions of the left side's tree beside the right side.
+fn regions_beside<F: Snapshots, L: SideTree + Drop>(
     alloc: Global,
     left: L,
+    right: &Side<'_>,
+    scope: Scope,
+    limit: u64,
+) -> Result<Option<Regions>, Memory>
+    ensures regions { IfOk result (λ found. IfSome found
+        (AreRegions (L.behavior left) (behavior_of right.now) (IsInScope scope) limit)) }
+    ensures unfinished { IfOk result (λ found. IfNone found
+        (limit < (L.behavior left).size * (behavior_of right.now).size)) }
+    ensures decided { IsTrue F.starts_exact → (masks : ℕ) → AreFew masks
+        → (L.behavior left).is_masked masks → IsMaskedSide masks right.now
+        → IfOk result (λ found. IfSome found (λ regions. All IsDecidedRegion regions.list.items)) }
+{
+    match *right {
+        Side::Stack(filters) => {
+            let right = StackSide { filters };
+            regions_of_trees::<F, L, StackSide<'_>>(alloc, left, right, scope, limit)
+        }
+        Side::Profile(profile) => {
+            let right = ByNumber::new(profile);
+            regions_of_trees::<F, L, ByNumber<'_>>(alloc, left, right, scope, limit)
+        }
+        Side::Profiles(profiles) => {
+            let right = ProfilesSide { profiles };
+            regions_of_trees::<F, L, ProfilesSide<'_>>(alloc, left, right, scope, limit)
+        }
+    }
+}
+
+/// The regions of the trees of two sides.
+fn regions_of_trees<F: Snapshots, L: SideTree + Drop, R: SideTree + Drop>(
+    alloc: Global,
+    left: L,
+    right: R,
     over: Scope,
     limit: u64,
 ) -> Result<Option<Regions>, Memory>
     ensures regions { IfOk result (λ found. IfSome found
-        (AreRegions (L.behavior left) (IsInScope over) limit)) }
-    ensures unfinished { IfOk result (λ found. IfNone found (limit < (L.behavior left).size)) }
-    ensures decided { IsTrue F.starts_exact → (masks : ℕ) → AreFew masks → (L.behavior left).is_masked masks
+        (AreRegions (L.behavior left) (R.behavior right) (IsInScope over) limit)) }
+    ensures unfinished { IfOk result (λ found. IfNone found
+        (limit < (L.behavior left).size * (R.behavior right).size)) }
+    ensures decided { IsTrue F.starts_exact → (masks : ℕ) → AreFew masks
+        → (L.behavior left).is_masked masks → (R.behavior right).is_masked masks
         → IfOk result (λ found. IfSome found (λ regions. All IsDecidedRegion regions.list.items)) }
 {
-    let right = StackSide { filters: &[] };
     let pair = Pair {
         left,
         right,
@@ -94,7 +132,7 @@ fn regions_of_tree<F: Snapshots, L: SideTree + Drop>(
     regions_of_pair(alloc, &pair, facts, known, root, limit)
 }
 
-/// The regions of the left side, by a walk of the whole tree from a node.
+/// The regions of two sides, by a walk of the whole tree from a node.
 fn regions_of_pair<C: Comparison, F: Snapshots>(
     alloc: Global,
     comparison: &C,
@@ -108,10 +146,12 @@ fn regions_of_pair<C: Comparison, F: Snapshots>(
     requires scope { (words : List ℕ) → F.allows facts 0 words ↔ AreWordsIn (C.compared comparison.now) words }
     requires reached { (words : List ℕ) → AreWordsIn (C.compared comparison.now) words
         → (C.tree comparison.now start).reaches root words }
-    requires size { (C.tree comparison.now start).size root ≡ (C.compared comparison.now).left.size }
+    requires size { let compared = C.compared comparison.now in
+        (C.tree comparison.now start).size root ≡ compared.left.size * compared.right.size }
     ensures regions { let compared = C.compared comparison.now in IfOk result (λ found. IfSome found
-        (AreRegions compared.left compared.in_scope limit)) }
-    ensures unfinished { IfOk result (λ found. IfNone found (limit < (C.compared comparison.now).left.size)) }
+        (AreRegions compared.left compared.right compared.in_scope limit)) }
+    ensures unfinished { let compared = C.compared comparison.now in IfOk result (λ found. IfNone found
+        (limit < compared.left.size * compared.right.size)) }
     ensures decided { (masks : ℕ) → AreFew masks → F.refutes_among facts 0 masks
         → (C.tree comparison.now start).is_plain masks root
         → IfOk result (λ found. IfSome found (λ regions. All IsDecidedRegion regions.list.items)) }
@@ -160,12 +200,13 @@ fn region_step<C: Comparison, F: Snapshots>(
         ((C.tree comparison.now known.old).reaches node) }
     requires regions { AreRegionsSoFar F.WordFacts (C.compared comparison.now) (C.tree comparison.now)
         frontier.old first_open.old regions.old.items }
-    ensures stage { IfOk result (
-        IsStageAfter F.WordFacts (C.compared comparison.now) (C.tree comparison.now)
+    ensures stage { let compared = C.compared comparison.now in IfOk result (
+        IsStageAfter F.WordFacts compared (C.tree comparison.now)
         frontier.old frontier.new (C.tree comparison.now known.old) node (C.tree comparison.now known.new)
-        (IsCovered (C.compared comparison.now).left regions.new.items)) }
-    ensures kept { OnOk result ((words : List ℕ) → IsCovered (C.compared comparison.now).left regions.old.items words
-        → IsCovered (C.compared comparison.now).left regions.new.items words) }
+        (IsCovered compared.left compared.right regions.new.items)) }
+    ensures kept { let compared = C.compared comparison.now in OnOk result ((words : List ℕ)
+        → IsCovered compared.left compared.right regions.old.items words
+        → IsCovered compared.left compared.right regions.new.items words) }
     ensures regions { IfOk result (AreRegionsAt F.WordFacts (C.compared comparison.now) (C.tree comparison.now)
         frontier.new first_open.new regions.new.items (C.tree comparison.now known.new)) }
     ensures decided { let here = C.tree comparison.now known.old in OnOk result ((masks : ℕ) → AreFew masks
@@ -182,7 +223,7 @@ fn region_step<C: Comparison, F: Snapshots>(
             Ok(Stage::At(next))
         }
         Step::Leaf(leaf) => {
-            add_region(&frontier.facts, leaf.left, first_open.is_none(), regions)?;
+            add_region(&frontier.facts, leaf, first_open.is_none(), regions)?;
             let stage = take_branch(comparison, frontier, known)?;
             note_taken(first_open, frontier.branches.len());
             Ok(stage)
@@ -213,7 +254,7 @@ fn note_taken(first_open: &mut Option<usize>, count: usize)
 /// Adds the region of a leaf, unless the store knows that it allows no words there.
 fn add_region<F: Snapshots>(
     facts: &F,
-    leaf: SideLeaf,
+    leaf: PairLeaf,
     is_whole: bool,
     regions: &mut Vec<Region>,
 ) -> Result<(), Memory>
@@ -221,7 +262,7 @@ fn add_region<F: Snapshots>(
         regions.old.items regions.new.items) }
     ensures decided { OnOk result ((masks : ℕ) → AreFew masks
         → F.refutes_among facts.now (F.level facts.now) masks → IsTrue is_whole
-        → IsSome leaf.answer → All IsDecidedRegion regions.old.items → All IsDecidedRegion regions.new.items) }
+        → KnowsBoth leaf → All IsDecidedRegion regions.old.items → All IsDecidedRegion regions.new.items) }
 {
     if let Some(region) = region_of(facts, leaf, is_whole)? {
         regions.push(region)?;

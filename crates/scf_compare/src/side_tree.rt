@@ -12,11 +12,13 @@ use crate::step::Step;
 use scf_facts::WordFacts;
 use scf_insn::{Answer, CallRecord};
 
-/// A leaf of a side's tree: its answer, if it is known, and where that comes from.
+/// A leaf of a side's tree of questions: what the side answers the records that come to it.
 #[derive(Clone, Copy)]
-pub(crate) struct SideLeaf {
-    pub(crate) answer: Option<Answer>,
-    pub(crate) origin: Origin,
+pub struct SideLeaf {
+    /// Their answer, if it is known.
+    pub answer: Option<Answer>,
+    /// Where the answer comes from; if it isn't known, where runs end.
+    pub origin: Origin,
 }
 
 /// A side as a tree of questions.

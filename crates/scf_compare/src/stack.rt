@@ -4,7 +4,8 @@ ghost use Rattle.std.specs.Prelude.{◌≡◌, ◌+◌, ◌<◌, ℕ, List, All,
 ghost use Rattle.scf_insn.specs.Words.{IsWords};
 ghost use Rattle.scf_insn.specs.declared.insn.Insn.{Insn};
 ghost use Rattle.scf_compare.specs.Sides.{filter_at, stack_behavior};
-ghost use Rattle.scf_compare.specs.internal.Leaves.{KnowsAnswer, SideTells, side_leaves};
+ghost use Rattle.scf_compare.specs.Leaves.{KnowsAnswer, SideTells};
+ghost use Rattle.scf_compare.specs.internal.Leaves.{side_leaves};
 ghost use Rattle.scf_compare.specs.internal.Stacks.{FirstAnswer, IsOlder, IsStackLeaf, NextAnswers, OlderTells};
 ghost use Rattle.scf_compare.specs.internal.Stacks.{stack_is_node, stack_tree};
 ghost use Rattle.scf_compare.specs.internal.Trees.{IsStep};

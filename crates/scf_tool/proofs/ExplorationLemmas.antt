@@ -5,9 +5,9 @@ use Rattle.scf_profile.specs.declared.scope.Scope.{Scope}
 use Rattle.scf_tool.proofs.Common.{◌≤◌, ℕ, arith}
 use Rattle.scf_tool.specs.Explorations.{AreListed}
 
-pub widened : (side : Behavior) (scope : Scope) (limit most : ℕ) (regions : Regions)
-    → AreListed side scope limit regions → limit ≤ most → AreListed side scope most regions
-widened side scope limit most regions listed below =
+pub widened : (left right : Behavior) (scope : Scope) (limit most : ℕ) (regions : Regions)
+    → AreListed left right scope limit regions → limit ≤ most → AreListed left right scope most regions
+widened left right scope limit most regions listed below =
     let are = listed.are_regions in
     let within = are.within_limit in
     record {

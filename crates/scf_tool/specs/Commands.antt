@@ -39,9 +39,9 @@ use Rattle.scf_tool.specs.declared.reply.Reply.{Reply}
 use Rattle.scf_tool.specs.declared.reply.Reply.TheVariants.{Accepted, Ran, Decided, DecidedBy, Asked, Bytes, Compared}
 use Rattle.scf_request.specs.declared.request.Comparison.{Comparison}
 use Rattle.scf_request.specs.declared.request.Exploration.{Exploration}
-use Rattle.scf_compare.specs.Sides.{profile_behavior, stack_behavior}
+use Rattle.scf_compare.specs.Sides.{no_side, profile_behavior, stack_behavior}
 use Rattle.scf_tool.specs.ArchitectureScopes.{HasRecordAmong, NameNoCall, scope_of}
-use Rattle.scf_tool.specs.Explorations.{ExploresEach, ExploresSide, ListsWalks}
+use Rattle.scf_tool.specs.Explorations.{ExploresEach, ExploresSides, ListsWalks}
 use Rattle.scf_tool.specs.declared.commands.parts.BesideProfile.{BesideProfile}
 use Rattle.scf_tool.specs.declared.commands.parts.BesideProfile.TheVariants as besides
 use Rattle.scf_request.specs.declared.request.Request.{Request}
@@ -401,7 +401,7 @@ GivesReasonAmong call by profile texts ending = ⊥
 -- What filters come to: why they are no stack, or what that answers to the records of the scope. Memory may be wanting.
 abbrev pub ListsStack : Exploration → List (List ℕ) → Result Reply Fault → Type 0
 ListsStack exploration filters (Ok reply) = (stack : List (List Insn)) × HasStack (map Some filters) stack
-    × ListsWalks exploration (ExploresSide (stack_behavior stack) exploration.scope exploration.limit) reply
+    × ListsWalks exploration (ExploresSides (stack_behavior stack) no_side exploration.scope exploration.limit) reply
 ListsStack exploration filters (Err (faults.Verify fault)) = NoReadFailed fault × HasNoStack (map Some filters) fault
 ListsStack exploration filters (Err faults.Answers) = Unit {0}
 ListsStack exploration filters ending = ⊥
@@ -409,7 +409,8 @@ ListsStack exploration filters ending = ⊥
 -- what a profile and a table come to
 abbrev pub ListsProfile : Exploration → Interpretation → List ℕ → List ℕ → Result Reply Fault → Type 0
 ListsProfile exploration by profile table (Ok reply) = (loaded : Loaded) × IsStated by profile table loaded
-    × ListsWalks exploration (ExploresSide (profile_behavior loaded.profile) exploration.scope exploration.limit) reply
+    × ListsWalks exploration
+    (ExploresSides (profile_behavior loaded.profile) no_side exploration.scope exploration.limit) reply
 ListsProfile exploration by profile table (Err (faults.Verify fault)) = CantLoad by profile table fault
 ListsProfile exploration by profile table (Err faults.Answers) = Unit {0}
 ListsProfile exploration by profile table ending = ⊥

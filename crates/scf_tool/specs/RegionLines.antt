@@ -86,7 +86,8 @@ exactness_text false = codes " open"
 
 abbrev pub region_line : Region → List ℕ
 region_line region =
-    (region_answer_text region.answer ++ (origin_text region.origin ++ exactness_text region.is_exact))
+    let side = region.leaf.left in
+    (region_answer_text side.answer ++ (origin_text side.origin ++ exactness_text region.is_exact))
     ++ (words_text region.words ++ codes "\n")
 
 -- a region's line, and one of a record in it, if examples are asked for and one is known

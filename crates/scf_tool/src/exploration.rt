@@ -1,12 +1,12 @@
 //! Walks over the records of a scope: what filters or profiles answer, by regions of records.
 
 ghost use Rattle.std.specs.Prelude.{◌∷◌, [], Bool, IfOk, IfNone, IfSome, MatchOption, None, Some};
-ghost use Rattle.scf_compare.specs.Sides.{behavior_of};
+ghost use Rattle.scf_compare.specs.Sides.{behavior_of, no_side};
 ghost use Rattle.scf_tool.specs.ArchitectureScopes as scopes;
 ghost use Rattle.scf_tool.specs.Explorations.{
   AreListed,
   ExploresEach,
-  ExploresSide,
+  ExploresSides,
   IsListing,
   ListsWalks,
 };
@@ -22,23 +22,24 @@ use scf_profile::{Profile, Scope};
 use scf_request::Exploration;
 use std::alloc::Global;
 
-/// The regions of a side over the records of a scope, if a walk takes at most so many steps.
+/// The regions of two sides over the records of a scope, if a walk takes at most so many steps.
 fn explore(
     alloc: Global,
-    side: &Side<'_>,
+    left: &Side<'_>,
+    right: &Side<'_>,
     scope: Scope,
     limit: u64,
 ) -> Result<Option<Regions>, Memory>
     ensures { IfOk result (λ explored. MatchOption explored
-        (ExploresSide (behavior_of side.now) scope limit None)
-        (AreListed (behavior_of side.now) scope limit)) }
+        (ExploresSides (behavior_of left.now) (behavior_of right.now) scope limit None)
+        (AreListed (behavior_of left.now) (behavior_of right.now) scope limit)) }
 {
     word_sets_start_exact();
-    regions_of::<WordSets>(alloc, side, scope, limit)
+    regions_of::<WordSets>(alloc, left, right, scope, limit)
 }
 
-/// The regions of profiles, each over the records of its architecture; if the scope is a range of numbers, over those
-/// with a number in it. None if the walks together take more steps than the limit.
+/// The regions of profiles, each by itself over the records of its architecture; if the scope is a range of numbers,
+/// over those with a number in it. None if the walks together take more steps than the limit.
 fn explore_each(
     alloc: Global,
     profiles: &[Profile],
@@ -54,7 +55,7 @@ fn explore_each(
     for profile in profiles {
         let over = scope_of(scope, profile.architecture());
         let side = Side::Profile(profile);
-        let Some(regions) = explore(alloc, &side, over, remaining)? else {
+        let Some(regions) = explore(alloc, &side, &Side::Stack(&[]), over, remaining)? else {
             return Ok(None);
         };
         remaining -= regions.steps;
@@ -92,9 +93,15 @@ pub(crate) fn list_side(
     exploration: Exploration,
 ) -> Result<Reply, Memory>
     ensures { IfOk result (ListsWalks exploration
-        (ExploresSide (behavior_of side.now) exploration.scope exploration.limit)) }
+        (ExploresSides (behavior_of side.now) no_side exploration.scope exploration.limit)) }
 {
-    match explore(alloc, side, exploration.scope, exploration.limit)? {
+    match explore(
+        alloc,
+        side,
+        &Side::Stack(&[]),
+        exploration.scope,
+        exploration.limit,
+    )? {
         Some(regions) => reply_of(alloc, exploration.has_examples, &[regions]),
         None => unfinished(alloc),
     }

@@ -217,8 +217,8 @@ fn add_exactness(text: &mut Buffer, is_exact: bool) -> Result<(), Memory>
 fn add_region_line(text: &mut Buffer, region: &Region) -> Result<(), Memory>
     ensures { Adds text.old (region_line region.now) result text.new }
 {
-    add_region_answer(text, region.answer)?;
-    add_origin(text, region.origin)?;
+    add_region_answer(text, region.leaf.left.answer)?;
+    add_origin(text, region.leaf.left.origin)?;
     add_exactness(text, region.is_exact)?;
     add_words(text, &region.words)?;
     text.add(&[Text("\n")])?;

@@ -182,7 +182,13 @@ fn compare_filters<R: Print>(lines: &mut Lines<R>, alloc: Global, profile: &Prof
         tell_twice!(
             lines,
             "regions_of",
-            regions_of::<WordSets>(alloc, &Side::Stack(stack.filters()), Scope::All, LIMIT)
+            regions_of::<WordSets>(
+                alloc,
+                &Side::Stack(stack.filters()),
+                &Side::Profile(profile),
+                Scope::All,
+                LIMIT,
+            )
         );
     }
 }

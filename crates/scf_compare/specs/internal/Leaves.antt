@@ -1,5 +1,5 @@
 -- What the leaves of trees tell.
-use Rattle.std.specs.Prelude.{◌≡◌, ◌⊎◌, ℕ, List, Option, None, Some, IfNone, IfSome, IsSome}
+use Rattle.std.specs.Prelude.{◌≡◌, ◌⊎◌, ℕ, List, Option, None, Some, IfSome, IsSome}
 use Rattle.scf_insn.specs.Words.{IsWords, call_of}
 use Rattle.scf_insn.specs.declared.answer.Answer.{Answer}
 use Rattle.scf_compare.specs.declared.comparison.PairLeaf.{PairLeaf}
@@ -7,28 +7,15 @@ use Rattle.scf_compare.specs.declared.finding.Finding.{Finding}
 use Rattle.scf_compare.specs.declared.finding.Finding.TheVariants.{Undecided}
 use Rattle.scf_compare.specs.declared.finding.Which.{Which}
 use Rattle.scf_compare.specs.declared.finding.Which.TheVariants.{Left, Right}
-use Rattle.scf_compare.specs.declared.origin.Origin.{Origin}
 use Rattle.scf_compare.specs.declared.side_tree.SideLeaf.{SideLeaf}
 use Rattle.scf_compare.specs.Findings.{Compared, IsOpenEnd, WordsRelated}
+use Rattle.scf_compare.specs.Leaves.{IsLeaf, IsSideLeaf, KnowsAnswer, KnowsBoth, SideTells, Tells}
 use Rattle.scf_compare.specs.Sides.{AnswersFrom, Behavior, origin_index}
 use Rattle.scf_compare.specs.internal.Trees.{Leaves}
 
 -- the words of a call record of the scope
 abbrev pub AreWordsIn : Compared → List ℕ → Type 0
 AreWordsIn compared words = IsWords words × compared.in_scope (call_of words)
-
--- a leaf of a side's tree tells its answer to words, where it knows it, and its origin
-abbrev pub SideTells : (Origin → List ℕ → ℕ → Type 0) → SideLeaf → List ℕ → Type 0
-SideTells answers leaf words = IfSome leaf.answer (λ answer. answers leaf.origin words answer.0)
-
--- a leaf of a side's tree knows its answer
-abbrev pub KnowsAnswer : SideLeaf → Type 0
-KnowsAnswer leaf = IsSome leaf.answer
-
--- a leaf is where the side ends, and may be open there if it doesn't know its answer
-abbrev pub IsSideLeaf : Behavior → SideLeaf → Type 0
-IsSideLeaf behavior leaf =
-    let at = origin_index leaf.origin in behavior.ends_at at × IfNone leaf.answer (behavior.is_open_at at)
 
 -- the leaves of a side's tree
 abbrev pub side_leaves : Behavior → Leaves SideLeaf
@@ -38,19 +25,13 @@ side_leaves behavior = record {
   tells_all = KnowsAnswer;
 }
 
-abbrev pub Tells : Compared → PairLeaf → List ℕ → Type 0
-Tells compared leaf words =
-    SideTells (AnswersFrom compared.left) leaf.left words × SideTells (AnswersFrom compared.right) leaf.right words
-
-abbrev pub IsLeaf : Compared → PairLeaf → Type 0
-IsLeaf compared leaf = IsSideLeaf compared.left leaf.left × IsSideLeaf compared.right leaf.right
-
-abbrev pub KnowsBoth : PairLeaf → Type 0
-KnowsBoth leaf = KnowsAnswer leaf.left × KnowsAnswer leaf.right
-
 -- the leaves of a comparison's tree
 abbrev pub pair_leaves : Compared → Leaves PairLeaf
-pair_leaves compared = record { is_leaf = IsLeaf compared; tells = Tells compared; tells_all = KnowsBoth }
+pair_leaves compared = record {
+  is_leaf = IsLeaf compared.left compared.right;
+  tells = Tells compared.left compared.right;
+  tells_all = KnowsBoth;
+}
 
 -- the words have no other answer
 abbrev pub IsOnlyAnswer : (List ℕ → ℕ → Type 0) → List ℕ → ℕ → Type 0

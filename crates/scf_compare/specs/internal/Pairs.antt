@@ -10,7 +10,8 @@ use Rattle.scf_compare.specs.declared.step.Step.{Step}
 use Rattle.scf_compare.specs.declared.step.Step.TheVariants.{Next}
 use Rattle.scf_compare.specs.Findings.{Compared}
 use Rattle.scf_compare.specs.Sides.{AnswersFrom}
-use Rattle.scf_compare.specs.internal.Leaves.{IsSideLeaf, KnowsAnswer, SideTells, side_leaves}
+use Rattle.scf_compare.specs.Leaves.{IsSideLeaf, KnowsAnswer, SideTells}
+use Rattle.scf_compare.specs.internal.Leaves.{side_leaves}
 use Rattle.scf_compare.specs.internal.Trees.{Tree, pending_tree}
 
 module _ {M B : Type 0} (compared : Compared) (right : M → Tree B) where

@@ -3,26 +3,25 @@ use Rattle.std.specs.Prelude.{◌≡◌, ◌⊎◌, ◌++◌, ◌∷◌, ◌↔�
 use Rattle.scf_insn.specs.Words.{IsRecord, words_of}
 use Rattle.scf_facts.specs.declared.word_facts.WordFacts.{Ghosts as Store}
 use Rattle.scf_facts.specs.WordSets.{AllowsWords}
+use Rattle.scf_compare.specs.declared.comparison.PairLeaf.{PairLeaf}
 use Rattle.scf_compare.specs.declared.frontier.Frontier.{Frontier}
 use Rattle.scf_compare.specs.declared.frontier.Stage.{Stage}
 use Rattle.scf_compare.specs.declared.frontier.Stage.TheVariants.{At, AllSeen, Found}
 use Rattle.scf_compare.specs.declared.region.Region.{Region}
-use Rattle.scf_compare.specs.declared.side_tree.SideLeaf.{SideLeaf}
 use Rattle.scf_compare.specs.Findings.{Compared}
 use Rattle.scf_compare.specs.Regions.{AreDisjoint, IsRegion}
 use Rattle.scf_compare.specs.internal.Frontier.{IsWhole, IsWhollyAhead}
 use Rattle.scf_compare.specs.internal.Trees.{Tree}
 
 -- the region of a leaf, given the words that come to it and whether all that are allowed do
-pub record IsRegionOf (allowed : List ℕ → Type 0) (leaf : SideLeaf) (is_whole : Bool) (region : Region) : Type 0 where
+pub record IsRegionOf (allowed : List ℕ → Type 0) (leaf : PairLeaf) (is_whole : Bool) (region : Region) : Type 0 where
   pub words : (words : List ℕ) → AllowsWords region.words words ↔ allowed words
-  pub answer : region.answer ≡ leaf.answer
-  pub origin : region.origin ≡ leaf.origin
+  pub same_leaf : region.leaf ≡ leaf
   pub shown : IfSome region.example (λ call. IsRecord call × allowed (words_of call))
   pub exact : IsTrue region.is_exact → IsTrue is_whole × IsSome region.example
 
 -- the region of a leaf was added to others, unless no words are allowed there
-abbrev pub IsAdded : (List ℕ → Type 0) → SideLeaf → Bool → List Region → List Region → Type 0
+abbrev pub IsAdded : (List ℕ → Type 0) → PairLeaf → Bool → List Region → List Region → Type 0
 IsAdded allowed leaf is_whole old new =
     ((new ≡ old) × ((words : List ℕ) → allowed words → ⊥))
     ⊎ ((region : Region) × IsRegionOf allowed leaf is_whole region × (new ≡ old ++ region ∷ []))
@@ -30,7 +29,7 @@ IsAdded allowed leaf is_whole old new =
 -- Regions so far: each is one, exact ones don't overlap, and what is in these isn't ahead on a decided path.
 pub record AreRegionsSoFar {F K N : Type 0} (store : Store F) (compared : Compared) (tree : K → Tree N)
     (frontier : Frontier F K N) (first_open : Option ℕ) (regions : List Region) : Type 0 where
-  pub each : All (IsRegion compared.left compared.in_scope) regions
+  pub each : All (IsRegion compared.left compared.right compared.in_scope) regions
   pub disjoint : AllPairs AreDisjoint regions
   pub left : All (λ region. IsTrue region.is_exact → (words : List ℕ) → AllowsWords region.words words
       → IsWhollyAhead store tree frontier first_open words → ⊥) regions
@@ -42,5 +41,5 @@ AreRegionsAt store compared tree frontier first_open regions there (At next) =
     AreRegionsSoFar store compared tree frontier first_open regions
     × IsWhole store tree frontier first_open (there.reaches next)
 AreRegionsAt store compared tree frontier first_open regions there AllSeen =
-    All (IsRegion compared.left compared.in_scope) regions × AllPairs AreDisjoint regions
+    All (IsRegion compared.left compared.right compared.in_scope) regions × AllPairs AreDisjoint regions
 AreRegionsAt store compared tree frontier first_open regions there (Found finding) = ⊥

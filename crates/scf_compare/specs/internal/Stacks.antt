@@ -14,7 +14,7 @@ use Rattle.scf_compare.specs.declared.stack.StackNode.TheVariants.{Empty, At}
 use Rattle.scf_compare.specs.Effort.{stack_paths}
 use Rattle.scf_compare.specs.Masked.{IsMaskedProgram}
 use Rattle.scf_compare.specs.Sides.{StackGives, filter_at}
-use Rattle.scf_compare.specs.internal.Leaves.{KnowsAnswer, SideTells}
+use Rattle.scf_compare.specs.Leaves.{KnowsAnswer, SideTells}
 use Rattle.scf_compare.specs.internal.Filters.{IsFilterEnd, filter_is_node, filter_reaches, filter_size, filter_is_plain}
 use Rattle.scf_compare.specs.internal.Trees.{Tree}
 

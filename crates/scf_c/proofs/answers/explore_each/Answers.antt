@@ -1,6 +1,6 @@
 use Rattle.std.proofs.Common.{◌≤◌, ℕ, List, ap, arith, sum_by}
 use Rattle.std.proofs.lemmas.List.Sums.{sum_by_more, sum_by_push}
-use Rattle.scf_compare.specs.Sides.{behavior_of}
+use Rattle.scf_compare.specs.Sides.{behavior_of, no_side}
 use Rattle.scf_compare.specs.declared.regions.Regions.{Regions}
 use Rattle.scf_tool.proofs.ExplorationLemmas.{widened}
 use Rattle.scf_c.proofs.AnswerLemmas.{walks_more}
@@ -19,7 +19,7 @@ loop-records-preserved c =
     let found = rw c.in-Some.is at c.in_ok-regions.ensures in
     let spent = c.loop-records.invariant.spent in
     let within = found.are_regions.within_limit in
-    let small : regions.steps ≤ side.size = found.are_regions.within_size in
+    let small : regions.steps ≤ side.size = omega (arith, found.are_regions.within_size) in
     let all_steps = ap (λ (rs : List Regions). sum_by steps rs) c.in_ok-push.ensures.items in
     let more_steps = sum_by_push steps before regions in
     let more_sizes = sum_by_more size c.args.several.now index all_records c.loop-records-test.true in
@@ -27,7 +27,7 @@ loop-records-preserved c =
     record {
       each = walks_more side c.args.limit c.args.several.now index _ before regions _ c.loop-records-test.true
           c.loop-records.invariant.each
-          (widened side _ c.loop-records.remaining c.args.limit regions found (omega arith))
+          (widened side no_side _ c.loop-records.remaining c.args.limit regions found (omega arith))
           c.in_ok-push.ensures.items;
       spent = omega arith;
       below = omega arith;

@@ -16,7 +16,8 @@ invariant-loop-steps g l =
       frontier : IsFrontier store tree (AreWordsIn compared) l.frontier;
       node : here.is_node l.node;
       words : (words : List ℕ) → AreWordsIn compared words
-          → IsCovered compared.left l.list.items words ⊎ IsAhead store tree l.frontier (here.reaches l.node) words;
+          → IsCovered compared.left compared.right l.list.items words
+          ⊎ IsAhead store tree l.frontier (here.reaches l.node) words;
       whole : IsWhole store tree l.frontier l.first_open (here.reaches l.node);
       regions : AreRegionsSoFar store compared tree l.frontier l.first_open l.list.items;
       size : l.steps + (open_size tree l.frontier + here.size l.node) ≤ start.size l.fn.root;

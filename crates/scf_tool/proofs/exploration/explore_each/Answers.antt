@@ -1,4 +1,4 @@
-use Rattle.scf_compare.specs.Sides.{profile_behavior}
+use Rattle.scf_compare.specs.Sides.{no_side, profile_behavior}
 use Rattle.scf_compare.specs.declared.regions.Regions.{Regions}
 use Rattle.scf_profile.specs.Profile.{Profile}
 use Rattle.scf_tool.proofs.Common.{◌≤◌, ℕ, List, ap, arith, subst, sum_by_push, take_more}
@@ -13,7 +13,7 @@ use Rattle.scf_tool.proofs.exploration.explore_each.Goals as goal
 pub loop-profile-preserved : goal.loop-profile-preserved
 loop-profile-preserved c =
     let listed : Profile → Regions → Type 0 =
-    λ p regions. AreListed (profile_behavior p) (scope_of c.args.scope p.architecture) c.args.limit regions in
+    λ p regions. AreListed (profile_behavior p) no_side (scope_of c.args.scope p.architecture) c.args.limit regions in
     let size : Profile → ℕ = λ p. (profile_behavior p).size in
     let steps : Regions → ℕ = λ regions. regions.steps in
     let own = c.profile-item.result in
@@ -21,13 +21,13 @@ loop-profile-preserved c =
     let index = c.loop-profile.profile-index in
     let before = c.loop-profile.listed.items in
     let over = scope_of c.args.scope own.architecture in
-    let found : AreListed (profile_behavior own) over c.loop-profile.remaining regions =
+    let found : AreListed (profile_behavior own) no_side over c.loop-profile.remaining regions =
     rw (c.in-Some.is, c.scope_of-over.ensures, c.architecture.ensures) at c.in_ok-regions.ensures in
     let spent = c.loop-profile.invariant.spent in
-    let wide : listed own regions = widened (profile_behavior own) over
+    let wide : listed own regions = widened (profile_behavior own) no_side over
     c.loop-profile.remaining c.args.limit regions found (omega arith) in
     let within = found.are_regions.within_limit in
-    let small : regions.steps ≤ size own = found.are_regions.within_size in
+    let small : regions.steps ≤ size own = omega (arith, found.are_regions.within_size) in
     let all_steps = ap (λ (rs : List Regions). sum_by steps rs) c.in_ok-push.ensures.items in
     let more_steps = sum_by_push steps before regions in
     let more_sizes = sum_by_more size c.args.profiles.now index own c.loop-profile-test.true in
