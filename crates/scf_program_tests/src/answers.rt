@@ -1,7 +1,7 @@
-//! What `answers` prints of filters and of profiles.
+//! What `answers` prints of filters and of profiles, and of two sides.
 
 use crate::fixtures;
-use crate::parts::{ALLOW, Part, bundle};
+use crate::parts::{ALLOW, Part, WITHOUT_WRITE, bundle};
 use crate::runs::run;
 use std::alloc::Global;
 use std::process::Abort;
@@ -262,8 +262,257 @@ const ROWS: &[Row] = &[
     },
 ];
 
+/// Allows `read` and `write`, and denies each other call.
+const READ_AND_WRITE: Part = Part::Filter(
+    "ld [0]; jeq #0, 1, 0; jeq #1, 0, 1; ret #0x7fff0000; ret #0x50001",
+);
+
+/// Allows `read` whose first argument has 5 as its low half, and denies each other call.
+const READ_OF_LOW: Part = Part::Filter(
+    "ld [0]; jeq #0, 0, 3; ld [16]; jeq #5, 0, 1; ret #0x7fff0000; ret #0x50001",
+);
+
+/// Allows `read` whose first argument is 5, and denies each other call.
+const READ_OF_5: Part = Part::Profile(
+    r#"{"defaultAction":"SCMP_ACT_ERRNO","syscalls":[{"names":["read"],"action":"SCMP_ACT_ALLOW",
+    "args":[{"index":0,"value":5,"op":"SCMP_CMP_EQ"}]}]}"#,
+);
+
+/// Denies `read` of two architectures, and allows each other call.
+const NEITHER: Part = Part::BesideProfile(
+    r#"{"defaultAction":"SCMP_ACT_ALLOW","architectures":["SCMP_ARCH_X86_64","SCMP_ARCH_X86"],
+    "syscalls":[{"names":["read"],"action":"SCMP_ACT_ERRNO"}]}"#,
+);
+
+const DIFFERENCES: &[Row] = &[
+    // One call, and an argument's high half, which a filter doesn't look at.
+    Row {
+        words: &["scf", "answers", "--differences", "--native"],
+        parts: &[READ_AND_WRITE, PROFILE, TABLE],
+        text: "ALLOW 0 at 0:3 beside ERRNO 1 default w0 0x1 w1 0xc000003e\n\
+               regions 1 steps 6\n",
+        status: 0,
+    },
+    Row {
+        words: &[
+            "scf",
+            "answers",
+            "--differences",
+            "--nr-to",
+            "7",
+            "--examples",
+        ],
+        parts: &[READ_OF_LOW, READ_OF_5, TABLE],
+        text: "ALLOW 0 at 0:4 beside ERRNO 1 default \
+               w0 0x0 w1 0xc000003e w4 0x5 w5 0x1-0xffffffff\n\
+               call nr 0 arch 0xc000003e ip 0x0 args 0x100000005 0x0 0x0 0x0 0x0 0x0\n\
+               regions 1 steps 11\n",
+        status: 0,
+    },
+    // Calls of other ABIs, in the order of the walk.
+    Row {
+        words: &["scf", "answers", "--differences"],
+        parts: &[GATE, PROFILE, TABLE],
+        text: "ALLOW 0 at 0:3 beside KILL_PROCESS 0 foreign \
+               w0 0x40000000-0xffffffff w1 0xc000003e\n\
+               ALLOW 0 at 0:3 beside ERRNO 1 default w0 0x1-0x3fffffff w1 0xc000003e\n\
+               regions 2 steps 8\n",
+        status: 0,
+    },
+    // Two stacks: the sides aren't exchanged, and precedence decides on each.
+    Row {
+        words: &["scf", "answers", "--differences", "--beside"],
+        parts: &[ALLOW, Part::Beside(fixtures::ARCH_GATE)],
+        text: "ALLOW 0 at 0:0 beside KILL_PROCESS 0 at 0:2 \
+               w1 0x0-0xc000003d,0xc000003f-0xffffffff\n\
+               regions 1 steps 3\n",
+        status: 0,
+    },
+    Row {
+        words: &["scf", "answers", "--differences", "--beside"],
+        parts: &[
+            DENIES,
+            Part::Beside(fixtures::ALLOW_ALL),
+            Part::Beside("ret #0x50001"),
+            ALLOW,
+        ],
+        text: "regions 0 steps 1\n",
+        status: 0,
+    },
+    Row {
+        words: &["scf", "answers", "--differences", "--beside"],
+        parts: &[
+            Part::Beside(fixtures::ALLOW_ALL),
+            Part::Beside("ret #0x50001"),
+        ],
+        text: "ALLOW 0 at 0:0 beside ERRNO 1 at 1:0\nregions 1 steps 1\n",
+        status: 0,
+    },
+    Row {
+        words: &[
+            "scf",
+            "answers",
+            "--differences",
+            "--beside",
+            "--nr-to",
+            "0",
+        ],
+        parts: &[WITHOUT_WRITE, Part::Beside(fixtures::ALLOW_ALL)],
+        text: "regions 0 steps 3\n",
+        status: 0,
+    },
+    // A test that isn't decided, and answers that aren't known.
+    Row {
+        words: &["scf", "answers", "--differences", "--beside"],
+        parts: &[SUM, Part::Beside(fixtures::ALLOW_ALL)],
+        text: "ERRNO 1 at 0:6 beside ALLOW 0 at 0:0 open\nregions 1 steps 7\n",
+        status: 0,
+    },
+    Row {
+        words: &["scf", "answers", "--differences", "--beside"],
+        parts: &[ALLOW, Part::Beside("ld [16]; tax; ld [24]; mul x; ret a")],
+        text: "ALLOW 0 at 0:0 beside unknown at 0:4\nregions 1 steps 1\n",
+        status: 0,
+    },
+    Row {
+        words: &["scf", "answers", "--differences", "--beside"],
+        parts: &[PRODUCT, Part::Beside("ld [16]; tax; ld [24]; mul x; ret a")],
+        text: "unknown at 0:4 beside unknown at 0:4\nregions 1 steps 5\n",
+        status: 0,
+    },
+    // Several architectures: what is of none of them is foreign.
+    Row {
+        words: &["scf", "answers", "--differences", "--architectures"],
+        parts: &[ALLOW, EACH, TABLE, Part::TableX86("read 3\n")],
+        text: "ALLOW 0 at 0:0 beside KILL_PROCESS 0 foreign \
+               w0 0x40000000-0xffffffff w1 0xc000003e\n\
+               ALLOW 0 at 0:0 beside ERRNO 1 default w0 0x1-0x3fffffff w1 0xc000003e\n\
+               ALLOW 0 at 0:0 beside ERRNO 1 default w0 0x0-0x2,0x4-0xffffffff w1 0x40000003\n\
+               ALLOW 0 at 0:0 beside KILL_PROCESS 0 foreign \
+               w1 0x0-0x40000002,0x40000004-0xc000003d,0xc000003f-0xffffffff\n\
+               regions 4 steps 11\n",
+        status: 0,
+    },
+    // Two profiles: each call has the other answer.
+    Row {
+        words: &["scf", "answers", "--differences", "--architectures"],
+        parts: &[EACH, NEITHER, Part::TableX86("read 3\n")],
+        text: "ALLOW 0 entry 0 beside ERRNO 1 entry 0 w0 0x3 w1 0x40000003\n\
+               ERRNO 1 default beside ALLOW 0 default w0 0x0-0x2,0x4-0xffffffff w1 0x40000003\n\
+               regions 2 steps 5\n",
+        status: 0,
+    },
+    // The limit.
+    Row {
+        words: &[
+            "scf",
+            "answers",
+            "--differences",
+            "--beside",
+            "--limit",
+            "2",
+        ],
+        parts: &[ALLOW, Part::Beside(fixtures::ARCH_GATE)],
+        text: "unfinished\n",
+        status: 4,
+    },
+    // Other parts, and the faults of either side.
+    Row {
+        words: &["scf", "answers", "--differences"],
+        parts: &[ALLOW],
+        text: "fault bundle Parts\n",
+        status: 3,
+    },
+    Row {
+        words: &["scf", "answers", "--differences"],
+        parts: &[PROFILE, TABLE],
+        text: "fault bundle Parts\n",
+        status: 3,
+    },
+    Row {
+        words: &["scf", "answers"],
+        parts: &[ALLOW, Part::Beside(fixtures::ALLOW_ALL)],
+        text: "fault bundle Header offset 17\n",
+        status: 3,
+    },
+    Row {
+        words: &["scf", "answers", "--differences", "--beside"],
+        parts: &[ALLOW, Part::Beside("ld [64]; ret a")],
+        text: "fault beside Load at 0\n",
+        status: 1,
+    },
+    Row {
+        words: &["scf", "answers", "--differences", "--beside"],
+        parts: &[Part::Filter("ld [64]; ret a"), Part::Beside("ld #0")],
+        text: "fault filter Load at 0\n",
+        status: 1,
+    },
+    // Flags that exclude each other, and a range that no call has.
+    Row {
+        words: &["scf", "answers", "--beside"],
+        parts: &[],
+        text: "fault command Flags\n",
+        status: 2,
+    },
+    Row {
+        words: &[
+            "scf",
+            "answers",
+            "--differences",
+            "--beside",
+            "--architectures",
+        ],
+        parts: &[],
+        text: "fault command Flags\n",
+        status: 2,
+    },
+    Row {
+        words: &[
+            "scf",
+            "answers",
+            "--differences",
+            "--architectures",
+            "--native",
+        ],
+        parts: &[],
+        text: "fault command Flags\n",
+        status: 2,
+    },
+    Row {
+        words: &[
+            "scf",
+            "answers",
+            "--differences",
+            "--architectures",
+            "--nr-to",
+            "5",
+        ],
+        parts: &[],
+        text: "fault command Flags\n",
+        status: 2,
+    },
+    Row {
+        words: &[
+            "scf",
+            "answers",
+            "--differences",
+            "--nr-from",
+            "5",
+            "--nr-to",
+            "4",
+        ],
+        parts: &[],
+        text: "fault command Range\n",
+        status: 2,
+    },
+];
+
 fn rows() -> &'static [Row] {
     ROWS
+}
+
+fn differences() -> &'static [Row] {
+    DIFFERENCES
 }
 
 fn prints_row(rt: &impl Abort, alloc: Global, row: &Row) {
@@ -276,6 +525,13 @@ fn prints_row(rt: &impl Abort, alloc: Global, row: &Row) {
 #[test]
 fn answers_of_regions(rt: HostRuntime) {
     for row in rows() {
+        prints_row(&rt, rt.alloc(), row);
+    }
+}
+
+#[test]
+fn differences_of_regions(rt: HostRuntime) {
+    for row in differences() {
         prints_row(&rt, rt.alloc(), row);
     }
 }

@@ -189,6 +189,10 @@ SelectsScope rows scopes.Native = (has_range rows ≡ false) × (is_given rows n
 SelectsScope rows scopes.All = (has_range rows ≡ false) × (is_given rows native_flag ≡ false)
 SelectsScope rows scope = ⊥
 
+-- the flag by which two sides are walked, and what isn't known to be answered alike is listed
+abbrev pub differences_flag : List ℕ
+differences_flag = codes "differences"
+
 -- the flag by which a record of each region is shown
 abbrev pub examples_flag : List ℕ
 examples_flag = codes "examples"

@@ -1,5 +1,5 @@
 -- What the program is asked for by its words.
-use Rattle.std.specs.Prelude.{◌≡◌, ℕ, Bool, true, false, List, [], ◌∷◌, ◌++◌, codes, map, Option, Some, None, Result, Ok, Err, ok_or}
+use Rattle.std.specs.Prelude.{◌≡◌, ◌⊎◌, ℕ, Bool, true, false, List, [], ◌∷◌, ◌++◌, codes, map, Option, Some, None, Result, Ok, Err, ok_or}
 use Rattle.std.specs.Option.{option_map_or}
 use Rattle.clap.specs.Words.{Row}
 use Rattle.scf_insn.specs.Words.{IsRecord}
@@ -10,21 +10,26 @@ use Rattle.scf_profile.specs.declared.reading.Reading.{Reading}
 use Rattle.scf_profile.specs.declared.reading.Reading.TheVariants.{Strict}
 use Rattle.scf_profile.specs.declared.scope.Scope.{Scope}
 use Rattle.scf_profile.specs.declared.scope.Scope.TheVariants as scopes
+use Rattle.scf_request.specs.declared.bundle.BundleForm.{BundleForm}
+use Rattle.scf_request.specs.declared.bundle.BundleForm.TheVariants as forms
 use Rattle.scf_request.specs.declared.request_fault.RequestFault.{RequestFault}
 use Rattle.scf_request.specs.declared.request_fault.RequestFault.TheVariants.{Number, NoCommand, Flags, Reading as NoReading, Range}
 use Rattle.scf_request.specs.declared.request.Request.{Request}
 use Rattle.scf_request.specs.declared.request.Request.TheVariants as requests
 use Rattle.scf_request.specs.declared.request.Scopes.{Scopes}
 use Rattle.scf_request.specs.declared.request.Scopes.TheVariants.{AtOnce, EachCall}
-use Rattle.scf_request.specs.Options.{AreExclusive, AsksToCompare, AsksToExplore, NumberOption, architectures_flag, at_flag, beside_flag, call_options, comparison_options, examples_flag, exploration_options, first_wrong, flag_names, is_given, left_out_flag, native_flag, number_in, numbers_of_comparison, numbers_of_exploration, numbers_of_record, path_flag, reading_in, relation_flags, scope_flags}
+use Rattle.scf_request.specs.Options.{AreExclusive, AsksToCompare, AsksToExplore, NumberOption, architectures_flag, at_flag, beside_flag, call_options, comparison_options, differences_flag, examples_flag, exploration_options, first_wrong, flag_names, has_range, is_given, left_out_flag, native_flag, number_in, numbers_of_comparison, numbers_of_exploration, numbers_of_record, path_flag, reading_in, relation_flags, scope_flags}
 
 pub data Command : Type 0 where
   Answers Ask Asm Check Compare Compile Decide Dis Run : Command
 
 -- the words of each command: its own, those of its options, each with a number, and those of its flags
 abbrev pub words_of_command : Command → List ℕ × List NumberOption × List (List ℕ)
-words_of_command Answers =
-    (codes "answers", exploration_options, native_flag ∷ architectures_flag ∷ examples_flag ∷ [])
+words_of_command Answers = (
+  codes "answers",
+  exploration_options,
+  native_flag ∷ differences_flag ∷ beside_flag ∷ architectures_flag ∷ examples_flag ∷ [],
+)
 words_of_command Ask = (codes "ask", call_options, architectures_flag ∷ [])
 words_of_command Asm = (codes "asm", [], [])
 words_of_command Check = (codes "check", [], [])
@@ -58,6 +63,7 @@ command_and_numbers (requests.Answers exploration) = (Answers, numbers_of_explor
 command_and_numbers (requests.AnswersOfArchitectures exploration) = (Answers, numbers_of_exploration exploration)
 command_and_numbers (requests.Ask call) = (Ask, numbers_of_record call)
 command_and_numbers (requests.AskArchitectures call) = (Ask, numbers_of_record call)
+command_and_numbers (requests.Differences form exploration) = (Answers, numbers_of_exploration exploration)
 command_and_numbers requests.Assemble = (Asm, [])
 command_and_numbers requests.Check = (Check, [])
 command_and_numbers (requests.Compare comparison) = (Compare, numbers_of_comparison comparison)
@@ -72,12 +78,26 @@ command_and_numbers requests.List = (Dis, [])
 command_and_numbers (requests.Run call) = (Run, numbers_of_record call)
 command_and_numbers (requests.Trace call) = (Run, numbers_of_record call)
 
+-- The flags of the form of a bundle of two sides are given: of other filters, over the scope of the walk, or of
+-- architectures, over all records, or neither.
+abbrev pub HasFlagsOfForm : List Row → Scope → BundleForm → Type 0
+HasFlagsOfForm rows scope forms.Profile =
+    (is_given rows beside_flag ≡ false) × (is_given rows architectures_flag ≡ false)
+HasFlagsOfForm rows scope (forms.Beside over) = (over ≡ AtOnce scope)
+    × (is_given rows beside_flag ≡ true) × (is_given rows architectures_flag ≡ false)
+HasFlagsOfForm rows scope forms.Architectures = (scope ≡ scopes.All)
+    × (is_given rows beside_flag ≡ false) × (is_given rows architectures_flag ≡ true)
+
 -- the flags of a request are given, and no other
 abbrev pub HasFlags : List Row → Request → Type 0
-HasFlags rows (requests.Answers exploration) =
-    AsksToExplore rows exploration × (is_given rows architectures_flag ≡ false)
+HasFlags rows (requests.Answers exploration) = AsksToExplore rows exploration
+    × (is_given rows differences_flag ≡ false) × (is_given rows beside_flag ≡ false)
+    × (is_given rows architectures_flag ≡ false)
 HasFlags rows (requests.AnswersOfArchitectures exploration) = AsksToExplore rows exploration
+    × (is_given rows differences_flag ≡ false) × (is_given rows beside_flag ≡ false)
     × (is_given rows native_flag ≡ false) × (is_given rows architectures_flag ≡ true)
+HasFlags rows (requests.Differences form exploration) = AsksToExplore rows exploration
+    × (is_given rows differences_flag ≡ true) × HasFlagsOfForm rows exploration.scope form
 HasFlags rows (requests.Ask call) = is_given rows architectures_flag ≡ false
 HasFlags rows (requests.AskArchitectures call) = is_given rows architectures_flag ≡ true
 HasFlags rows (requests.Compare comparison) = AsksToCompare rows comparison × (is_given rows beside_flag ≡ false)
@@ -131,6 +151,7 @@ HaveRecord HasRecordOf EachCall = Unit {0}
 abbrev pub GoesOverRecord : Request → Type 0
 GoesOverRecord (requests.Answers exploration) = HasRecordIn exploration.scope
 GoesOverRecord (requests.AnswersOfArchitectures exploration) = HasRecordOfOne exploration.scope
+GoesOverRecord (requests.Differences form exploration) = HasRecordIn exploration.scope
 GoesOverRecord (requests.Compare comparison) = HaveRecord HasRecordIn comparison.scopes
 GoesOverRecord (requests.CompareBeside comparison) = HaveRecord HasRecordIn comparison.scopes
 GoesOverRecord (requests.CompareArchitectures comparison) = HaveRecord HasRecordOfOne comparison.scopes
@@ -141,9 +162,17 @@ pub record IsRequest (asked : Option (List ℕ × List Row)) (request : Request)
   pub spelled : SpellRequest asked request
   pub has_record : GoesOverRecord request
 
--- Flags of a command exclude each other: of a walk, that of native calls and that of architectures.
+-- Flags of a walk exclude each other: that of architectures those of native calls and of other filters, and beside that
+-- of differences a range; and that of other filters stands with that of differences alone.
+abbrev pub AreExclusiveOfWalk : List Row → Type 0
+AreExclusiveOfWalk rows = ((is_given rows beside_flag ≡ true) × (is_given rows differences_flag ≡ false))
+    ⊎ ((is_given rows architectures_flag ≡ true)
+    × ((is_given rows native_flag ≡ true) ⊎ (is_given rows beside_flag ≡ true)
+    ⊎ ((is_given rows differences_flag ≡ true) × (has_range rows ≡ true))))
+
+-- Flags of a command exclude each other.
 abbrev pub HasExclusive : Command → List Row → Type 0
-HasExclusive Answers rows = (is_given rows native_flag ≡ true) × (is_given rows architectures_flag ≡ true)
+HasExclusive Answers rows = AreExclusiveOfWalk rows
 HasExclusive Compare rows = AreExclusive rows
 HasExclusive command rows = ⊥
 

@@ -7,8 +7,8 @@ ghost use Rattle.scf_request.specs.Requests.Command.{Answers, Ask, Asm, Check, C
 ghost use Rattle.scf_request.specs.internal.Parsing.{MakesNamed, ReadsAsProgram, command_of, definition_of, names_of_flags, option_of, options_kept};
 
 use crate::options::{
-    ARCHITECTURES_FLAG, AT_FLAG, BESIDE_FLAG, CALLS_FLAG, DISPOSITION_FLAG, EXAMPLES_FLAG,
-    LEFT_OUT_FLAG, NATIVE_FLAG, NO_LESS_FLAG, NO_MORE_FLAG, NumberOption, PATH_FLAG,
+    ARCHITECTURES_FLAG, AT_FLAG, BESIDE_FLAG, CALLS_FLAG, DIFFERENCES_FLAG, DISPOSITION_FLAG,
+    EXAMPLES_FLAG, LEFT_OUT_FLAG, NATIVE_FLAG, NO_LESS_FLAG, NO_MORE_FLAG, NumberOption, PATH_FLAG,
     READING_OPTION, call_options, comparison_options, exploration_options,
 };
 use clap::{Arg, ArgAction, ArgMatches, Command, Error};
@@ -219,9 +219,14 @@ fn define_answers<'a>(alloc: Global) -> Result<Command<'a>, AllocError>
         "Lists what filters, or a profile with a table, answer to every call, by regions of calls";
     let each =
         "Only calls of architectures with a table, of a profile: parts `table`, `table-x86` ..; not with --native";
+    let differences =
+        "What two sides, as `compare` takes them, may answer differently; with --architectures of all calls";
+    let beside = "With --differences, parts `beside`, other filters, in place of a profile";
     let examples = "Also a call of each region";
     let flags = [
         (NATIVE_FLAG, NATIVE_HELP),
+        (DIFFERENCES_FLAG, differences),
+        (BESIDE_FLAG, beside),
         (ARCHITECTURES_FLAG, each),
         (EXAMPLES_FLAG, examples),
     ];

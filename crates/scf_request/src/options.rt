@@ -173,6 +173,9 @@ pub(crate) const ARCHITECTURES_FLAG: &str = "architectures";
 /// The flag that has what is left out of a profile printed first.
 pub(crate) const LEFT_OUT_FLAG: &str = "left-out";
 
+/// The flag that walks two sides, and lists what isn't known to be answered alike.
+pub(crate) const DIFFERENCES_FLAG: &str = "differences";
+
 /// The flag that shows a record of each region.
 pub(crate) const EXAMPLES_FLAG: &str = "examples";
 

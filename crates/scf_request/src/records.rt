@@ -90,7 +90,9 @@ pub(crate) fn goes_over_record(request: &Request) -> bool
     ensures { IsTrue result ↔ GoesOverRecord request.now }
 {
     match request {
-        Request::Answers(exploration) => has_record(exploration.scope),
+        Request::Answers(exploration) | Request::Differences { exploration, .. } => {
+            has_record(exploration.scope)
+        }
         Request::AnswersOfArchitectures(exploration) => has_record_of_one(exploration.scope),
         Request::Compare(comparison) | Request::CompareBeside(comparison) => {
             have_record(comparison.scopes)

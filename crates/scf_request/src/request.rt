@@ -1,6 +1,6 @@
 //! Requests: a command with the values of its options.
 
-ghost use Rattle.std.specs.Prelude.{◌≡◌, ◌∷◌, [], Err, IfErr, IfOk, Ok, Some, codes, map};
+ghost use Rattle.std.specs.Prelude.{◌≡◌, ◌∷◌, [], Err, IfErr, IfOk, Ok, Some, codes, map, true};
 ghost use Rattle.clap.specs.Words.{found_of, rows_of, subcommand_rows_of};
 ghost use Rattle.scf_request.specs.Options.{
   AreExclusive,
@@ -17,12 +17,15 @@ ghost use Rattle.scf_request.specs.Options.{
   numbers_of_range,
   range_options,
 };
-ghost use Rattle.scf_request.specs.Requests.{AsksFor, GoesOverRecord, ReadsBy, Spell};
+ghost use Rattle.scf_request.specs.Options as spec;
+ghost use Rattle.scf_request.specs.Requests.{AreExclusiveOfWalk, AsksFor, GoesOverRecord, HasFlagsOfForm, ReadsBy};
+ghost use Rattle.scf_request.specs.Requests.{Spell};
 
+use crate::bundle::BundleForm;
 use crate::options::{
-    ARCHITECTURES_FLAG, AT_FLAG, BESIDE_FLAG, EXAMPLES_FLAG, LEFT_OUT_FLAG, NATIVE_FLAG,
-    NumberFault, PATH_FLAG, RELATION_FLAGS, SCOPE_FLAGS, chosen_flag, comparison_numbers,
-    exploration_numbers, has_range, is_given, reading_in, record_of,
+    ARCHITECTURES_FLAG, AT_FLAG, BESIDE_FLAG, DIFFERENCES_FLAG, EXAMPLES_FLAG, LEFT_OUT_FLAG,
+    NATIVE_FLAG, NumberFault, PATH_FLAG, RELATION_FLAGS, SCOPE_FLAGS, chosen_flag,
+    comparison_numbers, exploration_numbers, has_range, is_given, reading_in, record_of,
 };
 use crate::records::goes_over_record;
 use crate::request_fault::RequestFault;
@@ -76,6 +79,12 @@ pub enum Request {
     /// `answers --architectures`: list what a profile answers to the records of each architecture that has a table.
     /// Never over `Native`; a range of numbers is one of each of them.
     AnswersOfArchitectures(Exploration),
+    /// `answers --differences`: list what the two sides that a bundle of this form holds aren't known to answer alike.
+    /// With the tables of several architectures always over all records.
+    Differences {
+        form: BundleForm,
+        exploration: Exploration,
+    },
     Ask(CallRecord),
     /// `ask --architectures`: ask the profile of the call's architecture.
     AskArchitectures(CallRecord),
@@ -89,9 +98,13 @@ pub enum Request {
     /// Never over `Native`; a range of numbers is one of each of them, and `EachCall` is for a bundle with one table.
     CompareArchitectures(Comparison),
     /// `compile`: compile a profile; `has_left_out` says whether what is left out of it is printed first.
-    Compile { has_left_out: bool },
+    Compile {
+        has_left_out: bool,
+    },
     /// `compile --architectures`: compile the profiles of the architectures that have a table.
-    CompileArchitectures { has_left_out: bool },
+    CompileArchitectures {
+        has_left_out: bool,
+    },
     Decide(CallRecord),
     /// `decide --at`: also print which instruction of which filter gives the answer.
     DecideBy(CallRecord),
@@ -197,18 +210,46 @@ fn exploration_of(options: &ArgMatches<'_>) -> Result<Exploration, NumberFault>
     })
 }
 
+/// The form of the bundle of two sides that are walked over a scope.
+fn form_of_sides(options: &ArgMatches<'_>, scope: Scope) -> Result<BundleForm, RequestFault>
+    requires differences { spec.is_given (rows_of (found_of options.now)) spec.differences_flag ≡ true }
+    requires scope { SelectsScope (rows_of (found_of options.now)) scope }
+    ensures form { IfOk result (HasFlagsOfForm (rows_of (found_of options.now)) scope) }
+    ensures flags { IfErr result (λ fault. fault ≡ RequestFault.Flags) }
+    ensures exclusive { IfErr result (λ fault. AreExclusiveOfWalk (rows_of (found_of options.now))) }
+{
+    let has_beside = is_given(options, BESIDE_FLAG);
+    if !is_given(options, ARCHITECTURES_FLAG) {
+        return Ok(if has_beside {
+            BundleForm::Beside(Scopes::AtOnce(scope))
+        } else {
+            BundleForm::Profile
+        });
+    }
+    match scope {
+        Scope::All if !has_beside => Ok(BundleForm::Architectures),
+        _ => Err(RequestFault::Flags),
+    }
+}
+
 /// The request of `answers` with these options.
 fn answers_request(options: &ArgMatches<'_>) -> Result<Request, RequestFault>
     ensures { Spell (Some (codes "answers", rows_of (found_of options.now))) result }
 {
     let exploration = exploration_of(options)?;
-    if !is_given(options, ARCHITECTURES_FLAG) {
-        return Ok(Request::Answers(exploration));
+    if is_given(options, DIFFERENCES_FLAG) {
+        let form = form_of_sides(options, exploration.scope)?;
+        return Ok(Request::Differences { form, exploration });
     }
-    if is_given(options, NATIVE_FLAG) {
+    let has_architectures = is_given(options, ARCHITECTURES_FLAG);
+    if is_given(options, BESIDE_FLAG) || has_architectures && is_given(options, NATIVE_FLAG) {
         return Err(RequestFault::Flags);
     }
-    Ok(Request::AnswersOfArchitectures(exploration))
+    if has_architectures {
+        Ok(Request::AnswersOfArchitectures(exploration))
+    } else {
+        Ok(Request::Answers(exploration))
+    }
 }
 
 /// The request of `ask` with these options.

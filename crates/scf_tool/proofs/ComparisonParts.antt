@@ -7,14 +7,13 @@ use Rattle.scf_request.specs.Contents.{rest_of_table}
 use Rattle.scf_request.specs.declared.bundle.BundleForm.{BundleForm}
 use Rattle.scf_request.specs.declared.bundle.BundleForm.TheVariants as forms
 use Rattle.scf_request.specs.declared.contents.TableReader.{TableReader}
-use Rattle.scf_request.specs.declared.request.Comparison.{Comparison}
 use Rattle.scf_request.specs.declared.request.Scopes.{Scopes}
 use Rattle.scf_request.specs.declared.request.Scopes.TheVariants.{EachCall}
 use Rattle.scf_request.specs.Interpretations.{Interpretation, interpretation_of}
-use Rattle.scf_tool.proofs.Common.{Fault, List, PartReader, Reply, Result, ap, inl, inr, length, map, refl, subst, sym, true, ◌∙◌, ◌≡◌, ℕ}
-use Rattle.scf_tool.specs.Commands.{AreSidesOf, ComparesSides, TakesSides, is_native}
+use Rattle.scf_tool.proofs.Common.{List, PartReader, ap, inl, inr, length, map, refl, subst, sym, true, ◌∙◌, ◌≡◌, ℕ}
+use Rattle.scf_tool.specs.Commands.{AreSidesOf, TakesSides, is_native}
 use Rattle.scf_tool.specs.VerifyingSides.{SideBytes}
-use Rattle.scf_tool.specs.declared.commands.compare.ComparisonParts.{ComparisonParts}
+use Rattle.scf_tool.specs.declared.commands.comparison_parts.ComparisonParts.{ComparisonParts}
 use Rattle.scf_tool.specs.internal.Parts.{AreComparisonParts}
 use Rattle.scf_tool.specs.internal.Sides.{side_bytes}
 
@@ -43,20 +42,18 @@ module _ (held : Held) (tables : List (TableReader PartReader)) (are : map rest_
 -- ---- the sides
 
 -- what holds of the parts holds of what they have still to give
-pub sides_compared : (form : BundleForm) (reading : Reading) (comparison : Comparison) (held : Held)
-    (parts : ComparisonParts) (ending : Result Reply Fault)
+pub of_sides : (Holds : Interpretation → SideBytes → SideBytes → List (Architecture × List ℕ) → Type 0)
+    (form : BundleForm) (reading : Reading) (held : Held) (parts : ComparisonParts)
     → AreComparisonParts (AreSidesOf form) reading held parts
-    → ComparesSides (is_native form) comparison parts.by (side_bytes parts.left) (side_bytes parts.right)
-    (map rest_of_table parts.tables.items) ending
+    → Holds parts.by (side_bytes parts.left) (side_bytes parts.right) (map rest_of_table parts.tables.items)
     → (left right : SideBytes) × AreSidesOf form held left right
-    × ComparesSides (is_native form) comparison (interpretation_of reading held) left right held.tables ending
-sides_compared form reading comparison held parts ending are holds =
+    × Holds (interpretation_of reading held) left right held.tables
+of_sides Holds form reading held parts are holds =
     let left = side_bytes parts.left in
     let right = side_bytes parts.right in (
       left,
       right,
       are.sides,
-      subst (λ (by : Interpretation). ComparesSides (is_native form) comparison by left right held.tables ending) are.by
-          (subst (λ (tables : List (Architecture × List ℕ)). ComparesSides (is_native form) comparison parts.by left right tables ending)
-          are.tables holds),
+      subst (λ (by : Interpretation). Holds by left right held.tables) are.by
+          (subst (λ (tables : List (Architecture × List ℕ)). Holds parts.by left right tables) are.tables holds),
     )

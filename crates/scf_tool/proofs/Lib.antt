@@ -3,6 +3,7 @@ pub mod BundleEndings
 pub mod CallLemmas
 pub mod Common
 mod ComparisonParts
+pub mod DifferenceLemmas
 pub mod ExplorationLemmas
 pub mod FaultLemmas
 mod InputLemmas

@@ -41,7 +41,7 @@ use Rattle.scf_request.specs.declared.request.Comparison.{Comparison}
 use Rattle.scf_request.specs.declared.request.Exploration.{Exploration}
 use Rattle.scf_compare.specs.Sides.{no_side, profile_behavior, stack_behavior}
 use Rattle.scf_tool.specs.ArchitectureScopes.{HasRecordAmong, NameNoCall, scope_of}
-use Rattle.scf_tool.specs.Explorations.{ExploresEach, ExploresSides, ListsWalks}
+use Rattle.scf_tool.specs.Explorations.{ExploresEach, ExploresSides, ListsDiffering, ListsWalks}
 use Rattle.scf_tool.specs.declared.commands.parts.BesideProfile.{BesideProfile}
 use Rattle.scf_tool.specs.declared.commands.parts.BesideProfile.TheVariants as besides
 use Rattle.scf_request.specs.declared.request.Request.{Request}
@@ -58,11 +58,12 @@ use Rattle.scf_request.specs.Interpretations.{Interpretation, LoadsBy, LoadsEach
 use Rattle.scf_tool.specs.Lines.{decision_text, traced_text}
 use Rattle.scf_tool.specs.FilterStacks.{HasStack, HasNoStack}
 use Rattle.scf_tool.specs.Reports.{findings_status, left_out_front, sides_text}
+use Rattle.scf_tool.specs.declared.sides.SideInput.{SideInput}
 use Rattle.scf_tool.specs.declared.sides.SidesOutcome.{SidesOutcome}
 use Rattle.scf_tool.specs.Verifying.{IsAcceptedFilter, IsNoFilter, ReadsFilter, ReadsUnder}
 use Rattle.scf_tool.specs.VerifyingArchitectures.{left_out_of_each}
 use Rattle.scf_tool.specs.VerifyingStacks.{left_out_of}
-use Rattle.scf_tool.specs.VerifyingSides.{AreRefused, AreVerified, SideBytes, fault_of_either}
+use Rattle.scf_tool.specs.VerifyingSides.{AreRefused, AreSides, AreVerified, SideBytes, behavior_of_input, fault_of_either}
 use Rattle.scf_tool.specs.VerifyingSides.SideBytes.{OfFilters, OfProfile}
 
 -- ---- standard input
@@ -435,6 +436,27 @@ ListsAnswers reading exploration input =
     ⊎ ((profile : List ℕ) × (held.profiles ≡ profile ∷ [])
     × OfOnly (ListsProfile exploration (interpretation_of reading held)) profile held.tables ending))
 
+-- ---- differences by regions
+
+-- What two sides and their tables come to: why they aren't read, or what they aren't known to answer alike. Memory may
+-- be wanting.
+abbrev pub ListsSides : Bool → Exploration → Interpretation → SideBytes → SideBytes → List (Architecture × List ℕ)
+    → Result Reply Fault → Type 0
+ListsSides native exploration by left right texts (Ok reply) = (tables : Tables) × (left_input right_input : SideInput)
+    × AreSides native by left right (map known_text texts) tables left_input right_input
+    × ListsDiffering exploration (behavior_of_input left_input) (behavior_of_input right_input) reply
+ListsSides native exploration by left right texts (Err (faults.Sides fault)) =
+    NoReadFailed (fault_of_either fault) × AreRefused native by left right (map known_text texts) fault
+ListsSides native exploration by left right texts (Err faults.Answers) = Unit {0}
+ListsSides native exploration by left right texts ending = ⊥
+
+-- `answers --differences`: what the sides that the bundle holds aren't known to answer alike
+abbrev pub ListsDifferences : BundleForm → Reading → Exploration → Option (List ℕ) → Result Reply Fault → Type 0
+ListsDifferences form reading exploration input =
+    EndsOnBundle form input (TakesSides form (AtOnce exploration.scope))
+    (λ held ending. (left right : SideBytes) × AreSidesOf form held left right
+    × ListsSides (is_native form) exploration (interpretation_of reading held) left right held.tables ending)
+
 -- ---- all commands
 
 -- A command on a profile alone, and one with the tables of several architectures.
@@ -452,6 +474,7 @@ abbrev pub IsTrueReply : Reading → Request → Option (List ℕ) → Result Re
 IsTrueReply reading (requests.Answers exploration) input = ListsAnswers reading exploration input
 IsTrueReply reading (requests.AnswersOfArchitectures exploration) input =
     EndsOnTables reading input (ListsProfiles exploration)
+IsTrueReply reading (requests.Differences form exploration) input = ListsDifferences form reading exploration input
 IsTrueReply reading (requests.Ask call) input = EndsOnTable reading input (GivesReason call)
 IsTrueReply reading (requests.AskArchitectures call) input = EndsOnTables reading input (GivesReasonAmong call)
 IsTrueReply reading requests.Assemble input = Assembles input

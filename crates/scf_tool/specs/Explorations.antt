@@ -1,6 +1,8 @@
 -- What walks over the records of a scope list: regions of records, with what filters or profiles answer to them.
-use Rattle.std.specs.Prelude.{◌≡◌, ◌*◌, ◌<◌, ◌≤◌, ℕ, Bool, List, [], ◌∷◌, All, sum_by, Option, Some, None}
+use Rattle.std.specs.Prelude.{◌≡◌, ◌==◌, ◌*◌, ◌<◌, ◌≤◌, ℕ, Bool, true, false, not, List, [], ◌∷◌, All, filter, sum_by, Option, Some, None}
 use Rattle.std.specs.List.{AllZip}
+use Rattle.std.specs.Option.{option_map_or}
+use Rattle.scf_insn.specs.declared.answer.Answer.{Answer}
 use Rattle.scf_insn.specs.declared.architecture.Architecture.{Architecture}
 use Rattle.scf_profile.specs.Profile.{Profile}
 use Rattle.scf_profile.specs.Scope.{IsInScope}
@@ -8,9 +10,11 @@ use Rattle.scf_profile.specs.declared.scope.Scope.{Scope}
 use Rattle.scf_facts.specs.Masks.{AreFew}
 use Rattle.scf_compare.specs.Regions.{AreRegions, IsDecidedRegion}
 use Rattle.scf_compare.specs.Sides.{Behavior, no_side, profile_behavior}
+use Rattle.scf_compare.specs.declared.comparison.PairLeaf.{PairLeaf}
 use Rattle.scf_compare.specs.declared.regions.Regions.{Regions}
 use Rattle.scf_request.specs.declared.request.Exploration.{Exploration}
 use Rattle.scf_tool.specs.RegionLines.{listing_text}
+use Rattle.scf_tool.specs.declared.region_lines.RegionFormat.{RegionFormat}
 use Rattle.scf_tool.specs.declared.reply.Reply.{Reply}
 use Rattle.scf_tool.specs.declared.reply.Reply.TheVariants.{Compared}
 use Rattle.scf_tool.specs.declared.status.Status.{Status}
@@ -29,6 +33,24 @@ ExploresSides left right scope limit None = limit < left.size * right.size
 ExploresSides left right scope limit (Some (regions ∷ [])) = AreListed left right scope limit regions
 ExploresSides left right scope limit (Some listed) = ⊥
 
+-- both answers of a leaf are known, and the same
+abbrev pub is_alike : PairLeaf → Bool
+is_alike leaf =
+    option_map_or (λ (left : Answer). option_map_or (λ (right : Answer). left.0 == right.0) leaf.right.answer false)
+    leaf.left.answer false
+
+-- What is left of regions without those that are answered alike.
+pub record AreDiffering (all differing : Regions) : Type 0 where
+  pub list : differing.list.items ≡ filter (λ region. not (is_alike region.leaf)) all.list.items
+  pub steps : differing.steps ≡ all.steps
+
+-- what is left of what a walk over two sides comes to
+abbrev pub ExploresDiffering : Behavior → Behavior → Scope → ℕ → Option (List Regions) → Type 0
+ExploresDiffering left right scope limit None = limit < left.size * right.size
+ExploresDiffering left right scope limit (Some (differing ∷ [])) =
+    (all : Regions) × AreListed left right scope limit all × AreDiffering all differing
+ExploresDiffering left right scope limit (Some listed) = ⊥
+
 -- Walks over profiles, each by itself over the scope of its architecture, come to their regions, or to none, only if
 -- the limit of all steps is below their sizes together.
 abbrev pub ExploresEach : (Architecture → Scope) → List Profile → ℕ → Option (List Regions) → Type 0
@@ -43,12 +65,22 @@ listing_status None = Open
 listing_status (Some listed) = Well
 
 -- the text of what is listed, and its status
-abbrev pub IsListing : Bool → Option (List Regions) → Reply → Type 0
-IsListing has_examples listed (Compared text status) =
-    (text.items ≡ listing_text has_examples listed) × (status ≡ listing_status listed)
-IsListing has_examples listed reply = ⊥
+abbrev pub IsListing : RegionFormat → Option (List Regions) → Reply → Type 0
+IsListing format listed (Compared text status) =
+    (text.items ≡ listing_text format listed) × (status ≡ listing_status listed)
+IsListing format listed reply = ⊥
 
--- The reply of walks that come to something.
+-- how regions are printed: with what one side answers, or both
+abbrev pub format_of : Bool → Exploration → RegionFormat
+format_of has_both exploration = record { has_both = has_both; has_examples = exploration.has_examples }
+
+-- The reply of walks over one side that come to something.
 abbrev pub ListsWalks : Exploration → (Option (List Regions) → Type 0) → Reply → Type 0
 ListsWalks exploration explores reply =
-    (listed : Option (List Regions)) × explores listed × IsListing exploration.has_examples listed reply
+    (listed : Option (List Regions)) × explores listed × IsListing (format_of false exploration) listed reply
+
+-- The reply of a walk over two sides.
+abbrev pub ListsDiffering : Exploration → Behavior → Behavior → Reply → Type 0
+ListsDiffering exploration left right reply = (listed : Option (List Regions))
+    × ExploresDiffering left right exploration.scope exploration.limit listed
+    × IsListing (format_of true exploration) listed reply

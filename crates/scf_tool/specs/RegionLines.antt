@@ -7,12 +7,15 @@ use Rattle.scf_insn.specs.declared.answer.Answer.{Answer}
 use Rattle.scf_facts.specs.declared.bits.Bits.{Bits}
 use Rattle.scf_facts.specs.declared.interval.Interval.{Interval}
 use Rattle.scf_facts.specs.WordSets.{NumberFacts}
+use Rattle.scf_compare.specs.declared.comparison.PairLeaf.{PairLeaf}
 use Rattle.scf_compare.specs.declared.origin.Origin.{Origin}
 use Rattle.scf_compare.specs.declared.origin.Origin.TheVariants.{Filter, Profile}
 use Rattle.scf_compare.specs.declared.region.Region.{Region}
 use Rattle.scf_compare.specs.declared.regions.Regions.{Regions}
+use Rattle.scf_compare.specs.declared.side_tree.SideLeaf.{SideLeaf}
 use Rattle.scf_tool.specs.Lines.{answer_text, insn_text, reason_words}
 use Rattle.scf_tool.specs.Reports.{call_line, prefixed}
+use Rattle.scf_tool.specs.declared.region_lines.RegionFormat.{RegionFormat}
 
 -- ---- what is known of a word
 
@@ -84,21 +87,31 @@ abbrev pub exactness_text : Bool → List ℕ
 exactness_text true = []
 exactness_text false = codes " open"
 
-abbrev pub region_line : Region → List ℕ
-region_line region =
-    let side = region.leaf.left in
-    (region_answer_text side.answer ++ (origin_text side.origin ++ exactness_text region.is_exact))
-    ++ (words_text region.words ++ codes "\n")
+-- what one side answers, and where that comes from
+abbrev pub side_text : SideLeaf → List ℕ
+side_text leaf = region_answer_text leaf.answer ++ origin_text leaf.origin
 
--- a region's line, and one of a record in it, if examples are asked for and one is known
-abbrev pub region_text : Bool → Region → List ℕ
-region_text true region = region_line region ++ option_map_or call_line region.example []
-region_text false region = region_line region
+-- this of the left side, and that of the right one beside it if both are printed
+abbrev pub leaf_text : Bool → PairLeaf → List ℕ
+leaf_text false leaf = side_text leaf.left
+leaf_text true leaf = side_text leaf.left ++ (codes " beside " ++ side_text leaf.right)
+
+abbrev pub region_line : Bool → Region → List ℕ
+region_line has_both region =
+    (leaf_text has_both region.leaf ++ exactness_text region.is_exact) ++ (words_text region.words ++ codes "\n")
+
+-- the line of a record in a region, if examples are asked for and one is known
+abbrev pub example_text : Bool → Region → List ℕ
+example_text false region = []
+example_text true region = option_map_or call_line region.example []
+
+abbrev pub region_text : RegionFormat → Region → List ℕ
+region_text format region = region_line format.has_both region ++ example_text format.has_examples region
 
 -- ---- all regions
 
-abbrev pub regions_text : Bool → Regions → List ℕ
-regions_text has_examples regions = flat_map (region_text has_examples) regions.list.items
+abbrev pub regions_text : RegionFormat → Regions → List ℕ
+regions_text format regions = flat_map (region_text format) regions.list.items
 
 -- a sum as a 64-bit number, which ends at the greatest
 abbrev pub total_of : {A : Type 0} → (A → ℕ) → List A → ℕ
@@ -111,6 +124,6 @@ totals_line listed =
     ++ (codes " steps " ++ (decimal (total_of (λ regions. regions.steps) listed) ++ codes "\n")))
 
 -- The regions that walks list, one after another, and their totals; or that the walks are unfinished.
-abbrev pub listing_text : Bool → Option (List Regions) → List ℕ
-listing_text has_examples None = codes "unfinished\n"
-listing_text has_examples (Some listed) = flat_map (regions_text has_examples) listed ++ totals_line listed
+abbrev pub listing_text : RegionFormat → Option (List Regions) → List ℕ
+listing_text format None = codes "unfinished\n"
+listing_text format (Some listed) = flat_map (regions_text format) listed ++ totals_line listed

@@ -9,6 +9,8 @@ ghost use Rattle.scf_tool.specs.Verifying.{HasEnded, HasFailedWhere};
 mod answers;
 mod architectures;
 mod compare;
+mod comparison_parts;
+mod differences;
 mod filter;
 mod parts;
 mod profile;
@@ -23,6 +25,7 @@ use crate::status::Status;
 use answers::{list_answers, list_architectures};
 use architectures::{ask_architectures, compile_architectures};
 use compare::compare_bundle;
+use differences::list_differences;
 use filter::{check_filter, list_filter, run_filter, trace_filter};
 use profile::{ask_profile, compile_profile};
 use scf_insn::{InputFault, Sink, Source, read_input};
@@ -61,6 +64,9 @@ fn answer<R: Source>(
         Request::Answers(exploration) => list_answers(alloc, reading, *exploration, input),
         Request::AnswersOfArchitectures(exploration) => {
             list_architectures(alloc, reading, *exploration, input)
+        }
+        Request::Differences { form, exploration } => {
+            list_differences(alloc, reading, *form, *exploration, input)
         }
         Request::Ask(call) => ask_profile(alloc, reading, call, input),
         Request::AskArchitectures(call) => ask_architectures(alloc, reading, call, input),

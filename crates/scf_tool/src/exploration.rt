@@ -1,24 +1,32 @@
 //! Walks over the records of a scope: what filters or profiles answer, by regions of records.
 
-ghost use Rattle.std.specs.Prelude.{◌∷◌, [], Bool, IfOk, IfNone, IfSome, MatchOption, None, Some};
+ghost use Rattle.std.specs.Prelude.{◌≡◌, ◌⊎◌, ◌∷◌, [], ℕ, Bool, IfOk, IfNone, IfSome, MatchOption, None, Some};
+ghost use Rattle.scf_compare.specs.Findings.{AllRelated, WordsRelated, compared_sides};
+ghost use Rattle.scf_compare.specs.Regions.{IsCovered};
 ghost use Rattle.scf_compare.specs.Sides.{behavior_of, no_side};
+ghost use Rattle.scf_insn.specs.Words.{IsRecord, words_of};
+ghost use Rattle.scf_insn.specs.declared.record.CallRecord.{CallRecord};
+ghost use Rattle.scf_profile.specs.Scope.{IsInScope};
 ghost use Rattle.scf_tool.specs.ArchitectureScopes as scopes;
 ghost use Rattle.scf_tool.specs.Explorations.{
+  AreDiffering,
   AreListed,
   ExploresEach,
   ExploresSides,
   IsListing,
+  ListsDiffering,
   ListsWalks,
 };
+ghost use Rattle.scf_tool.specs.Explorations as spec;
 
 use crate::architecture_scope::scope_of;
-use crate::region_lines::{listing_of_regions, unfinished_line};
+use crate::region_lines::{RegionFormat, listing_of_regions, unfinished_line};
 use crate::reply::Reply;
 use crate::status::Status;
-use scf_compare::{Regions, Side, regions_of};
+use scf_compare::{PairLeaf, Regions, Side, regions_of};
 use scf_facts::{WordSets, word_sets_start_exact};
 use scf_insn::Memory;
-use scf_profile::{Profile, Scope};
+use scf_profile::{Profile, Relation, Scope};
 use scf_request::Exploration;
 use std::alloc::Global;
 
@@ -65,10 +73,10 @@ fn explore_each(
 }
 
 /// The reply that lists these regions.
-fn reply_of(alloc: Global, has_examples: bool, listed: &[Regions]) -> Result<Reply, Memory>
-    ensures { IfOk result (IsListing has_examples (Some listed.now)) }
+fn reply_of(alloc: Global, format: RegionFormat, listed: &[Regions]) -> Result<Reply, Memory>
+    ensures { IfOk result (IsListing format (Some listed.now)) }
 {
-    let text = listing_of_regions(alloc, has_examples, listed)?;
+    let text = listing_of_regions(alloc, format, listed)?;
     Ok(Reply::Compared {
         text,
         status: Status::Well,
@@ -77,13 +85,23 @@ fn reply_of(alloc: Global, has_examples: bool, listed: &[Regions]) -> Result<Rep
 
 /// The reply of walks that are unfinished.
 fn unfinished(alloc: Global) -> Result<Reply, Memory>
-    ensures { IfOk result (λ reply. (has_examples : Bool) → IsListing has_examples None reply) }
+    ensures { IfOk result (λ reply. (format : RegionFormat) → IsListing format None reply) }
 {
     let text = unfinished_line(alloc)?;
     Ok(Reply::Compared {
         text,
         status: Status::Open,
     })
+}
+
+/// How regions are printed: with what one side answers, or both.
+fn format_of(has_both: bool, exploration: Exploration) -> RegionFormat
+    ensures { result ≡ spec.format_of has_both exploration }
+{
+    RegionFormat {
+        has_both,
+        has_examples: exploration.has_examples,
+    }
 }
 
 /// Lists what a side answers to the records of the scope.
@@ -102,7 +120,7 @@ pub(crate) fn list_side(
         exploration.scope,
         exploration.limit,
     )? {
-        Some(regions) => reply_of(alloc, exploration.has_examples, &[regions]),
+        Some(regions) => reply_of(alloc, format_of(false, exploration), &[regions]),
         None => unfinished(alloc),
     }
 }
@@ -117,7 +135,57 @@ pub(crate) fn list_each(
         (ExploresEach (scopes.scope_of exploration.scope) profiles.now exploration.limit)) }
 {
     match explore_each(alloc, profiles, exploration.scope, exploration.limit)? {
-        Some(listed) => reply_of(alloc, exploration.has_examples, &listed),
+        Some(listed) => reply_of(alloc, format_of(false, exploration), &listed),
+        None => unfinished(alloc),
+    }
+}
+
+/// Whether both answers of a leaf are known, and the same.
+fn is_alike(leaf: &PairLeaf) -> bool
+    ensures { result ≡ spec.is_alike leaf.now }
+{
+    match (leaf.left.answer, leaf.right.answer) {
+        (Some(left), Some(right)) => left == right,
+        _ => false,
+    }
+}
+
+/// What is left of regions without those that are answered alike.
+fn differing(regions: Regions) -> Regions
+    ensures { AreDiffering regions result }
+{
+    let mut list = regions.list;
+    list.retain(|region| !is_alike(&region.leaf));
+    Regions {
+        list,
+        steps: regions.steps,
+    }
+}
+
+/// The law that two sides answer each record alike that lies in no listed region: each record of the scope where none
+/// is listed.
+pub fn none_differ()
+    ensures alike { (left right : Side) (scope : Scope) (limit : ℕ) (all listed : Regions) (call : CallRecord)
+        → AreListed (behavior_of left) (behavior_of right) scope limit all → AreDiffering all listed
+        → IsRecord call → IsInScope scope call
+        → WordsRelated (compared_sides Relation.Same scope left right) (words_of call)
+        ⊎ IsCovered (behavior_of left) (behavior_of right) listed.list.items (words_of call) }
+    ensures none { (left right : Side) (scope : Scope) (limit : ℕ) (all listed : Regions)
+        → AreListed (behavior_of left) (behavior_of right) scope limit all → AreDiffering all listed
+        → listed.list.items ≡ [] → AllRelated (compared_sides Relation.Same scope left right) }
+{}
+
+/// Lists what two sides aren't known to answer alike, of the records of the scope.
+pub(crate) fn list_differing(
+    alloc: Global,
+    left: &Side<'_>,
+    right: &Side<'_>,
+    exploration: Exploration,
+) -> Result<Reply, Memory>
+    ensures { IfOk result (ListsDiffering exploration (behavior_of left.now) (behavior_of right.now)) }
+{
+    match explore(alloc, left, right, exploration.scope, exploration.limit)? {
+        Some(regions) => reply_of(alloc, format_of(true, exploration), &[differing(regions)]),
         None => unfinished(alloc),
     }
 }

@@ -37,6 +37,7 @@ pub use command_line::refuse_words;
 pub use commands::run_command;
 pub use compilation::{filter_of, filter_of_each};
 pub use compiled_filter::compiled_is_same;
+pub use exploration::none_differ;
 pub use fault_row::{FaultRow, MEMORY, beside_row, compile_row, text_row, verify_row};
 pub use filter_stack::read_stack;
 pub use findings::{CallFinding, ComparisonOutcome, Findings};

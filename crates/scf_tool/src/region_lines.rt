@@ -6,10 +6,12 @@ ghost use Rattle.std.specs.Option.{option_map_or};
 ghost use Rattle.scf_tool.specs.RegionLines.{
   bits_text,
   exactness_text,
+  example_text,
   interval_text,
   intervals_text,
   joined_text,
   known_bits_text,
+  leaf_text,
   listing_text,
   origin_text,
   region_answer_text,
@@ -17,6 +19,7 @@ ghost use Rattle.scf_tool.specs.RegionLines.{
   region_text,
   regions_text,
   set_text,
+  side_text,
   total_of,
   totals_line,
   word_text,
@@ -29,10 +32,19 @@ use crate::buffer::Buffer;
 use crate::fragments::Fragment::{Decimal, Hexadecimal, Text};
 use crate::lines::{add_answer, add_insn, add_reason};
 use crate::reporting::add_call;
-use scf_compare::{Origin, Region, Regions};
+use scf_compare::{Origin, PairLeaf, Region, Regions, SideLeaf};
 use scf_facts::{Bits, Interval, Snapshot, WordSet};
 use scf_insn::{Answer, Memory};
 use std::alloc::Global;
+
+/// How regions are printed.
+#[derive(Clone, Copy)]
+pub(crate) struct RegionFormat {
+    /// Whether the answer of the right side is printed beside that of the left one.
+    pub has_both: bool,
+    /// Whether a record of each region is printed.
+    pub has_examples: bool,
+}
 
 /// The indices of a record's words.
 const WORD_INDICES: [u8; 16] = [0, 1, 2, 3, 4, 5, 6, 7, 8, 9, 10, 11, 12, 13, 14, 15];
@@ -213,45 +225,71 @@ fn add_exactness(text: &mut Buffer, is_exact: bool) -> Result<(), Memory>
     text.add(&[Text(" open")])
 }
 
-/// Adds the line of a region.
-fn add_region_line(text: &mut Buffer, region: &Region) -> Result<(), Memory>
-    ensures { Adds text.old (region_line region.now) result text.new }
+/// Adds what a side answers.
+fn add_side(text: &mut Buffer, leaf: SideLeaf) -> Result<(), Memory>
+    ensures { Adds text.old (side_text leaf) result text.new }
 {
-    add_region_answer(text, region.leaf.left.answer)?;
-    add_origin(text, region.leaf.left.origin)?;
+    add_region_answer(text, leaf.answer)?;
+    add_origin(text, leaf.origin)
+}
+
+/// Adds what the left side answers, or both sides.
+fn add_leaf(text: &mut Buffer, has_both: bool, leaf: PairLeaf) -> Result<(), Memory>
+    ensures { Adds text.old (leaf_text has_both leaf) result text.new }
+{
+    add_side(text, leaf.left)?;
+    if !has_both {
+        return Ok(());
+    }
+    text.add(&[Text(" beside ")])?;
+    add_side(text, leaf.right)
+}
+
+/// Adds the line of a region.
+fn add_region_line(text: &mut Buffer, has_both: bool, region: &Region) -> Result<(), Memory>
+    ensures { Adds text.old (region_line has_both region.now) result text.new }
+{
+    add_leaf(text, has_both, region.leaf)?;
     add_exactness(text, region.is_exact)?;
     add_words(text, &region.words)?;
     text.add(&[Text("\n")])?;
     Ok(())
 }
 
-/// Adds the line of a region and, if examples are asked for and one is known, that of a record in it.
-fn add_region(text: &mut Buffer, has_examples: bool, region: &Region) -> Result<(), Memory>
-    ensures { Adds text.old (region_text has_examples region.now) result text.new }
+/// Adds the line of a record in a region, if examples are asked for and one is known.
+fn add_example(text: &mut Buffer, has_examples: bool, region: &Region) -> Result<(), Memory>
+    ensures { Adds text.old (example_text has_examples region.now) result text.new }
 {
-    add_region_line(text, region)?;
     match &region.example {
         Some(call) if has_examples => add_call(text, call),
         _ => Ok(()),
     }
 }
 
+/// Adds the lines of a region.
+fn add_region(text: &mut Buffer, format: RegionFormat, region: &Region) -> Result<(), Memory>
+    ensures { Adds text.old (region_text format region.now) result text.new }
+{
+    add_region_line(text, format.has_both, region)?;
+    add_example(text, format.has_examples, region)
+}
+
 /// Adds the lines of regions.
-fn add_regions(text: &mut Buffer, has_examples: bool, regions: &Regions) -> Result<(), Memory>
-    ensures { Adds text.old (regions_text has_examples regions.now) result text.new }
+fn add_regions(text: &mut Buffer, format: RegionFormat, regions: &Regions) -> Result<(), Memory>
+    ensures { Adds text.old (regions_text format regions.now) result text.new }
 {
     for region in &regions.list {
-        add_region(text, has_examples, region)?;
+        add_region(text, format, region)?;
     }
     Ok(())
 }
 
 /// Adds the lines of the regions of walks, one walk after another.
-fn add_listed(text: &mut Buffer, has_examples: bool, listed: &[Regions]) -> Result<(), Memory>
-    ensures { Adds text.old (flat_map (regions_text has_examples) listed.now) result text.new }
+fn add_listed(text: &mut Buffer, format: RegionFormat, listed: &[Regions]) -> Result<(), Memory>
+    ensures { Adds text.old (flat_map (regions_text format) listed.now) result text.new }
 {
     for regions in listed {
-        add_regions(text, has_examples, regions)?;
+        add_regions(text, format, regions)?;
     }
     Ok(())
 }
@@ -294,20 +332,20 @@ fn add_totals(text: &mut Buffer, listed: &[Regions]) -> Result<(), Memory>
 /// The lines of the regions that walks list, and of how many they are.
 pub(crate) fn listing_of_regions(
     alloc: Global,
-    has_examples: bool,
+    format: RegionFormat,
     listed: &[Regions],
 ) -> Result<Vec<u8>, Memory>
-    ensures { IfOk result (λ text. text.items ≡ listing_text has_examples (Some listed.now)) }
+    ensures { IfOk result (λ text. text.items ≡ listing_text format (Some listed.now)) }
 {
     let mut text = Buffer::new(alloc);
-    add_listed(&mut text, has_examples, listed)?;
+    add_listed(&mut text, format, listed)?;
     add_totals(&mut text, listed)?;
     Ok(text.into_bytes())
 }
 
 /// The line of walks that are unfinished.
 pub(crate) fn unfinished_line(alloc: Global) -> Result<Vec<u8>, Memory>
-    ensures { IfOk result (λ text. (has_examples : Bool) → text.items ≡ listing_text has_examples None) }
+    ensures { IfOk result (λ text. (format : RegionFormat) → text.items ≡ listing_text format None) }
 {
     let mut text = Buffer::new(alloc);
     text.add(&[Text("unfinished\n")])?;

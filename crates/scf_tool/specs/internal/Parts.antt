@@ -4,7 +4,7 @@ use Rattle.scf_profile.specs.declared.reading.Reading.{Reading}
 use Rattle.scf_request.specs.Bundle.{Held}
 use Rattle.scf_request.specs.Contents.{rest_of, rest_of_table}
 use Rattle.scf_request.specs.Interpretations.{interpretation_of}
-use Rattle.scf_tool.specs.declared.commands.compare.ComparisonParts.{ComparisonParts}
+use Rattle.scf_tool.specs.declared.commands.comparison_parts.ComparisonParts.{ComparisonParts}
 use Rattle.scf_tool.specs.declared.commands.parts.ProfileParts.{ProfileParts}
 use Rattle.scf_tool.specs.VerifyingSides.{SideBytes}
 use Rattle.scf_tool.specs.internal.Sides.{side_bytes}

@@ -1,43 +1,28 @@
 //! The comparison of two sides.
 
-ghost use Rattle.std.specs.Prelude.{◌≡◌, ◌↔◌, ◌⊎◌, true, length, map, IfOk, IfErr, IsTrue, MatchOption, Ok, Err};
-ghost use Rattle.scf_request.specs.Contents.{held_by, rest_of_table};
-ghost use Rattle.scf_tool.specs.Commands.{
-  AreSidesOf,
-  AreTaken,
-  AreWithProfile,
-  Compares,
-  ComparesSides,
-  GoesOverNone,
-  GoesOverTables,
-  IsReport,
-  TakesProfile,
-  TakesSides,
-};
-ghost use Rattle.scf_tool.specs.Commands as spec;
+ghost use Rattle.std.specs.Prelude.{◌≡◌, ◌↔◌, ◌⊎◌, true, length, map, IfOk, IfErr, IsTrue, Ok, Err};
+ghost use Rattle.scf_request.specs.Contents.{rest_of_table};
+ghost use Rattle.scf_tool.specs.Commands.{Compares, ComparesSides, GoesOverNone, GoesOverTables, IsReport};
 ghost use Rattle.scf_tool.specs.Reports.{finding_status, findings_status};
 ghost use Rattle.scf_tool.specs.Statuses.{LeavesWhole};
-ghost use Rattle.scf_tool.specs.internal.Parts.{AreComparisonParts};
 ghost use Rattle.scf_tool.specs.internal.Sides.{side_bytes};
 
 use crate::architecture_scope::{has_record_among, names_no_call};
 use crate::call_reporting::worst_of_calls;
-use crate::commands::parts::{BesideProfile, only, profile_parts};
+use crate::commands::comparison_parts::{ComparisonParts, comparison_parts, is_native};
 use crate::commands::whole_input;
 use crate::fault::Fault;
 use crate::findings::Findings;
 use crate::reply::Reply;
 use crate::reporting::report_sides;
 use crate::side_verification::verify_sides;
-use crate::sides::{SideParts, SidesOutcome};
+use crate::sides::SidesOutcome;
 use crate::status::Status;
 use crate::verify_fault::BesideFault;
 use scf_compare::Finding;
 use scf_insn::{Memory, Source};
 use scf_profile::{Reading, Relation, Scope};
-use scf_request::{
-    BundleFault, BundleForm, Comparison, Contents, Interpretation, PartReader, Scopes, TableReader,
-};
+use scf_request::{BundleFault, BundleForm, Comparison, Contents, PartReader, Scopes, TableReader};
 use std::alloc::Global;
 
 /// The exit status that goes with a finding.
@@ -71,150 +56,6 @@ fn report_of(alloc: Global, relation: Relation, verified: &SidesOutcome) -> Resu
     let status = status_of_findings(&verified.outcome.findings);
     let text = report_sides(alloc, relation, &verified.left_out, &verified.outcome)?;
     Ok(Reply::Compared { text, status })
-}
-
-/// Two sides, their tables, and how profiles are read.
-#[derive(Drop)]
-struct ComparisonParts<'a> {
-    pub left: SideParts<'a>,
-    pub right: SideParts<'a>,
-    pub tables: Vec<TableReader<PartReader<'a>>>,
-    pub by: Interpretation,
-}
-
-/// Whether single calls are compared.
-fn is_call_by_call(over: Scopes) -> bool
-    ensures { result ≡ spec.is_call_by_call over }
-{
-    matches!(over, Scopes::EachCall)
-}
-
-/// Whether a profile is read for x86-64 alone.
-fn is_native(form: BundleForm) -> bool
-    ensures { result ≡ spec.is_native form }
-{
-    matches!(form, BundleForm::Profile)
-}
-
-/// Filters and a profile.
-fn filters_and_profile<'a>(
-    alloc: Global,
-    reading: Reading,
-    only_one: bool,
-    contents: Contents<'a>,
-) -> Result<Option<ComparisonParts<'a>>, BundleFault>
-    ensures parts { IfOk result (λ parts. MatchOption parts
-        (AreTaken BesideProfile.Filters only_one (held_by contents.entry) → ⊥)
-        (λ own. AreTaken BesideProfile.Filters only_one (held_by contents.entry)
-        × AreComparisonParts AreWithProfile reading (held_by contents.entry) own)) }
-    ensures fault { IfErr result (λ fault. fault ≡ BundleFault.Memory) }
-{
-    match profile_parts(alloc, reading, contents, BesideProfile::Filters, only_one)? {
-        Some(parts) => Ok(Some(ComparisonParts {
-            left: SideParts::Filters(parts.filters),
-            right: SideParts::Profile(parts.profile),
-            tables: parts.tables,
-            by: parts.by,
-        })),
-        None => Ok(None),
-    }
-}
-
-/// A profile and another one beside it.
-fn two_profiles<'a>(
-    alloc: Global,
-    reading: Reading,
-    only_one: bool,
-    contents: Contents<'a>,
-) -> Result<Option<ComparisonParts<'a>>, BundleFault>
-    ensures parts { IfOk result (λ parts. MatchOption parts
-        (AreTaken BesideProfile.Profile only_one (held_by contents.entry) → ⊥)
-        (λ own. AreTaken BesideProfile.Profile only_one (held_by contents.entry)
-        × AreComparisonParts AreWithProfile reading (held_by contents.entry) own)) }
-    ensures fault { IfErr result (λ fault. fault ≡ BundleFault.Memory) }
-{
-    match profile_parts(alloc, reading, contents, BesideProfile::Profile, only_one)? {
-        Some(parts) => match only(parts.beside) {
-            Some(beside) => Ok(Some(ComparisonParts {
-                left: SideParts::Profile(parts.profile),
-                right: SideParts::Profile(beside),
-                tables: parts.tables,
-                by: parts.by,
-            })),
-            None => Ok(None),
-        },
-        None => Ok(None),
-    }
-}
-
-/// Filters and a profile, or two profiles.
-fn with_profile<'a>(
-    alloc: Global,
-    reading: Reading,
-    only_one: bool,
-    contents: Contents<'a>,
-) -> Result<Option<ComparisonParts<'a>>, BundleFault>
-    ensures parts { IfOk result (λ parts. MatchOption parts
-        (TakesProfile only_one (held_by contents.entry) → ⊥)
-        (λ own. TakesProfile only_one (held_by contents.entry)
-        × AreComparisonParts AreWithProfile reading (held_by contents.entry) own)) }
-    ensures fault { IfErr result (λ fault. fault ≡ BundleFault.Memory) }
-{
-    if contents.beside_profiles.is_empty() {
-        filters_and_profile(alloc, reading, only_one, contents)
-    } else {
-        two_profiles(alloc, reading, only_one, contents)
-    }
-}
-
-/// Filters and others beside them.
-fn two_stacks<'a>(
-    alloc: Global,
-    reading: Reading,
-    over: Scopes,
-    form: BundleForm,
-    contents: Contents<'a>,
-) -> Result<Option<ComparisonParts<'a>>, BundleFault>
-    requires { (scopes : Scopes) × (form ≡ BundleForm.Beside scopes) }
-    ensures parts { IfOk result (λ parts. MatchOption parts
-        (TakesSides form over (held_by contents.entry) → ⊥)
-        (λ own. TakesSides form over (held_by contents.entry)
-        × AreComparisonParts (AreSidesOf form) reading (held_by contents.entry) own)) }
-    ensures fault { IfErr result (λ fault. fault ≡ BundleFault.Memory) }
-{
-    if is_call_by_call(over) && contents.tables.len() != 1 {
-        return Ok(None);
-    }
-    let by = Interpretation::of_parts(alloc, reading, &contents.stubs)?;
-    Ok(Some(ComparisonParts {
-        left: SideParts::Filters(contents.filters),
-        right: SideParts::Filters(contents.beside),
-        tables: contents.tables,
-        by,
-    }))
-}
-
-/// The two sides that a bundle holds, with their tables, where they are what a comparison takes.
-fn comparison_parts<'a>(
-    alloc: Global,
-    reading: Reading,
-    form: BundleForm,
-    over: Scopes,
-    contents: Contents<'a>,
-) -> Result<Option<ComparisonParts<'a>>, BundleFault>
-    ensures parts { IfOk result (λ parts. MatchOption parts
-        (TakesSides form over (held_by contents.entry) → ⊥)
-        (λ own. TakesSides form over (held_by contents.entry)
-        × AreComparisonParts (AreSidesOf form) reading (held_by contents.entry) own)) }
-    ensures fault { IfErr result (λ fault. fault ≡ BundleFault.Memory) }
-{
-    match form {
-        BundleForm::Profile => with_profile(alloc, reading, true, contents),
-        BundleForm::Architectures => {
-            with_profile(alloc, reading, is_call_by_call(over), contents)
-        }
-        BundleForm::Beside(_) => two_stacks(alloc, reading, over, form, contents),
-    }
 }
 
 /// Whether a scope has a record under the tables of a bundle.

@@ -4,4 +4,4 @@ use Rattle.scf_tool.proofs.region_lines.add_listed.Given as goal
 
 abbrev pub invariant-loop-regions : goal.invariant-loop-regions
 invariant-loop-regions l = buffered l.text
-    ≡ buffered l.fn.text ++ flat_map (regions_text l.has_examples) (take l.regions-index l.listed)
+    ≡ buffered l.fn.text ++ flat_map (regions_text l.format) (take l.regions-index l.listed)

@@ -4,4 +4,4 @@ use Rattle.scf_tool.proofs.region_lines.add_regions.Given as goal
 
 abbrev pub invariant-loop-region : goal.invariant-loop-region
 invariant-loop-region l = buffered l.text
-    ≡ buffered l.fn.text ++ flat_map (region_text l.has_examples) (take l.region-index l.region-items)
+    ≡ buffered l.fn.text ++ flat_map (region_text l.format) (take l.region-index l.region-items)

@@ -1,8 +1,9 @@
 use Rattle.scf_request.specs.Contents.{held_by}
-use Rattle.scf_tool.proofs.ComparisonParts.{one_for_calls, one_for_profile, sides_compared}
+use Rattle.scf_tool.proofs.ComparisonParts.{of_sides, one_for_calls, one_for_profile}
 use Rattle.scf_tool.proofs.Common.{Err, Ok, ReadsInput, ap, err_from_is_err_and, length, sym, ◌∙◌}
 use Rattle.scf_tool.proofs.ScopeLemmas.{ended_over_none, ends_over_none}
 use Rattle.std.proofs.Common.{rules}
+use Rattle.scf_tool.specs.Commands.{ComparesSides, is_native}
 use Rattle.scf_tool.specs.declared.fault.Fault.TheVariants as faults
 use Rattle.scf_tool.proofs.commands.compare.compare_bundle.Goals as goal
 
@@ -57,8 +58,9 @@ returns-clause-answer g c =
     let taken = rw c.in-Some.is at c.in_ok-parts.ensures.parts in
     let over = rw (c.deref-2.ensures.value, taken.1.tables) at c.in_ok-over_record.ensures.some in
     let held = held_by c.in_ok-contents.contents in
-    let compared = sides_compared c.args.form c.args.reading c.args.comparison held c.in-Some.parts
-    (Ok c.in_ok-compare_parts.field-0) taken.1 (rw c.is_native.ensures at c.in_ok-compare_parts.ensures.reply) in (
+    let compared = of_sides
+    (λ by left right tables. ComparesSides (is_native c.args.form) c.args.comparison by left right tables (Ok c.in_ok-compare_parts.field-0))
+    c.args.form c.args.reading held c.in-Some.parts taken.1 (rw c.is_native.ensures at c.in_ok-compare_parts.ensures.reply) in (
       held,
       (c.deref.result.now, read, c.in_ok-contents.ensures.bundle),
       taken.0,
@@ -73,9 +75,9 @@ returns-in_err-compare_parts-clause-answer g c =
     let taken = rw c.in-Some.is at c.in_ok-parts.ensures.parts in
     let over = rw (c.deref-2.ensures.value, taken.1.tables) at c.in_ok-over_record.ensures.some in
     let held = held_by c.in_ok-contents.contents in
-    let refused = sides_compared c.args.form c.args.reading c.args.comparison held c.in-Some.parts
-    (Err (faults.Sides c.in_err-compare_parts.field-0.0)) taken.1
-    (rw c.is_native.ensures at c.in_err-compare_parts.ensures.fault) in
+    let refused = of_sides
+    (λ by left right tables. ComparesSides (is_native c.args.form) c.args.comparison by left right tables (Err (faults.Sides c.in_err-compare_parts.field-0.0)))
+    c.args.form c.args.reading held c.in-Some.parts taken.1 (rw c.is_native.ensures at c.in_err-compare_parts.ensures.fault) in
     rw (p.1, p.2) (
       held,
       (c.deref.result.now, read, c.in_ok-contents.ensures.bundle),

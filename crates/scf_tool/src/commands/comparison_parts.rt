@@ -1,0 +1,159 @@
+//! The parts of a bundle that are two sides.
+
+ghost use Rattle.std.specs.Prelude.{◌≡◌, length, IfOk, IfErr, MatchOption};
+ghost use Rattle.scf_request.specs.Contents.{held_by};
+ghost use Rattle.scf_tool.specs.Commands.{AreSidesOf, AreTaken, AreWithProfile, TakesProfile, TakesSides};
+ghost use Rattle.scf_tool.specs.Commands as spec;
+ghost use Rattle.scf_tool.specs.internal.Parts.{AreComparisonParts};
+
+use crate::commands::parts::{BesideProfile, only, profile_parts};
+use crate::sides::SideParts;
+use scf_profile::Reading;
+use scf_request::{
+    BundleFault, BundleForm, Contents, Interpretation, PartReader, Scopes, TableReader,
+};
+use std::alloc::Global;
+
+/// Two sides, their tables, and how profiles are read.
+#[derive(Drop)]
+pub(super) struct ComparisonParts<'a> {
+    pub left: SideParts<'a>,
+    pub right: SideParts<'a>,
+    pub tables: Vec<TableReader<PartReader<'a>>>,
+    pub by: Interpretation,
+}
+
+/// Whether single calls are compared.
+fn is_call_by_call(over: Scopes) -> bool
+    ensures { result ≡ spec.is_call_by_call over }
+{
+    matches!(over, Scopes::EachCall)
+}
+
+/// Whether a profile is read for x86-64 alone.
+pub(super) fn is_native(form: BundleForm) -> bool
+    ensures { result ≡ spec.is_native form }
+{
+    matches!(form, BundleForm::Profile)
+}
+
+/// Filters and a profile.
+fn filters_and_profile<'a>(
+    alloc: Global,
+    reading: Reading,
+    only_one: bool,
+    contents: Contents<'a>,
+) -> Result<Option<ComparisonParts<'a>>, BundleFault>
+    ensures parts { IfOk result (λ parts. MatchOption parts
+        (AreTaken BesideProfile.Filters only_one (held_by contents.entry) → ⊥)
+        (λ own. AreTaken BesideProfile.Filters only_one (held_by contents.entry)
+        × AreComparisonParts AreWithProfile reading (held_by contents.entry) own)) }
+    ensures fault { IfErr result (λ fault. fault ≡ BundleFault.Memory) }
+{
+    match profile_parts(alloc, reading, contents, BesideProfile::Filters, only_one)? {
+        Some(parts) => Ok(Some(ComparisonParts {
+            left: SideParts::Filters(parts.filters),
+            right: SideParts::Profile(parts.profile),
+            tables: parts.tables,
+            by: parts.by,
+        })),
+        None => Ok(None),
+    }
+}
+
+/// A profile and another one beside it.
+fn two_profiles<'a>(
+    alloc: Global,
+    reading: Reading,
+    only_one: bool,
+    contents: Contents<'a>,
+) -> Result<Option<ComparisonParts<'a>>, BundleFault>
+    ensures parts { IfOk result (λ parts. MatchOption parts
+        (AreTaken BesideProfile.Profile only_one (held_by contents.entry) → ⊥)
+        (λ own. AreTaken BesideProfile.Profile only_one (held_by contents.entry)
+        × AreComparisonParts AreWithProfile reading (held_by contents.entry) own)) }
+    ensures fault { IfErr result (λ fault. fault ≡ BundleFault.Memory) }
+{
+    match profile_parts(alloc, reading, contents, BesideProfile::Profile, only_one)? {
+        Some(parts) => match only(parts.beside) {
+            Some(beside) => Ok(Some(ComparisonParts {
+                left: SideParts::Profile(parts.profile),
+                right: SideParts::Profile(beside),
+                tables: parts.tables,
+                by: parts.by,
+            })),
+            None => Ok(None),
+        },
+        None => Ok(None),
+    }
+}
+
+/// Filters and a profile, or two profiles.
+fn with_profile<'a>(
+    alloc: Global,
+    reading: Reading,
+    only_one: bool,
+    contents: Contents<'a>,
+) -> Result<Option<ComparisonParts<'a>>, BundleFault>
+    ensures parts { IfOk result (λ parts. MatchOption parts
+        (TakesProfile only_one (held_by contents.entry) → ⊥)
+        (λ own. TakesProfile only_one (held_by contents.entry)
+        × AreComparisonParts AreWithProfile reading (held_by contents.entry) own)) }
+    ensures fault { IfErr result (λ fault. fault ≡ BundleFault.Memory) }
+{
+    if contents.beside_profiles.is_empty() {
+        filters_and_profile(alloc, reading, only_one, contents)
+    } else {
+        two_profiles(alloc, reading, only_one, contents)
+    }
+}
+
+/// Filters and others beside them.
+fn two_stacks<'a>(
+    alloc: Global,
+    reading: Reading,
+    over: Scopes,
+    form: BundleForm,
+    contents: Contents<'a>,
+) -> Result<Option<ComparisonParts<'a>>, BundleFault>
+    requires { (scopes : Scopes) × (form ≡ BundleForm.Beside scopes) }
+    ensures parts { IfOk result (λ parts. MatchOption parts
+        (TakesSides form over (held_by contents.entry) → ⊥)
+        (λ own. TakesSides form over (held_by contents.entry)
+        × AreComparisonParts (AreSidesOf form) reading (held_by contents.entry) own)) }
+    ensures fault { IfErr result (λ fault. fault ≡ BundleFault.Memory) }
+{
+    if is_call_by_call(over) && contents.tables.len() != 1 {
+        return Ok(None);
+    }
+    let by = Interpretation::of_parts(alloc, reading, &contents.stubs)?;
+    Ok(Some(ComparisonParts {
+        left: SideParts::Filters(contents.filters),
+        right: SideParts::Filters(contents.beside),
+        tables: contents.tables,
+        by,
+    }))
+}
+
+/// The two sides that a bundle holds, with their tables, where they are what a comparison takes.
+pub(super) fn comparison_parts<'a>(
+    alloc: Global,
+    reading: Reading,
+    form: BundleForm,
+    over: Scopes,
+    contents: Contents<'a>,
+) -> Result<Option<ComparisonParts<'a>>, BundleFault>
+    ensures parts { IfOk result (λ parts. MatchOption parts
+        (TakesSides form over (held_by contents.entry) → ⊥)
+        (λ own. TakesSides form over (held_by contents.entry)
+        × AreComparisonParts (AreSidesOf form) reading (held_by contents.entry) own)) }
+    ensures fault { IfErr result (λ fault. fault ≡ BundleFault.Memory) }
+{
+    match form {
+        BundleForm::Profile => with_profile(alloc, reading, true, contents),
+        BundleForm::Architectures => {
+            with_profile(alloc, reading, is_call_by_call(over), contents)
+        }
+        BundleForm::Beside(_) => two_stacks(alloc, reading, over, form, contents),
+    }
+}
