@@ -149,6 +149,7 @@ fn is_above(first: Bits, second: Bits) -> Option<bool>
 /// The greatest value with these bits. The least one is `bits.value`.
 #[tactic(auto, using(crate::proofs::KnownBits::within_greatest, std::proofs::lemmas::Nat::le_or_l))]
 fn greatest(bits: Bits) -> u32
+    ensures number { result ≡ bit_or bits.value (2 ^ 32 - 1 - bits.mask) }
     ensures least { bits.value ≤ result }
     ensures most { (x : ℕ) → x < 2 ^ 32 → HasBits bits x → x ≤ result }
 {
@@ -218,7 +219,9 @@ fn inverted(bits: Bits) -> Bits
     Bits::of(!bits.value, bits.mask)
 }
 
-/// The known bits of `first + second` modulo 2^32.
+/// The known bits of `first + second` modulo 2^32: those of both into which the least numbers carry what the greatest
+/// ones do, and the leading bits that all sums have.
+#[tactic(auto, using(crate::proofs::KnownBits::sum_laws))]
 fn sum_bits(first: Bits, second: Bits) -> Bits
     ensures within { bit_and result.value result.mask ≡ result.value }
     ensures stands { (x y : ℕ) → x < 2 ^ 32 → y < 2 ^ 32 → HasBits first x → HasBits second y
@@ -226,7 +229,9 @@ fn sum_bits(first: Bits, second: Bits) -> Bits
 {
     let least = u64::from(first.value) + u64::from(second.value);
     let most = u64::from(greatest(first)) + u64::from(greatest(second));
-    both_ends(first.mask & second.mask, least, most)
+    let carried = !(low_half(least) ^ low_half(most));
+    let both = Bits::of(low_half(least), first.mask & second.mask & carried);
+    both.union(leading_bits(least, most))
 }
 
 /// The known bits of `first * second` modulo 2^32.
@@ -241,7 +246,6 @@ fn product_bits(first: Bits, second: Bits) -> Bits
 }
 
 /// The known bits of `first / second`: none if the divisor may be 0.
-#[tactic(auto, using(crate::proofs::KnownBits::quotient_grows, crate::proofs::KnownBits::value_least))]
 fn quotient_bits(first: Bits, second: Bits) -> Bits
     ensures within { bit_and result.value result.mask ≡ result.value }
     ensures stands { (x y : ℕ) → x < 2 ^ 32 → y < 2 ^ 32 → HasBits first x → HasBits second y
@@ -264,11 +268,18 @@ fn both_ends(mask: u32, least: u64, greatest: u64) -> Bits
     ensures stands { (n : ℕ) → least ≤ n → n ≤ greatest → IsLowEnd mask least n → HasBits result (n % 2 ^ 32) }
 {
     let low = low_half((1 << mask.trailing_ones()) - 1);
-    let low_end = Bits::of(low_half(least), low);
+    Bits::of(low_half(least), low).union(leading_bits(least, greatest))
+}
+
+/// The leading bits modulo 2^32 that all numbers `least..=greatest` have, unless only some of them wrap.
+fn leading_bits(least: u64, greatest: u64) -> Bits
+    ensures within { bit_and result.value result.mask ≡ result.value }
+    ensures stands { (n : ℕ) → least ≤ n → n ≤ greatest → HasBits result (n % 2 ^ 32) }
+{
     if least >> 32 != greatest >> 32 {
-        return low_end;
+        return Bits::NONE;
     }
-    low_end.union(Bits::between(low_half(least), low_half(greatest)))
+    Bits::between(low_half(least), low_half(greatest))
 }
 
 /// The low 32 bits of a number.
