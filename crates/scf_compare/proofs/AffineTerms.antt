@@ -1,8 +1,11 @@
 -- Affine terms of bit slices, and the ranges in which they lie.
 use Rattle.std.specs.Prelude.{not}
 use Rattle.std.specs.Int.Bits.{xor_assoc, xor_zero_r}
-use Rattle.std.proofs.Math.Nat.{div-div-eq-div-mul, div-le_self, mul-pos}
-use Rattle.scf_compare.proofs.Common.{◌≡◌, ◌≢◌, ℕ, ◌+◌, ◌-◌, ◌*◌, ◌/◌, ◌%◌, ◌<◌, ◌≤◌, ◌^◌, ◌↔◌, true, false, eqb, leb, nat_lt, refl, sym, ap, ◌∙◌, arith, bit_and, bit_or, bit_xor, add_comm, and_comm, and_le_l, at_bit, beyond_mask, bit_at, bit_at_not, bit_at_ones, cases_eq, div-eq_of_lt, div-lt_iff_lt-mul, div-mul-le_self, div-one, eq-eqb, eqb-true, le-div_iff_mul-le, mod-eq_of_lt, mod-lt, mul-le-mul_left, ne_eqb, cases_lt, of_multiple, one_more, or_comm, or_lt, pow_pos, same_from_bits, same_from_bits_below, same_from_xor, shr_mono, w32, xor_comm, xor_lt, xor_self, word_below, inl, inr}
+use Rattle.std.proofs.Math.Nat.{add-mul, div-div-eq-div-mul, div-le_self, mul_assoc, mul-pos}
+use Rattle.std.proofs.lemmas.Nat.{mul-mod_first, mul-mod_second, xor_block, xor_mod}
+use Rattle.std.specs.Int.{trailing_zeros}
+use Rattle.std.proofs.lemmas.Nat.Bits.{bit_at-trailing_zeros}
+use Rattle.scf_compare.proofs.Common.{add-mod, and_mask, bit_at_ones_above, div-add-mod', mul_comm, ◌≡◌, ◌≢◌, ℕ, ◌+◌, ◌-◌, ◌*◌, ◌/◌, ◌%◌, ◌<◌, ◌≤◌, ◌^◌, ◌↔◌, true, false, eqb, leb, nat_lt, refl, sym, ap, ◌∙◌, arith, bit_and, bit_or, bit_xor, add_comm, and_comm, and_le_l, at_bit, beyond_mask, bit_at, bit_at_not, bit_at_ones, cases_eq, div-eq_of_lt, div-lt_iff_lt-mul, div-mul-le_self, div-one, eq-eqb, eqb-true, le-div_iff_mul-le, mod-eq_of_lt, mod-lt, mul-le-mul_left, ne_eqb, cases_lt, of_multiple, one_more, or_comm, or_lt, pow_pos, same_from_bits, same_from_bits_below, same_from_xor, shr_mono, w32, xor_comm, xor_lt, xor_self, word_below, inl, inr}
 use Rattle.scf_compare.proofs.BitSlices.{number_fits}
 use Rattle.scf_compare.proofs.Bits.{each_bit, whole_word}
 use Rattle.scf_compare.proofs.KnownBits.{quotient_grows}
@@ -38,37 +41,62 @@ or_by_xor x v fits fits_v =
 
 -- ---- the bit slice itself
 
-pub of_bit_slice : (y : ℕ) → y < 2 ^ 32 → y ≡ (bit_xor y 0 + 0) % 2 ^ 32 / 1
+pub of_bit_slice : (y : ℕ) → y < 2 ^ 32 → y ≡ (bit_xor y 0 * 1 % 2 ^ 32 + 0) % 2 ^ 32 / 1
 of_bit_slice y fits = rw (xor_zero_r y, div-one) (omega (arith, fits))
 
--- the term, where nothing is added and the divisor is 1
-only_xor : (y f a d : ℕ) → y < 2 ^ 32 → f < 2 ^ 32 → a ≡ 0 → d ≡ 1 → (bit_xor y f + a) % 2 ^ 32 / d ≡ bit_xor y f
-only_xor y f a d fits fits_f none one = rw (none, one, div-one) (omega (arith, xor_lt 32 y f fits fits_f))
+-- the term, where the factor and the divisor are 1 and nothing is added
+only_xor : (y f k a d : ℕ) → y < 2 ^ 32 → f < 2 ^ 32 → k ≡ 1 → a ≡ 0 → d ≡ 1
+    → (bit_xor y f * k % 2 ^ 32 + a) % 2 ^ 32 / d ≡ bit_xor y f
+only_xor y f k a d fits fits_f once none one =
+    rw (once, none, one, div-one) (omega (arith, xor_lt 32 y f fits fits_f))
 
 -- ---- results
 
-pub xor_more : (y f a d v : ℕ) → y < 2 ^ 32 → f < 2 ^ 32 → v < 2 ^ 32 → a ≡ 0 → d ≡ 1
-    → bit_xor ((bit_xor y f + a) % 2 ^ 32 / d) v ≡ (bit_xor y (bit_xor f v) + a) % 2 ^ 32 / d
-xor_more y f a d v fits fits_f fits_v none one =
-    rw (only_xor y f a d fits fits_f none one, only_xor y (bit_xor f v) a d fits (xor_lt 32 f v fits_f fits_v) none one)
+pub xor_more : (y f k a d v : ℕ) → y < 2 ^ 32 → f < 2 ^ 32 → v < 2 ^ 32 → k ≡ 1 → a ≡ 0 → d ≡ 1
+    → bit_xor ((bit_xor y f * k % 2 ^ 32 + a) % 2 ^ 32 / d) v
+    ≡ (bit_xor y (bit_xor f v) * k % 2 ^ 32 + a) % 2 ^ 32 / d
+xor_more y f k a d v fits fits_f fits_v once none one =
+    let below = xor_lt 32 f v fits_f fits_v in
+    rw (only_xor y f k a d fits fits_f once none one, only_xor y (bit_xor f v) k a d fits below once none one)
     (xor_assoc y f v)
 
 pub xor_ones : (n v : ℕ) → n < 2 ^ 32 → v ≡ 2 ^ 32 - 1 → bit_xor n v ≡ 2 ^ 32 - 1 - n
 xor_ones n v fits all = rw all (xor_all n fits)
 
-pub complement_sum : (y f a d : ℕ) → y < 2 ^ 32 → f < 2 ^ 32 → a < 2 ^ 32 → d ≡ 1
-    → 2 ^ 32 - 1 - (bit_xor y f + a) % 2 ^ 32 / d ≡ (bit_xor y (2 ^ 32 - 1 - f) + (0 + (2 ^ 32 - a)) % 2 ^ 32) % 2 ^ 32 / d
-complement_sum y f a d fits fits_f fits_a one =
-    let below = xor_lt 32 y f fits fits_f in
-    rw (one, div-one, div-one, xor_complement y f fits fits_f) (omega (arith, below, fits_a))
+-- the complement of a sum with a product, where two products come to the factor's with all ones
+negated : (p q k a : ℕ) → p + q ≡ (2 ^ 32 - 1) * k → k < 2 ^ 32 → a < 2 ^ 32 → 2 ^ 32 - 1 - (p % 2 ^ 32 + a) % 2 ^ 32
+    ≡ (q % 2 ^ 32 + ((k + (2 ^ 32 - a)) % 2 ^ 32 + (2 ^ 32 - 1)) % 2 ^ 32) % 2 ^ 32
+negated p q k a both fits fits_a = omega arith
 
-pub and_xor : (y f a d v : ℕ) → y < 2 ^ 32 → f < 2 ^ 32 → a ≡ 0 → d ≡ 1
-    → bit_and ((bit_xor y f + a) % 2 ^ 32 / d) v ≡ (bit_xor (bit_and y v) (bit_and f v) + a) % 2 ^ 32 / d
-and_xor y f a d v fits fits_f none one =
+pub complement_sum : (y f k a d : ℕ) → y < 2 ^ 32 → f < 2 ^ 32 → k < 2 ^ 32 → a < 2 ^ 32 → d ≡ 1
+    → 2 ^ 32 - 1 - (bit_xor y f * k % 2 ^ 32 + a) % 2 ^ 32 / d
+    ≡ (bit_xor y (2 ^ 32 - 1 - f) * k % 2 ^ 32 + ((k + (2 ^ 32 - a)) % 2 ^ 32 + (2 ^ 32 - 1)) % 2 ^ 32) % 2 ^ 32 / d
+complement_sum y f k a d fits fits_f fits_k fits_a one =
+    let x = bit_xor y f in
+    let below = xor_lt 32 y f fits fits_f in
+    let both : x + (2 ^ 32 - 1 - x) ≡ 2 ^ 32 - 1 = omega (arith, below) in
+    rw (one, div-one, div-one, xor_complement y f fits fits_f)
+    (negated (x * k) ((2 ^ 32 - 1 - x) * k) k a (sym (add-mul x (2 ^ 32 - 1 - x) k) ∙ ap (λ n. n * k) both) fits_k fits_a)
+
+pub and_xor : (y f k a d v : ℕ) → y < 2 ^ 32 → f < 2 ^ 32 → k ≡ 1 → a ≡ 0 → d ≡ 1
+    → bit_and ((bit_xor y f * k % 2 ^ 32 + a) % 2 ^ 32 / d) v
+    ≡ (bit_xor (bit_and y v) (bit_and f v) * k % 2 ^ 32 + a) % 2 ^ 32 / d
+and_xor y f k a d v fits fits_f once none one =
     let below : bit_and y v < 2 ^ 32 = omega (arith, and_le_l y v) in
     let below_f : bit_and f v < 2 ^ 32 = omega (arith, and_le_l f v) in
-    rw (only_xor y f a d fits fits_f none one, only_xor (bit_and y v) (bit_and f v) a d below below_f none one)
+    rw (only_xor y f k a d fits fits_f once none one, only_xor (bit_and y v) (bit_and f v) k a d below below_f once none one)
     (xor_and y f v)
+
+pub scaled_sum : (x k a d v : ℕ) → d ≡ 1 → (x * k % 2 ^ 32 + a) % 2 ^ 32 / d * v % 2 ^ 32
+    ≡ (x * (k * v % 2 ^ 32) % 2 ^ 32 + a * v % 2 ^ 32) % 2 ^ 32 / d
+scaled_sum x k a d v one =
+    let product : x * k % 2 ^ 32 * v % 2 ^ 32 ≡ x * (k * v % 2 ^ 32) % 2 ^ 32 =
+    mul-mod_first (x * k) v (2 ^ 32) ∙ ap (λ n. n % 2 ^ 32) (mul_assoc x k v) ∙ sym (mul-mod_second x (k * v) (2 ^ 32)) in
+    rw (one, div-one, div-one, mul-mod_first, add-mul, add-mod, product) refl
+
+-- times all ones
+pub scaled_by_ones : (n v : ℕ) → n < 2 ^ 32 → v ≡ 2 ^ 32 - 1 → n * v % 2 ^ 32 ≡ (0 + 2 ^ 32 - n) % 2 ^ 32
+scaled_by_ones n v fits all = rw all (omega arith)
 
 -- ---- ranges
 
@@ -151,6 +179,64 @@ sum_beyond y a low high fits fits_a some fits_high order =
     (λ lies out. omega (arith, lies.0, lies.1, out.0, out.1))
     (λ out. (omega (arith, out), omega (arith, out)))
     (λ out. (omega (arith, out), omega (arith, out)))
+
+-- ---- products
+
+pub by_one : (x f : ℕ) → x < 2 ^ 32 → f ≡ 1 → x * f % 2 ^ 32 ≡ x
+by_one x f fits one = rw one (omega arith)
+
+-- a factor is a shift, and then an odd one
+by_parts : (x f o c : ℕ) → f ≡ o * 2 ^ c → x * f % 2 ^ 32 ≡ x * 2 ^ c % 2 ^ 32 * o % 2 ^ 32
+by_parts x f o c parts =
+    let same : x * f ≡ x * 2 ^ c * o = ap (λ n. x * n) (parts ∙ mul_comm o (2 ^ c)) ∙ sym (mul_assoc x (2 ^ c) o) in
+    ap (λ n. n % 2 ^ 32) same ∙ sym (mul-mod_first (x * 2 ^ c) o (2 ^ 32))
+
+pub by_power : (x f o c s : ℕ) → f ≡ o * 2 ^ c → o ≡ 1 → x * 2 ^ c % 2 ^ 32 ≡ s → x * f % 2 ^ 32 ≡ s
+by_power x f o c s parts one shifted = by_parts x f o c parts ∙ rw (one, shifted) (omega (arith, shifted))
+
+-- a number times another and its inverse
+there_and_back : (n o i : ℕ) → n < 2 ^ 32 → o * i % 2 ^ 32 ≡ 1 → n * o % 2 ^ 32 * i % 2 ^ 32 ≡ n
+there_and_back n o i fits inverse =
+    let once : n * (o * i % 2 ^ 32) % 2 ^ 32 ≡ n = rw inverse (omega arith) in
+    mul-mod_first (n * o) i (2 ^ 32) ∙ ap (λ m. m % 2 ^ 32) (mul_assoc n o i) ∙ sym (mul-mod_second n (o * i) (2 ^ 32)) ∙ once
+
+-- a product is one value where the factor's inverse times the value is what is multiplied
+pub by_inverse : (x f o c i low high s : ℕ) → f ≡ o * 2 ^ c → o * i % 2 ^ 32 ≡ 1 → low ≡ high → low < 2 ^ 32
+    → x * 2 ^ c % 2 ^ 32 ≡ s → is_within low high (x * f % 2 ^ 32) ≡ is_within (low * i % 2 ^ 32) (low * i % 2 ^ 32) s
+by_inverse x f o c i low high s parts inverse one fits shifted =
+    let product : x * f % 2 ^ 32 ≡ s * o % 2 ^ 32 = by_parts x f o c parts ∙ ap (λ n. n * o % 2 ^ 32) shifted in
+    let back = there_and_back s o i (omega (arith, shifted)) inverse in
+    let there = there_and_back low i o fits (ap (λ n. n % 2 ^ 32) (mul_comm i o) ∙ inverse) in
+    same_within low high (x * f % 2 ^ 32) (low * i % 2 ^ 32) (low * i % 2 ^ 32) s
+    (λ lies.
+    let is : s * o % 2 ^ 32 ≡ low = omega (arith, product, lies.0, lies.1, one) in
+    let same : low * i % 2 ^ 32 ≡ s = ap (λ n. n * i % 2 ^ 32) (sym is) ∙ back in
+    (omega (arith, same), omega (arith, same)))
+    (λ lies.
+    let is : low * i % 2 ^ 32 ≡ s = omega (arith, lies.0, lies.1) in
+    let same : s * o % 2 ^ 32 ≡ low = ap (λ n. n * o % 2 ^ 32) (sym is) ∙ there in
+    (omega (arith, product, same), omega (arith, product, same, one)))
+
+pub xor_shifted : (y f k s : ℕ) → y * 2 ^ k % 2 ^ 32 ≡ s → bit_xor y f * 2 ^ k % 2 ^ 32 ≡ bit_xor s (f * 2 ^ k % 2 ^ 32)
+xor_shifted y f k s shifted =
+    let whole : bit_xor (y * 2 ^ k) (f * 2 ^ k) ≡ bit_xor y f * 2 ^ k =
+    grind (arith, xor_block k y f 0 0 (pow_pos k) (pow_pos k), xor_zero_r 0) in
+    rw (← shifted, ← xor_mod (y * 2 ^ k) (f * 2 ^ k) 32, whole) refl
+
+-- the bits below the lowest one of a number are 0
+pub shifted_out : (n : ℕ) → 0 < n → n < 2 ^ 32 → n ≡ n / 2 ^ trailing_zeros w32 n * 2 ^ trailing_zeros w32 n
+shifted_out n some fits =
+    let c = trailing_zeros w32 n in
+    let zeros = (bit_at-trailing_zeros w32 n some fits).2 in
+    let none : n % 2 ^ c ≡ 0 = sym (and_mask n c) ∙ same_from_bits (bit_and n (2 ^ c - 1)) 0
+    (λ i. elim (cases_lt i c) [
+      | inl below ↦ grind (arith, each_bit, zeros i below)
+      | inr above ↦ grind (arith, each_bit, bit_at_ones_above c i above)
+    ]) in
+    omega (arith, div-add-mod' n (2 ^ c), none)
+
+pub place_fits : (n : ℕ) → 0 < n → n < 2 ^ 32 → trailing_zeros w32 n < 32
+place_fits n some fits = (bit_at-trailing_zeros w32 n some fits).0
 
 -- ---- ranges under an XOR
 
@@ -241,15 +327,23 @@ pub ruleset or_laws = (or_by_xor, quotient_fits)
 
 pub ruleset reverse_sub_laws = (sum_of_complement, quotient_fits)
 
+pub ruleset mul_laws = (scaled_sum, scaled_by_ones, quotient_fits)
+
 pub ruleset div_laws = (div-div-eq-div-mul, some_product)
 
-pub ruleset commuted_laws = (add_comm, and_comm, or_comm, xor_comm)
+pub ruleset commuted_laws = (add_comm, and_comm, mul_comm, or_comm, xor_comm)
 
 pub ruleset decide_laws = (one_value, from_least, past_least, none_past, from_lowest_bit, quotient_fits)
 
 pub ruleset quotient_laws = (quotient_within, none_within, to_most, least_fits, last_fits, last_past, mod-lt)
 
 pub ruleset sum_laws = (sum_within, sum_beyond, gap, all_within, xor_lt, number_fits, mod-lt)
+
+pub ruleset product_laws = (by_one, by_power, by_inverse, xor_lt, number_fits, mod-lt)
+
+pub ruleset shifted_laws = (xor_shifted, number_fits)
+
+pub ruleset odd_laws = (shifted_out, place_fits)
 
 pub ruleset xored_laws = (xor_equal, complement_within, xor_zero, number_fits)
 

@@ -1,6 +1,6 @@
 -- Words under masks.
 use Rattle.std.proofs.Math.Nat.{div-le_self}
-use Rattle.scf_compare.proofs.Common.{div-one, ◌+◌, ◌/◌, ◌%◌, add_comm, and_comm, mul_comm, or_comm, xor_comm, Arithmetic, Add, Sub, Mul, Div, Or, And, Lsh, Rsh, Xor, value_computed, and_le_l, or_lt, same_from_bits, xor_lt, ◌≡◌, ◌≢◌, ℕ, ◌-◌, ◌<◌, ◌≤◌, ◌^◌, true, false, eqb, leb, List, sym, ◌∙◌, arith, bit_and, slice_index, eq-eqb, eqb-true, and_mask, bit_at_and, bit_at_or, bit_at_xor, bit_at-lt, bit_at-zero, mod-eq_of_lt, IsWords, word_below}
+use Rattle.scf_compare.proofs.Common.{div-one, ◌+◌, ◌*◌, ◌/◌, ◌%◌, add_comm, and_comm, mul_comm, or_comm, xor_comm, Arithmetic, Add, Sub, Mul, Div, Or, And, Lsh, Rsh, Xor, value_computed, and_le_l, or_lt, same_from_bits, xor_lt, ◌≡◌, ◌≢◌, ℕ, ◌-◌, ◌<◌, ◌≤◌, ◌^◌, true, false, eqb, leb, List, sym, ◌∙◌, arith, bit_and, slice_index, eq-eqb, eqb-true, and_mask, bit_at_and, bit_at_or, bit_at_xor, bit_at-lt, bit_at-zero, mod-eq_of_lt, IsWords, word_below}
 
 -- what each bit is of numbers that are joined
 pub ruleset each_bit = (bit_at_and, bit_at_or, bit_at_xor, bit_at-lt, bit_at-zero)
@@ -43,6 +43,9 @@ computed_fits arithmetic a v h k =
 
 pub sum_with_zero : (a v : ℕ) → a < 2 ^ 32 → v ≡ 0 → (a + v) % 2 ^ 32 ≡ a
 sum_with_zero a v fits none = omega arith
+
+pub product_with_one : (a v : ℕ) → a < 2 ^ 32 → v ≡ 1 → a * v % 2 ^ 32 ≡ a
+product_with_one a v fits one = rw one (omega arith)
 
 pub quotient_by_one : (a v : ℕ) → v ≡ 1 → a / v ≡ a
 quotient_by_one a v one = rw one (div-one a)

@@ -1,26 +1,28 @@
-//! Affine terms: a bit slice under an XOR with a constant, plus a constant, divided by a constant.
+//! Affine terms: a bit slice under an XOR with a constant, times a constant, plus one, divided by one.
 
-ghost use Rattle.std.specs.Prelude.{◌≡◌, ◌-◌, ◌/◌, ◌%◌, ◌+◌, ◌<◌, ◌≤◌, ◌^◌, ℕ, List, IfSome, not, bit_and, bit_or, bit_xor};
-ghost use Rattle.std.specs.Prelude.{◌==◌, slice_index};
+ghost use Rattle.std.specs.Prelude.{◌≡◌, ◌-◌, ◌*◌, ◌/◌, ◌%◌, ◌+◌, ◌<◌, ◌≤◌, ◌^◌, ℕ, List, IfSome, not};
+ghost use Rattle.std.specs.Prelude.{◌==◌, bit_and, bit_or, bit_xor, slice_index};
 ghost use Rattle.scf_insn.specs.Words.{IsWords};
 ghost use Rattle.scf_facts.specs.Bits.{HasBits};
 ghost use Rattle.scf_machine.specs.Machine.{holds, value_computed};
-ghost use Rattle.scf_compare.specs.internal.AffineTerms.{IsAffineTerm, affine_value, is_within, sum_value, xored_value};
+ghost use Rattle.scf_compare.specs.internal.AffineTerms.{IsAffineTerm, affine_value, is_within, product_value};
+ghost use Rattle.scf_compare.specs.internal.AffineTerms.{sum_value, xored_value};
 ghost use Rattle.scf_compare.specs.internal.BitSlices.{IsBitSlice, bit_slice_value};
 ghost use Rattle.scf_compare.specs.internal.Values.{Decides, IsComputedNumber, IsTestDecision};
 
 use crate::bit_slice::BitSlice;
 use crate::computed::Computed;
 use crate::sources::OpenTest;
-use crate::value::Decision;
+use crate::value::{Decision, Value};
 use scf_facts::{Bits, is_high_mask};
 use scf_insn::{Arithmetic, Test};
 
-/// `((bit_slice ^ xor_mask) + addend) / divisor`, where the sum is modulo 2^32.
+/// `((bit_slice ^ xor_mask) * factor + addend) / divisor`, where the product and the sum are modulo 2^32.
 #[derive(Clone, Copy)]
 pub(crate) struct AffineTerm {
     pub(crate) bit_slice: BitSlice,
     pub(crate) xor_mask: u32,
+    pub(crate) factor: u32,
     pub(crate) addend: u32,
     pub(crate) divisor: u32,
 }
@@ -36,6 +38,7 @@ impl AffineTerm {
         AffineTerm {
             bit_slice,
             xor_mask: 0,
+            factor: 1,
             addend: 0,
             divisor: 1,
         }
@@ -50,6 +53,7 @@ impl AffineTerm {
         self.bit_slice
             .in_bits(word)
             .combined(Arithmetic::Xor, Computed::constant(self.xor_mask))
+            .times(self.factor)
             .plus(self.addend)
             .over(self.divisor)
     }
@@ -67,10 +71,12 @@ impl AffineTerm {
             Arithmetic::Sub => self.sub(v),
             Arithmetic::Div => self.div(v),
             Arithmetic::Rsh if v < 32 => self.div(1 << v),
+            Arithmetic::Mul => self.mul(v),
+            Arithmetic::Lsh if v < 32 => self.mul(1 << v),
             Arithmetic::And => self.and(v),
             Arithmetic::Or => self.or(v),
             Arithmetic::Xor => self.xor(v),
-            Arithmetic::Mul | Arithmetic::Lsh | Arithmetic::Rsh => None,
+            Arithmetic::Lsh | Arithmetic::Rsh => None,
         }
     }
 
@@ -84,10 +90,12 @@ impl AffineTerm {
     {
         match arithmetic {
             Arithmetic::Sub => self.reverse_sub(v),
-            Arithmetic::Add | Arithmetic::And | Arithmetic::Or | Arithmetic::Xor => {
-                self.computed(arithmetic, v)
-            }
-            Arithmetic::Div | Arithmetic::Mul | Arithmetic::Lsh | Arithmetic::Rsh => None,
+            Arithmetic::Add
+            | Arithmetic::Mul
+            | Arithmetic::And
+            | Arithmetic::Or
+            | Arithmetic::Xor => self.computed(arithmetic, v),
+            Arithmetic::Div | Arithmetic::Lsh | Arithmetic::Rsh => None,
         }
     }
 
@@ -102,7 +110,7 @@ impl AffineTerm {
         if self.divisor != 1 {
             return None;
         }
-        if self.addend == 0 {
+        if self.addend == 0 && self.factor == 1 {
             return Some(AffineTerm {
                 xor_mask: self.xor_mask ^ v,
                 ..self
@@ -122,7 +130,7 @@ impl AffineTerm {
     {
         AffineTerm {
             xor_mask: !self.xor_mask,
-            addend: 0u32.wrapping_sub(self.addend),
+            addend: self.factor.wrapping_sub(self.addend).wrapping_sub(1),
             ..self
         }
     }
@@ -132,12 +140,13 @@ impl AffineTerm {
     fn and(self, v: u32) -> Option<AffineTerm>
         requires { IsAffineTerm self }
         ensures term { IfSome result IsAffineTerm }
+        ensures no_product { IfSome result (λ term. term.factor ≡ 1) }
         ensures no_sum { IfSome result (λ term. term.addend ≡ 0) }
         ensures undivided { IfSome result (λ term. term.divisor ≡ 1) }
         ensures number { IfSome result (λ term. (words : List ℕ)
             → bit_and (affine_value self words) v ≡ affine_value term words) }
     {
-        if self.addend != 0 || self.divisor != 1 {
+        if self.factor != 1 || self.addend != 0 || self.divisor != 1 {
             return None;
         }
         Some(AffineTerm {
@@ -198,6 +207,27 @@ impl AffineTerm {
             return None;
         }
         self.complement().add(v.wrapping_add(1))
+    }
+
+    /// `self * v`, if it is an affine term.
+    #[tactic(auto, using(crate::proofs::AffineTerms::mul_laws))]
+    fn mul(self, v: u32) -> Option<AffineTerm>
+        requires { IsAffineTerm self }
+        ensures term { IfSome result IsAffineTerm }
+        ensures number { IfSome result (λ term. (words : List ℕ)
+            → affine_value self words * v % 2 ^ 32 ≡ affine_value term words) }
+    {
+        if self.divisor != 1 {
+            return None;
+        }
+        if v == u32::MAX {
+            return self.reverse_sub(0);
+        }
+        Some(AffineTerm {
+            factor: self.factor.wrapping_mul(v),
+            addend: self.addend.wrapping_mul(v),
+            ..self
+        })
     }
 
     /// `self / v`, if it is an affine term.
@@ -272,10 +302,57 @@ impl AffineTerm {
         let first = low.wrapping_sub(self.addend);
         let last = high.wrapping_sub(self.addend);
         if first <= last {
-            self.is_xored_within(first, last)
+            self.is_product_within(first, last)
         } else {
-            self.is_xored_within(last + 1, first - 1).negated()
+            self.is_product_within(last + 1, first - 1).negated()
         }
+    }
+
+    /// The test that the product lies in `low..=high`: if the factor isn't a power of two, only that it is one value.
+    #[tactic(auto, using(crate::proofs::AffineTerms::product_laws))]
+    fn is_product_within(self, low: u32, high: u32) -> Decision
+        requires term { IsAffineTerm self }
+        requires some { low ≤ high }
+        ensures asks { IsTestDecision result }
+        ensures decides { (words : List ℕ) → IsWords words
+            → Decides result words (is_within low high (product_value self words)) }
+    {
+        if self.factor == 1 {
+            return self.is_xored_within(low, high);
+        }
+        let (odd, count) = odd_part(self.factor);
+        let Some(shifted) = self.shifted_left(count) else {
+            return Decision::Open(OpenTest::NONE);
+        };
+        if odd == 1 {
+            return shifted.is_xored_within(low, high);
+        }
+        match inverse_of(odd) {
+            Some(inverse) if low == high => {
+                let value = low.wrapping_mul(inverse);
+                shifted.is_xored_within(value, value)
+            }
+            _ => Decision::Open(OpenTest::NONE),
+        }
+    }
+
+    /// The bit slice under the XOR, shifted to the left, unless all its bits are lost.
+    #[tactic(auto, using(crate::proofs::AffineTerms::shifted_laws))]
+    fn shifted_left(self, count: u32) -> Option<AffineTerm>
+        requires term { IsAffineTerm self }
+        requires count { count < 32 }
+        ensures term { IfSome result IsAffineTerm }
+        ensures number { IfSome result (λ term. (words : List ℕ)
+            → xored_value self words * 2 ^ count % 2 ^ 32 ≡ xored_value term words) }
+    {
+        let Value::Slice(bit_slice) = self.bit_slice.shifted_left(count) else {
+            return None;
+        };
+        Some(AffineTerm {
+            bit_slice,
+            xor_mask: self.xor_mask << count,
+            ..self
+        })
     }
 
     /// The test that the bit slice under the XOR lies in `low..=high`.
@@ -297,4 +374,29 @@ impl AffineTerm {
             Decision::Open(OpenTest::NONE)
         }
     }
+}
+
+/// A number as an odd number, or 0, and how far that is shifted to the left.
+#[tactic(auto, using(crate::proofs::AffineTerms::odd_laws))]
+fn odd_part(number: u32) -> (u32, u32)
+    ensures count { result.1 < 32 }
+    ensures number { number ≡ result.0 * 2 ^ result.1 }
+{
+    if number == 0 {
+        return (0, 0);
+    }
+    let count = number.trailing_zeros();
+    (number >> count, count)
+}
+
+/// The inverse of an odd number modulo 2^32. An even number has none.
+fn inverse_of(number: u32) -> Option<u32>
+    ensures { IfSome result (λ inverse. number * inverse % 2 ^ 32 ≡ 1) }
+{
+    let mut inverse = number;
+    for _step in 0..4 {
+        let error = number.wrapping_mul(inverse).wrapping_sub(1);
+        inverse = inverse.wrapping_mul(1u32.wrapping_sub(error));
+    }
+    (number.wrapping_mul(inverse) == 1).then_some(inverse)
 }

@@ -1,6 +1,6 @@
 //! Computed values of which only single bits may be known.
 
-ghost use Rattle.std.specs.Prelude.{◌≡◌, ◌+◌, ◌/◌, ◌%◌, ◌<◌, ◌^◌, ℕ, List, IfSome};
+ghost use Rattle.std.specs.Prelude.{◌≡◌, ◌+◌, ◌*◌, ◌/◌, ◌%◌, ◌<◌, ◌^◌, ℕ, List, IfSome};
 ghost use Rattle.scf_machine.specs.Machine.{value_computed};
 ghost use Rattle.scf_compare.specs.internal.Values.{Abstracts, IsComputedNumber, IsValue};
 
@@ -66,6 +66,17 @@ impl Computed {
             return self;
         }
         self.combined(Arithmetic::Add, Computed::constant(addend))
+    }
+
+    /// Abstract `self * factor`. Nothing that is known of `self` is lost if the factor is 1.
+    #[tactic(auto, using(crate::proofs::Bits::product_with_one))]
+    pub(crate) fn times(self, factor: u32) -> Computed
+        ensures { (a : ℕ) → IsComputedNumber self a → IsComputedNumber result (a * factor % 2 ^ 32) }
+    {
+        if factor == 1 {
+            return self;
+        }
+        self.combined(Arithmetic::Mul, Computed::constant(factor))
     }
 
     /// Abstract `self / divisor`. Nothing that is known of `self` is lost if the divisor is 1.

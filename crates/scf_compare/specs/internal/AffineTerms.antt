@@ -1,5 +1,5 @@
--- Affine terms: a bit slice under an XOR with a constant, plus a constant, divided by a constant.
-use Rattle.std.specs.Prelude.{◌+◌, ◌/◌, ◌%◌, ◌<◌, ◌^◌, ◌&&◌, ℕ, List, Bool, bit_xor, nat_le}
+-- Affine terms: a bit slice under an XOR with a constant, times a constant, plus one, divided by one.
+use Rattle.std.specs.Prelude.{◌+◌, ◌*◌, ◌/◌, ◌%◌, ◌<◌, ◌^◌, ◌&&◌, ℕ, List, Bool, bit_xor, nat_le}
 use Rattle.scf_compare.specs.declared.affine_term.AffineTerm.{AffineTerm}
 use Rattle.scf_compare.specs.internal.BitSlices.{IsBitSlice, bit_slice_value}
 
@@ -7,9 +7,13 @@ use Rattle.scf_compare.specs.internal.BitSlices.{IsBitSlice, bit_slice_value}
 abbrev pub xored_value : AffineTerm → List ℕ → ℕ
 xored_value term words = bit_xor (bit_slice_value term.bit_slice words) term.xor_mask
 
+-- the product, modulo 2^32
+abbrev pub product_value : AffineTerm → List ℕ → ℕ
+product_value term words = xored_value term words * term.factor % 2 ^ 32
+
 -- what is divided: a sum modulo 2^32
 abbrev pub sum_value : AffineTerm → List ℕ → ℕ
-sum_value term words = (xored_value term words + term.addend) % 2 ^ 32
+sum_value term words = (product_value term words + term.addend) % 2 ^ 32
 
 abbrev pub affine_value : AffineTerm → List ℕ → ℕ
 affine_value term words = sum_value term words / term.divisor

@@ -3,4 +3,4 @@ use Rattle.scf_compare.proofs.affine_term.AffineTerm.in_bits.Goals as goal
 pub returns : goal.returns
 returns c = λ words has.
     c.over.ensures _
-    (c.plus.ensures _ (c.combined.ensures _ _ (c.in_bits.ensures words has) c.constant.ensures))
+    (c.plus.ensures _ (c.times.ensures _ (c.combined.ensures _ _ (c.in_bits.ensures words has) c.constant.ensures)))
