@@ -1,11 +1,12 @@
 -- Affine terms of bit slices, and the ranges in which they lie.
 use Rattle.std.specs.Prelude.{not}
-use Rattle.std.specs.Int.Bits.{xor_assoc, xor_zero_r}
+use Rattle.std.specs.Int.Bits.{xor_add_and, xor_assoc, xor_disjoint, xor_zero_r}
+use Rattle.std.specs.Int.Count.{count_leading_zeros}
 use Rattle.std.proofs.Math.Nat.{add-mul, div-div-eq-div-mul, div-le_self, mul_assoc, mul-pos}
-use Rattle.std.proofs.lemmas.Nat.{mul-mod_first, mul-mod_second, xor_block, xor_mod}
+use Rattle.std.proofs.lemmas.Nat.{div-mul-add, leading_top, mod-mul-add, mul-mod_first, mul-mod_second, xor_block, xor_mod}
 use Rattle.std.specs.Int.{trailing_zeros}
 use Rattle.std.proofs.lemmas.Nat.Bits.{bit_at-trailing_zeros}
-use Rattle.scf_compare.proofs.Common.{add-mod, and_mask, bit_at_ones_above, div-add-mod', mul_comm, ◌≡◌, ◌≢◌, ℕ, ◌+◌, ◌-◌, ◌*◌, ◌/◌, ◌%◌, ◌<◌, ◌≤◌, ◌^◌, ◌↔◌, true, false, eqb, leb, nat_lt, refl, sym, ap, ◌∙◌, arith, bit_and, bit_or, bit_xor, add_comm, and_comm, and_le_l, at_bit, beyond_mask, bit_at, bit_at_not, bit_at_ones, cases_eq, div-eq_of_lt, div-lt_iff_lt-mul, div-mul-le_self, div-one, eq-eqb, eqb-true, le-div_iff_mul-le, mod-eq_of_lt, mod-lt, mul-le-mul_left, ne_eqb, cases_lt, of_multiple, one_more, or_comm, or_lt, pow_pos, same_from_bits, same_from_bits_below, same_from_xor, shr_mono, w32, xor_comm, xor_lt, xor_self, word_below, inl, inr}
+use Rattle.scf_compare.proofs.Common.{add-mod, and_assoc, and_le_r, and_mask, and_zero_r, mul-lt-mul_of_pos_right, one_shl, pow-add, shl-shr, bit_at_ones_above, div-add-mod', mul_comm, ◌≡◌, ◌≢◌, ℕ, ◌+◌, ◌-◌, ◌*◌, ◌/◌, ◌%◌, ◌<◌, ◌≤◌, ◌^◌, ◌↔◌, true, false, eqb, leb, nat_lt, refl, sym, ap, ◌∙◌, arith, bit_and, bit_or, bit_xor, add_comm, and_comm, and_le_l, at_bit, beyond_mask, bit_at, bit_at_not, bit_at_ones, cases_eq, div-eq_of_lt, div-lt_iff_lt-mul, div-mul-le_self, div-one, eq-eqb, eqb-true, le-div_iff_mul-le, mod-eq_of_lt, mod-lt, mul-le-mul_left, ne_eqb, cases_lt, of_multiple, one_more, or_comm, or_lt, pow_pos, same_from_bits, same_from_bits_below, same_from_xor, shr_mono, w32, xor_comm, xor_lt, xor_self, word_below, inl, inr}
 use Rattle.scf_compare.proofs.BitSlices.{number_fits}
 use Rattle.scf_compare.proofs.Bits.{each_bit, whole_word}
 use Rattle.scf_compare.proofs.KnownBits.{quotient_grows}
@@ -180,6 +181,42 @@ sum_beyond y a low high fits fits_a some fits_high order =
     (λ out. (omega (arith, out), omega (arith, out)))
     (λ out. (omega (arith, out), omega (arith, out)))
 
+-- ---- low masks
+
+whole_shift : (k c : ℕ) → k + c ≡ 32 → 2 ^ k * 2 ^ c ≡ 2 ^ 32
+whole_shift k c sum = sym (pow-add 2 k c) ∙ ap (λ n. 2 ^ n) sum
+
+-- a shift there and back leaves the low bits
+shifted_back : (n k c : ℕ) → k + c ≡ 32 → n * 2 ^ c % 2 ^ 32 / 2 ^ c ≡ n % 2 ^ k
+shifted_back n k c sum =
+    let q = n / 2 ^ k in
+    let r = n % 2 ^ k in
+    let moved : q * 2 ^ k * 2 ^ c ≡ q * 2 ^ 32 = mul_assoc q (2 ^ k) (2 ^ c) ∙ ap (λ m. q * m) (whole_shift k c sum) in
+    let parts : n * 2 ^ c ≡ q * 2 ^ 32 + r * 2 ^ c =
+    ap (λ m. m * 2 ^ c) (sym (div-add-mod' n (2 ^ k))) ∙ add-mul (q * 2 ^ k) r (2 ^ c) ∙ ap (λ m. m + r * 2 ^ c) moved in
+    let few : r * 2 ^ c < 2 ^ k * 2 ^ c = mul-lt-mul_of_pos_right (mod-lt n (pow_pos k)) (pow_pos c) in
+    let below : r * 2 ^ c < 2 ^ 32 = omega (arith, few, whole_shift k c sum) in
+    ap (λ m. m % 2 ^ 32 / 2 ^ c) parts ∙ ap (λ m. m / 2 ^ c) (mod-mul-add q (2 ^ 32) (r * 2 ^ c) below) ∙ shl-shr r c
+
+low_ones : (k c : ℕ) → k + c ≡ 32 → (2 ^ 32 - 1) / 2 ^ c ≡ 2 ^ k - 1
+low_ones k c sum =
+    let parts : 2 ^ 32 - 1 ≡ (2 ^ k - 1) * 2 ^ c + (2 ^ c - 1) =
+    (let next : 2 ^ k - 1 + 1 ≡ 2 ^ k = omega (arith, pow_pos k) in
+    let more : 2 ^ k * 2 ^ c ≡ (2 ^ k - 1) * 2 ^ c + 2 ^ c = ap (λ m. m * 2 ^ c) (sym next) ∙ one_more (2 ^ k - 1) (2 ^ c) in
+    omega (arith, more, whole_shift k c sum, pow_pos c)) in
+    ap (λ m. m / 2 ^ c) parts ∙ div-mul-add (2 ^ k - 1) (2 ^ c) (2 ^ c - 1) (omega (arith, pow_pos c))
+
+pub low_masked : (n v c : ℕ) → c < 32 → v ≡ (2 ^ 32 - 1) / 2 ^ c
+    → bit_and n v ≡ n * (1 * 2 ^ c % 2 ^ 32) % 2 ^ 32 / (1 * 2 ^ c % 2 ^ 32)
+low_masked n v c within ones =
+    let sum : 32 - c + c ≡ 32 = omega (arith, within) in
+    rw (one_shl c 32 within, ones, low_ones (32 - c) c sum, and_mask n (32 - c)) (sym (shifted_back n (32 - c) c sum))
+
+pub some_leading : (v : ℕ) → v ≢ 0 → v < 2 ^ 32 → count_leading_zeros 32 v < 32
+some_leading v some fits =
+    let top = leading_top 32 v (omega (arith, some)) fits in
+    omega (arith, top.1)
+
 -- ---- products
 
 pub by_one : (x f : ℕ) → x < 2 ^ 32 → f ≡ 1 → x * f % 2 ^ 32 ≡ x
@@ -244,16 +281,49 @@ pub xor_equal : (s f v : ℕ) → is_within v v (bit_xor s f) ≡ eqb s (bit_xor
 xor_equal s f v =
     sym (one_value (bit_xor s f) v) ∙ grind (arith, cases_eq (bit_xor s f) v, cases_eq s (bit_xor v f), xor_moved s f v, eq-eqb, ne_eqb)
 
-pub complement_within : (s f low high : ℕ) → s < 2 ^ 32 → f ≡ 2 ^ 32 - 1 → low ≤ high → high < 2 ^ 32
-    → is_within low high (bit_xor s f) ≡ is_within (2 ^ 32 - 1 - high) (2 ^ 32 - 1 - low) s
-complement_within s f low high fits all some fits_high =
-    rw (all, xor_all s fits)
-    (same_within low high (2 ^ 32 - 1 - s) (2 ^ 32 - 1 - high) (2 ^ 32 - 1 - low) s
+-- an XOR sets bits that a number can't have
+pub set_within : (s b f low high : ℕ) → bit_and s b ≡ s → bit_and b f ≡ 0 → f ≤ high
+    → is_within low high (bit_xor s f) ≡ is_within (low - f) (high - f) s
+set_within s b f low high among apart most =
+    let none : bit_and s f ≡ 0 =
+    ap (λ n. bit_and n f) (sym among) ∙ and_assoc f s b ∙ ap (bit_and s) apart ∙ and_zero_r s in
+    rw (xor_disjoint s f none)
+    (same_within low high (s + f) (low - f) (high - f) s
     (λ lies. (omega (arith, lies.0, lies.1), omega (arith, lies.0, lies.1)))
-    (λ lies. (omega (arith, lies.0, lies.1), omega (arith, lies.0, lies.1))))
+    (λ lies. (omega (arith, lies.0, lies.1), omega (arith, lies.0, lies.1, most))))
 
-pub xor_zero : (s f : ℕ) → f ≡ 0 → bit_xor s f ≡ s
-xor_zero s f none = rw none (xor_zero_r s)
+-- or turns all bits round that it may have
+pub turned_within : (s b f low high : ℕ) → bit_and s b ≡ s → bit_and b f ≡ b → low ≤ f
+    → is_within low high (bit_xor s f) ≡ is_within (f - high) (f - low) s
+turned_within s b f low high among all least =
+    let each : bit_and s f ≡ s =
+    ap (λ n. bit_and n f) (sym among) ∙ and_assoc f s b ∙ ap (bit_and s) all ∙ among in
+    let below : s ≤ f = omega (arith, each, and_le_r s f) in
+    let rest : bit_xor s f ≡ f - s = omega (arith, each, xor_add_and s f, below) in
+    rw rest
+    (same_within low high (f - s) (f - high) (f - low) s
+    (λ lies. (omega (arith, lies.0, lies.1, below), omega (arith, lies.0, lies.1, below)))
+    (λ lies. (omega (arith, lies.0, lies.1, below, least), omega (arith, lies.0, lies.1, below, least))))
+
+-- ---- multiples
+
+pub none_between : (n low high : ℕ) → (low ≤ n → n ≤ high → ⊥) → is_within low high n ≡ false
+none_between n low high none = elim (cases_lt n low) [
+  | inl below ↦ grind (arith, below)
+  | inr least ↦ elim (cases_lt high n) [
+    | inl above ↦ grind (arith, above)
+    | inr most ↦ absurd (none least most)
+  ]
+]
+
+pub only_between : (n low high v : ℕ) → low ≤ v → v ≤ high → (low ≤ n → n ≤ high → n ≡ v) → is_within low high n ≡ eqb n v
+only_between n low high v least most only =
+    same_within low high n v v n
+    (λ lies. let same = only lies.0 lies.1 in (omega (arith, same), omega (arith, same)))
+    (λ lies. (omega (arith, lies.0, lies.1, least), omega (arith, lies.0, lies.1, most))) ∙ sym (one_value n v)
+
+pub past_below : (n low high : ℕ) → low ≢ 0 → n ≤ high → nat_lt (low - 1) n ≡ is_within low high n
+past_below n low high some most = grind (arith, cases_lt n low)
 
 -- ---- what fits
 
@@ -323,6 +393,8 @@ pub ruleset complement_laws = (complement_sum, number_fits)
 
 pub ruleset and_laws = (and_xor, number_fits)
 
+pub ruleset masked_laws = (low_masked, some_leading)
+
 pub ruleset or_laws = (or_by_xor, quotient_fits)
 
 pub ruleset reverse_sub_laws = (sum_of_complement, quotient_fits)
@@ -345,6 +417,6 @@ pub ruleset shifted_laws = (xor_shifted, number_fits)
 
 pub ruleset odd_laws = (shifted_out, place_fits)
 
-pub ruleset xored_laws = (xor_equal, complement_within, xor_zero, number_fits)
+pub ruleset xored_laws = (xor_equal, set_within, turned_within)
 
 pub ruleset slice_laws = (from_first, from_least, past_first, whole_word, word_below, div-one, number_fits)

@@ -1,6 +1,7 @@
 -- Bit slices, bit by bit.
 use Rattle.scf_compare.proofs.Common.{word_below, ◌≡◌, ◌≢◌, ℕ, ◌+◌, ◌-◌, ◌*◌, ◌/◌, ◌%◌, ◌<◌, ◌≤◌, ◌^◌, ◌↔◌, true, false, eqb, refl, sym, ap, ◌∙◌, arith, bit_and, nat_lt, eq-eqb, eqb-true, and_zero_r, and_shr, and_block, and_comm, and_le_l, and_le_r, and_assoc, and_mask, shl-shr, shr-shr, shr_le, pow-add, pow_pos, div-add-mod', div-eq_of_lt, div-lt_iff_lt-mul, div-mul-le_self, div-one, le-div_iff_mul-le, le-ltb, lt_of_mul-lt-mul_right, mod-eq_of_lt, mod-le, mod-lt, mul-le-mul_left, mul-lt-mul_of_pos_right, mul-mod_left, pow_mono, shr_mono, ne_eqb, beyond_mask, of_multiple, one_more, cases_lt, inl, inr}
 use Rattle.scf_compare.proofs.Bits.{whole_word}
+use Rattle.scf_compare.proofs.Common.{and_twice}
 use Rattle.scf_facts.specs.HighMask.{IsHighMask}
 
 -- ---- masks and shifts
@@ -134,7 +135,30 @@ pub slice_not_above : (w m r l v : ℕ) → m / 2 ^ r < v / 2 ^ l → nat_lt v (
 slice_not_above w m r l v past =
     grind (arith, le-ltb, le-div_iff_mul-le, pow_pos, shr_mono r (and_le_r w m))
 
+-- ---- ranges
+
+pub bits_kept : (w m r l : ℕ) → m / 2 ^ r * 2 ^ l < 2 ^ 32
+    → bit_and (bit_and w m / 2 ^ r * 2 ^ l) (m / 2 ^ r * 2 ^ l % 2 ^ 32) ≡ bit_and w m / 2 ^ r * 2 ^ l
+bits_kept w m r l fits =
+    let n = m / 2 ^ r in
+    let kept : bit_and (bit_and w m / 2 ^ r) n ≡ bit_and w m / 2 ^ r =
+    ap (λ x. bit_and x n) (and_shr w m r) ∙ and_twice (w / 2 ^ r) n ∙ sym (and_shr w m r) in
+    ap (bit_and (bit_and w m / 2 ^ r * 2 ^ l)) (mod-eq_of_lt fits)
+    ∙ sym (and_scaled (bit_and w m / 2 ^ r) n l) ∙ ap (λ x. x * 2 ^ l) kept
+
+-- a multiple is at least a number where it has at least so many units
+pub first_unit : (z l low : ℕ) → low ≢ 0 → (low ≤ z * 2 ^ l) ↔ ((low - 1) / 2 ^ l + 1 ≤ z)
+first_unit z l low some =
+    let past = div-lt_iff_lt-mul {k = 2 ^ l} {x = low - 1} {y = z} (pow_pos l) in (
+      λ least. let lies : low - 1 < z * 2 ^ l = omega (arith, least, some) in omega (arith, past.1 lies),
+      λ least. let lies : (low - 1) / 2 ^ l < z = omega (arith, least) in omega (arith, past.0 lies),
+    )
+
 -- ---- what functions cite
+
+pub ruleset bits_laws = (bits_kept)
+
+pub ruleset unit_laws = (first_unit)
 
 pub ruleset whole_laws = (whole_word, word_below, div-one)
 

@@ -73,7 +73,7 @@ impl AffineTerm {
             Arithmetic::Rsh if v < 32 => self.div(1 << v),
             Arithmetic::Mul => self.mul(v),
             Arithmetic::Lsh if v < 32 => self.mul(1 << v),
-            Arithmetic::And => self.and(v),
+            Arithmetic::And => self.masked(v),
             Arithmetic::Or => self.or(v),
             Arithmetic::Xor => self.xor(v),
             Arithmetic::Lsh | Arithmetic::Rsh => None,
@@ -135,7 +135,25 @@ impl AffineTerm {
         }
     }
 
-    /// `self & v`, if it is an affine term.
+    /// `self & v`, if it is an affine term: of a sum `v` is all bits below one, and the others are shifted out. Of a
+    /// product by an odd number the low bits are followed one by one: a range of it isn't one of the word.
+    #[tactic(auto, using(crate::proofs::AffineTerms::masked_laws))]
+    fn masked(self, v: u32) -> Option<AffineTerm>
+        requires { IsAffineTerm self }
+        ensures term { IfSome result IsAffineTerm }
+        ensures number { IfSome result (λ term. (words : List ℕ)
+            → bit_and (affine_value self words) v ≡ affine_value term words) }
+    {
+        let count = v.leading_zeros();
+        match self.and(v) {
+            None if self.factor == 1 && v != 0 && v == u32::MAX >> count => {
+                self.mul(1 << count)?.div(1 << count)
+            }
+            term => term,
+        }
+    }
+
+    /// `self & v`, if nothing is multiplied, added or divided.
     #[tactic(auto, using(crate::proofs::AffineTerms::and_laws))]
     fn and(self, v: u32) -> Option<AffineTerm>
         requires { IsAffineTerm self }
@@ -258,7 +276,7 @@ impl AffineTerm {
             Test::GreaterOrEqual => self.is_within(v, u32::MAX),
             Test::Greater if v == u32::MAX => Decision::Known(false),
             Test::Greater => self.is_within(v + 1, u32::MAX),
-            Test::CommonBit => match self.and(v) {
+            Test::CommonBit => match self.masked(v) {
                 Some(common) => common.is_within(0, 0).negated(),
                 None if is_high_mask(v) => self.is_within(!v + 1, u32::MAX),
                 None => Decision::Open(OpenTest::NONE),
@@ -355,7 +373,8 @@ impl AffineTerm {
         })
     }
 
-    /// The test that the bit slice under the XOR lies in `low..=high`.
+    /// The test that the bit slice under the XOR lies in `low..=high`: it is one value, or the XOR sets bits that the
+    /// slice lacks, or turns all bits round that it may have.
     #[tactic(auto, using(crate::proofs::AffineTerms::xored_laws))]
     fn is_xored_within(self, low: u32, high: u32) -> Decision
         requires term { IsAffineTerm self }
@@ -364,12 +383,15 @@ impl AffineTerm {
         ensures decides { (words : List ℕ) → IsWords words
             → Decides result words (is_within low high (xored_value self words)) }
     {
+        let bits = self.bit_slice.bits();
         if low == high {
             self.bit_slice.is(low ^ self.xor_mask)
-        } else if self.xor_mask == 0 {
-            self.bit_slice.is_within(low, high)
-        } else if self.xor_mask == u32::MAX {
-            self.bit_slice.is_within(!high, !low)
+        } else if bits & self.xor_mask == 0 && self.xor_mask <= high {
+            self.bit_slice
+                .is_within(low.saturating_sub(self.xor_mask), high - self.xor_mask)
+        } else if bits & self.xor_mask == bits && low <= self.xor_mask {
+            self.bit_slice
+                .is_within(self.xor_mask.saturating_sub(high), self.xor_mask - low)
         } else {
             Decision::Open(OpenTest::NONE)
         }

@@ -125,6 +125,15 @@ impl BitSlice {
         Value::Slice(shifted.and(u32::MAX))
     }
 
+    /// The bits that the slice may have.
+    #[tactic(auto, using(crate::proofs::BitSlices::bits_laws))]
+    pub(crate) fn bits(self) -> u32
+        requires { IsBitSlice self }
+        ensures { (words : List ℕ) → bit_and (bit_slice_value self words) result ≡ bit_slice_value self words }
+    {
+        self.mask >> self.right << self.left
+    }
+
     /// The test `self == v`, as an atom about its word.
     #[tactic(auto, using(crate::proofs::BitSlices::test_laws))]
     pub(crate) fn is(self, v: u32) -> Decision
@@ -168,8 +177,20 @@ impl BitSlice {
         Decision::Asks(atom, true)
     }
 
-    /// The test `low <= self <= high`, as an atom about its word, if the range is one value or has an end that no value
-    /// lies beyond, or if this is the whole word.
+    /// The least count of units `1 << left` that come to `low`: the slice is a multiple of the unit.
+    #[tactic(auto, using(crate::proofs::BitSlices::unit_laws))]
+    fn first_unit(self, low: u32) -> u32
+        requires { self.left < 32 }
+        ensures { (z : ℕ) → (low ≤ z * 2 ^ self.left) ↔ (result ≤ z) }
+    {
+        if low == 0 {
+            return 0;
+        }
+        (low - 1 >> self.left) + 1
+    }
+
+    /// The test `low <= self <= high`, as an atom about its word, if at most one value of the slice lies in the range,
+    /// none lies beyond one of its ends, or this is the whole word.
     #[tactic(auto, using(crate::proofs::AffineTerms::slice_laws))]
     pub(crate) fn is_within(self, low: u32, high: u32) -> Decision
         requires bit_slice { IsBitSlice self }
@@ -178,10 +199,19 @@ impl BitSlice {
         ensures decides { (words : List ℕ) → IsWords words
             → Decides result words (is_within low high (bit_slice_value self words)) }
     {
+        let most = self.mask >> self.right;
+        let first = self.first_unit(low);
+        let last = (high >> self.left).min(most);
+        if first > last {
+            return Decision::Known(false);
+        }
+        if first == last {
+            return self.is(first << self.left);
+        }
         if low == 0 {
             return self.is_above(high).negated();
         }
-        if high == u32::MAX {
+        if last == most {
             return self.is_above(low - 1);
         }
         if self.is_whole() {
