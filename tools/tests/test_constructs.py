@@ -10,7 +10,7 @@ KINDS = {ProfilePair: (constructs.CONSTRUCTS, 16, 30, constructs.by_mask),
          FilterPair: (constructs.REWRITES, 12, 60, constructs.mask_split)}
 # Of these some pairs need more splits than the default: the bits of a shifted word are split before the shift's count,
 # and the low bits of a sum before the bit that is tested above them.
-MAY_BE_UNDECIDED = {"shift by word", "branch by product"}
+MAY_BE_UNDECIDED = {"shift by word", "branch by product", "bits of sum"}
 
 
 class Constructs(unittest.TestCase):

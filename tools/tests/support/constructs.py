@@ -763,6 +763,14 @@ def sum_under_mask(dice, word, other_word):
             [(LD, word), (AND, mask), (ADD, by & mask), (AND, mask), is_equal(value)])
 
 
+def bits_of_sum(dice, word, other_word):
+    """A bit or a run of bits of a difference, and of the same sum or a negation."""
+    by, width = dice.getrandbits(32), dice.randrange(1, 33)
+    mask = (1 << width) - 1 << dice.randrange(33 - width)
+    return [(LD, word), (SUB, by), (JSET, mask, "yes", "no")], [(LD, word), *dice.choice((
+        [(ADD, -by & WORD)], [(NEG, 0), (ADD, by), (MUL, WORD)])), (AND, mask), is_equal(0, "no", "yes")]
+
+
 def xor_by_masks(dice, word, other_word):
     """The bits that word of two words has, of bytes."""
     mask = 0xFF << dice.randrange(25)
@@ -807,8 +815,8 @@ def steps_of_order(dice, word, other_word):
 
 REWRITES = {rewrite.__name__.replace("_", " "): rewrite for rewrite in (
     sum_turned, product_turned, tests_turned, mask_split, masks_joined, product_by_shifts, quotient_by_orders,
-    remainder_by_orders, difference_by_sum, negation_by_complement, sum_under_mask, xor_by_masks, shift_by_word,
-    branch_by_product, returned, steps_of_order)}
+    remainder_by_orders, difference_by_sum, negation_by_complement, sum_under_mask, bits_of_sum, xor_by_masks,
+    shift_by_word, branch_by_product, returned, steps_of_order)}
 
 
 def placed(code):
