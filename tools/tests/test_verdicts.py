@@ -1,13 +1,14 @@
 """What `compare` and `compile` say of filters, profiles and tables: verdicts, differences by relations, refusals."""
 from support.common import X86_64
-from support.on_parts import (ALL, ALLOW, ARCH_GATE, CLONE, CLONE_BY_AND, CLONE_BY_FEWER_BITS, CLONE_BY_JSET,
-                              CLONE_TABLE, NATIVE, NO_TABLE, READ_TABLE, OnProgram, a_filter, a_profile, a_table,
-                              behind_gate, bundle, ran)
+from support.on_parts import (ALL, ALLOW, ALLOW_ALL, ARCH_GATE, CLONE, CLONE_BY_AND, CLONE_BY_FEWER_BITS, CLONE_BY_JSET,
+                              CLONE_TABLE, DEFAULT_ALLOW, NATIVE, NO_TABLE, ONE_CALL, READ_TABLE, WITHOUT_WRITE,
+                              OnProgram, a_filter, a_profile, a_table, behind_gate, beside, bundle, ran)
 
 # Words on a bundle of parts, what is printed, and the status.
 PROFILES = (
-    # A profile without a table.
+    # A profile without a table, and one beside another.
     (["compile"], [CLONE], "fault bundle Parts\n", 3),
+    (["compile"], [ALL, ("beside-profile", ONE_CALL), NO_TABLE], "fault bundle Parts\n", 3),
     # A wide mask, at its effort and with no step.
     (["compare", "--limit", "208"], [CLONE_BY_AND, CLONE, CLONE_TABLE], "same\n", 0),
     (["compare", "--limit", "0"], [CLONE_BY_AND, CLONE, CLONE_TABLE], "unfinished\n", 4),
@@ -124,12 +125,133 @@ RELATIONS = (
     ("--calls --no-more --limit 0", [STUB, READ, TABLE], "unfinished\n0 read unfinished\n1 write unfinished\n",
      "skipped gone\n", 4),
 )
-# The two flags exclude each other, and so do two of which one says over which calls. The number comes first.
+# Stacks beside stacks: filters that answer each call so, one that allows everything, since three times a word, less
+# that word three times, is 0, which few splits don't show, and two that allow where a masked word is at least 5.
+LOG, EPERM, ENOSYS = map(a_filter, ("ret #0x7ffc0000", "ret #0x50001", "ret #0x50026"))
+ZERO = "ld [16]; tax; mul #3; sub x; sub x; sub x; jeq #0, 0, 1; ret #0x7fff0000; ret #0"
+FROM_FIVE = a_filter("ld [16]; and #0xff; jge #5, 0, 1; ret #0x7fff0000; ret #0x50001")
+ABOVE_FOUR = beside("ld [16]; and #0xff; jgt #4, 0, 1; ret #0x7fff0000; ret #0x50001")
+OTHER, NAMES_OF_1 = beside(ALLOW_ALL), a_table("b 1\na 1\nd 0")
+BESIDE = (
+    # No filter on either side, or on one.
+    ("--beside", [], "same\n", "", 0),
+    ("--beside", [OTHER], "same\n", "", 0),
+    ("--beside --no-less", [EPERM], "less\ncall nr ", "\nfilter ERRNO 1\nbeside ALLOW 0\n", 1),
+    # The sides aren't exchanged, and precedence decides on each.
+    ("--beside --nr-from 1 --nr-to 0x1", [OTHER, WITHOUT_WRITE, ALLOW], "differs\ncall nr 1 arch 0xc000003e ip ",
+     "\nfilter ERRNO 1\nbeside ALLOW 0\n", 1),
+    ("--beside --no-more", [beside(LOG[1]), beside(EPERM[1]), ALLOW], "more\ncall nr ",
+     "\nfilter ALLOW 0\nbeside ERRNO 1\n", 1),
+    ("--beside --native --nr-from 2", [OTHER, WITHOUT_WRITE], "same\n", "", 0),
+    ("--beside --nr-to 0", [OTHER, WITHOUT_WRITE], "same\n", "", 0),
+    # Both refuse, by other numbers.
+    ("--beside --disposition", [EPERM, beside(ENOSYS[1])], "same disposition\n", "", 0),
+    ("--beside --disposition", [EPERM, beside(LOG[1])], "differs\ncall nr ", "\nfilter ERRNO 1\nbeside LOG 0\n", 1),
+    # Splits decide it, or too few don't, on either side.
+    ("--beside --splits 5", [a_filter(ZERO), OTHER], "undecided at ", "\n", 4),
+    ("--beside --splits 5", [ALLOW, beside(ZERO)], "undecided at ", "\n", 4),
+    ("--beside --splits 0", [FROM_FIVE, ABOVE_FOUR], "undecided at ", "\n", 4),
+    ("--beside", [FROM_FIVE, ABOVE_FOUR], "same\n", "", 0),
+    ("--beside --limit 1", [WITHOUT_WRITE, OTHER], "unfinished\n", "", 4),
+    # Call by call.
+    ("--beside --calls", [WITHOUT_WRITE, NAMES_OF_1, OTHER], "differs\n1 a,b differs args ",
+     " filter ERRNO 1 beside ALLOW 0\n", 1),
+    # Other parts, and faults of either side.
+    ("--beside --calls", [ALLOW, OTHER], "fault bundle Parts\n", "", 3),
+    ("--beside", [NO_TABLE], "fault bundle Header offset 0\n", "", 3),
+    ("", [OTHER], "fault bundle Header offset 0\n", "", 3),
+    ("--beside", [beside("ld #0"), a_filter("ld #0")], "fault filter LastNotReturn\n", "", 1),
+    ("--beside", [beside("ld #0"), ALLOW], "fault beside LastNotReturn\n", "", 1),
+    ("--beside --calls", [OTHER, a_table("read")], "fault table Form line 1\n", "", 1),
+)
+
+
+def beside_profile(text):
+    return "beside-profile", text
+
+
+def of_both(name, *denied):
+    """A profile of two architectures, with a name that is skipped, and these are denied."""
+    names = "".join(f',"{call}"' for call in denied)
+    return ('{"defaultAction":"SCMP_ACT_ALLOW","architectures":["SCMP_ARCH_X86_64","SCMP_ARCH_X86"],'
+            f'"syscalls":[{{"names":["{name}"{names}],"action":"SCMP_ACT_ERRNO"}}]}}')
+
+
+# Profiles beside profiles.
+ONLY_READ, READ_ALONE = a_profile(ONE_CALL), a_table(READ_TABLE)
+BOTH = [a_profile(of_both("gone")), beside_profile(of_both("lost", "write")), READ_ALONE, ("table-x86", "write 4\n")]
+MORE_BESIDE = [ONLY_READ, beside_profile(DEFAULT_ALLOW), READ_ALONE]
+PROFILES_BESIDE = (
+    ("", [beside_profile(ONE_CALL), READ_ALONE, ONLY_READ], "same\n", "", 0),
+    ("", MORE_BESIDE, "differs\ncall nr ", "\nprofile ERRNO 1\nbeside ALLOW 0\n", 1),
+    ("--no-more --native", MORE_BESIDE, "no more\n", "", 0),
+    ("--no-less", MORE_BESIDE, "less\ncall nr ", "\nprofile ERRNO 1\nbeside ALLOW 0\n", 1),
+    ("--calls", [ALL, beside_profile(ONE_CALL), a_table("write 1\nread 0\n")], "differs\n1 write differs args ",
+     " profile ALLOW 0 beside ERRNO 1\n", 1),
+    ("--architectures", BOTH, "differs\ncall nr 4 arch 0x40000003 ",
+     "\nprofile ALLOW 0\nbeside ERRNO 1\nskipped gone\nbeside-skipped lost\n", 1),
+    ("--architectures --nr-to 3", BOTH, "same\n", "skipped gone\nbeside-skipped lost\n", 0),
+    ("", [beside_profile("["), a_profile("["), READ_ALONE], "fault profile Json\n", "", 1),
+    ("", [beside_profile("["), ALL, READ_ALONE], "fault beside Json\n", "", 1),
+    ("", [ALLOW, ALL, beside_profile(ONE_CALL), READ_ALONE], "fault bundle Parts\n", "", 3),
+)
+# Allows each call of i386 but number 4, which gets an errno if its first argument is 8, and each of x86-64 and x32 but
+# those with 0x40000001 and 0x40000083, which get another one.
+SOME = a_filter("""ld [4]; jeq #0x40000003, i386, 0; ld [0]; jeq #0x40000001, denied, 0
+    jeq #0x40000083, denied, allowed
+    i386: ld [0]; jeq #4, 0, allowed; ld [16]; jeq #8, refused, allowed
+    denied: ret #0x50001; refused: ret #0x50002; allowed: ret #0x7fff0000""")
+# Allows each call of three architectures, and names one that no table has.
+OF_THREE = a_profile('''{"defaultAction":"SCMP_ACT_ALLOW",
+    "architectures":["SCMP_ARCH_X86_64","SCMP_ARCH_X86","SCMP_ARCH_X32","SCMP_ARCH_ARM"],
+    "syscalls":[{"names":["gone"],"action":"SCMP_ACT_ERRNO"}]}''')
+X86_TABLE, X32_TABLE = ("table-x86", "read 3\nwrite 4\nput 4\n"), ("table-x32", "read 0\nwrite 1\n")
+THREE, OF_X86_64, OF_X86, OF_X32 = ([SOME, OF_THREE, *tables] for tables in (
+    [TABLE, X86_TABLE, X32_TABLE], [TABLE], [X86_TABLE], [X32_TABLE]))
+ARM = "skipped gone\nother SCMP_ARCH_ARM\n"
+LACKS_X32 = "skipped gone\nother SCMP_ARCH_X86_64\nother SCMP_ARCH_X86\nother SCMP_ARCH_ARM\n"
+LACKS_X86_64 = "skipped gone\nother SCMP_ARCH_X86\nother SCMP_ARCH_X32\nother SCMP_ARCH_ARM\n"
+# With --architectures. Call by call the line of a call has the table's number, without x32's bit, and all its names.
+ARCHITECTURES = (
+    ("--calls", OF_X86, "differs\n4 put,write differs args 0x8 ", " filter ERRNO 2 profile ALLOW 0\nskipped gone\n"
+     "other SCMP_ARCH_X86_64\nother SCMP_ARCH_X32\nother SCMP_ARCH_ARM\n", 1),
+    ("--calls", OF_X32, "differs\n1 write differs args ", f" filter ERRNO 1 profile ALLOW 0\n{LACKS_X32}", 1),
+    ("--calls", OF_X86_64, "same\n", LACKS_X86_64, 0),
+    ("--calls --no-more", OF_X32, "no more\n", LACKS_X32, 0),
+    ("--calls --total-limit 0", OF_X32, "unfinished\n0 read unfinished\n1 write unfinished\n", LACKS_X32, 4),
+    # Call by call there is one table.
+    ("--calls", THREE, "fault bundle Parts\n", "", 3),
+    ("--calls", [SOME, OF_THREE], "fault bundle Parts\n", "", 3),
+    ("--calls", [SOME, OF_THREE, ("table-x86", "read")], "fault table Form line 1\n", "", 1),
+    ("--calls", [SOME, OF_THREE, ("table-x32", " \t\n# none\n")], "fault command Calls\n", "", 2),
+    # A range of numbers, as records have them; no table's architecture may have one, since x32's have bit 30.
+    ("--nr-to 0x3fffffff", OF_X32, "fault command Range\n", "", 2),
+    ("--nr-from 0x40000000", OF_X86_64, "fault command Range\n", "", 2),
+    ("--nr-to 0x40000000", OF_X32, "same\n", LACKS_X32, 0),
+    ("--nr-from 0x3fffffff", OF_X86_64, "same\n", LACKS_X86_64, 0),
+    ("--nr-to 3", THREE, "same\n", ARM, 0),
+    ("--nr-from 4 --nr-to 0x40000000", THREE, "differs\ncall nr 4 arch 0x40000003 ip ",
+     f"\nfilter ERRNO 2\nprofile ALLOW 0\n{ARM}", 1),
+    ("--nr-from 0x40000082 --nr-to 0x40000083", THREE, "differs\ncall nr 1073741955 arch 0xc000003e ip ",
+     f"\nfilter ERRNO 1\nprofile ALLOW 0\n{ARM}", 1),
+    ("--nr-from 0x40000084", THREE, "same\n", ARM, 0),
+    ("--nr-from 5 --nr-to 4", THREE, "fault command Range\n", "", 2),
+)
+# Flags exclude each other, and so do two of which one says over which calls. The number comes first.
 EXCLUDED = (
     (["compare", "--no-more", "--no-less"], "fault command Flags\n"),
     (["compare", "--no-less", "--native", "--no-more", "--limit", "7"], "fault command Flags\n"),
     (["compare", "--no-more", "--calls", "--native"], "fault command Flags\n"),
     (["compare", "--no-more", "--no-less", "--limit", "x"], "fault number limit\n"),
+    (["compare", "--disposition", "--no-more"], "fault command Flags\n"),
+    (["compare", "--beside", "--calls", "--nr-from", "1"], "fault command Flags\n"),
+    (["compare", "--architectures", "--native"], "fault command Flags\n"),
+    (["compare", "--architectures", "--native", "--nr-to", "3"], "fault command Flags\n"),
+    (["compare", "--architectures", "--beside"], "fault command Flags\n"),
+    (["compare", "--architectures", "--beside", "--calls"], "fault command Flags\n"),
+    (["compare", "--architectures", "--calls", "--nr-from", "1"], "fault command Flags\n"),
+    (["compare", "--architectures", "--calls", "--native"], "fault command Flags\n"),
+    (["compare", "--nr-to", "0x100000000"], "fault number nr-to\n"),
 )
 
 
@@ -175,9 +297,17 @@ class Relations(OnProgram):
     it allows."""
 
     def test_relations(self):
-        for options, parts, first, lines_behind, status in RELATIONS:
+        self.begin_and_end(RELATIONS)
+
+    def test_sides(self):
+        self.begin_and_end(BESIDE + PROFILES_BESIDE)
+        self.begin_and_end(ARCHITECTURES, "--architectures")
+
+    def begin_and_end(self, rows, *words):
+        """What is printed of each row."""
+        for options, parts, first, lines_behind, status in rows:
             with self.subTest(options=options, parts=parts):
-                out, ended = ran(["compare", *options.split()], bundle(parts))
+                out, ended = ran(["compare", *words, *options.split()], bundle(parts))
                 text = out.decode()
                 self.assertEqual((text[:len(first)], text[-len(lines_behind):] if lines_behind else "", ended),
                                  (first, lines_behind, status))

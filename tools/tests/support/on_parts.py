@@ -1,6 +1,7 @@
 """What tests of the program on bundles share: parts of bundles, worked filters and profiles, and runs of the program.
 
-A part is its kind and its text; that of a filter is in the assembler's language, and the program assembles it.
+A part is its kind and its text; that of a filter, or of one beside, is in the assembler's language, and the program
+assembles it.
 """
 import functools
 import os
@@ -15,6 +16,11 @@ from .common import CORE, PATIENCE, PROGRAM, part
 
 def a_filter(text):
     return "filter", text
+
+
+def beside(text):
+    """A filter beside others."""
+    return "beside", text
 
 
 def behind_gate(text):
@@ -79,7 +85,7 @@ def assembled(text):
 
 
 def part_of(kind, text):
-    return part(kind, assembled(text) if kind == "filter" else text.encode())
+    return part(kind, assembled(text) if kind in ("filter", "beside") else text.encode())
 
 
 def bundle(parts):
