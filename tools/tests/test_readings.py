@@ -22,8 +22,8 @@ def profile(*entries, architectures=("SCMP_ARCH_X86_64", "SCMP_ARCH_X86")):
         "defaultAction": "SCMP_ACT_ERRNO", "architectures": list(architectures), "syscalls": entries}).encode())
 
 
-def condition(value):
-    return {"index": 0, "value": value, "op": "SCMP_CMP_EQ"}
+def condition(value, index=0, operator="EQ", **more):
+    return {"index": index, "value": value, "op": f"SCMP_CMP_{operator}", **more}
 
 
 def core(*words, given):
@@ -47,11 +47,53 @@ READINGS = {
     "alternatives": ([entry("SCMP_ACT_ALLOW", args=[condition(0), condition(7)])], {
         "strict": "fault profile RepeatedIndex entry 0",
         "runc": "ALLOW 0 entry 0", "crun": "ALLOW 0 entry 0"}),
+    # and so is each other condition of the entry then
+    "alternatives and another": ([entry("SCMP_ACT_ALLOW", args=[condition(1), condition(2), condition(0, 1)])], {
+        "strict": "fault profile RepeatedIndex entry 0",
+        "runc": "ALLOW 0 entry 0", "crun": "ALLOW 0 entry 0"}),
     # runc ignores an errno beside an action that takes none, and crun refuses it
-    "errno": ([entry("SCMP_ACT_ALLOW", errnoRet=5)], {
+    "errno": ([entry("SCMP_ACT_ALLOW", errnoRet=70000)], {
         "strict": "fault profile Errno entry 0",
         "runc": "ALLOW 0 entry 0", "crun": "fault profile Errno entry 0"}),
+    "too great an errno": ([entry("SCMP_ACT_ERRNO", errnoRet=70000)], dict.fromkeys(
+        ("strict", "runc", "crun"), "fault profile ErrnoRange entry 0")),
+    # a rule without conditions stands behind one with a condition, and one whose mask has no bit is such a rule
+    "whole last": ([entry("SCMP_ACT_ERRNO", errnoRet=22, args=[condition(7)]), entry("SCMP_ACT_ALLOW")], {
+        "strict": "fault profile Conflict number 0 first 0 second 1",
+        "runc": "ALLOW 0 entry 1", "crun": "ALLOW 0 entry 1"}),
+    "empty mask": ([entry("SCMP_ACT_ALLOW", args=[condition(7)]),
+                    entry("SCMP_ACT_ERRNO", errnoRet=22, args=[condition(0, 1, "MASKED_EQ", valueTwo=7)])], {
+        "strict": "fault profile Conflict number 0 first 0 second 1",
+        "runc": "ERRNO 22 entry 1", "crun": "ERRNO 22 entry 1"}),
+    # both have a condition, and one argument meets both
+    "both met": ([entry("SCMP_ACT_ALLOW", args=[condition(1, 0, "GE")]),
+                  entry("SCMP_ACT_LOG", args=[condition(2, 0, "GE")])], dict.fromkeys(
+        ("strict", "runc", "crun"), "fault profile Conflict number 0 first 0 second 1")),
+    # crun takes six conditions, of which none is an alternative then
+    "seventh": ([entry("SCMP_ACT_ALLOW", args=[*(condition(0, index) for index in range(6)), condition(7)])], {
+        "strict": "fault profile RepeatedIndex entry 0",
+        "runc": "ALLOW 0 entry 0", "crun": "ERRNO 1 default"}),
+    "six before a seventh": ([entry("SCMP_ACT_ALLOW", args=[
+        condition(7), *(condition(0, index) for index in range(1, 6)), condition(9)])], {
+        "strict": "fault profile RepeatedIndex entry 0",
+        "runc": "ALLOW 0 entry 0", "crun": "ALLOW 0 entry 0"}),
 }
+# Profiles that list i386 alone, tables, words, and what is printed: a runtime's filter has the machine's own
+# architecture, x86-64 or aarch64, listed or not.
+X86_LISTED = profile(entry("SCMP_ACT_ALLOW"), architectures=["SCMP_ARCH_X86"])
+# The first condition's mask has bits of 64-bit arguments alone, so that it is none in i386.
+HIGH_MASK = profile(entry("SCMP_ACT_LOG", args=[condition(1 << 32, 0, "MASKED_EQ", valueTwo=0)]),
+                    entry("SCMP_ACT_ALLOW", args=[condition(0)]))
+OWN = (
+    ((), X86_LISTED + TABLE, {"strict": "fault profile NoX8664", "sandbox": "fault profile NoX8664",
+                              "runc": "ALLOW 0 entry 0", "crun": "ALLOW 0 entry 0"}),
+    ((EACH,), X86_LISTED + TABLE, {"strict": "fault profile NotListed table 0", "crun": "ALLOW 0 entry 0"}),
+    ((EACH, "--arch=0xc00000b7", "--nr=63"), X86_LISTED + part("table-aarch64", b"read 63\n"),
+     {"strict": "fault profile NotListed table 0", "runc": "ALLOW 0 entry 0"}),
+    ((EACH,), X86_LISTED + part("table-arm", b"read 3\n"), {"runc": "fault profile NotListed table 0"}),
+    ((EACH, "--arch=0x40000003", "--nr=3"), HIGH_MASK + X86_TABLE, {"runc": "LOG 0 entry 0"}),
+    ((EACH,), HIGH_MASK + TABLE, {"runc": "fault profile Conflict number 0 first 0 second 1"}),
+)
 
 
 class TestReadings(unittest.TestCase):
@@ -69,6 +111,13 @@ class TestReadings(unittest.TestCase):
                         self.assertEqual((ended, printed.startswith(b"fault")), (status, status == 1))
                     self.assertEqual(core("ask", EACH, "--a0=7", f"--reading={reading}", given=given),
                                      (f"{line}\n".encode(), status))
+
+    def test_own_architecture(self):
+        for words, given, wanted in OWN:
+            for reading, line in wanted.items():
+                with self.subTest(words=words, reading=reading, line=line):
+                    self.assertEqual(core("ask", *words, f"--reading={reading}", given=given),
+                                     (f"{line}\n".encode(), int(line.startswith("fault"))))
 
     def test_strict_without_the_option(self):
         given = profile(*READINGS["twice"][0]) + TABLE
