@@ -3,6 +3,7 @@ each option of a call."""
 from support.common import part
 from support.on_parts import (ALLOW, ALLOW_ALL, ARCH_GATE, CLONE, CLONE_TABLE, READ_WRITE_TABLE, OnProgram, a_filter,
                               a_profile, a_table, assembled, bundle, long_filter, ran)
+from support.worked import printed
 
 # The bytes of ARCH_GATE (Linux uapi filter.h: code, jt, jf and k, each from its low byte on).
 GATE = (b"\x20\0\0\0\x04\0\0\0"
@@ -204,6 +205,19 @@ STACKS = (
     (["ret #0x30007", "ldx #0; div x; ret a", NUMBER_5], "--nr 4", "KILL_THREAD 0 at 1:1",
      ["TRAP 7 steps 1\npath 0", "KILL_THREAD 0 steps 2\npath 0 1", "ALLOW 0 steps 3\npath 0 1 3"]),
 )
+# The answers of filters, the oldest first, and which decides: the lesser high half as a signed number, and of equal
+# ones the newest answer with its data (kernel/seccomp.c, seccomp_run_filters).
+DECISIONS = (
+    ((0x00000000, 0x80000000), 0x80000000), ((0x80000000, 0x00000000), 0x80000000),
+    ((0x00050005, 0x00050001), 0x00050001), ((0x00050001, 0x00050005), 0x00050005),
+    ((0x00030000, 0x00010000), 0x00010000), ((0x00010000, 0x00030000), 0x00010000),
+    ((0x00000000, 0xFFFF0000), 0xFFFF0000), ((0xFFFF0000, 0x00000000), 0xFFFF0000),
+    ((0x80010000, 0x8000FFFF), 0x8000FFFF), ((0x7FFF0000, 0x7FFC0000), 0x7FFC0000),
+    ((0x7FF00000, 0x7FC00000), 0x7FC00000), ((0x7FFF0000, 0x7FFF0001), 0x7FFF0001),
+    ((0x00050001, 0x00030002, 0x00050003), 0x00030002), ((0x00050001, 0x7FFF0000, 0x00050002), 0x00050002),
+    ((0x80000000, 0x00050001, 0x00000000), 0x80000000),
+    ((0x7FFC0000, 0x7FFF0000, 0x00050001, 0x7FF00000, 0x00050002, 0x7FC00000, 0x7FFF0000), 0x00050002),
+)
 
 
 class Filters(OnProgram):
@@ -270,6 +284,11 @@ class Paths(OnProgram):
                 self.prints(["decide", *options.split(), *words], given, "\n".join([first, *runs]) + "\n")
             # without a flag the answer stands alone
             self.prints(["decide", *options.split()], given, first.split(" at ")[0] + "\n")
+
+    def test_decisions(self):
+        for answers, decides in DECISIONS:
+            given = bundle([a_filter(f"ret #{answer}") for answer in answers])
+            self.prints(["decide"], given, f"{printed(decides)}\n")
 
 
 class Questions(OnProgram):
