@@ -17,6 +17,8 @@ FARTHEST = 255
 # A condition on the low byte of an argument.
 LOW_BYTE = '''{"defaultAction":"SCMP_ACT_ERRNO","syscalls":[{"names":["read"],"action":"SCMP_ACT_ALLOW",
     "args":[{"index":0,"value":255,"valueTwo":511,"op":"SCMP_CMP_MASKED_EQ"}]}]}'''
+# Names by the escapes of JSON, of which one is no call's.
+ESCAPED = r'''{"defaultAction":"SCMP_ACT_ERRNO","syscalls":[{"names":["\u00e9","r\u0065ad"],"action":"SCMP_ACT_ALLOW"}]}'''
 # A table and a profile, and calls by number, architecture and first argument with their answers.
 ROWS = (
     (READ_TABLE, ONE_CALL, ((0, X86_64, 0, MADE), (1, X86_64, 0, FAILS), (LAST, X86_64, 0, FAILS),
@@ -26,6 +28,7 @@ ROWS = (
                                   (1, X86_64, 0, MADE), (1, X86_64, 1, MADE), (1, X86_64, MOST, MADE))),
     (READ_TABLE, WHOLE_CONFIG, ((0, X86_64, 0, MADE), (1, X86_64, 0, "ERRNO 38"))),
     (CLONE_TABLE[1], CLONE[1], ((56, X86_64, 0, MADE), (56, X86_64, BIT_32, MADE), (56, X86_64, 0x02000000, FAILS))),
+    (READ_WRITE_TABLE, ESCAPED, ((0, X86_64, 0, MADE), (1, X86_64, 0, FAILS))),
     (READ_TABLE, LOW_BYTE, ((0, X86_64, 255, MADE), (0, X86_64, 511, MADE), (0, X86_64, 510, FAILS))),
 )
 # Calls of a profile whose rules test an argument for 1, or for more than 7: number, first argument and answer.

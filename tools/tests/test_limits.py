@@ -1,8 +1,9 @@
 """Inputs at their limits, and one byte, one instruction or one rule past them; and profiles, numbers and names made to
 hurt."""
 from support.common import part
-from support.on_parts import (ALL, DEFAULT_ALLOW, NO_TABLE, ONE_CALL, READ_TABLE, OnProgram, a_profile, a_table,
-                              assembled, behind_gate, bundle, long_filter, ran)
+from support.on_parts import (ALL, DEFAULT_ALLOW, NO_TABLE, ONE_CALL, READ_TABLE, READ_WRITE_TABLE, OnProgram, a_profile,
+                              a_table, assembled, behind_gate, bundle, long_filter, ran)
+from support.worked import FAILS, MADE, refusing
 
 INPUT, TEXT = 16777216, 4194304
 # Two tests of masks that overlap, of which the second is decided by the first.
@@ -75,6 +76,23 @@ class Longest(OnProgram):
         self.prints(["compile"], compiled_of(profile, "c 1"), "fault profile TooMany\n", 1)
         self.prints(["compile"], compiled_of(*distinct_calls(4000)), "fault compile TooLarge\n", 1)
 
+    def test_compiled(self):
+        """The largest filter, and one instruction more: the tests in front take 5, those of the two numbers 2 and 1,
+        each test for another value 5 with its answer, each for a greater one 6, and the default answers 3."""
+        def given(other, greater):
+            entries = [(["write"] * count + ["read"], [{"index": 0, "value": value, "op": f"SCMP_CMP_{operator}"}])
+                       for count, value, operator in ((other, 5, "NE"), (greater, 7, "GT"))]
+            return compiled_of(refusing(*entries), READ_WRITE_TABLE)
+
+        self.assertEqual(5 + 2 + 1 + 5 * (810 + 1) + 6 * (4 + 1) + 3, 4096)
+        compiled, status = ran(["compile"], given(810, 4))
+        self.assertEqual((len(compiled), status), (32768, 0))
+        for number, first, text in ((0, 1, MADE), (0, 8, MADE), (0, 5, FAILS), (1, 1, MADE), (1, 8, MADE), (1, 5, FAILS),
+                                    (2, 1, FAILS)):
+            words = ["--nr", str(number), "--a0", str(first)]
+            self.prints(["decide", *words], part("filter", compiled), f"{text}\n")
+        self.prints(["compile"], given(809, 5), "fault compile TooLarge\n", 1)
+
     def test_table(self):
         """A table of 600 names: each call has its answer, and the numbers behind them have the default."""
         profile, table = distinct_calls(600)
@@ -114,12 +132,16 @@ class Hurtful(OnProgram):
                 self.prints(["compile"], part("profile", given) + table, "fault profile Json\n", 1)
 
     def test_long_numbers(self):
-        """A number of a million digits in the text of a filter, and of a table."""
+        """A number of a million digits in the text of a filter, and of a table; and the longest that a system hands on
+        as an option."""
         zeros, ones = "0" * 1000000, "1" * 1000000
         self.prints(["asm"], f"ld #{zeros}7".encode(), b"\0\0\0\0\x07\0\0\0")
         self.prints(["asm"], f"ld #{ones}".encode(), "fault text NumberRange line 1\n", 1)
         self.is_number(ONE_CALL, f"read {zeros}7\n", 7)
         self.prints(["compile"], compiled_of(ONE_CALL, f"write 1\nread {ones}\n"), "fault table Number line 2\n", 1)
+        for option, text, status in ((zeros[:131000] + "7", "KILL_THREAD 7 steps 2\n", 0),
+                                     (ones[:131000], "fault number a0\n", 2)):
+            self.prints(["run", "--a0", option], assembled("ld [16]; ret a"), text, status)
 
     def test_names_that_differ_in_the_last_byte(self):
         """A table of names of 60000 bytes, which stand in the order of their last byte or against it."""

@@ -167,3 +167,10 @@ class Stacks(OnProgram):
         for count in range(1, 9):
             text, status = ("fault stack TooMany total 32796\n", 1) if count == 8 else ("ALLOW 0\n", 0)
             self.prints(["decide"], part("filter", long_filter(4095)) * count, text, status)
+
+    def test_room_of_each_side(self):
+        """Seven fit on either side, and an eighth is refused of its own side."""
+        for kind, other in (("filter", "beside"), ("beside", "filter")):
+            given = part(other, long_filter(4095)) * 7 + part(kind, long_filter(4095)) * 8
+            source = "stack" if kind == "filter" else kind
+            self.prints(["compare", "--beside"], given, f"fault {source} TooMany total 32796\n", 1)

@@ -79,6 +79,7 @@ WORDS = (
     (["frobnicate"],
      "error: unrecognized subcommand 'frobnicate'\n\nUsage: scf <COMMAND>\n\nFor more information, try '--help'.\n",
      2),
+    (["run", b"\xff"], "error: invalid UTF-8 was detected in one or more arguments\n", 2),
     (["run", "--nr", "-1"],
      "error: unexpected argument '-1' found\n\nUsage: scf run [OPTIONS]\n\nFor more information, try '--help'.\n", 2),
     (["check", "--nr", "1"],
