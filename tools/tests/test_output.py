@@ -1,11 +1,15 @@
-"""What the tools print: nothing of a stranger's text works on a terminal or looks like scf's; output that fails."""
+"""What the tools print: nothing of a stranger's text works on a terminal or looks like scf's; output that fails; and that
+the program prints in one write."""
 import json
 import os
+import socket
 import subprocess
 import sys
 import unittest
 
-from support.common import CORE, SCF, X86_64, Case, filter_of, profile_of, tool
+from support.common import CORE, PROGRAM, SCF, X86_64, Case, filter_of, insn, profile_of, tool
+from support.on_parts import (ALL, ALLOW, ARCH_GATE, NO_TABLE, OnProgram, a_filter, a_table, assembled, beside, bundle,
+                              long_filter, ran)
 from scftools import output, verdicts
 
 SAME, DIFFERS = filter_of([0, 1]), filter_of([0, 1, 231])
@@ -235,6 +239,49 @@ class Failing(Case):
             for words in (("run", "none"), ("run", "--no-such")):
                 done = subprocess.run([tool(words[0]), *words[1:]], stderr=full, check=False)
                 self.assertEqual(done.returncode, 2, words)
+
+
+class OneWrite(OnProgram):
+    """All that a run of the program prints goes out at once, and a write that fails is said by the status."""
+
+    def is_one_write(self, words, given=b""):
+        """A write is a packet here. The longest listing fits into the packets' buffer."""
+        ours, its = socket.socketpair(socket.AF_UNIX, socket.SOCK_SEQPACKET)
+        with ours, subprocess.Popen([PROGRAM, *words], stdin=subprocess.PIPE, stdout=its) as process:
+            its.close()
+            process.stdin.write(given)
+            process.stdin.close()
+            packets = list(iter(lambda: ours.recv(1 << 20), b""))
+        self.assertEqual([len(packet) for packet in packets], [len(ran(words, given)[0])], words)
+        with open("/dev/full", "wb") as full:
+            done = subprocess.run([PROGRAM, *words], input=given, stdout=full, check=False)
+        self.assertEqual(done.returncode, 3, words)
+
+    def test_each_command(self):
+        gate = assembled(ARCH_GATE)
+        for command in (["check"], ["run"], ["run", "--path"], ["dis"]):
+            for filter_ in (gate, assembled("ja 9; ret #0"), assembled("ld [0]"), b"cut"):
+                self.is_one_write(command, filter_)
+        for command in (["run", "--path"], ["dis"]):
+            self.is_one_write(command, long_filter(4095))
+        self.is_one_write(["dis"], insn(0xFFFF, 0xFFFFFFFF, 255, 255) * 4096)
+        for text in (b"ld [0]; ret a", b"ld [0]; ret b"):
+            self.is_one_write(["asm"], text)
+
+    def test_each_command_of_bundles(self):
+        both, named = [ALL, NO_TABLE], [ALLOW, ALL, a_table("read 0")]
+        for words, parts in (("decide", [ALLOW, a_filter("ret #0x12345678")]), ("decide --at --path", [ALLOW]),
+                             ("compile", both), ("compile --left-out", both), ("ask", both), ("answers", both),
+                             ("answers --examples", [ALLOW]), ("compare", [ALLOW, *both]),
+                             ("compare --no-more", [ALLOW, *both]), ("compare --calls", named),
+                             ("compare --beside", [ALLOW, beside(ARCH_GATE)]), ("compare", [ALLOW, ALL]),
+                             ("compile", [ALL, a_table("a 1\na 2\n")]), ("decide --a4 x", [])):
+            self.is_one_write(words.split(), bundle(parts))
+
+    def test_words_alone(self):
+        for words in ("", "--help", "--version", "help compare", "compare --native --calls", "run --a3 -"):
+            self.is_one_write(words.split())
+        self.is_one_write([b"\xff"])
 
 
 class Reports(unittest.TestCase):
