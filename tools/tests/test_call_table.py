@@ -226,14 +226,11 @@ class Table(Case):
     def test_it_says_what_it_is_of(self):
         self.assertRegex(self.lines()[0], r"^# .*syscall_64\.tbl of Linux 6\.18\.$")
 
-    def test_it_is_the_table_of_the_tests_and_what_came_since(self):
-        with open(os.path.join(TOP, "crates", "scf_library_tests", "src", "x86_64_table.rt"),
-                  encoding="utf-8") as file:
-            held = re.search(r'const TABLE: &str = "([^"]*)"', file.read())[1].strip().split("\n")
+    def test_what_came_since(self):
         newer = [line.strip() for line in self.NEWER.replace("\n", " ").split(",")]
         rows = [line for line in self.lines() if line and line[0] != "#"]
-        self.assertEqual(rows, sorted(held + newer, key=lambda row: int(row.split(" ")[1])))
-        self.assertEqual((len(held), len(newer), len(rows)), (362, 21, 383))
+        self.assertEqual(rows, sorted(rows, key=lambda row: int(row.split(" ")[1])))
+        self.assertEqual((set(newer) - set(rows), len(newer), len(rows)), (set(), 21, 383))
 
     def test_it_is_what_the_tool_makes(self):
         header = "".join(f"#define __NR_{name} {number}\n" for name,
@@ -289,7 +286,7 @@ class OtherTables(Case):
 
     @unittest.skipUnless(os.path.exists(f"{HEADERS}/unistd_x32.h"), "there are no kernel headers here")
     def test_the_headers_here_say_the_same(self):
-        for name, header in (("i386", "unistd_32.h"), ("x32", "unistd_x32.h")):
+        for name, header in (("x86_64", "unistd_64.h"), ("i386", "unistd_32.h"), ("x32", "unistd_x32.h")):
             made = self.run_tool("call-table", "--architecture", name, f"{HEADERS}/{header}")
             here = [line.split() for line in made[1].split("\n") if line]
             self.assertGreater(len(here), 340)
