@@ -8,17 +8,9 @@
 #![tactic(auto)]
 
 #[cfg(test)]
-mod architectures;
-#[cfg(test)]
 mod compare;
 #[cfg(test)]
 mod compare_limits;
-#[cfg(test)]
-mod compare_relations;
-#[cfg(test)]
-mod compare_sides;
-#[cfg(test)]
-mod compare_stacks;
 #[cfg(test)]
 mod compile;
 #[cfg(test)]
