@@ -26,13 +26,7 @@ mod fixtures;
 #[cfg(test)]
 mod largest;
 #[cfg(test)]
-mod machine;
-#[cfg(test)]
 mod messages;
-#[cfg(test)]
-mod profile;
-#[cfg(test)]
-mod readings;
 #[cfg(test)]
 mod script;
 #[cfg(test)]
@@ -41,5 +35,3 @@ mod streams;
 mod text;
 #[cfg(test)]
 mod word_sets;
-#[cfg(test)]
-mod x86_64_table;
