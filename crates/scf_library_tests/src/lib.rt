@@ -16,22 +16,12 @@ mod compile;
 #[cfg(test)]
 mod facts;
 #[cfg(test)]
-mod facts_bits;
-#[cfg(test)]
-mod facts_exact;
-#[cfg(test)]
-mod facts_largest;
-#[cfg(test)]
 mod fixtures;
 #[cfg(test)]
 mod largest;
 #[cfg(test)]
 mod messages;
 #[cfg(test)]
-mod script;
-#[cfg(test)]
 mod streams;
 #[cfg(test)]
 mod text;
-#[cfg(test)]
-mod word_sets;
