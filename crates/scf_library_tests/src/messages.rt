@@ -13,6 +13,13 @@ use std::alloc::Global;
 use std::fmt::Display;
 use std::process::Abort;
 
+/// Errors with their messages.
+macro_rules! messages {
+    ($($error:expr => $message:expr),* $(,)?) => {
+        &[$(($error, $message)),*]
+    };
+}
+
 /// That an error prints this.
 fn print_one<E: Display>(rt: &impl Abort, alloc: Global, error: &E, wanted: &str) {
     let shown = format!(in alloc; "{error}").expect(rt, "no fault");
@@ -26,26 +33,29 @@ fn print<E: Display>(rt: &impl Abort, alloc: Global, errors: &[(E, &'static str)
     }
 }
 
-const READS: &[(ReadFault, &str)] = &[
-    (ReadFault::Read, "the input can't be read"),
-    (
-        ReadFault::Truncated { offset: 8 },
-        "the instruction at byte 8 is cut",
-    ),
-    (ReadFault::TooLong, "the input has more than 32768 bytes"),
-    (ReadFault::Memory, "out of memory"),
+const READS: &[(ReadFault, &str)] = messages![
+    ReadFault::Read => "the input can't be read",
+    ReadFault::Truncated { offset: 8 } => "the instruction at byte 8 is cut",
+    ReadFault::TooLong => "the input has more than 32768 bytes",
+    ReadFault::Memory => "out of memory",
 ];
 
-const INPUTS: &[(InputFault, &str)] = &[
-    (InputFault::Read, "the input can't be read"),
-    (InputFault::TooLong, "the input is too long"),
-    (InputFault::Memory, "out of memory"),
+const INPUTS: &[(InputFault, &str)] = messages![
+    InputFault::Read => "the input can't be read",
+    InputFault::TooLong => "the input is too long",
+    InputFault::Memory => "out of memory",
+];
+
+const NUMBERS: &[(NumeralFault, &str)] = messages![
+    NumeralFault::Malformed => "not a number",
+    NumeralFault::TooLarge => "a number past 2^64-1",
 ];
 
 #[test]
-fn of_streams(rt: HostRuntime) {
+fn of_streams_and_numbers(rt: HostRuntime) {
     print(&rt, rt.alloc(), READS);
     print(&rt, rt.alloc(), INPUTS);
+    print(&rt, rt.alloc(), NUMBERS);
     print_one(
         &rt,
         rt.alloc(),
@@ -56,191 +66,83 @@ fn of_streams(rt: HostRuntime) {
     print_one(&rt, rt.alloc(), &Memory, "out of memory");
 }
 
-const NUMBERS: &[(NumeralFault, &str)] = &[
-    (NumeralFault::Malformed, "not a number"),
-    (NumeralFault::TooLarge, "a number past 2^64-1"),
+const CHECKS: &[(CheckFault, &str)] = messages![
+    CheckFault::Empty => "the filter is empty",
+    CheckFault::TooLong => "the filter has more than 4096 instructions",
+    CheckFault::Code { at: 3 } => "unknown code at 3",
+    CheckFault::Load { at: 0 } => "a load outside the record at 0",
+    CheckFault::Scratch { at: 0 } => "no such scratch word at 0",
+    CheckFault::Divisor { at: 0 } => "a division by zero at 0",
+    CheckFault::Shift { at: 0 } => "a shift by more than 31 at 0",
+    CheckFault::Jump { at: 0 } => "a jump out of the filter at 0",
+    CheckFault::LastNotReturn => "the last instruction isn't a return",
+    CheckFault::Unset { at: 5, word: 15 } => "scratch word 15 may be unset at 5",
+    CheckFault::Memory => "out of memory",
+];
+
+const PUSHES: &[(PushFault, &str)] = messages![
+    PushFault::TooMany { total: 32769 } => "the stack would count 32769 instructions",
+    PushFault::Memory => "out of memory",
+];
+
+const TEXTS: &[(TextFault, &str)] = messages![
+    TextFault::NotAscii { line: 2 } => "line 2: a byte that is not ASCII",
+    TextFault::Mnemonic { line: 3 } => "line 3: not a mnemonic",
+    TextFault::Operand { line: 4 } => "line 4: not the operands of this mnemonic",
+    TextFault::NumberRange { line: 5 } => "line 5: a number that does not fit its field",
+    TextFault::Label { line: 6 } => "line 6: a label given twice, or not at all",
+    TextFault::JumpTooFar { line: 7 } => "line 7: a label that this jump does not reach",
+    TextFault::TooLong { line: 4097 } => "line 4097: more than 4096 instructions",
+    TextFault::Memory => "out of memory",
 ];
 
 #[test]
-fn of_numbers(rt: HostRuntime) {
-    print(&rt, rt.alloc(), NUMBERS);
-}
-
-const CHECKS: &[(CheckFault, &str)] = &[
-    (CheckFault::Empty, "the filter is empty"),
-    (
-        CheckFault::TooLong,
-        "the filter has more than 4096 instructions",
-    ),
-    (CheckFault::Code { at: 3 }, "unknown code at 3"),
-    (CheckFault::Load { at: 0 }, "a load outside the record at 0"),
-    (CheckFault::Scratch { at: 0 }, "no such scratch word at 0"),
-    (CheckFault::Divisor { at: 0 }, "a division by zero at 0"),
-    (CheckFault::Shift { at: 0 }, "a shift by more than 31 at 0"),
-    (CheckFault::Jump { at: 0 }, "a jump out of the filter at 0"),
-    (
-        CheckFault::LastNotReturn,
-        "the last instruction isn't a return",
-    ),
-    (
-        CheckFault::Unset { at: 5, word: 15 },
-        "scratch word 15 may be unset at 5",
-    ),
-    (CheckFault::Memory, "out of memory"),
-];
-
-const PUSHES: &[(PushFault, &str)] = &[
-    (
-        PushFault::TooMany { total: 32769 },
-        "the stack would count 32769 instructions",
-    ),
-    (PushFault::Memory, "out of memory"),
-];
-
-#[test]
-fn of_programs_and_stacks(rt: HostRuntime) {
+fn of_filters_and_texts(rt: HostRuntime) {
     print(&rt, rt.alloc(), CHECKS);
     print(&rt, rt.alloc(), PUSHES);
-}
-
-const TEXTS: &[(TextFault, &str)] = &[
-    (
-        TextFault::NotAscii { line: 2 },
-        "line 2: a byte that is not ASCII",
-    ),
-    (TextFault::Mnemonic { line: 3 }, "line 3: not a mnemonic"),
-    (
-        TextFault::Operand { line: 4 },
-        "line 4: not the operands of this mnemonic",
-    ),
-    (
-        TextFault::NumberRange { line: 5 },
-        "line 5: a number that does not fit its field",
-    ),
-    (
-        TextFault::Label { line: 6 },
-        "line 6: a label given twice, or not at all",
-    ),
-    (
-        TextFault::JumpTooFar { line: 7 },
-        "line 7: a label that this jump does not reach",
-    ),
-    (
-        TextFault::TooLong { line: 4097 },
-        "line 4097: more than 4096 instructions",
-    ),
-    (TextFault::Memory, "out of memory"),
-];
-
-#[test]
-fn of_texts(rt: HostRuntime) {
     print(&rt, rt.alloc(), TEXTS);
 }
 
-const TABLES: &[(TableFault, &str)] = &[
-    (
-        TableFault::Form { line: 1 },
-        "line 1: not a name and a number",
-    ),
-    (TableFault::Name { line: 2 }, "line 2: no name of a call"),
-    (
-        TableFault::Number { line: 3 },
-        "line 3: no number of a call",
-    ),
-    (
-        TableFault::Repeated { line: 4 },
-        "line 4: the name stands on an earlier line",
-    ),
-    (TableFault::Memory, "out of memory"),
+const TABLES: &[(TableFault, &str)] = messages![
+    TableFault::Form { line: 1 } => "line 1: not a name and a number",
+    TableFault::Name { line: 2 } => "line 2: no name of a call",
+    TableFault::Number { line: 3 } => "line 3: no number of a call",
+    TableFault::Repeated { line: 4 } => "line 4: the name stands on an earlier line",
+    TableFault::Memory => "out of memory",
 ];
 
-const PROFILES: &[(LoadFault, &str)] = &[
-    (LoadFault::Json, "no JSON, or nested more than 127 deep"),
-    (
-        LoadFault::Missing { entry: Some(0) },
-        "entry 0: a member is missing",
-    ),
-    (
-        LoadFault::Kind { entry: Some(0) },
-        "entry 0: a value of the wrong kind",
-    ),
-    (LoadFault::Kind { entry: None }, "a value of the wrong kind"),
-    (
-        LoadFault::Missing {
-            entry: Some(u32::MAX),
-        },
-        "entry 4294967295: a member is missing",
-    ),
-    (
-        LoadFault::Action { entry: Some(0) },
-        "entry 0: no name of an action",
-    ),
-    (
-        LoadFault::Operator { entry: Some(0) },
-        "entry 0: no name of an operator",
-    ),
-    (
-        LoadFault::EmptyNames { entry: Some(0) },
-        "entry 0: no names",
-    ),
-    (
-        LoadFault::Index { entry: Some(0) },
-        "entry 0: no index of an argument: they are 0 to 5",
-    ),
-    (
-        LoadFault::RepeatedIndex { entry: Some(0) },
-        "entry 0: two conditions on one argument",
-    ),
-    (
-        LoadFault::Errno { entry: Some(0) },
-        "entry 0: an errno beside an action that takes none",
-    ),
-    (
-        LoadFault::ErrnoRange { entry: Some(0) },
-        "entry 0: an errno outside 0 to 65535",
-    ),
-    (
-        LoadFault::NoX8664 { entry: None },
-        "x86-64 is not among the architectures",
-    ),
-    (
-        LoadFault::NotListed { table: 1 },
-        "the architecture of table 1 is not among the architectures",
-    ),
-    (
-        LoadFault::EngineForm { entry: Some(0) },
-        "entry 0: a form of container engines",
-    ),
-    (
-        LoadFault::TooMany,
-        "more than 4194304 bytes, or more than 4096 rules",
-    ),
-    (
-        LoadFault::Conflict {
-            number: 3,
-            first: 0,
-            second: 2,
-        },
-        "entries 0 and 2 conflict on call 3",
-    ),
-    (LoadFault::Memory, "out of memory"),
+/// An error in the first entry.
+const ENTRY: Option<u32> = Some(0);
+
+const PROFILES: &[(LoadFault, &str)] = messages![
+    LoadFault::Json => "no JSON, or nested more than 127 deep",
+    LoadFault::Missing { entry: ENTRY } => "entry 0: a member is missing",
+    LoadFault::Missing { entry: Some(u32::MAX) } => "entry 4294967295: a member is missing",
+    LoadFault::Kind { entry: ENTRY } => "entry 0: a value of the wrong kind",
+    LoadFault::Kind { entry: None } => "a value of the wrong kind",
+    LoadFault::Action { entry: ENTRY } => "entry 0: no name of an action",
+    LoadFault::Operator { entry: ENTRY } => "entry 0: no name of an operator",
+    LoadFault::EmptyNames { entry: ENTRY } => "entry 0: no names",
+    LoadFault::Index { entry: ENTRY } => "entry 0: no index of an argument: they are 0 to 5",
+    LoadFault::RepeatedIndex { entry: ENTRY } => "entry 0: two conditions on one argument",
+    LoadFault::Errno { entry: ENTRY } => "entry 0: an errno beside an action that takes none",
+    LoadFault::ErrnoRange { entry: ENTRY } => "entry 0: an errno outside 0 to 65535",
+    LoadFault::NoX8664 { entry: None } => "x86-64 is not among the architectures",
+    LoadFault::NotListed { table: 1 } => "the architecture of table 1 is not among the architectures",
+    LoadFault::EngineForm { entry: ENTRY } => "entry 0: a form of container engines",
+    LoadFault::TooMany => "more than 4194304 bytes, or more than 4096 rules",
+    LoadFault::Conflict { number: 3, first: 0, second: 2 } => "entries 0 and 2 conflict on call 3",
+    LoadFault::Memory => "out of memory",
+];
+
+const COMPILATIONS: &[(CompileFault, &str)] = messages![
+    CompileFault::TooLarge => "the filter would have more than 4096 instructions",
+    CompileFault::Memory => "out of memory",
 ];
 
 #[test]
 fn of_tables_and_profiles(rt: HostRuntime) {
     print(&rt, rt.alloc(), TABLES);
     print(&rt, rt.alloc(), PROFILES);
-}
-
-const COMPILATIONS: &[(CompileFault, &str)] = &[
-    (
-        CompileFault::TooLarge,
-        "the filter would have more than 4096 instructions",
-    ),
-    (CompileFault::Memory, "out of memory"),
-];
-
-#[test]
-fn of_compilations(rt: HostRuntime) {
     print(&rt, rt.alloc(), COMPILATIONS);
 }
