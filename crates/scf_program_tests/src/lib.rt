@@ -8,17 +8,7 @@
 #[cfg(test)]
 mod answers;
 #[cfg(test)]
-mod architectures;
-#[cfg(test)]
-mod beside;
-#[cfg(test)]
-mod bundles;
-#[cfg(test)]
 mod call_verification;
-#[cfg(test)]
-mod changed_bytes;
-#[cfg(test)]
-mod command_line;
 #[cfg(test)]
 mod faults;
 #[cfg(test)]
@@ -28,12 +18,6 @@ mod messages;
 #[cfg(test)]
 mod parts;
 #[cfg(test)]
-mod reporting;
-#[cfg(test)]
 mod runs;
 #[cfg(test)]
-mod sizes;
-#[cfg(test)]
 mod verification;
-#[cfg(test)]
-mod writes;
