@@ -1,11 +1,9 @@
-//! Readers and writers that fail.
+//! The program's readers and writers: each read and each write of a command failing in turn.
 
 use crate::fixtures::{ALLOW_ALL, ARCH_GATE};
 use crate::parts::{ALL, ALLOW, NO_TABLE, Part, WITHOUT_WRITE, bundle, filter_of};
-use crate::runs::{
-    Ended, asked_once_more, ends, prints, run, run_from, run_from_std, run_into, run_into_std,
-};
-use scf_insn::faults::{Failing, Reader};
+use crate::runs::{Ended, ample, run_on, run_on_std};
+use scf_insn::faults::{Failing, Reader, Writer};
 use std::alloc::Global;
 use std::process::Abort;
 
@@ -26,8 +24,9 @@ fn bytes_of(rt: &impl Abort, alloc: Global, input: Input) -> Vec<u8> {
     }
 }
 
-/// Answers ALLOW after three steps on x86-64, and else KILL_PROCESS.
 const GATE: Input = Input::Filter(ARCH_GATE);
+
+const TEXT: Input = Input::Text("ja on; on: ret a");
 
 /// Two filters, of which the first answers KILL_THREAD and the second ALLOW.
 const STACK: Input = Input::Bundle(&[Part::Filter("ret #0"), ALLOW]);
@@ -47,237 +46,138 @@ const CALLS: Input = Input::Bundle(&[
     Part::Table("b 1\na 1\nd 0"),
 ]);
 
-/// A stack beside one that answers a call otherwise.
+/// A stack beside one that answers a call otherwise, and that call with two names.
 const STACKS: Input = Input::Bundle(&[WITHOUT_WRITE, Part::Beside(ALLOW_ALL)]);
 
-/// The same, and that call with two names.
 const NAMED_STACKS: Input = Input::Bundle(&[
     WITHOUT_WRITE,
     Part::Beside(ALLOW_ALL),
     Part::Table("b 1\na 1\nd 0"),
 ]);
 
-const TEXT: Input = Input::Text("ja on; on: ret a");
-
-/// Words, what they read, and what is printed.
+/// Words, what they read, and what is printed where a read fails.
 type Asked = (&'static [&'static str], Input, &'static [u8]);
 
-/// A command of each kind that reads, an input that it doesn't refuse, and what it prints where the input fails.
-const READS: &[Asked] = &[
-    (&["scf", "run"], GATE, b"fault filter Read\n"),
-    (&["scf", "check"], GATE, b"fault filter Read\n"),
-    (&["scf", "dis"], GATE, b"fault filter Read\n"),
-    (&["scf", "asm"], TEXT, b"fault input Read\n"),
-    (&["scf", "decide"], STACK, b"fault input Read\n"),
-    (&["scf", "decide", "--path"], STACK, b"fault input Read\n"),
-    (&["scf", "compile"], PROFILE, b"fault input Read\n"),
-    (&["scf", "compare"], PAIR, b"fault input Read\n"),
-    (&["scf", "compare", "--calls"], CALLS, b"fault input Read\n"),
-    (
-        &["scf", "compare", "--beside"],
-        STACKS,
-        b"fault input Read\n",
-    ),
+const OF_FILTER: &[u8] = b"fault filter Read\n";
+
+const OF_INPUT: &[u8] = b"fault input Read\n";
+
+/// A command of each kind that reads, and an input that it doesn't refuse.
+const COMMANDS: &[Asked] = &[
+    (&["scf", "run", "--path"], GATE, OF_FILTER),
+    (&["scf", "check"], GATE, OF_FILTER),
+    (&["scf", "dis"], GATE, OF_FILTER),
+    (&["scf", "asm"], TEXT, OF_INPUT),
+    (&["scf", "decide"], STACK, OF_INPUT),
+    (&["scf", "decide", "--at", "--path"], STACK, OF_INPUT),
+    (&["scf", "compile"], PROFILE, OF_INPUT),
+    (&["scf", "ask"], PROFILE, OF_INPUT),
+    (&["scf", "answers", "--examples"], STACK, OF_INPUT),
+    (&["scf", "compare"], PAIR, OF_INPUT),
+    (&["scf", "compare", "--calls"], CALLS, OF_INPUT),
+    (&["scf", "compare", "--beside"], STACKS, OF_INPUT),
     (
         &["scf", "compare", "--beside", "--calls"],
         NAMED_STACKS,
-        b"fault input Read\n",
+        OF_INPUT,
     ),
 ];
 
-fn reads() -> &'static [Asked] {
-    READS
+fn commands() -> &'static [Asked] {
+    COMMANDS
 }
 
-/// Commands, inputs and what is printed of them.
-const ANSWERS: &[Asked] = &[
-    (&["scf", "run"], GATE, b"ALLOW 0 steps 3\n"),
-    (&["scf", "check"], GATE, b"accepted 4\n"),
-    (
-        &["scf", "asm"],
-        TEXT,
-        b"\x05\0\0\0\0\0\0\0\x16\0\0\0\0\0\0\0",
-    ),
-    (&["scf", "dis"], Input::Filter("ret a"), b"ret a\n"),
-    (&["scf", "decide"], STACK, b"KILL_THREAD 0\n"),
-    (&["scf", "decide", "--at"], STACK, b"KILL_THREAD 0 at 0:0\n"),
-    (
-        &["scf", "decide", "--path"],
-        STACK,
-        b"KILL_THREAD 0 at 0:0\nKILL_THREAD 0 steps 1\npath 0\nALLOW 0 steps 1\npath 0\n",
-    ),
-    (&["scf", "ask"], PROFILE, b"ALLOW 0 default\n"),
-];
+/// What is wanted of a run: its text, its status, and how many reads and writes failed.
+type Wanted<'a> = (&'a [u8], u8, u64);
 
-fn answered() -> &'static [Asked] {
-    ANSWERS
+/// That a run ended as is wanted, and as many reads or writes were asked for as bytes came through, and one more.
+fn ends(
+    rt: &impl Abort,
+    words: &[&str],
+    share: usize,
+    ended: &Ended,
+    asks: u64,
+    wanted: Wanted<'_>,
+) {
+    let (text, status, failures) = wanted;
+    let is_so = ended.is(text, status, failures) && asks.checked_sub(1) == Some(share as u64);
+    assert!(rt; is_so, "{words:?}, {share}: {ended:?}");
 }
 
-/// Runs a command whose reader gives byte by byte, and fails once so many bytes were read.
-fn run_failing(alloc: Global, words: &[&str], input: &[u8], share: usize) -> Ended {
-    run_from(alloc, words, Reader::new(input, 1, Failing::After(share)))
+/// A reader that gives all at once.
+fn whole<'a>(input: &'a [u8]) -> Reader<'a> {
+    Reader::new(input, usize::MAX, Failing::Never)
 }
 
-/// A reader that fails after each count of bytes.
+/// A read that fails behind so many bytes, for ever, once, and by an interruption of std's: it isn't tried again.
+fn fail_read(
+    rt: &impl Abort,
+    alloc: Global,
+    words: &[&str],
+    input: &[u8],
+    share: usize,
+    fault: &[u8],
+) {
+    for failing in &[Failing::After(share), Failing::OnceAfter(share)] {
+        let ended = run_on(alloc, words, Reader::new(input, 1, *failing), ample(alloc));
+        ends(rt, words, share, &ended, ended.reads(), (fault, 3, 1));
+    }
+    let interrupted = Reader::new(input, 1, Failing::OnceAfter(share));
+    let ended = run_on_std(alloc, words, interrupted, ample(alloc));
+    ends(rt, words, share, &ended, ended.reads(), (fault, 3, 1));
+}
+
+/// A write that fails behind so many bytes: what went out is a beginning of the text.
+fn fail_write(
+    rt: &impl Abort,
+    alloc: Global,
+    words: &[&str],
+    input: &[u8],
+    share: usize,
+    text: &[u8],
+) {
+    for failing in &[Failing::After(share), Failing::OnceAfter(share)] {
+        let out = Writer::new(alloc, 1, *failing);
+        let ended = run_on(alloc, words, whole(input), out);
+        ends(rt, words, share, &ended, ended.writes(), (text, 3, 1));
+    }
+    let unwilling = Writer::new(alloc, 1, Failing::OnceAfter(share));
+    let ended = run_on_std(alloc, words, whole(input), unwilling);
+    ends(rt, words, share, &ended, ended.writes(), (text, 3, 1));
+}
+
+/// A run whose reader fails behind its end alone: it isn't asked again once it has ended.
+fn well(rt: &impl Abort, alloc: Global, words: &[&str], input: &[u8]) -> Ended {
+    let source = Reader::new(input, 1, Failing::After(input.len().saturating_add(1)));
+    let ended = run_on(alloc, words, source, ample(alloc));
+    let wanted = (ended.text(), ended.status, 0);
+    ends(rt, words, input.len(), &ended, ended.reads(), wanted);
+    ended
+}
+
 fn fail_each_read(rt: &impl Abort, alloc: Global, words: &[&str], input: &[u8], fault: &[u8]) {
     for share in 0..=input.len() {
-        let ended = run_failing(alloc, words, input, share);
-        ends(rt, words, share, &ended, (fault, 3, 1));
+        fail_read(rt, alloc, words, input, share, fault);
     }
 }
 
-/// A reader that fails only past the end.
-fn fail_past_end(rt: &impl Abort, alloc: Global, words: &[&str], input: &[u8]) {
-    let well = run(alloc, words, input, 1);
-    let share = input.len().saturating_add(1);
-    let ended = run_failing(alloc, words, input, share);
-    ends(rt, words, share, &ended, (well.text(), well.status, 0));
-}
-
-/// A reader of std that is interrupted after each count of bytes: that is a failure, and isn't tried again.
-fn interrupt_each_read(rt: &impl Abort, alloc: Global, words: &[&str], input: &[u8], fault: &[u8]) {
-    for share in 0..=input.len() {
-        let ended = run_from_std(alloc, words, input, Failing::OnceAfter(share));
-        ends(rt, words, share, &ended, (fault, 3, 1));
-        asked_once_more(rt, words, share, ended.reads());
-    }
-}
-
-/// What went out to a writer that failed is this beginning of the text.
-fn fail_behind(
-    rt: &impl Abort,
-    alloc: Global,
-    words: &[&str],
-    input: &[u8],
-    beginning: &[u8],
-    failing: Failing,
-) {
-    let ended = run_into(alloc, words, input, failing);
-    ends(rt, words, beginning.len(), &ended, (beginning, 3, 1));
-}
-
-/// A writer that fails at each write in turn.
 fn fail_each_write(rt: &impl Abort, alloc: Global, words: &[&str], input: &[u8], text: &[u8]) {
     for share in 0..text.len() {
-        let failing = Failing::After(share);
-        fail_behind(rt, alloc, words, input, &text[..share], failing);
+        fail_write(rt, alloc, words, input, share, &text[..share]);
     }
 }
 
-/// A writer that fails at each write in turn, and only then.
-fn fail_each_write_once(rt: &impl Abort, alloc: Global, words: &[&str], input: &[u8], text: &[u8]) {
-    for share in 0..text.len() {
-        let failing = Failing::OnceAfter(share);
-        fail_behind(rt, alloc, words, input, &text[..share], failing);
+fn fail_each(rt: &impl Abort, alloc: Global, asked: &Asked) {
+    let (words, input, fault) = *asked;
+    let input = bytes_of(rt, alloc, input);
+    let well = well(rt, alloc, words, &input);
+    fail_each_read(rt, alloc, words, &input, fault);
+    fail_each_write(rt, alloc, words, &input, well.text());
+}
+
+#[test]
+fn reads_and_writes_that_fail(rt: HostRuntime) {
+    for asked in commands() {
+        fail_each(&rt, rt.alloc(), asked);
     }
-}
-
-/// A writer that fails only past the end.
-fn fail_past_text(rt: &impl Abort, alloc: Global, words: &[&str], input: &[u8], well: &Ended) {
-    let share = well.text().len();
-    let ended = run_into(alloc, words, input, Failing::After(share));
-    ends(rt, words, share, &ended, (well.text(), well.status, 0));
-}
-
-/// A writer of std that takes no byte at each write in turn: that is a failure, and isn't tried again.
-fn take_nothing_once(rt: &impl Abort, alloc: Global, words: &[&str], input: &[u8], text: &[u8]) {
-    for share in 0..text.len() {
-        let ended = run_into_std(alloc, words, input, Failing::OnceAfter(share));
-        ends(rt, words, share, &ended, (&text[..share], 3, 1));
-        asked_once_more(rt, words, share, ended.writes());
-    }
-}
-
-fn fail_writers(rt: &impl Abort, alloc: Global, words: &[&str], input: &[u8]) {
-    let well = run(alloc, words, input, 1);
-    fail_each_write(rt, alloc, words, input, well.text());
-    fail_past_text(rt, alloc, words, input, &well);
-    take_nothing_once(rt, alloc, words, input, well.text());
-}
-
-/// What is tried of a command.
-#[derive(Clone, Copy)]
-enum Trial {
-    FailingReaders,
-    InterruptedReaders,
-    EndedReaders,
-    FailingWriters,
-    /// That it is answered.
-    Answers,
-    WritersThatFailOnce,
-}
-
-fn take(
-    rt: &impl Abort,
-    alloc: Global,
-    trial: Trial,
-    words: &[&str],
-    input: &[u8],
-    printed: &[u8],
-) {
-    match trial {
-        Trial::FailingReaders => {
-            fail_each_read(rt, alloc, words, input, printed);
-            fail_past_end(rt, alloc, words, input);
-        }
-        Trial::InterruptedReaders => interrupt_each_read(rt, alloc, words, input, printed),
-        Trial::EndedReaders => {
-            let ended = run(alloc, words, input, 1);
-            asked_once_more(rt, words, input.len(), ended.reads());
-        }
-        Trial::FailingWriters => fail_writers(rt, alloc, words, input),
-        Trial::Answers => {
-            prints(rt, alloc, words, input, 1, printed);
-            prints(rt, alloc, words, input, usize::MAX, printed);
-        }
-        Trial::WritersThatFailOnce => fail_each_write_once(rt, alloc, words, input, printed),
-    }
-}
-
-fn take_each(rt: &impl Abort, alloc: Global, trial: Trial, asked: &[Asked]) {
-    for (words, input, printed) in asked {
-        let input = bytes_of(rt, alloc, *input);
-        take(rt, alloc, trial, words, &input, printed);
-    }
-}
-
-#[test]
-fn failing_readers(rt: HostRuntime) {
-    take_each(&rt, rt.alloc(), Trial::FailingReaders, reads());
-}
-
-#[test]
-fn interrupted_readers(rt: HostRuntime) {
-    take_each(&rt, rt.alloc(), Trial::InterruptedReaders, reads());
-}
-
-/// A reader isn't asked again once it has ended.
-#[test]
-fn ended_readers(rt: HostRuntime) {
-    take_each(&rt, rt.alloc(), Trial::EndedReaders, reads());
-}
-
-/// What went out is a beginning of the text.
-#[test]
-fn failing_writers(rt: HostRuntime) {
-    take_each(&rt, rt.alloc(), Trial::FailingWriters, reads());
-}
-
-/// So it is where nothing is read.
-#[test]
-fn failing_writers_of_words(rt: HostRuntime) {
-    fail_writers(&rt, rt.alloc(), &["scf", "--help"], b"");
-    fail_writers(&rt, rt.alloc(), &["scf"], b"");
-}
-
-/// Each is answered, with status 0, whether the input comes byte by byte or at once.
-#[test]
-fn answers(rt: HostRuntime) {
-    take_each(&rt, rt.alloc(), Trial::Answers, answered());
-}
-
-/// A writer isn't asked again once it has failed.
-#[test]
-fn writers_that_fail_once(rt: HostRuntime) {
-    take_each(&rt, rt.alloc(), Trial::WritersThatFailOnce, answered());
 }

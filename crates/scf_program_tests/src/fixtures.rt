@@ -1,4 +1,4 @@
-//! What several tests need: filters, profiles and tables as texts, and numbers of the kernel's headers.
+//! What several tests need: filters, profiles and tables as texts.
 
 /// Allows each call.
 pub(crate) const ALLOW_ALL: &str = "ret #0x7fff0000";
@@ -18,18 +18,3 @@ pub(crate) const DEFAULT_ALLOW: &str = r#"{"defaultAction":"SCMP_ACT_ALLOW"}"#;
 /// The profile that allows `read`.
 pub(crate) const ONE_CALL: &str =
     r#"{"defaultAction":"SCMP_ACT_ERRNO","syscalls":[{"names":["read"],"action":"SCMP_ACT_ALLOW"}]}"#;
-
-/// Answers (Linux uapi seccomp.h): an action, and its data in the low half.
-pub(crate) const ALLOW: u32 = 0x7fff_0000;
-
-pub(crate) const ERRNO: u32 = 0x0005_0000;
-
-pub(crate) const ERRNO_1: u32 = 0x0005_0001;
-
-/// The architecture x86-64 (Linux uapi audit.h).
-pub(crate) const X86_64: u32 = 0xc000_003e;
-
-/// Whether texts are these, in this order.
-pub(crate) fn are(texts: &[String], expected: &[&str]) -> bool {
-    texts.len() == expected.len() && texts.iter().zip(expected).all(|(a, b)| a.as_str() == *b)
-}

@@ -2,6 +2,7 @@
 
 use crate::fixtures;
 use scf_text::assemble;
+use scf_tool::encoding_of;
 use std::alloc::Global;
 use std::process::Abort;
 
@@ -33,41 +34,14 @@ pub(crate) const ALLOW: Part = Part::Filter(fixtures::ALLOW_ALL);
 /// Allows every call but number 1.
 pub(crate) const WITHOUT_WRITE: Part = Part::Filter(fixtures::WITHOUT_WRITE);
 
-/// The text so many times. It has no contract, so that no proof writes a text of millions out.
-pub(crate) fn repeated(rt: &impl Abort, alloc: Global, text: &str, count: usize) -> String {
-    text.repeat(alloc, count).expect(rt, "no fault")
-}
-
 /// The bytes of the filter that a text spells.
 pub(crate) fn filter_of(rt: &impl Abort, alloc: Global, text: &str) -> Vec<u8> {
-    let mut bytes = Vec::new(alloc);
-    add_filter(rt, alloc, &mut bytes, text);
-    bytes
-}
-
-/// Adds the bytes of the filter that a text spells.
-fn add_filter(rt: &impl Abort, alloc: Global, bytes: &mut Vec<u8>, text: &str) {
     let insns = assemble(alloc, text.as_bytes()).expect(rt, "no fault");
-    for insn in &insns {
-        bytes
-            .extend_from_slice(&insn.to_bytes())
-            .expect(rt, "no fault");
-    }
-}
-
-/// `ld #0` so many times, and then an instruction that answers ALLOW.
-pub(crate) fn long_filter(rt: &impl Abort, alloc: Global, loads: usize) -> Vec<u8> {
-    let load = filter_of(rt, alloc, "ld #0");
-    let mut filter = Vec::new(alloc);
-    for _ in 0..loads {
-        filter.extend_from_slice(&load).expect(rt, "no fault");
-    }
-    add_filter(rt, alloc, &mut filter, fixtures::ALLOW_ALL);
-    filter
+    encoding_of(alloc, &insns).expect(rt, "no fault")
 }
 
 /// Adds a part: its header and its bytes.
-pub(crate) fn add(rt: &impl Abort, alloc: Global, bundle: &mut Vec<u8>, word: &str, bytes: &[u8]) {
+fn add(rt: &impl Abort, alloc: Global, bundle: &mut Vec<u8>, word: &str, bytes: &[u8]) {
     let header = format!(in alloc; "{word} {}\n", bytes.len()).expect(rt, "no fault");
     bundle
         .extend_from_slice(header.as_bytes())
@@ -94,20 +68,5 @@ pub(crate) fn bundle(rt: &impl Abort, alloc: Global, parts: &[Part]) -> Vec<u8> 
     for part in parts {
         add_part(rt, alloc, &mut bundle, *part);
     }
-    bundle
-}
-
-/// The bundle of a filter, a profile and a table.
-pub(crate) fn bundle_of(
-    rt: &impl Abort,
-    alloc: Global,
-    filter: &[u8],
-    profile: &[u8],
-    table: &[u8],
-) -> Vec<u8> {
-    let mut bundle = Vec::new(alloc);
-    add(rt, alloc, &mut bundle, "filter", filter);
-    add(rt, alloc, &mut bundle, "profile", profile);
-    add(rt, alloc, &mut bundle, "table", table);
     bundle
 }

@@ -1,145 +1,123 @@
-//! The comparison of a filter with a profile, from their bytes.
+//! The comparisons of filters with a profile from readers, which other crates than the program's call: each read failing
+//! in turn.
 
-use crate::fixtures::{ALLOW_ALL, DEFAULT_ALLOW, READ_TABLE};
+use crate::fixtures::{DEFAULT_ALLOW, READ_TABLE};
 use crate::parts::filter_of;
+use scf_compare::Scope;
 use scf_insn::faults::{Failing, Reader};
 use scf_insn::{InputFault, ReadFault};
-use scf_machine::CheckFault;
-use scf_profile::{LoadFault, TableFault};
-use scf_tool::{VerifyFault, verify};
+use scf_tool::{VerifyFault, verify, verify_stack};
 use std::alloc::Global;
 use std::process::Abort;
 
-/// That of some readers which stands at an index fails after so many bytes.
-pub(crate) fn failing_at<const READERS: usize>(index: usize, share: usize) -> [Failing; READERS] {
-    let mut failing = [Failing::Never; READERS];
-    if let Some(at_index) = failing.get_mut(index) {
-        *at_index = Failing::After(share);
-    }
-    failing
+/// The bytes of an older and a newer filter, of a table and of a profile.
+type Given<'a> = [&'a [u8]; 4];
+
+/// What a comparison came to, where it failed, and how often each reader was asked.
+type Outcome = (Option<VerifyFault>, [u64; 4]);
+
+/// The readers of these bytes, of which one fails behind so many.
+fn readers_of<'a>(given: &Given<'a>, failing: usize, share: usize) -> [Reader<'a>; 4] {
+    let at = |index: usize| if index == failing {
+        Failing::After(share)
+    } else {
+        Failing::Never
+    };
+    let [older, newer, table, profile] = given;
+    [
+        Reader::new(*older, 1, at(0)),
+        Reader::new(*newer, 1, at(1)),
+        Reader::new(*table, 1, at(2)),
+        Reader::new(*profile, 1, at(3)),
+    ]
 }
 
-/// The bytes of a filter, of a table and of a profile.
-fn given<'a>(filter: &'a [u8], table: &'a str, profile: &'a str) -> [&'a [u8]; 3] {
-    [filter, table.as_bytes(), profile.as_bytes()]
+/// The comparison of the newer filter alone.
+fn of_filter(alloc: Global, given: &Given<'_>, failing: usize, share: usize) -> Outcome {
+    let [older, mut newer, mut table, mut profile] = readers_of(given, failing, share);
+    let fault = verify(alloc, &mut newer, &mut profile, &mut table, 1_000).err();
+    (
+        fault,
+        [older.asks(), newer.asks(), table.asks(), profile.asks()],
+    )
 }
 
-/// The fault of a filter, a table and a profile, whose readers fail there.
-fn fault_of(alloc: Global, given: &[&[u8]; 3], failing: &[Failing; 3]) -> Option<VerifyFault> {
-    let [filter, table, profile] = given;
-    let [of_filter, of_table, of_profile] = failing;
-    let mut filter = Reader::new(*filter, 1, *of_filter);
-    let mut table = Reader::new(*table, 1, *of_table);
-    let mut profile = Reader::new(*profile, 1, *of_profile);
-    verify(alloc, &mut filter, &mut profile, &mut table, 1_000).err()
+/// The comparison of both filters.
+fn of_stack(alloc: Global, given: &Given<'_>, failing: usize, share: usize) -> Outcome {
+    let [older, newer, mut table, mut profile] = readers_of(given, failing, share);
+    let mut filters = [older, newer];
+    let over = Scope::All;
+    let fault = verify_stack(alloc, &mut filters, &mut profile, &mut table, over, 1_000).err();
+    let [older, newer] = &filters;
+    (
+        fault,
+        [older.asks(), newer.asks(), table.asks(), profile.asks()],
+    )
 }
 
-/// That this is the fault where readers fail there.
-fn is_fault(
-    rt: &impl Abort,
-    alloc: Global,
-    given: &[&[u8]; 3],
-    failing: &[Failing; 3],
-    wanted: VerifyFault,
-) {
-    let is_so = fault_of(alloc, given, failing) == Some(wanted);
-    assert!(rt; is_so, "{wanted}");
-}
-
-/// How many bytes of the filter are given, a table and a profile, of which the first that is wrong, in this order, is
-/// named.
-struct Refused {
-    filter: usize,
-    table: &'static str,
-    profile: &'static str,
-    fault: VerifyFault,
-}
-
-const REFUSED: &[Refused] = &[
-    Refused {
-        filter: 7,
-        table: "read",
-        profile: "[",
-        fault: VerifyFault::FilterRead(ReadFault::Truncated { offset: 0 }),
-    },
-    Refused {
-        filter: 0,
-        table: "read",
-        profile: "[",
-        fault: VerifyFault::Check(CheckFault::Empty),
-    },
-    Refused {
-        filter: 8,
-        table: "read",
-        profile: "[",
-        fault: VerifyFault::Table(TableFault::Form { line: 1 }),
-    },
-    Refused {
-        filter: 8,
-        table: READ_TABLE,
-        profile: "[",
-        fault: VerifyFault::Profile(LoadFault::Json),
-    },
-    Refused {
-        filter: 8,
-        table: "",
-        profile: "{}",
-        fault: VerifyFault::Profile(LoadFault::Missing { entry: None }),
-    },
-];
-
-fn all_refused() -> &'static [Refused] {
-    REFUSED
-}
-
-fn is_refused(rt: &impl Abort, alloc: Global, filter: &[u8], refused: &Refused) {
-    let filter = filter.get(..refused.filter).expect(rt, "so many bytes");
-    let given = given(filter, refused.table, refused.profile);
-    is_fault(rt, alloc, &given, &[Failing::Never; 3], refused.fault);
-}
-
-#[test]
-fn faults_in_order(rt: HostRuntime) {
-    let filter = filter_of(&rt, rt.alloc(), ALLOW_ALL);
-    for refused in all_refused() {
-        is_refused(&rt, rt.alloc(), &filter, refused);
+/// How often the reader at an index is asked where one fails behind a share of its bytes: that isn't asked again then,
+/// those before it were read to their ends, and none behind it is asked.
+fn asks_at(given: &Given<'_>, index: usize, failing: usize, share: usize) -> u64 {
+    let bytes = match given.get(index) {
+        Some(bytes) if index < failing => bytes.len(),
+        _ => share,
+    };
+    if index > failing {
+        0
+    } else {
+        (bytes as u64).saturating_add(1)
     }
 }
 
-/// The faults of the readers of a filter, of a table and of a profile.
-const READ_FAULTS: &[VerifyFault; 3] = &[
-    VerifyFault::FilterRead(ReadFault::Read),
-    VerifyFault::TableRead(InputFault::Read),
-    VerifyFault::ProfileRead(InputFault::Read),
-];
-
-fn read_faults() -> &'static [VerifyFault; 3] {
-    READ_FAULTS
+/// The faults of the readers.
+fn fault_of(failing: usize) -> VerifyFault {
+    match failing {
+        0 | 1 => VerifyFault::FilterRead(ReadFault::Read),
+        2 => VerifyFault::TableRead(InputFault::Read),
+        _ => VerifyFault::ProfileRead(InputFault::Read),
+    }
 }
 
-/// The reader at an index fails after each count of its bytes.
-fn fail_each_read(
+/// That a comparison ends with the fault of the reader that fails, and asked each as often as is wanted, from the first
+/// one that it reads.
+fn ends(
     rt: &impl Abort,
-    alloc: Global,
-    given: &[&[u8]; 3],
-    index: usize,
-    wanted: VerifyFault,
+    given: &Given<'_>,
+    outcome: Outcome,
+    first: usize,
+    (failing, share): (usize, usize),
 ) {
-    let bytes = given.get(index).expect(rt, "a reader");
+    let (fault, asks) = outcome;
+    let mut is_so = fault == Some(fault_of(failing));
+    for index in first..4usize {
+        is_so &= asks[index] == asks_at(given, index, failing, share);
+    }
+    assert!(rt; is_so, "{failing} after {share}: {asks:?}");
+}
+
+/// Each comparison where the reader at an index fails behind each count of its bytes.
+fn fail_each_read(rt: &impl Abort, alloc: Global, given: &Given<'_>, failing: usize) {
+    let bytes = given.get(failing).expect(rt, "a reader");
     for share in 0..=bytes.len() {
-        is_fault(rt, alloc, given, &failing_at(index, share), wanted);
-    }
-}
-
-fn fail_each_reader(rt: &impl Abort, alloc: Global, given: &[&[u8]; 3]) {
-    for (index, wanted) in read_faults().iter().enumerate() {
-        fail_each_read(rt, alloc, given, index, *wanted);
+        let outcome = of_stack(alloc, given, failing, share);
+        ends(rt, given, outcome, 0, (failing, share));
+        if failing > 0 {
+            let outcome = of_filter(alloc, given, failing, share);
+            ends(rt, given, outcome, 1, (failing, share));
+        }
     }
 }
 
 #[test]
-fn failing_readers(rt: HostRuntime) {
-    let filter = filter_of(&rt, rt.alloc(), ALLOW_ALL);
-    let given = given(&filter, READ_TABLE, DEFAULT_ALLOW);
-    fail_each_reader(&rt, rt.alloc(), &given);
+fn reads_that_fail(rt: HostRuntime) {
+    let filter = filter_of(&rt, rt.alloc(), "ret a");
+    let given = [
+        filter.as_slice(),
+        &filter,
+        READ_TABLE.as_bytes(),
+        DEFAULT_ALLOW.as_bytes(),
+    ];
+    for failing in 0..4usize {
+        fail_each_read(&rt, rt.alloc(), &given, failing);
+    }
 }
