@@ -18,7 +18,7 @@ use Rattle.scf_tool.specs.declared.region_lines.RegionFormat.{RegionFormat}
 use Rattle.scf_tool.specs.declared.reply.Reply.{Reply}
 use Rattle.scf_tool.specs.declared.reply.Reply.TheVariants.{Compared}
 use Rattle.scf_tool.specs.declared.status.Status.{Status}
-use Rattle.scf_tool.specs.declared.status.Status.TheVariants.{Well, Open}
+use Rattle.scf_tool.specs.declared.status.Status.TheVariants.{Success, Unknown}
 
 -- These are the regions of two sides over a scope, within a limit of steps. Those of sides whose masks have few bits
 -- together, as of plain ones, are exact and have both answers.
@@ -61,8 +61,8 @@ ExploresEach over profiles limit (Some listed) =
 
 -- the exit status of what is listed
 abbrev pub listing_status : Option (List Regions) → Status
-listing_status None = Open
-listing_status (Some listed) = Well
+listing_status None = Unknown
+listing_status (Some listed) = Success
 
 -- the text of what is listed, and its status
 abbrev pub IsListing : RegionFormat → Option (List Regions) → Reply → Type 0

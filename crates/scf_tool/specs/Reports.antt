@@ -15,7 +15,7 @@ use Rattle.scf_tool.specs.declared.findings.Findings.{Findings}
 use Rattle.scf_tool.specs.declared.findings.Findings.TheVariants.{AtOnce, EachCall}
 use Rattle.scf_tool.specs.declared.left_out.LeftOut.{LeftOut}
 use Rattle.scf_tool.specs.declared.status.Status.{Status}
-use Rattle.scf_tool.specs.declared.status.Status.TheVariants.{Well, Differs, Open}
+use Rattle.scf_tool.specs.declared.status.Status.TheVariants.{Success, Differs, Unknown}
 use Rattle.scf_tool.specs.declared.verification.Outcome.{Outcome}
 use Rattle.scf_tool.specs.JointFindings.{worst_of_calls, is_holding}
 use Rattle.scf_tool.specs.Lines.{answer_text}
@@ -144,11 +144,11 @@ outcome_of outcome =
 
 -- the exit status that goes with a finding
 abbrev pub finding_status : Finding → Status
-finding_status (Holds steps) = Well
+finding_status (Holds steps) = Success
 finding_status (Fails call left right) = Differs
-finding_status finding = Open
+finding_status finding = Unknown
 
 -- that of findings: of calls by the worst one
 abbrev pub findings_status : Findings → Status
 findings_status (AtOnce finding) = finding_status finding
-findings_status (EachCall calls) = option_map_or finding_status (worst_of_calls calls.items) Well
+findings_status (EachCall calls) = option_map_or finding_status (worst_of_calls calls.items) Success

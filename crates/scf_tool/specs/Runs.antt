@@ -13,15 +13,15 @@ use Rattle.scf_tool.specs.declared.fault.Fault.TheVariants as faults
 use Rattle.scf_tool.specs.declared.reply.Reply.{Reply}
 use Rattle.scf_tool.specs.declared.reply.Reply.TheVariants as replies
 use Rattle.scf_tool.specs.declared.status.Status.{Status}
-use Rattle.scf_tool.specs.declared.status.Status.TheVariants.{Well, CommandLine}
+use Rattle.scf_tool.specs.declared.status.Status.TheVariants.{Success, CommandLine}
 use Rattle.scf_tool.specs.Commands.{IsTrueReply}
 use Rattle.scf_tool.specs.Replies.{printed}
 use Rattle.scf_tool.specs.Statuses.{LeavesInput, status_code}
 
 -- help and the version are well
 abbrev pub kind_status : ErrorKind → Status
-kind_status DisplayHelp = Well
-kind_status DisplayVersion = Well
+kind_status DisplayHelp = Success
+kind_status DisplayVersion = Success
 kind_status kind = CommandLine
 
 -- The words are refused, or ask for help, for one of the reasons that the command line's reader has; or they are taken,

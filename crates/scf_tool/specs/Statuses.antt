@@ -6,16 +6,16 @@ use Rattle.scf_tool.specs.declared.fault.Fault.TheVariants.{Input, Verify}
 use Rattle.scf_request.specs.declared.request.Request.{Request}
 use Rattle.scf_request.specs.declared.request.Request.TheVariants as requests
 use Rattle.scf_tool.specs.declared.status.Status.{Status}
-use Rattle.scf_tool.specs.declared.status.Status.TheVariants.{Well, Refused, Differs, CommandLine, Failed, Open}
+use Rattle.scf_tool.specs.declared.status.Status.TheVariants.{Success, Refused, Differs, CommandLine, Failed, Unknown}
 use Rattle.scf_tool.specs.Verifying.{HasEnded, HasFailedWhere, LeavesFilterReader}
 
 abbrev pub status_code : Status → ℕ
-status_code Well = 0
+status_code Success = 0
 status_code Refused = 1
 status_code Differs = 1
 status_code CommandLine = 2
 status_code Failed = 3
-status_code Open = 4
+status_code Unknown = 4
 
 -- How a command leaves standard input that is one filter: it came to its end, or the filter isn't read.
 abbrev pub LeavesFilter : {R T : Type 0} → (R → Option (List ℕ)) → (R → ℕ) → R → Result T Fault → R → Type 0

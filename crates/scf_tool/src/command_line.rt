@@ -34,7 +34,7 @@ pub(crate) fn explain(alloc: Global, error: &Error) -> Result<Reply, Fault>
     let status = if error.use_stderr() {
         Status::CommandLine
     } else {
-        Status::Well
+        Status::Success
     };
     match format!(in alloc; "{error}") {
         Ok(text) => Ok(Reply::CommandLine { text, status }),

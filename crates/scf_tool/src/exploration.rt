@@ -79,7 +79,7 @@ fn reply_of(alloc: Global, format: RegionFormat, listed: &[Regions]) -> Result<R
     let text = listing_of_regions(alloc, format, listed)?;
     Ok(Reply::Compared {
         text,
-        status: Status::Well,
+        status: Status::Success,
     })
 }
 
@@ -90,7 +90,7 @@ fn unfinished(alloc: Global) -> Result<Reply, Memory>
     let text = unfinished_line(alloc)?;
     Ok(Reply::Compared {
         text,
-        status: Status::Open,
+        status: Status::Unknown,
     })
 }
 

@@ -47,7 +47,7 @@ pub(crate) fn status_of(ending: &Result<Reply, Fault>) -> Status
 {
     match ending {
         Ok(Reply::CommandLine { status, .. } | Reply::Compared { status, .. }) => *status,
-        Ok(_) => Status::Well,
+        Ok(_) => Status::Success,
         Err(fault) => fault.status(),
     }
 }

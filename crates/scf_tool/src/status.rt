@@ -6,8 +6,8 @@ ghost use Rattle.scf_tool.specs.Statuses.{status_code};
 /// The exit status of the program.
 #[derive(Clone, Copy)]
 pub(crate) enum Status {
-    /// All is well.
-    Well,
+    /// The verdict holds, the input is accepted, or what is asked for is printed.
+    Success,
     /// A filter, text, table, profile or stack is refused, or a compiled filter would be too large.
     Refused,
     /// The relation that is asked for doesn't hold of two answers.
@@ -17,7 +17,7 @@ pub(crate) enum Status {
     /// The input can't be read, the output can't be written, or memory ran out.
     Failed,
     /// It isn't known whether the answers differ.
-    Open,
+    Unknown,
 }
 
 impl Status {
@@ -26,11 +26,11 @@ impl Status {
         ensures { result ≡ status_code self }
     {
         match self {
-            Status::Well => 0,
+            Status::Success => 0,
             Status::Refused | Status::Differs => 1,
             Status::CommandLine => 2,
             Status::Failed => 3,
-            Status::Open => 4,
+            Status::Unknown => 4,
         }
     }
 }

@@ -30,9 +30,9 @@ fn status_of_finding(finding: &Finding) -> Status
     ensures { result ≡ finding_status finding.now }
 {
     match finding {
-        Finding::Holds { .. } => Status::Well,
+        Finding::Holds { .. } => Status::Success,
         Finding::Fails { .. } => Status::Differs,
-        Finding::Undecided { .. } | Finding::Unfinished => Status::Open,
+        Finding::Undecided { .. } | Finding::Unfinished => Status::Unknown,
     }
 }
 
@@ -43,7 +43,7 @@ fn status_of_findings(findings: &Findings) -> Status
     match findings {
         Findings::AtOnce(finding) => status_of_finding(finding),
         Findings::EachCall(calls) => worst_of_calls(calls).map_or(
-            Status::Well,
+            Status::Success,
             |finding| status_of_finding(&finding),
         ),
     }
