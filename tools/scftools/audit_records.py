@@ -46,7 +46,8 @@ WHO = Pattern(r" pid=(\S+) comm=(\"[^\"]*\"|\S+)")
 # (the text of an errno, which ausearch -i prints, has no hundred characters)
 CALL = Pattern(r" arch=(\S+) syscall=(\S+)(?: per=\S+)?(?: success=\S+ exit=.{0,100}?)?"
                r" a0=(\S+) a1=(\S+) a2=(\S+) a3=(\S+) ")
-TIME = Pattern(r"audit\(([0-9]{1,12})\.([0-9]{3}):")
+# When a record was written, in seconds since 1970, and its serial number, which no two of a kind share.
+STAMP_OF_RECORD = Pattern(r"audit\((([0-9]{1,12}\.[0-9]{3}):[0-9]{1,20})\)")
 # auditd puts these before what it adds to a record itself, which names what the kernel's part has as numbers.
 ENRICHED = "\x1d"
 # The kernel leaves out records if too many come at once (kauditd_printk_skb in kernel/audit.c).
@@ -71,8 +72,13 @@ class SeccompRecord:
     halves: tuple[int, ...]
     process: int | None
     name: str
-    # seconds since 1970, None if the line doesn't have them as a number
-    time: float | None
+    # its time and serial number, None if the line doesn't have them as numbers
+    stamp: str | None
+
+    @property
+    def time(self) -> float | None:
+        """Seconds since 1970."""
+        return None if self.stamp is None else float(self.stamp.partition(":")[0])
 
 
 @dataclass(frozen=True)
@@ -156,11 +162,11 @@ def record_in(line: str, at: int, tables: dict[str, Table]) -> SeccompRecord:
     if not tails:
         raise Malformed("the record is cut: it has no sig= arch= syscall= compat= ip= code=")
     _, arch, number, _, pointer, code = tails[-1].groups()
-    architecture, time = architecture_of(arch), TIME.search(line, at, at + 64)
+    architecture, stamp = architecture_of(arch), STAMP_OF_RECORD.search(line, at, at + 64)
     process = who[1] if who and re.fullmatch("[0-9]{1,10}", who[1]) else None
     return SeccompRecord(number_of(number, architecture, tables), architecture,
                          _number(pointer, "ip", (1 << 64) - 1, 16), halves_of(code), int(process) if process else None,
-                         name_of(who[2]) if who else "", float(f"{time[1]}.{time[2]}") if time else None)
+                         name_of(who[2]) if who else "", stamp[1] if stamp else None)
 
 
 def syscall_in(line: str, at: int, tables: dict[str, Table]) -> SyscallRecord:
@@ -185,8 +191,8 @@ def is_own_record(message: bytes) -> bool:
 
 def is_of(line: str, process: int, since: float | None) -> bool:
     """Whether a line has a record of a process, and none that is older than this."""
-    who, time = WHO.search(line), TIME.search(line)
-    is_older = since is not None and time is not None and float(f"{time[1]}.{time[2]}") < since
+    who, stamp = WHO.search(line), STAMP_OF_RECORD.search(line)
+    is_older = since is not None and stamp is not None and float(stamp[2]) < since
     return who is not None and who[1] == str(process) and not is_older
 
 

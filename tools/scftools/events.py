@@ -16,8 +16,9 @@ from .tables import Table
 from .values import Pattern, dataclass, field, replace
 
 # The most distinct events and failed syscalls that are kept of a text, the most failed ones of a process that are
-# remembered for its end, and the most values that unknown bits of arguments may take.
-EVENTS, FAILURES, OF_PROCESS, WAYS = 200, 1000, 100, 8
+# remembered for its end, and the most values that unknown bits of arguments may take; and the most audit records whose
+# stamps are remembered.
+EVENTS, FAILURES, OF_PROCESS, WAYS, STAMPS = 200, 1000, 100, 8, 1 << 16
 RECORD, CORE, STRACE = "the record", "the core", "strace's line"
 # What may end a process with a core, and with SIGSYS that strace doesn't show as a signal first (`__seccomp_filter` of
 # kernel/seccomp.c: TRAP sends SIGSYS, and the others end the process themselves).
@@ -171,6 +172,29 @@ class EventLog:
             self.events[event.key] = [event, 1]
         else:
             self.beyond += 1
+
+
+class _Records:
+    """The audit records of a log. journald has one twice if auditd doesn't run: from the kernel's log, and from audit,
+    which journalctl prints without the record's stamp."""
+
+    def __init__(self) -> None:
+        self._stamps: dict[str, None] = {}
+        # how many records with and without a stamp have everything else in common
+        self._counts: dict[audit_records.SeccompRecord, list[int]] = {}
+
+    def is_new(self, record: audit_records.SeccompRecord) -> bool:
+        """Adds a record; whether it isn't one that was added before."""
+        if record.stamp in self._stamps:
+            return False
+        has_stamp = record.stamp is not None
+        self._stamps.update({record.stamp: None} if has_stamp else {})
+        counts = self._counts.setdefault(replace(record, stamp=None), [0, 0])
+        counts[has_stamp] += 1
+        for every, most in ((self._stamps, STAMPS), (self._counts, strace.PENDING)):
+            if len(every) > most:
+                every.pop(next(iter(every)))
+        return counts[has_stamp] > counts[not has_stamp]
 
 
 def of_record(record: audit_records.SeccompRecord) -> Event:
@@ -342,6 +366,7 @@ class _LogReader:
 
     def __init__(self, lines: Iterable[str], table: Table):
         self.log, self._lines, self._ends = EventLog(), iter(lines), _Ends(tables.of_architectures(JUDGED, table).of)
+        self._records = _Records()
 
     def _take(self, number: int, line: str) -> None:
         is_entry = line.startswith('{"')
@@ -360,7 +385,9 @@ class _LogReader:
         if suppressed:
             self.log.suppressed += int(suppressed[1])
         elif kind is not None and kind[0] in audit_records.SECCOMP_KINDS:
-            self.log.add(of_record(audit_records.record_in(line, kind[1], self._ends.tables)))
+            record = audit_records.record_in(line, kind[1], self._ends.tables)
+            if self._records.is_new(record):
+                self.log.add(of_record(record))
         return True
 
     def read(self) -> EventLog:

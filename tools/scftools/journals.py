@@ -22,6 +22,8 @@ MOST_CORES, MOST_LIST_LINES = 200, 100000
 PROCESS = Pattern(r" {1,16}PID: ([0-9]{1,10})(?: \((.{0,256})\))?\Z")
 SIGNAL = Pattern(r" {1,16}Signal: ([0-9]{1,3}) \(")
 STORAGE = Pattern(r" {1,16}Storage: .* \(present\)\Z")
+# The time of a record that journald has from audit, in microseconds since 1970.
+SOURCE_TIME = Pattern(r"[0-9]{7,18}\Z")
 
 
 @dataclass
@@ -59,7 +61,10 @@ def _parsed(text: str, what: str) -> Any:
 
 
 def message_in(line: str) -> str:
-    """The message of an entry as the kernel's log has it; an empty one if neither the kernel nor audit wrote it."""
+    """The message of an entry as the kernel's log has it; an empty one if neither the kernel nor audit wrote it.
+
+    journald puts the time and the serial number of a record that it has from audit into members of their own.
+    """
     entry = _parsed(line, "an entry as `journalctl -o json` prints it")
     message = entry.get("MESSAGE")
     if isinstance(message, list) and all(isinstance(byte, int) and 0 <= byte < 256 for byte in message):
@@ -70,7 +75,13 @@ def message_in(line: str) -> str:
     if entry.get("_TRANSPORT") == "kernel" and entry.get("SYSLOG_FACILITY") == "0":
         # (of another facility is what programs write into the kernel's log)
         return message
-    return f"audit: {message}" if entry.get("_TRANSPORT") == "audit" else ""
+    if entry.get("_TRANSPORT") != "audit":
+        return ""
+    microseconds, serial = entry.get("_SOURCE_REALTIME_TIMESTAMP"), entry.get("_AUDIT_ID")
+    if not isinstance(microseconds, str) or not isinstance(serial, str) or not SOURCE_TIME.match(microseconds):
+        return f"audit: {message}"
+    kind, _, text = message.partition(" ")
+    return f"audit: type={kind} audit({microseconds[:-6]}.{microseconds[-6:-3]}:{serial}): {text}"
 
 
 class Cores(list):

@@ -632,7 +632,8 @@ class Lines(Causes):
     def test_the_log_of_auditd(self):
         """--pid reads it, too, but for what an earlier process with that number left."""
         log = self.file("audit.log", "".join(
-            f"type=SECCOMP msg=audit({seconds}.752:2): auid={self.TAIL.replace('syscall=41', f'syscall={number}')}\n"
+            f"type=SECCOMP msg=audit({seconds}.752:{number + 2}): "
+            f"auid={self.TAIL.replace('syscall=41', f'syscall={number}')}\n"
             for seconds, number in ((1795757000, 1), (1795757700, 2))))
         why = module("why")
         options = types.SimpleNamespace(pid=12551, words=["p.json"])
@@ -662,13 +663,14 @@ class Lines(Causes):
             self.assertTrue(out[:-1].isprintable(), out)
 
     def test_what_the_kernel_left_out(self):
-        text = f"audit: kauditd_printk_skb: 12 callbacks suppressed\n{WRITTEN}\n{WRITTEN}"
+        text = f"audit: kauditd_printk_skb: 12 callbacks suppressed\n{WRITTEN}\n{WRITTEN.replace(':2)', ':3)')}"
         lines = self.why("-", given=text.encode(), status=4)
         self.assertIn("; such records: 2", lines[0])
         self.assertEqual(lines[-1], "# records that the kernel left out, since too many came at once: 12")
 
     def test_many_records(self):
-        text = "\n".join(WRITTEN.replace("syscall=41", f"syscall={number}") for number in range(300))
+        text = "\n".join(WRITTEN.replace(":2)", f":{number})").replace("syscall=41", f"syscall={number}")
+                         for number in range(300))
         lines = self.why("-", given=text.encode(), status=4)
         self.assertEqual(sum("the syscall is" in line for line in lines), events.EVENTS)
         self.assertEqual(lines[-1], "# records of more syscalls than 200 different ones, which aren't judged: 100")
@@ -732,8 +734,35 @@ class Journals(Causes):
         suppressed = "audit: kauditd_printk_skb: 12 callbacks suppressed"
         for text in (entry(WRITTEN), entry([*WRITTEN.encode()]), entry(self.SECCOMP, **self.OF_AUDIT)):
             self.assertEqual(self.numbers(text), ([(41, 12551, 1)], 0), text)
-        self.assertEqual(self.numbers("\n".join([entry(WRITTEN), entry("usb 1-1: new"), entry(suppressed), WRITTEN])),
-                         ([(41, 12551, 2)], 12))
+        self.assertEqual(self.numbers("\n".join([entry(WRITTEN), entry("usb 1-1: new"), entry(suppressed),
+                                                 WRITTEN.replace(":2)", ":3)")])), ([(41, 12551, 2)], 12))
+
+    # One record as systemd 252 printed it, with the members that matter: of audit and of the kernel's log. As text the
+    # first has neither its time nor its serial number.
+    OF_BOTH = [entry(
+        "SECCOMP auid=4294967295 uid=0 gid=0 ses=4294967295 pid=30697 comm=\"python3\" exe=\"/usr/bin/python3.11\" "
+        "sig=0 arch=c000003e syscall=41 compat=0 ip=0x7fd169d28dc7 code=0x7ffc0000", PRIORITY=None,
+        SYSLOG_FACILITY="4", SYSLOG_IDENTIFIER="audit", _TRANSPORT="audit", _AUDIT_TYPE="1326", _AUDIT_ID="2",
+        _AUDIT_TYPE_NAME="SECCOMP", _SOURCE_REALTIME_TIMESTAMP="1795934847207000", _PID="30697"), entry(
+        "audit: type=1326 audit(1795934847.207:2): auid=4294967295 uid=0 gid=0 ses=4294967295 pid=30697 "
+        "comm=\"python3\" exe=\"/usr/bin/python3.11\" sig=0 arch=c000003e syscall=41 compat=0 ip=0x7fd169d28dc7 "
+        "code=0x7ffc0000", _SOURCE_MONOTONIC_TIMESTAMP="954332493")]
+
+    def test_one_record_of_both(self):
+        of_audit, of_kernel = self.OF_BOTH
+        text_of_audit = f"Nov 29 06:47:27 vm audit[30697]: {json.loads(of_audit)['MESSAGE']}"
+        text_of_kernel = f"Nov 29 06:47:27 vm kernel: {json.loads(of_kernel)['MESSAGE']}"
+        (event,) = (event for event, _ in events.read([of_audit], TABLE).events.values())
+        self.assertEqual(event.time, 1795934847.207)
+
+        def second(entry_text):
+            return entry_text.replace("207:2)", "207:3)").replace('_AUDIT_ID": "2"', '_AUDIT_ID": "3"')
+
+        for first, other in ((of_audit, of_kernel), (text_of_audit, text_of_kernel), (text_of_audit, of_kernel)):
+            for lines, count in (([first, other], 1), ([other, first], 1), ([first, second(first), other], 2),
+                                 ([first, second(first), other, second(other)], 2), ([other, other], 1),
+                                 ([other, second(other), first], 2), ([first, other, second(other), first], 2)):
+                self.assertEqual(self.numbers("\n".join(lines)), ([(41, 30697, count)], 0), lines)
 
     def test_what_a_program_writes_is_no_record(self):
         """A program's message has another transport, or, in the kernel's log, another facility."""
