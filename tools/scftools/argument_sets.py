@@ -1,37 +1,22 @@
 """Sets of syscall arguments as binary decision diagrams: ordered and reduced, so that equal sets are equal numbers.
 
 A variable is a bit of an argument, from the highest bit of argument 0 to the lowest of argument 5. The variables from
-`OTHERS` on stand for what a profile can't test. The results only propose profiles: what is printed was compared by scf.
-
-A cover of a set is few alternatives of conditions, as entries of a profile have them, that together hold of it. An
-alternative has at most one condition on an argument. It begins at arguments of the set that no other alternative
-covers; then each condition is made as wide as the set allows.
+`FIRST_UNTESTED` on stand for what a profile can't test. The results only propose profiles: what is printed was compared by scf.
 """
 from __future__ import annotations
 
-import itertools
-from collections.abc import Iterable, Sequence
+from collections.abc import Iterable
 
 from .entries import Condition
 
 # The sets without and with all arguments.
 EMPTY_SET, FULL_SET = 0, 1
 ARGUMENT_COUNT = 6
-# The first variable that isn't a bit of an argument; the most steps of a run without --limit, of which real filters
-# take a hundredth; and for how many steps there may be a node.
+# The first variable that isn't a bit of an argument; the most steps of a run without --limit, of which containers'
+# filters take a hundredth and browsers' up to two thirds; and for how many steps there may be a node.
 FIRST_UNTESTED, MOST_STEPS, NODE = 64 * ARGUMENT_COUNT, 1 << 19, 2
 # Behind all variables.
 LEAF_VARIABLE = 1 << 32
-# The most alternatives for a set, and for all sets of a table together; the first of a set are tried in so many orders
-# of the arguments, and the later ones in two. With more steps than MOST_STEPS they may be more, in all as many as scf
-# takes.
-ALTERNATIVES, ALL_ALTERNATIVES, FIRST, ORDERS = 64, 512, 16, 6
-MANY_ALTERNATIVES = 128, 4096
-# Values that follow each other are listed one by one up to so many; and a set's up to so many, if masks say it in fewer
-# alternatives.
-MOST_LISTED_VALUES, ALL_LISTED = 3, 8
-
-Alternative = tuple[Condition, ...]
 
 
 class TooMany(Exception):
@@ -103,6 +88,11 @@ class Sets:
             joined = self._memo[key] = self.node(min(first, second), self._join(low, other_low, end),
                                                 self._join(high, other_high, end))
         return joined
+
+    def parts(self, node: int, variable: int) -> tuple[int, int]:
+        """The parts of a set where a variable is 0 and 1, on none before which it depends."""
+        first, *parts = self.nodes[node]
+        return (parts[0], parts[1]) if first == variable else (node, node)
 
     def both(self, first: int, second: int) -> int:
         """The intersection."""
@@ -269,134 +259,3 @@ class Sets:
         for condition in conditions:
             node = self.both(node, self.of_condition(condition))
         return node
-
-
-class TooManyAlternatives(Exception):
-    """The set needs more alternatives than it may have."""
-
-
-class _Cover:
-    """The search for a cover of a set, in which single values are listed, or joined by any mask."""
-
-    def __init__(self, sets: Sets, whole: int, is_listing: bool, most: int = ALTERNATIVES):
-        self.most = most
-        self.sets, self.whole, self.outside, self.is_listing = sets, whole, sets.complement(whole), is_listing
-        self.indices = sorted({variable // sets.bits for variable in sets.variables(whole)})
-
-    def _cube(self, values: int, index: int, value: int, run: tuple[int, int]) -> Condition:
-        """A wide masked condition that holds of a value, and only of some values, given the run around it.
-
-        In a listing, of a half that is compared as a whole, or from some bit on, only the lowest bits are dropped, to
-        cover a long run.
-        """
-        (first, last), width = run, self.sets.bits
-        lowest = 0
-        while last - first >= MOST_LISTED_VALUES and value & ~((2 << lowest) - 1) >= first and \
-                value | (2 << lowest) - 1 <= last:
-            lowest += 1
-        matter = {width - 1 - variable % width for variable in self.sets.variables(values)}
-        kept_bits = 0
-        for half in range(0, width, 32):
-            bits = range(min((bit for bit in matter if half <= bit < half + 32), default=half + 32), half + 32)
-            if self.is_listing and matter.issuperset(bits):
-                kept_bits |= sum(1 << bit for bit in bits if bit >= lowest)
-        mask = self.sets.widest_mask(values, index, value, lowest, kept_bits)
-        return Condition(index, "SCMP_CMP_MASKED_EQ", mask, value & mask)
-
-    def _widest(self, values: int, index: int, value: int) -> Condition | None:
-        """The widest condition on an argument that holds of a value, and only of some values; None if of all."""
-        if values == FULL_SET:
-            return None
-        others = self.sets.complement(values)
-        if self.sets.weight(others) << self.sets.bits == self.sets.weight(FULL_SET):
-            return Condition(index, "SCMP_CMP_NE", self.sets.least(others)[index], 0)
-        first, last = self.sets.run_around(values, index, value)
-        candidates = [Condition(index, "SCMP_CMP_EQ", value, 0)]
-        if first == 0 and last:
-            candidates.append(Condition(index, "SCMP_CMP_LE", last, 0))
-        if last == self.sets.most and first < last:
-            candidates.append(Condition(index, "SCMP_CMP_GE", first, 0))
-        candidates.append(self._cube(values, index, value, (first, last)))
-        return max(candidates, key=lambda candidate: self.sets.weight(self.sets.of_condition(candidate)))
-
-    def _alternative(self, arguments: Sequence[int], order: Sequence[int]) -> Alternative:
-        """An alternative that holds of these arguments, made as wide as the set allows, in this order."""
-        sets = self.sets
-        conditions: dict[int, Condition | None] = {
-            index: Condition(index, "SCMP_CMP_EQ", arguments[index], 0) for index in self.indices}
-        for index in order:
-            others = sets.of_conditions(condition for at, condition in conditions.items() if at != index
-                                        and condition is not None)
-            values = sets.complement(sets.of_argument(sets.both(others, self.outside), index))
-            conditions[index] = self._widest(values, index, arguments[index])
-        return tuple(condition for condition in conditions.values() if condition is not None)
-
-    def _best(self, uncovered: int, is_late: bool) -> Alternative:
-        """The alternative that covers the most of what is left, of those that begin at its least arguments."""
-        arguments = self.sets.least(uncovered)
-        orders = itertools.islice(itertools.permutations(self.indices), ORDERS)
-        if is_late:
-            orders = iter([self.indices, self.indices[::-1]])
-        candidates = {self._alternative(arguments, order): None for order in orders}
-        return max(candidates, key=lambda candidate: (
-            self.sets.weight(self.sets.both(uncovered, self.sets.of_conditions(candidate))), -len(candidate)))
-
-    def find(self) -> list[Alternative]:
-        uncovered, alternatives = self.whole, []
-        while uncovered != EMPTY_SET:
-            if len(alternatives) == self.most:
-                raise TooManyAlternatives
-            alternatives.append(self._best(uncovered, len(alternatives) >= FIRST))
-            uncovered = self.sets.without(uncovered, self.sets.of_conditions(alternatives[-1]))
-        return self._without_needless(alternatives)
-
-    def _without_needless(self, alternatives: list[Alternative]) -> list[Alternative]:
-        """The alternatives that cover something which the others don't."""
-        sets, nodes = self.sets, [self.sets.of_conditions(alternative) for alternative in alternatives]
-        # what the later ones cover
-        behind = [EMPTY_SET]
-        for node in reversed(nodes[1:]):
-            behind.append(sets.either(behind[-1], node))
-        needed, before = [], EMPTY_SET
-        for at, node in enumerate(nodes):
-            if sets.without(node, sets.either(before, behind[-1 - at])):
-                needed.append(alternatives[at])
-                before = sets.either(before, node)
-        return needed
-
-
-class Covers:
-    """The covers of some sets, each found once. A search takes at most half of the steps that are left."""
-
-    def __init__(self, sets: Sets):
-        self.sets, self._count = sets, 0
-        self._most, self._most_together = (ALTERNATIVES, ALL_ALTERNATIVES) if sets.steps.most <= MOST_STEPS else \
-            MANY_ALTERNATIVES
-        self._found: dict[int, list[Alternative] | None] = {FULL_SET: [()]}
-
-    def _of(self, arguments: int) -> list[Alternative] | None:
-        if self._count > self._most_together:
-            return None
-        alternatives = self._search(arguments, True)
-        if alternatives is None or len(alternatives) > ALL_LISTED:
-            joined = self._search(arguments, False)
-            if alternatives is None or joined is not None and len(joined) < len(alternatives):
-                return joined
-        return alternatives
-
-    def _search(self, arguments: int, is_listing: bool) -> list[Alternative] | None:
-        steps = Steps(self.sets.steps.remaining // 2)
-        sets = Sets(self.sets.bits, steps)
-        try:
-            alternatives = _Cover(sets, sets.copy(arguments, self.sets), is_listing, self._most).find()
-        except (TooMany, TooManyAlternatives):
-            alternatives = None
-        self.sets.spend(steps.most - max(steps.remaining, 0))
-        self._count += self._most if alternatives is None else len(alternatives)
-        return alternatives
-
-    def of_set(self, arguments: int) -> list[Alternative] | None:
-        """Alternatives that together hold of exactly these arguments; None if they are too many."""
-        if arguments not in self._found:
-            self._found[arguments] = self._of(arguments)
-        return self._found[arguments]

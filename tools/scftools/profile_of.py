@@ -14,9 +14,10 @@ from . import (answer_sets, architectures, client, constants, engines, other_abi
 from .answer_sets import FIRST_OPEN, FIRST_UPPER, Answers
 from .answers import DISPOSITIONS, ENOSYS, FIRST_X32, Answer
 from .architectures import JUDGED, NATIVE, Architecture
-from .argument_sets import EMPTY_SET, FIRST_UNTESTED, FULL_SET, MOST_STEPS, Alternative, Covers, Sets, Steps, TooMany
+from .argument_sets import EMPTY_SET, FIRST_UNTESTED, FULL_SET, MOST_STEPS, Sets, Steps, TooMany
 from .client import Refusal
 from .compare import Comparison
+from .covers import Alternative, Covers
 from .explanation import join_names
 from .filters import Filter
 from .profiles import SANDBOX, STRICT, TRAP
@@ -136,8 +137,8 @@ class FilterAnswers:
         """Why no profile with a default answers the calls of a number so, or None."""
         unsaid = self.unsaid(answers)
         why = f"no profile gives {unsaid}" if unsaid is not None else self.untested(answers)
-        return "a profile has too many entries for it" if why is None and \
-            not self.has_entries(answers, default) else why
+        return f"to find its entries takes too many steps: --limit N gives more than {self.sets.steps.most}" \
+            if why is None and not self.has_entries(answers, default) else why
 
     def has_entries(self, answers: Answers, default: Answer) -> bool:
         """Whether entries beside a default give the answers to the calls of a number."""
@@ -205,8 +206,8 @@ class Draft:
             entries.setdefault((default, ()), []).append(last[0])
 
     def may_be_same(self) -> bool:
-        """Whether a profile can say the answers to all numbers: no answer is one that profiles lack, no syscall needs
-        too many entries, and all numbers without a name get one answer."""
+        """Whether a profile can say the answers to all numbers: no answer is one that profiles lack, the entries of
+        each syscall are found, and all numbers without a name get one answer."""
         default, filters = self.default(), self.filters
         named, others = ({answers for *_, answers in numbers} for numbers in (filters.named(), filters.others()))
         return all(filters.unsaid(answers) is None for answers in named | others) and \

@@ -10,9 +10,10 @@ from . import constants, profiles, program
 from .answer_sets import Answers
 from .answers import ERRNOS, Answer
 from .architectures import I386, Architecture
-from .argument_sets import ALL_ALTERNATIVES, ALL_LISTED, EMPTY_SET, Alternative, TooMany
+from .argument_sets import EMPTY_SET, TooMany
 from .client import Refusal
 from .constants import Family
+from .covers import ALL_LISTED, MOST_ALTERNATIVES, Alternative
 from .entries import AT_LEAST, AT_MOST, EQUAL, LOW_HALF, MASKED, NOT_EQUAL, Condition
 from .filters import Filter
 from .profile_of import UNFINISHED_TEXT, FilterAnswers, ProfileRequest, entry_of, own_steps
@@ -24,8 +25,8 @@ from .verdicts import NO_LESS, NO_MORE, SAME
 SIGNS = {EQUAL: "==", NOT_EQUAL: "!=", AT_MOST: "<=", AT_LEAST: ">="}
 # So many alternatives on one argument or more are printed as a set of values, if it has at most so many.
 LEAST_LISTED, MOST_VALUES = 4, 16
-# The most rules that scf takes.
-MOST_RULES = 4096
+# The most answers of a syscall of which one is sought that stands for all other arguments.
+MOST_PARTS = 512
 # The syscall of i386 whose first argument points to the others.
 IN_MEMORY = (I386, "mmap")
 # For each disposition the answer that stands for all of it.
@@ -200,7 +201,7 @@ class Conditions:
 def _fewest(answers: FilterAnswers, parts: dict[Answer, int]) -> tuple[Answer, dict[Answer, Sequence[Alternative]]]:
     """The answer to all other arguments, such that the others take few alternatives, and these; none if too many."""
     best: tuple[Answer, dict[Answer, Sequence[Alternative]]] = NOTHING, {}
-    if len(parts) > ALL_ALTERNATIVES:
+    if len(parts) > MOST_PARTS:
         return best
     for otherwise in sorted(parts, key=lambda answer: -answers.sets.weight(parts[answer])):
         covers = answers.covers_beside(parts, otherwise)
@@ -235,7 +236,7 @@ def _of_answers(answers: FilterAnswers, number_answers: Answers) -> \
 
 def _failed(asker: Asker, drafts: Sequence[tuple[Row, Conditions]]) -> set[int]:
     """The numbers for which scf doesn't prove these conditions, which have one answer otherwise."""
-    if sum(len(alternatives) for _, conditions in drafts for _, alternatives in conditions.parts) > MOST_RULES:
+    if sum(len(alternatives) for _, conditions in drafts for _, alternatives in conditions.parts) > MOST_ALTERNATIVES:
         return {row.number for row, _ in drafts}
     table = "".join(f"{conditions.names[0]} {row.number}\n" for row, conditions in drafts).encode()
     profile = {**drafts[0][1].otherwise.default(),

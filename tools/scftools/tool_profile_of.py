@@ -34,8 +34,7 @@ permissive or stricter. With --no-less only the first profile is printed, with -
     scf profile-of --no-more filter.bpf >stricter.json
 
 Of filters that take too many steps to follow the output says `unfinished`, and has the profiles that are proved all the
-same; --limit N gives them N steps, if that is more than they have. Then profiles may also have up to 4096 rules, as
-those of firefox need (--limit 4000000).
+same; --limit N gives them N steps, if that is more than they have. Those of chromium and firefox take fewer.
 
 With --runtime the profile is one that this runtime loads: it is compared as the runtime reads it, and runc's ENOSYS for
 numbers above all that a profile names, which no profile says, is expected of the filters.

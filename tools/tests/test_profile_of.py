@@ -327,6 +327,29 @@ class Profiles(Case):
             self.assertIn("# only other answers, since no profile gives TRAP 9: socket\n", out)
             self.assertEqual([given["syscalls"] for given in profiles_in(out)], [[entry("TRAP", "socket")]])
 
+    def test_arguments_that_a_browser_tests(self):
+        """As chromium's filters do: what else clone may get, and an upper half that isn't the extended lower one, each
+        in the fewest entries. Values that differ from one with another answer in a bit each have an entry each."""
+        # linux/sched.h
+        vm, vfork, thread, of_pthread = 0x100, 0x4000, 0x10000, 0x3D0F00
+        forks = where(0, "SCMP_CMP_MASKED_EQ", vm | thread, 0, ret(EPERM), where(
+            0, "SCMP_CMP_MASKED_EQ", vm | vfork, vm | vfork, ret(EPERM), ret(TRAP | 4)))
+        of_clone = where(0, "SCMP_CMP_EQ", of_pthread, 0, ret(ALLOW), forks)
+        is_negative = load(20) + jeq(0xFFFFFFFF, 0, 3) + load(16) + jset(1 << 31, 0, 1) + ret(ALLOW) + ret(TRAP | 2)
+        of_int = load(20) + jeq(0, 0, 1) + ret(ALLOW) + is_negative
+        filters = [of_numbers({135: of_clone, 41: of_int}, TRAP | 1)]
+        status, out, err = self.run_on(filters, seconds=60)
+        self.assertEqual((status, err), (0, SAID))
+        profile = json.loads(out)
+        counts = {(name, errno): sum(entry["names"] == [name] and entry.get("errnoRet") == errno
+                                     for entry in profile["syscalls"]) for name, errno in (
+            ("personality", None), ("personality", 1), ("personality", 4), ("socket", None), ("socket", 2))}
+        self.assertEqual(list(counts.values()), [1, 2, 63, 2, 33])
+        self.is_judged(filters, profile, lambda ours, theirs: ours == theirs, (
+            (name, Call(NAMES[name], X86_64, 0, (value ^ 1 << low ^ 1 << high, *[0] * 5)))
+            for name in ("personality", "socket") for value in (of_pthread, MOST, 0, vm, thread)
+            for high in range(64) for low in range(high + 1)))
+
     def test_bounds_with_data(self):
         """Profiles on both sides have it, too, and a remark."""
         pointer = load(8) + jeq(7, 0, 1) + ret(ALLOW) + ret(EPERM)
@@ -466,21 +489,21 @@ class OtherArchitectures(Case):
 
     def is_read(self, data, name, default, *entries, said=""):
         """The whole profile of one architecture, which scf compares again."""
-        status, exit_status, err = self.printed(data, "--arch", FILES[name])
+        status, profile, err = self.printed(data, "--arch", FILES[name])
         self.assertEqual((status, err), (0, said))
-        self.assertEqual(exit_status,
+        self.assertEqual(profile,
                          {**members_of_default(default), "architectures": [name], "syscalls": list(entries)})
-        done = self.run_tool("compare", self.file("f.bpf", data), self.file("p.json", json.dumps(exit_status)))
+        done = self.run_tool("compare", self.file("f.bpf", data), self.file("p.json", json.dumps(profile)))
         self.assertEqual((done[0], done[1].splitlines()[0]), (0, "same"))
 
     def covers(self, data, names, *entries, default="ERRNO 1", said=(), words=()):
         """The architectures that the profile covers, its entries, and what is said of others."""
-        status, exit_status, err = self.printed(data, *words)
-        self.assertEqual((status, exit_status), (0, {**members_of_default(default), "architectures": list(names),
+        status, profile, err = self.printed(data, *words)
+        self.assertEqual((status, profile), (0, {**members_of_default(default), "architectures": list(names),
                                                "syscalls": list(entries)}))
         self.assertEqual(err.splitlines(), [f"profile-of: {line}" for line in said])
         if not words:
-            done = self.run_tool("compare", self.file("f.bpf", data), self.file("p.json", json.dumps(exit_status)))
+            done = self.run_tool("compare", self.file("f.bpf", data), self.file("p.json", json.dumps(profile)))
             self.assertEqual((done[0], done[1].splitlines()[0]), (0, "same"))
 
     def test_one_architecture(self):
@@ -547,9 +570,9 @@ class OtherArchitectures(Case):
                 continue
             data, _ = several.compile_filter(reading)
             for name in reading.rules:
-                status, exit_status, _ = self.printed(data, "--arch", FILES[name], "--table", tables[name])
+                status, profile, _ = self.printed(data, "--arch", FILES[name], "--table", tables[name])
                 self.assertEqual(status, 0, (seed, name))
-                self.is_judged(data, exit_status, [name], reading.records(name, source, 20))
+                self.is_judged(data, profile, [name], reading.records(name, source, 20))
                 seen += 1
         self.assertGreater(seen, 12)
 
@@ -612,8 +635,8 @@ class OtherArchitectures(Case):
         status, out, err = self.printed(data)
         self.assertEqual((status, err), (4, ""))
         self.assertIn("# the profile covers x86-64 syscalls\n# i386: some syscalls are allowed, such as ", out)
-        status, exit_status, err = self.printed(data, "--no-more")
-        self.assertEqual((status, exit_status["architectures"]), (0, [NATIVE]))
+        status, profile, err = self.printed(data, "--no-more")
+        self.assertEqual((status, profile["architectures"]), (0, [NATIVE]))
         self.assertIn("profile-of: i386: some syscalls are allowed, such as ", err)
 
     def test_the_stub_of_runc(self):
@@ -650,10 +673,10 @@ class OtherArchitectures(Case):
             if NATIVE not in judged or reading.default in (several.KILLS, several.ACTIONS["KILL"]) or reading.fault():
                 continue
             data, _ = several.compile_filter(reading)
-            status, exit_status, _ = self.printed(data)
-            self.assertEqual((status, exit_status["architectures"]), (0, judged), seed)
+            status, profile, _ = self.printed(data)
+            self.assertEqual((status, profile["architectures"]), (0, judged), seed)
             for name in judged:
-                self.is_judged(data, exit_status, judged, reading.records(name, source, 10))
+                self.is_judged(data, profile, judged, reading.records(name, source, 10))
             seen += 1
         self.assertGreater(seen, 5)
 
@@ -683,5 +706,5 @@ class OtherArchitectures(Case):
         # a table is the architecture's
         own_table = self.file("own.table", "mine 7\n")
         data = of_records({X86: tests_of({7: ret(ALLOW)}, EPERM)})
-        status, exit_status, _ = self.printed(data, "--arch", "i386", "--table", own_table)
-        self.assertEqual((status, exit_status["syscalls"]), (0, [entry("ALLOW", "mine")]))
+        status, profile, _ = self.printed(data, "--arch", "i386", "--table", own_table)
+        self.assertEqual((status, profile["syscalls"]), (0, [entry("ALLOW", "mine")]))
