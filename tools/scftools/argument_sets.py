@@ -13,8 +13,8 @@ from .entries import Condition
 EMPTY_SET, FULL_SET = 0, 1
 ARGUMENT_COUNT = 6
 # The first variable that isn't a bit of an argument; the most steps of a run without --limit, of which containers'
-# filters take a hundredth and browsers' up to two thirds; and for how many steps there may be a node.
-FIRST_UNTESTED, MOST_STEPS, NODE = 64 * ARGUMENT_COUNT, 1 << 19, 2
+# filters take a hundredth and browsers' up to half; and for how many steps there may be a node.
+FIRST_UNTESTED, MOST_STEPS, NODE = 64 * ARGUMENT_COUNT, 1 << 20, 2
 # Behind all variables.
 LEAF_VARIABLE = 1 << 32
 

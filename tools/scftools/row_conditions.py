@@ -13,7 +13,7 @@ from .architectures import I386, Architecture
 from .argument_sets import EMPTY_SET, TooMany
 from .client import Refusal
 from .constants import Family
-from .covers import ALL_LISTED, MOST_ALTERNATIVES, Alternative
+from .covers import MOST_ALTERNATIVES, Alternative
 from .entries import AT_LEAST, AT_MOST, EQUAL, LOW_HALF, MASKED, NOT_EQUAL, Condition
 from .filters import Filter
 from .profile_of import UNFINISHED_TEXT, FilterAnswers, ProfileRequest, entry_of, own_steps
@@ -25,8 +25,9 @@ from .verdicts import NO_LESS, NO_MORE, SAME
 SIGNS = {EQUAL: "==", NOT_EQUAL: "!=", AT_MOST: "<=", AT_LEAST: ">="}
 # So many alternatives on one argument or more are printed as a set of values, if it has at most so many.
 LEAST_LISTED, MOST_VALUES = 4, 16
-# The most answers of a syscall of which one is sought that stands for all other arguments.
-MOST_PARTS = 512
+# The most answers of a syscall of which one is sought that stands for all other arguments; and the most alternatives
+# that are printed beside it, if those of dispositions are fewer.
+MOST_PARTS, MOST_PRINTED = 512, 16
 # The syscall of i386 whose first argument points to the others.
 IN_MEMORY = (I386, "mmap")
 # For each disposition the answer that stands for all of it.
@@ -212,7 +213,7 @@ def _fewest(answers: FilterAnswers, parts: dict[Answer, int]) -> tuple[Answer, d
         count, least = (sum(map(len, alternatives.values())) for alternatives in (fitting, best[1]))
         if len(fitting) == len(covers) and (not best[1] or count < least):
             best = otherwise, fitting
-        if best[1] and count <= ALL_LISTED:
+        if best[1] and count <= MOST_PRINTED:
             break
     return best
 
@@ -224,14 +225,16 @@ def _of_answers(answers: FilterAnswers, number_answers: Answers) -> \
     if answers.untested(number_answers) is not None:
         return None
     parts, is_whole = answers.parts(number_answers, True), answers.unsaid(number_answers) is None
-    if not is_whole:
+    otherwise, others = _fewest(answers, parts) if is_whole else (NOTHING, {})
+    if not 0 < sum(map(len, others.values())) <= MOST_PRINTED:
         dispositions: dict[Answer, int] = {}
         for answer, arguments in parts.items():
             utmost = ANSWERS[answer.disposition]
             dispositions[utmost] = answers.sets.either(dispositions.get(utmost, EMPTY_SET), arguments)
-        parts = dispositions
-    otherwise, others = _fewest(answers, parts)
-    return (otherwise, others, is_whole) if others else None
+        of_dispositions = _fewest(answers, dispositions)
+        if of_dispositions[1]:
+            return *of_dispositions, False
+    return (otherwise, others, True) if others else None
 
 
 def _failed(asker: Asker, drafts: Sequence[tuple[Row, Conditions]]) -> set[int]:

@@ -24,10 +24,11 @@ With --conditions a syscall with several answers has them all instead of example
 Arguments have the names of their manual page, or are a0 to a5; they are compared as whole registers, those of i386, x32
 and arm as lower halves. `prot & ~PROT_READ == 0` allows no bit but PROT_READ, and `sig in {SIGINT, SIGTERM, ..}` is
 any of these values. Such a line is printed only if comparisons of scf prove it. If no profile gives an answer, as
-ALLOW with data, the dispositions alone are told; where no profile says the conditions, there are examples. Filters that
-take too many steps have examples alone, and standard error says that their conditions are `unfinished`; --limit N gives
-them N steps, if that is more than they have. With --examples each syscall has a call for each of its regions, with its
-answer: the sets of records that take one path through the filters.
+ALLOW with data, or the answers take many conditions and the dispositions fewer, the latter alone are told; where no
+profile says the conditions, there are examples. Filters that take too many steps have examples alone, and standard
+error says that their conditions are `unfinished`; --limit N gives them N steps, if that is more than they have. With
+--examples each syscall has a call for each of its regions, with its answer: the sets of records that take one path
+through the filters.
 
 Each disposition is proved: by the regions of all records, as `scf answers` prints them, which also have the examples;
 where a test isn't decided, by comparisons of scf with profiles that deny, allow or delegate everything. If scf can't

@@ -426,13 +426,15 @@ class Profiles(Case):
 
     def test_steps_that_run_out(self):
         """It is unfinished, and says how it gets more."""
-        code = b"".join(load(16) + jeq(7 * at, 0, 1) + ret(0x00050000 | at + 1) for at in range(1300)) + ret(ALLOW)
-        name = self.file("f.bpf", code)
-        unfinished = "unfinished: it takes too many steps to follow the filters: --limit N gives more than 524288\n"
-        status, out, err = self.run_tool("profile-of", name, seconds=20)
+        drawn = random.Random(1)
+        code = b"".join(load(16 + 4 * (at % 12)) + insn(0x54, drawn.getrandbits(32)) + jeq(at, 0, 1) +
+                        ret(0x00050000 | at + 1) for at in range(1000)) + ret(ALLOW)
+        unfinished = "unfinished: it takes too many steps to follow the filters: --limit N gives more than 1048576\n"
+        status, out, err = self.run_on([code], seconds=20)
         self.assertEqual(status, 4)
         self.assertIn(unfinished, out + err)
-        status, out, err = self.run_tool("surface", "--conditions", name, seconds=20)
+        status, out, err = self.run_tool("surface", "--conditions", "--table", self.table, self.file("f.bpf", code),
+                                         seconds=20)
         self.assertEqual(status, 4)
         self.assertIn(f"surface: conditions: {unfinished}", err)
 

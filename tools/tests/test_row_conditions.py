@@ -128,6 +128,13 @@ class Lines(Case):
                      "socket allowed where domain == AF_UNIX; denied (EPERM) where domain != AF_UNIX and "
                      "type == SOCK_DGRAM, else denied (TRAP 9)")
 
+    def test_many_alternatives(self):
+        """Those of dispositions, if they are fewer: as chromium answers an upper half that isn't the extended lower one.
+        """
+        of_low = load(16) + jeq(1, 0, 1) + ret(ALLOW) + ret(TRAP | 1)
+        code = load(20) + jeq(0, 4, 0) + jeq(0xFFFFFFFF, 0, 2) + load(16) + jset(1 << 31, 1, 0) + ret(TRAP | 2) + of_low
+        self.is_said(code, "socket allowed where domain == AF_UNIX, else denied")
+
     def test_what_no_condition_tests_has_examples(self):
         pointer = load(8) + jeq(7, 0, 1) + ret(ALLOW) + ret(EPERM)
         status, out = self.shown([of_numbers({41: pointer}, ALLOW)])
