@@ -1,7 +1,8 @@
 """Sets of syscall arguments as binary decision diagrams: ordered and reduced, so that equal sets are equal numbers.
 
 A variable is a bit of an argument, from the highest bit of argument 0 to the lowest of argument 5. The variables from
-`FIRST_UNTESTED` on stand for what a profile can't test. The results only propose profiles: what is printed was compared by scf.
+`FIRST_UNTESTED` on stand for what a profile can't test. The results only propose profiles: what is printed was compared
+by scf.
 """
 from __future__ import annotations
 

@@ -125,9 +125,10 @@ class _Joining:
             index, at = divmod(variable, self.sets.bits)
             ranged, covered = (), EMPTY_SET
             for cubes, node in self._ranged(index, most) if at == 0 else ():
-                others, joined = self._divided(variable, self.sets.without(least, self.sets.either(covered, node)), most)
+                both = self.sets.either(covered, node)
+                others, joined = self._divided(variable, self.sets.without(least, both), most)
                 if len(ranged) + len(cubes) + len(others) < len(found[0]):
-                    ranged, covered = (*ranged, *cubes), self.sets.either(covered, node)
+                    ranged, covered = (*ranged, *cubes), both
                     found = (*ranged, *others), self.sets.either(covered, joined)
             if len(found[0]) > MOST_ALTERNATIVES:
                 raise TooMany

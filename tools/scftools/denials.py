@@ -118,11 +118,12 @@ def lines(denials: Denials, shown: int, given: Inputs) -> Iterator[str]:
         yield (f"with EPERM, but not by {name}: {others}: the kernel itself answers so, for example if the process "
                "lacks a capability, or another filter does")
     if denials.unknown:
-        yield f"of which it isn't known: {denials.unknown}"
+        yield f"syscalls that failed, of which it isn't known: {denials.unknown}"
     if failures.beyond:
-        yield f"with too many different arguments, which aren't judged: {failures.beyond}"
+        yield f"syscalls that failed with too many different arguments, which aren't judged: {failures.beyond}"
     if failures.before_load:
-        yield f"before a filter is loaded, or in a process without one, which aren't judged: {failures.before_load}"
+        yield ("syscalls that failed before a filter is loaded, or in a process without one, which aren't judged: "
+               f"{failures.before_load}")
 
 
 def as_json(denials: Denials, shown: int, table: Table) -> dict[str, object]:

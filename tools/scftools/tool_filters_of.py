@@ -51,6 +51,8 @@ def read_words():
     is_running = options.log is None and not options.traced
     if options.traced and not places:
         places = [os.path.basename(options.traced[0]) + ".filters"]
+    if is_running and any(places[:1]) and not places[0].isdigit():
+        tracing.check_separated(parser, places, "filters-of")
     if len(places) != 1 + is_running or options.traced and options.log is not None:
         parser.error("give PID FOLDER, [FOLDER] -- PROGRAM, or --log LOG FOLDER")
     options.folder = places[-1]
@@ -75,8 +77,8 @@ def the_one_stack(stacks, process):
     return stacks[0]
 
 
-def loaded_in(log, label, thread):
-    """The stack that the processes of a log share, or that one thread has."""
+def loaded_in(log, label, thread, hint):
+    """The stack that the processes of a log share, or that one thread has; the hint says how to take that."""
     try:
         stacks = filter_loads.stacks_in(strace.lines(log, filter_loads.LONGEST_LOAD))
     except c_arrays.NotAnArray as why:
@@ -84,11 +86,12 @@ def loaded_in(log, label, thread):
     if thread is not None:
         stacks = {stack: threads for stack, threads in stacks.items() if str(thread) in threads}
     if not stacks:
-        raise program.ToolError(f"no filter is loaded in {label}", program.IO_ERROR)
+        whose = "" if thread is None else f" by {thread}"
+        raise program.ToolError(f"no filter is loaded{whose} in {label}", program.IO_ERROR)
     if len(stacks) > 1:
         shares = "".join(f"; {', '.join(threads[:3])}{', ..' * (len(threads) > 3)}: {Stack(stack, False).description}"
                          for stack, threads in stacks.items())
-        raise program.ToolError(f"the processes in {label} end with different filters{shares}; --thread takes those of "
+        raise program.ToolError(f"the processes in {label} end with different filters{shares}; {hint} takes those of "
                                 "one", program.IO_ERROR)
     return Stack(next(iter(stacks)), False)
 
@@ -98,7 +101,8 @@ def of_program(options):
     with tempfile.TemporaryDirectory(prefix="scf-filters-of-") as folder:
         log = os.path.join(folder, "log")
         status = tracing.run(log, STRACE_OPTIONS, options.traced)
-        return loaded_in(log, "the program", options.thread), status
+        hint = "its numbers change: `strace -f -v -o LOG` before it writes them, and --log LOG --thread"
+        return loaded_in(log, "the program", options.thread, hint), status
 
 
 def write(named, folder):
@@ -140,7 +144,7 @@ def main():
     if options.traced:
         stack, status = of_program(options)
     elif options.log is not None:
-        stack = loaded_in(options.log, inputs.label(options.log), options.thread)
+        stack = loaded_in(options.log, inputs.label(options.log), options.thread, "--thread")
     else:
         stack = of_process(options)
     os.makedirs(options.folder, exist_ok=True)

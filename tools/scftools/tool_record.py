@@ -41,6 +41,8 @@ def read_words():
     parser.add_argument("file", metavar="FILE", nargs="?",
                         help="the log, or with --profile the new profile [default: PROGRAM.log or PROGRAM.json]")
     own_words, traced = tracing.split(sys.argv[1:])
+    if not traced:
+        tracing.check_separated(parser, own_words, "record")
     options = parser.parse_args(own_words)
     if not traced:
         parser.error("no program is given: it stands behind --")

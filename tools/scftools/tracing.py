@@ -8,6 +8,7 @@ import stat
 from collections.abc import Sequence
 
 from . import output, program
+from .words import Parser
 
 # The statuses of what runs another program, as of env(1): it isn't executable, there is none.
 NOT_EXECUTABLE, NOT_THERE = 126, 127
@@ -29,10 +30,24 @@ def new_name(words: Sequence[str], ending: str) -> str:
     return name
 
 
+def _places_of(name: str) -> list[str]:
+    """Where execvp(3) looks for a program."""
+    return [name] if "/" in name else [os.path.join(folder, name) for folder in os.get_exec_path()]
+
+
+def check_separated(parser: Parser, words: Sequence[str], command: str) -> None:
+    """Ends a tool with a usage error if a program stands among its own words, which should be behind `--`."""
+    for at, word in enumerate(words):
+        if any(os.path.isfile(path) and os.access(path, os.X_OK) for path in _places_of(word)):
+            shown = " ".join([*words[:at], "--", *words[at:]])
+            parser.error(f"'{output.escaped(word)}' is a program, and stands behind --: `scf {command} "
+                         f"{output.escaped(shown)}`")
+
+
 def _path_of(name: str) -> str:
-    """The file of a program, as execvp(3) finds it."""
+    """The file of a program. Raises ToolError if there is none."""
     shown, status = output.escaped(name), NOT_THERE
-    for path in [name] if "/" in name else [os.path.join(folder, name) for folder in os.get_exec_path()]:
+    for path in _places_of(name):
         if os.path.isfile(path):
             if os.access(path, os.X_OK):
                 return path

@@ -266,7 +266,7 @@ class Logs(Denials):
 
     def test_what_scf_leaves_undecided(self):
         status, lines = self.why(f"7  {DENIED}\n7  acct(NULL) = -1 EPERM (Operation not permitted)\n", "--limit=1")
-        self.assertEqual((status, lines[-1]), (4, "# of which it isn't known: 1"))
+        self.assertEqual((status, lines[-1]), (4, "# syscalls that failed, of which it isn't known: 1"))
 
     def test_json(self):
         given = self.file("p.json", json.dumps(PROFILE))
@@ -287,4 +287,4 @@ class Logs(Denials):
         status, lines = self.why(log)
         self.assertEqual(status, 4)
         self.assertIn("such failures: 1000", lines[0])
-        self.assertEqual(lines[-1], "# with too many different arguments, which aren't judged: 7")
+        self.assertEqual(lines[-1], "# syscalls that failed with too many different arguments, which aren't judged: 7")

@@ -112,8 +112,9 @@ if os.fork() == 0:
 os.wait()
 sys.exit(5)""", "out")
         self.assertEqual((status, out), (5, "out/0.bpf\n"))
-        self.assertEqual(self.run_tool("filters-of", "none", "--", "true"),
-                         (3, "", "filters-of: no filter is loaded in the program\n"))
+        for words, whose in ((("none",), ""), (("--thread", "7", "none"), " by 7")):
+            self.assertEqual(self.run_tool("filters-of", *words, "--", "true"),
+                             (3, "", f"filters-of: no filter is loaded{whose} in the program\n"))
         self.assertFalse(os.path.exists(self.path("none")))
 
     def test_without_a_folder(self):
@@ -177,6 +178,15 @@ made.load()
             status, out, err = self.run_tool("filters-of", *words)
             self.assertEqual((status, out), (2, ""), words)
             self.assertIn("give PID FOLDER, [FOLDER] -- PROGRAM, or --log LOG FOLDER", err)
+
+    def test_a_program_without_dashes(self):
+        """Both tools say where it stands."""
+        for words, right in ((("filters-of", "true", "out"), "filters-of -- true out"),
+                             (("record", "true", "-x"), "record -- true -x"),
+                             (("record", "log", "true"), "record log -- true")):
+            status, out, err = self.run_tool(*words)
+            self.assertEqual((status, out), (2, ""), words)
+            self.assertIn(f": 'true' is a program, and stands behind --: `scf {right}`\n", err)
 
 
 class Recorded(Traced):
