@@ -155,14 +155,18 @@ class AmendmentSearch:
 
 def amendments(profile: bytes, event: Event, reason: Reason, trial: Trial) -> Iterator[Amendment]:
     """The changes that allow the calls with the known arguments of an event, and then all that the entry denies. There
-    are none if the syscall is of another ABI, or has no name in the table."""
+    are none if the syscall is of another ABI, or has no name in the table, or no filter says what the profile does."""
     names = trial.tables.native.names_of(event.call.number) if event.call.is_native else []
     if not names or reason.is_foreign or reason.answer is None or reason.answer.allows:
         return
     top = entries.read(profile)
     if top is None:
         return
-    search = AmendmentSearch(profile, top, trial, names[0], event.call.number)
+    try:
+        search = AmendmentSearch(profile, top, trial, names[0], event.call.number)
+    except Refusal:
+        # (its filter would be too large)
+        return
     tested = {condition["index"] for entry in top.get("syscalls", []) if not set(names).isdisjoint(entry["names"])
               for condition in entry.get("args") or []}
     conditions = conditions_of(event, names[0], tested)

@@ -34,7 +34,8 @@ permissive or stricter. With --no-less only the first profile is printed, with -
     scf profile-of --no-more filter.bpf >stricter.json
 
 Of filters that take too many steps to follow the output says `unfinished`, and has the profiles that are proved all the
-same; --limit N gives them N steps, if that is more than they have. Those of chromium and firefox take fewer.
+same; --limit N gives them N steps, if that is more than they have. Those of chromium and firefox take fewer; but their
+profiles have so many entries that `compile` has no room for them in a filter: they are there to be read and compared.
 
 With --runtime the profile is one that this runtime loads: it is compared as the runtime reads it, and runc's ENOSYS for
 numbers above all that a profile names, which no profile says, is expected of the filters.

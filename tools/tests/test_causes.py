@@ -835,6 +835,15 @@ class Words(Causes):
         status, _, err = self.closed_output("why", WRITTEN)
         self.assertEqual((status, err), (3, "why: the output failed: No space left on device\n"))
 
+    def test_a_profile_without_a_filter(self):
+        """One that takes more than 4096 instructions is judged, but no change of it is proved."""
+        reads = [{"names": ["read"], "action": "SCMP_ACT_ERRNO", "args": [
+            {"index": at % 6, "op": "SCMP_CMP_MASKED_EQ", "value": 2 * at + 1, "valueTwo": 1}]} for at in range(2000)]
+        profile = self.profile(*reads, {"names": ["socket"], "action": "SCMP_ACT_KILL_PROCESS"})
+        status, out, err = self.run_tool("why", WRITTEN, profile)
+        self.assertEqual((status, err), (0, ""))
+        self.assertEqual(out.splitlines()[-1], "# so the profile answers it")
+
     def test_json(self):
         profile = self.profile({"names": ["socket"], "action": "SCMP_ACT_KILL_PROCESS"})
         status, out, err = self.run_tool("why", "--json", WRITTEN, profile, self.file("f.bpf", ret(ALLOW)))
