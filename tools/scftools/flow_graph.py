@@ -129,7 +129,7 @@ class Graph:
 def _value_text(value: int, node: Node, table: Table) -> str:
     if node.word == NUMBER:
         its = node.known.architectures
-        return "x32" if value == FIRST_X32 and its.has(answers.X86_64) else name_of(value, its, table)
+        return "x32" if value == FIRST_X32 and answers.X86_64 in its else name_of(value, its, table)
     if node.word == ARCHITECTURE:
         return architectures.shown_name(value) or hex(value)
     return hex(value)

@@ -2,6 +2,7 @@
 instructions run on a syscall, by `scf run --path` and `scf decide --path`, and the last tests among them."""
 from __future__ import annotations
 
+import itertools
 from collections.abc import Iterator, Sequence
 
 from . import bundles, client, output, verdicts
@@ -21,6 +22,14 @@ WORDS = {NUMBER: "the syscall number", ARCHITECTURE: "the architecture", 2: "the
 MOST_NAMED = 3
 # linux/bpf_common.h: instruction classes, and the one BPF_MISC code that changes the accumulator.
 LOAD_CLASS, ALU, JUMPS, RETURNS, TXA = 0, 4, 5, 6, 0x87
+# The codes that the kernel takes as scf's assembler has them, of a constant and of X, and the others.
+OF_BOTH = dict(zip((*range(0x04, 0x84, 0x10), 0xA4), "add sub mul div or and lsh rsh xor".split()))
+TESTS = {JUMPS | test: name for name, test in (("jeq", JEQ), ("jgt", JGT), ("jge", JGE), ("jset", JSET))}
+TEXTS = {LOAD_WORD: "ld [{k}]", 0x80: "ld len", 0x81: "ldx len", 0x00: "ld #{k:#x}", 0x01: "ldx #{k:#x}",
+         0x60: "ld M[{k}]", 0x61: "ldx M[{k}]", 0x02: "st M[{k}]", 0x03: "stx M[{k}]", 0x84: "neg", JUMP: "ja {k}",
+         RETURN_CONSTANT: "ret #{k:#x}", 0x16: "ret a", 0x07: "tax", TXA: "txa",
+         **{code | by: f"{name} {operand}{', {jt}, {jf}' * (code in TESTS)}" for code, name in (OF_BOTH | TESTS).items()
+            for by, operand in ((0, "#{k:#x}"), (BY_X, "x"))}}
 PATH = Pattern(r"path((?: [0-9]+)+)")
 # At most so many of the last tests are printed.
 MOST_TESTS = 12
@@ -52,6 +61,14 @@ class Instruction:
     def changes_a(self) -> bool:
         return self.kind in (LOAD_CLASS, ALU) or self.code == TXA
 
+    @property
+    def text(self) -> str:
+        """Its line, as `scf dis` prints it: `raw` if its code is another one, or has no use for what a field has."""
+        text, fields = TEXTS.get(self.code, ""), {"k": self.k, "jt": self.if_true, "jf": self.if_false}
+        if not text or any(value and f"{{{name}" not in text for name, value in fields.items()):
+            return f"raw {self.code:#06x}, {self.if_true}, {self.if_false}, {self.k:#x}"
+        return text.format(**fields)
+
     def targets(self, index: int) -> list[int]:
         """The indexes of its successors, given its own."""
         if self.kind == RETURNS:
@@ -68,46 +85,16 @@ def instructions(data: bytes) -> list[Instruction]:
 
 
 @dataclass(frozen=True)
-class Architectures:
-    """The architectures that a record may have: these, or all but these."""
-
-    numbers: frozenset[int] = frozenset()
-    are_all_but: bool = True
-
-    def has(self, number: int) -> bool:
-        return (number in self.numbers) != self.are_all_but
-
-    @property
-    def is_empty(self) -> bool:
-        return not self.numbers and not self.are_all_but
-
-    def only(self, number: int) -> Architectures:
-        return Architectures(frozenset([number] if self.has(number) else []), False)
-
-    def without(self, number: int) -> Architectures:
-        numbers = self.numbers | {number} if self.are_all_but else self.numbers - {number}
-        return Architectures(numbers, self.are_all_but)
-
-    def beside(self, other: Architectures) -> Architectures:
-        """Those of both."""
-        if self.are_all_but == other.are_all_but:
-            both = self.numbers & other.numbers if self.are_all_but else self.numbers | other.numbers
-            return Architectures(both, self.are_all_but)
-        most, few = (self, other) if self.are_all_but else (other, self)
-        return Architectures(most.numbers - few.numbers)
-
-
-@dataclass(frozen=True)
 class Known:
     """Facts that hold at an instruction on every path to it: the word in A, and which architectures the record may
-    have."""
+    have, of those that a filter tests and x86-64; None stands for all others."""
 
     word: int | None = None
-    architectures: Architectures = Architectures()
+    architectures: frozenset[int | None] = frozenset([X86_64, None])
 
     def beside(self, other: Known) -> Known:
         """The facts where two paths meet."""
-        return Known(self.word if self.word == other.word else None, self.architectures.beside(other.architectures))
+        return Known(self.word if self.word == other.word else None, self.architectures | other.architectures)
 
 
 def _after(insn: Instruction, facts: Known) -> Iterator[Known]:
@@ -115,8 +102,8 @@ def _after(insn: Instruction, facts: Known) -> Iterator[Known]:
     if insn.changes_a:
         yield replace(facts, word=insn.word)
     elif insn.code == JUMP | JEQ and facts.word == ARCHITECTURE:
-        yield replace(facts, architectures=facts.architectures.only(insn.k))
-        yield replace(facts, architectures=facts.architectures.without(insn.k))
+        yield replace(facts, architectures=facts.architectures & {insn.k})
+        yield replace(facts, architectures=facts.architectures - {insn.k})
     else:
         yield facts
         yield facts
@@ -124,13 +111,14 @@ def _after(insn: Instruction, facts: Known) -> Iterator[Known]:
 
 def known_facts(insns: Sequence[Instruction]) -> list[Known]:
     """The facts at each instruction; all jumps go forwards."""
-    facts: dict[int, Known] = {0: Known()}
+    at_first = Known(None, frozenset([X86_64, None, *(insn.k for insn in insns if insn.code == JUMP | JEQ)]))
+    facts: dict[int, Known] = {0: at_first}
     for index, insn in enumerate(insns):
         if index in facts:
             for target, after in zip(insn.targets(index), _after(insn, facts[index])):
-                if not after.architectures.is_empty:
+                if after.architectures:
                     facts[target] = facts[target].beside(after) if target in facts else after
-    return [facts.get(index, Known()) for index in range(len(insns))]
+    return [facts.get(index, at_first) for index in range(len(insns))]
 
 
 def _name_on(k: int, architecture: int, table: Table) -> str:
@@ -141,15 +129,15 @@ def _name_on(k: int, architecture: int, table: Table) -> str:
     return f"x32 {named}" if named and k >= FIRST_X32 else named or number_text(k)
 
 
-def name_of(k: int, its: Architectures, table: Table) -> str:
+def name_of(k: int, its: frozenset[int | None], table: Table) -> str:
     """The names of a syscall number that a filter tests: x86-64's, unless other architectures alone come there or come
     there, too."""
-    if its.are_all_but:
-        return _name_on(k, X86_64, table) if its.has(X86_64) else f"number {k} of other architectures"
-    if len(its.numbers) > MOST_NAMED:
+    if None in its:
+        return _name_on(k, X86_64, table) if X86_64 in its else f"number {k} of other architectures"
+    if len(its) > MOST_NAMED:
         return f"number {k} of several architectures"
     return " or ".join(_name_on(k, number, table)
-                       for number in sorted(its.numbers, key=lambda number: (number != X86_64, number)))
+                       for number in sorted(its, key=lambda number: (number != X86_64, number)))
 
 
 def word_name(word: int) -> str:
@@ -165,7 +153,7 @@ def _tested(insn: Instruction, facts: Known, table: Table) -> str | None:
         return None
     if facts.word == ARCHITECTURE:
         return shown_name(insn.k) if test == JEQ else None
-    if insn.k == FIRST_X32 and test in (JGE, JSET) and facts.architectures.has(X86_64):
+    if insn.k == FIRST_X32 and test in (JGE, JSET) and X86_64 in facts.architectures:
         return "x32"
     name = name_of(insn.k, facts.architectures, table)
     return {JEQ: name, JGT: f"above {name}", JGE: f"from {name} on"}.get(test)
@@ -283,6 +271,16 @@ def deciding_filters(filters: Sequence[Filter], words: Sequence[str], answer: An
     return run_stack(filters, words).givers(answer)
 
 
+def deciding_on_sides(sides: Sequence[tuple[Sequence[Filter], Answer]], words: Sequence[str]) -> list[list[Giver]]:
+    """The filters of several stacks that give these answers, by one start of scf, if all of them fit into a stack."""
+    run = run_stack([bpf_filter for filters, _ in sides for bpf_filter in filters], words)
+    if run.decision.answer is None:
+        return [deciding_filters(filters, words, answer) for filters, answer in sides]
+    paths = iter(run.paths)
+    return [replace(run, filters=filters, paths=[*itertools.islice(paths, len(filters))]).givers(answer)
+            for filters, answer in sides]
+
+
 def to_show(givers: Sequence[Giver]) -> Giver | None:
     """The filter whose path is shown, of several that give the answer: the newest, whose answer the kernel takes.
 
@@ -318,6 +316,6 @@ def _tests(insns: Sequence[Instruction], indexes: Sequence[int], call: Call) -> 
 def last_tests(data: bytes, path: Path, call: Call, table: Table) -> tuple[int, list[str]]:
     """The last tests on a path and its end, as lines of the listing; and the number of tests before them."""
     insns = instructions(data)
-    lines = list(listing_lines(data, client.run(["dis"], data).lines, table))
+    lines = list(listing_lines(data, [insn.text for insn in insns], table))
     lines_of_tests = [f"{lines[index]}{way}" for index, way in _tests(insns, path.indexes, call)]
     return max(len(lines_of_tests) - MOST_TESTS, 0), lines_of_tests[-MOST_TESTS:]
