@@ -47,6 +47,11 @@ def of_stacks(filters: Sequence[bytes], right: Sequence[bytes], table: bytes | N
     return bundle([*(("filter", data) for data in filters), *((BESIDE, data) for data in right), *of_table])
 
 
+def of_profiles(left: bytes, right: bytes, tables: Tables) -> bytes:
+    """The bundle for `scf answers --differences`: two profiles, and the tables of both."""
+    return bundle([("profile", left), (BESIDE_PROFILE, right), *tables.parts])
+
+
 def of_compilation(profile: bytes, tables: Tables) -> bytes:
     """The bundle for `scf compile` and `scf ask`: a profile and tables."""
     return bundle([("profile", profile), *tables.parts])

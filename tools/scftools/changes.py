@@ -1,32 +1,30 @@
-"""Changes: two profiles compared syscall by syscall, by verdicts of scf on both filters; in lines and as JSON."""
+"""Changes: two profiles compared syscall by syscall, by all that scf says they answer differently; in lines and as
+JSON."""
 from __future__ import annotations
 
 import functools
 import math
 from collections.abc import Iterator, Sequence
 
-from . import client, compare, constants, output, program, questions, reasons, regions, tables, verdicts
-from .answers import DISPOSITIONS, FIRST_X32
+from . import bundles, client, compare, constants, output, program, questions, reasons, regions, tables
+from .answers import DISPOSITIONS, FIRST_X32, Answer
 from .architectures import JUDGED, NATIVE, Architecture
 from .calls import Call
 from .client import Refusal
+from .differences import EVERY_RECORD, Sides
 from .explanation import MORE_SPLITS, join_names
-from .filters import Filter
 from .profile_inputs import ProfileInput
 from .reasons import Reason
-from .stack_comparison import StackComparison
-from .tables import Table
+from .tables import Table, Tables
 from .values import dataclass, field, replace
-from .verdicts import (ALL, DIFFERS, LESS, MORE, NO_LESS, NO_MORE, SAME, UNDECIDED, UNFINISHED, NamedCall, Report,
-                       Verdict, checked)
+from .verdicts import (FAILING_WORDS, LESS, MORE, NO_LESS, NO_MORE, SAME, UNDECIDED, UNFINISHED, Report, Verdict,
+                       checked)
 
 OLD, NEW = "old", "new"
 BOTH_WAYS = (OLD, NEW), (NEW, OLD)
 # The new profile is more permissive, stricter, or only gives another answer; or scf can't decide.
 OTHERWISE = "otherwise"
 CHANGE_KINDS = (MORE, LESS, OTHERWISE, UNDECIDED, UNFINISHED)
-# The word of each relation if it fails.
-FAILING_WORDS = {SAME: DIFFERS, NO_MORE: MORE, NO_LESS: LESS}
 # The relation that the old profile has to the new one, if the new one has this to the old one.
 TURNED = {NO_MORE: NO_LESS, NO_LESS: NO_MORE}
 # The heading of each kind of change, printed before its count.
@@ -44,15 +42,6 @@ class ProfileSide:
         self.name, self.source, self.judged = name, source, source.judged(table, is_native)
 
     @functools.cached_property
-    def filter(self) -> Filter:
-        """Its filter. Raises Refusal, whose subject is the side."""
-        try:
-            return Filter(self.name, client.compile_profile(self.source.data, self.judged))
-        except Refusal as why:
-            why.subject = self.name, self.source.data
-            raise
-
-    @functools.cached_property
     def _regions(self) -> regions.Lookup:
         """Its regions, by one start of scf."""
         return regions.Lookup(regions.of_profile(self.source.data, self.judged))
@@ -65,32 +54,36 @@ class ProfileSide:
 
 
 @dataclass(frozen=True)
-class ProfilePair:
-    """Both profiles, the table of x86-64, and whether that alone is judged."""
+class ProfilePair(Sides):
+    """Both profiles as two sides for scf, the old one as its filter where they aren't judged alike."""
 
     sides: dict[str, ProfileSide]
-    table: Table
-    is_native: bool
+    relation: str = SAME
 
     @property
-    def _stacks(self) -> StackComparison:
-        """The comparison of the old profile's filter with the new one's."""
-        old, new = ([side.filter] for side in self.sides.values())
-        return StackComparison(old, new, self.table)
+    def tables(self) -> Tables:
+        return self.sides[NEW].judged
 
-    @property
-    def _comparison(self) -> compare.Comparison:
-        """The comparison of the old profile's filter with the new profile."""
-        old, new = self.sides.values()
-        return compare.Comparison([old.filter], new.source.data, self.table, stub=new.source.stub,
-                                  is_native=self.is_native)
+    @functools.cached_property
+    def are_judged_alike(self) -> bool:
+        """Whether scf takes both with the same tables, stubs and reading."""
+        old, new = (side.judged for side in self.sides.values())
+        return (old.words, old.parts) == (new.words, new.parts)
 
-    @property
-    def are_alike(self) -> bool:
-        """Whether both are judged for the same architectures, and neither has a stub: then all that isn't one of these
-        is killed by both."""
-        old, new = self.sides.values()
-        return list(old.judged.of) == list(new.judged.of) and not old.source.stub and not new.source.stub
+    @functools.cached_property
+    def stacks(self) -> list[list[bytes]]:
+        """The old profile's filter. Raises Refusal, whose subject is the side."""
+        old = self.sides[OLD]
+        try:
+            return [] if self.are_judged_alike else [[client.compile_profile(old.source.data, old.judged)]]
+        except Refusal as why:
+            why.subject = OLD, old.source.data
+            raise
+
+    def bundle(self, judged: Tables, is_by_call: bool = False) -> bytes:
+        old, new = (side.source.data for side in self.sides.values())
+        return bundles.of_comparison(self.stacks[0], new, judged) if self.stacks else \
+            bundles.of_profiles(old, new, judged)
 
     @property
     def both(self) -> list[tuple[Architecture, Table]]:
@@ -104,26 +97,29 @@ class ProfilePair:
         both = {architecture.oci for architecture, _ in self.both}
         return {name: [oci for oci in side.judged.of if oci not in both] for name, side in self.sides.items()}
 
-    @property
-    def whole(self) -> str:
-        """The scope of all that is judged."""
-        return verdicts.NATIVE_SCOPE if all(side.judged.is_native for side in self.sides.values()) else ALL
+    def verdict(self, relation: str) -> Verdict:
+        """Whether the old profile has a relation to the new one, over all records. Raises Refusal, whose subject is the
+        side."""
+        try:
+            known = self.found.verdict(relation, EVERY_RECORD)
+            if known is not None and "splits" not in client.limits:
+                return known
+            of_tables = checked(*self.asked([], relation)).verdict
+            return self.differences.unknown if of_tables.holds and self.alone[OLD] else of_tables
+        except Refusal as why:
+            if not why.subject[0]:
+                side = self.sides[NEW if self.stacks or why.line.startswith(f"fault {bundles.BESIDE} ") else OLD]
+                line = why.line.replace(bundles.BESIDE, "profile", 1)
+                raise Refusal(line, why.status, (side.name, side.source.data)) from why
+            raise
 
-    def compared(self, relation: str) -> Report:
-        """scf's report on the old profile's filter beside the new profile."""
-        status, report = (self._comparison.run(None, relation) if self.are_alike
-                          else self._stacks.run(self.whole, relation))
-        if report.fault is not None:
-            raise Refusal(report.fault.line, status, (NEW, self.sides[NEW].source.data))
-        return checked(status, report)
-
-    def of_calls(self, architecture: Architecture, relation: str) -> list[NamedCall]:
-        """The syscalls in an architecture's table for which the relation isn't proved."""
-        return self._comparison.calls_of(architecture.oci, relation)
-
-    def asked(self, call: Call) -> dict[str, Reason]:
+    def reasons_of(self, call: Call) -> dict[str, Reason]:
         """Each profile's answer to a syscall, and its reason."""
-        return {name: side.reason(call) for name, side in self.sides.items()}
+        region = self.differences.of(call)
+        if region is None:
+            return {name: side.reason(call) for name, side in self.sides.items()}
+        old = reasons.of_region(region.line) if self.are_judged_alike else self.sides[OLD].reason(call)
+        return {OLD: old, NEW: reasons.of_region(region.beside.line)}
 
 
 @dataclass
@@ -179,29 +175,38 @@ class Changes:
         return {kind: kinds.count(kind) for kind in CHANGE_KINDS}
 
 
-def _kinds(same: NamedCall | None, more: NamedCall | None, less: NamedCall | None) -> Iterator[tuple[str, NamedCall]]:
-    """The kinds of change of a number, each with scf's line for it."""
-    failed = [(kind, line) for kind, line in ((MORE, more), (LESS, less)) if line is not None and line.verdict.fails]
-    undecided = [line for line in (more, less) if line is not None and not line.verdict.fails]
-    yield from failed
-    if undecided:
-        is_shown = same is not None and same.verdict.fails and not failed
-        yield undecided[0].verdict.word, same if is_shown else undecided[0]
-    elif same is not None and not failed:
-        yield OTHERWISE if same.verdict.fails else same.verdict.word, same
+def _kind(old: Answer, new: Answer) -> str:
+    """The kind of change from one answer to another."""
+    before, after = (DISPOSITIONS.index(answer.disposition) for answer in (old, new))
+    return MORE if before < after else LESS if before > after else OTHERWISE
+
+
+def _of_number(pair: ProfilePair, architecture: Architecture, number: int) -> dict[str, Call] | None:
+    """The kinds of change of a number, each with an example; None if the differences don't tell."""
+    kinds: dict[str, Call] = {}
+    for region in pair.differences.of_number(Call(architecture.first + number, architecture.number)):
+        if not region.is_decided:
+            return None
+        call = region.call_of(architecture.first + number, architecture.number)
+        kinds.setdefault(_kind(region.answer, region.beside.answer), call)
+    if len(kinds) > 1:
+        kinds.pop(OTHERWISE, None)
+    return kinds
 
 
 def _of_calls(pair: ProfilePair) -> list[Change]:
-    """The syscalls that differ: first more permissive, then stricter, then others."""
+    """The syscalls that differ: first more permissive, then stricter, then others. Where the differences don't tell,
+    a number for which scf has an example may have others."""
     changes = []
-    for architecture, _ in pair.both:
-        # the new profile is more permissive where the old one is stricter
-        lists = [{line.number: line for line in pair.of_calls(architecture, relation)}
-                 for relation in (SAME, NO_LESS, NO_MORE)]
-        for number in sorted({number for lines in lists for number in lines}):
-            for kind, line in _kinds(*(lines.get(number) for lines in lists)):
-                call = line.verdict.call
-                changes.append(Change(number, line.names, kind, call, pair.asked(call) if call else {}, architecture))
+    for architecture, table in pair.both:
+        listed = [(number, tuple(table.names_of(number)), _of_number(pair, architecture, number))
+                  for number in sorted(table.numbers())]
+        if pair.differences.regions is None or None in [kinds for _, _, kinds in listed]:
+            lines_of_scf = [(line, line.verdict) for line in pair.calls_of(architecture.oci)]
+            listed = [(line.number, line.names, {UNDECIDED if verdict.fails else verdict.word: verdict.call})
+                      for line, verdict in lines_of_scf]
+        changes += [Change(number, names, kind, call, pair.reasons_of(call) if call else {}, architecture)
+                    for number, names, kinds in listed for kind, call in kinds.items()]
     return sorted(changes, key=lambda change: CHANGE_KINDS.index(change.kind))
 
 
@@ -212,37 +217,29 @@ def _of_unnamed(pair: ProfilePair) -> Change | None:
                  for side in pair.sides.values() if architecture.oci in side.source.stub]
         before_stubs = min(stubs, default=FIRST_X32)
         number = next((first for first, _ in questions.gaps(table, architecture) if first < before_stubs), None)
-        if number is None:
+        call = None if number is None else Call(architecture.first + number, architecture.number)
+        if call is None or pair.differences.is_finished and not pair.differences.of_number(call):
             continue
-        call = Call(architecture.first + number, architecture.number)
-        asked = pair.asked(call)
+        asked = pair.reasons_of(call)
         old, new = (reason.answer for reason in asked.values())
         if old != new:
-            before, after = (DISPOSITIONS.index(answer.disposition) if answer else 0 for answer in (old, new))
-            kind = MORE if before < after else LESS if before > after else OTHERWISE
-            return Change(number, (), kind, call, asked, architecture)
+            return Change(number, (), _kind(old, new) if old and new else OTHERWISE, call, asked, architecture)
     return None
 
 
-def _whole(pair: ProfilePair, same: Verdict, relation: str) -> Verdict:
-    """The verdict on whether the new profile has a relation to the old one, given that on whether they are the same."""
-    if relation == SAME or same.holds:
-        return Verdict(relation) if same.holds else same
-    turned = pair.compared(TURNED[relation]).verdict
-    assert turned is not None
-    if turned.holds:
-        return Verdict(relation)
-    return replace(turned, word=FAILING_WORDS[relation]) if turned.fails else turned
+def _whole(pair: ProfilePair, relation: str) -> Verdict:
+    """The verdict on whether the new profile has a relation to the old one."""
+    turned = pair.verdict(TURNED.get(relation, relation))
+    return replace(turned, word=relation if turned.holds else FAILING_WORDS[relation] if turned.fails else turned.word)
 
 
 def of_profiles(old: ProfileInput, new: ProfileInput, table: Table, relation: str, is_native: bool = False) -> Changes:
     """The differences between two profiles."""
     sides = {name: ProfileSide(name, source, table, is_native) for name, source in ((OLD, old), (NEW, new))}
-    pair = ProfilePair(sides, table, is_native)
-    same = pair.compared(SAME).verdict
-    assert same is not None
-    return Changes(pair, relation, _whole(pair, same, relation), [] if same.holds else _of_calls(pair),
-                   None if same.holds else _of_unnamed(pair),
+    pair = ProfilePair(sides)
+    are_same = pair.verdict(SAME).holds
+    return Changes(pair, relation, _whole(pair, relation), [] if are_same else _of_calls(pair),
+                   None if are_same else _of_unnamed(pair),
                    {name: compare.left_out(side.source.data, side.judged) for name, side in sides.items()})
 
 

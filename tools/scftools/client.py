@@ -233,6 +233,11 @@ def is_spent() -> bool:
     return program.is_tool and "limit" not in limits and _seconds_left(ALL_SECONDS) <= 0
 
 
+def has_time() -> bool:
+    """Whether comparisons still have all their steps: what takes these isn't known later either."""
+    return "limit" in limits or not program.is_tool or _seconds_left(SECONDS) > 0
+
+
 def compare(words: Sequence[str], bundle: bytes) -> Run:
     """`scf compare` within the limits of the command line."""
     return _limited(["compare", *words, *(f"--{name}={text}" for name, text in limits.items())], bundle)

@@ -3,19 +3,18 @@ from __future__ import annotations
 
 from collections.abc import Sequence
 
-from . import (architectures, bundles, client, entries, other_abis, profiles, program, shown_answers, tables,
-               verdicts)
+from . import architectures, bundles, entries, other_abis, profiles, reasons, regions, tables
 from .answers import Answer
-from .architectures import JUDGED
+from .calls import Call
 from .client import Refusal
-from .filters import Filter, looks_at_pointer
+from .differences import Sides, beyond
+from .filters import Filter
+from .other_abis import AbiAccess
 from .profiles import Origin, Profile
+from .reasons import Reason
 from .tables import Table, Tables
 from .values import dataclass, field, replace
-from .verdicts import (ALL, CALLS, FOR_OTHER_ABI, LISTED, NATIVE_SCOPE, RELATIONS, SAME, SCOPES, UNDETERMINED,
-                       NamedCall, Report, Verdict)
-
-NOTHING_ELSE = b'{"defaultAction": "SCMP_ACT_KILL_PROCESS"}'
+from .verdicts import (ALL, CALLS, FOR_OTHER_ABI, LISTED, NATIVE_SCOPE, SAME, SCOPES, UNDETERMINED, Report, Verdict)
 
 
 def default_of(profile: bytes) -> Answer | None:
@@ -25,7 +24,7 @@ def default_of(profile: bytes) -> Answer | None:
 
 
 @dataclass
-class Comparison:
+class Comparison(Sides):
     """Filters, oldest first, a profile and x86-64's table; a relation; of a resolved profile the index of each entry in
     the user's, and for each architecture the least number of a record that runc answers with ENOSYS; whether x86-64
     alone is judged, whatever the profile names; and the OCI name of the table's architecture, if that isn't x86-64."""
@@ -56,32 +55,11 @@ class Comparison:
         return profiles.read(self.profile)
 
     @property
-    def data(self) -> list[bytes]:
-        """The bytes of the filters, oldest first."""
-        return [each.data for each in self.filters]
+    def stacks(self) -> list[list[bytes]]:
+        return [[each.data for each in self.filters]]
 
-    def _run(self, scope: str, filters: Sequence[bytes], relation: str) -> tuple[int, Report]:
-        judged = self.tables if scope == LISTED else self.tables.only(architectures.NATIVE, self.table)
-        return self._run_by(judged, SCOPES[scope], filters, relation, scope == CALLS)
-
-    def _run_by(self, judged: Tables, scope: Sequence[str], filters: Sequence[bytes], relation: str,
-                is_by_call: bool = False) -> tuple[int, Report]:
-        words = [*scope, *judged.reading_words, *RELATIONS[relation]]
-        done = client.compare(words, bundles.of_comparison(filters, self.profile, judged))
-        pointer = None if is_by_call and any(map(looks_at_pointer, filters)) else 0
-        report = verdicts.report(done.text, pointer)
-        name = next(iter(judged.of))
-        marked = report.on(JUDGED[name]) if is_by_call and name in JUDGED else report
-        shown_answers.check(marked, self.data)
-        return done.status, report
-
-    def _run_others(self, filters: Sequence[bytes], relation: str) -> tuple[int, Report]:
-        """The same over all records; those of several architectures that are judged are left out, and a profile denies
-        the others."""
-        if self.tables.is_native:
-            return self._run(ALL, filters, relation)
-        others = replace(self, profile=NOTHING_ELSE, stub={})
-        return others._run(ALL, [*other_abis.denial_filters(self.tables.of), *filters], relation)
+    def bundle(self, judged: Tables, is_by_call: bool = False) -> bytes:
+        return bundles.of_comparison(self.stacks[0], self.profile, judged)
 
     def run(self, scope: str | None = None, relation: str | None = None) -> tuple[int, Report]:
         """scf's exit status and report, for this relation or the comparison's own, by default over all architectures
@@ -93,91 +71,67 @@ class Comparison:
     def run_with_stub(self, scope: str | None = None, relation: str | None = None) -> tuple[int, Report, bool]:
         """scf's status and report, and whether filters begin with runc's stub: whether they are the same as the profile
         with it."""
-        scope, relation = scope or self.scope, relation or self.relation
         status, report = self.run_as_it_is(scope, relation)
-        if not self.stub or report.verdict is None or report.verdict.holds:
-            return status, report, bool(self.stub) and report.verdict is not None and relation == SAME
-        without_status, without = replace(self, stub={}).run_as_it_is(scope, relation)
-        if without.verdict is None or not without.verdict.fails:
-            return without_status, without, False
-        return status, report, False
+        has_stub = bool(self.stub) and report.verdict is not None and report.verdict.word == SAME
+        if self.stub and report.verdict is not None and not report.verdict.holds:
+            without_status, without = replace(self, stub={}).run_as_it_is(scope, relation)
+            if without.verdict is None or not without.verdict.fails:
+                return without_status, without, False
+        self.check(report)
+        return status, report, has_stub
 
     def run_as_it_is(self, scope: str | None = None, relation: str | None = None) -> tuple[int, Report]:
         """scf's status and report for the profile with its stub."""
-        scope, relation = scope or self.scope, relation or self.relation
-        status, report = self._run_records(scope, relation)
+        scope, relation, beside = scope or self.scope, relation or self.relation, left_out(self.profile, self.tables)
+        status, report = self.by_call(relation) if scope == CALLS else self.asked(SCOPES[scope], relation)
         if report.verdict is None:
             return status, report
-        judged = self.tables.only(architectures.NATIVE, self.table) if scope == NATIVE_SCOPE else self.tables
-        beside = left_out(self.profile, judged)
-        return status, replace(report, skipped=beside.skipped, architectures=beside.architectures)
+        if scope == ALL:
+            report = self._of_all(report, relation, beside.architectures)
+        return report.verdict.status, replace(report, skipped=beside.skipped, architectures=beside.architectures)
 
-    def _run_records(self, scope: str, relation: str) -> tuple[int, Report]:
-        if scope == CALLS and not self.tables.is_native:
-            return self._run_calls(relation)
-        if scope != ALL:
-            return self._run(scope, self.data, relation)
-        if not self.tables.is_native:
-            status, report = self._run(LISTED, self.data, relation)
-            if report.verdict is None or not report.verdict.holds:
-                return status, report
-        status, report = self._run_others(self.data, relation)
-        call, without_table = report.verdict and report.verdict.call, left_out(self.profile, self.tables).architectures
-        if call is None or call.abi not in without_table:
-            return status, report
-        # the verdict on the records of architectures with a table, if it fails
-        status, others = self._run_others([*other_abis.denial_filters(without_table), *self.data], relation)
-        if others.verdict is None or others.verdict.holds:
-            return program.UNKNOWN, replace(report, lines=(FOR_OTHER_ABI, *report.lines[1:3]),
-                                            verdict=replace(report.verdict, word=UNDETERMINED, profile=None))
-        return status, others
+    def _of_all(self, report: Report, relation: str, without_table: Sequence[str]) -> Report:
+        """The report over all records, given scf's: of several architectures it goes over their records alone, and the
+        profile denies all others. The records of those without a table don't decide."""
+        names = [] if self.tables.is_native else [*self.tables.of]
+        if names and report.verdict.holds:
+            report = Report.of(self.differences.verdict(relation, beyond(names)) or self.differences.unknown)
+        if report.verdict.call is None or report.verdict.call.abi not in without_table:
+            return report
+        others = self.differences.verdict(relation, beyond([*names, *without_table]))
+        if others is not None and others.fails:
+            return Report.of(others)
+        return replace(report, lines=(FOR_OTHER_ABI, *report.lines[1:3]),
+                       verdict=replace(report.verdict, word=UNDETERMINED, profile=None))
 
-    def _run_calls(self, relation: str) -> tuple[int, Report]:
-        """Call by call in the tables of several architectures: the first verdict that fails, else the first that
-        doesn't hold, speaks for all."""
-        results = []
-        for name in self.tables.of:
-            status, report = self._run_on(name, SCOPES[CALLS], relation, is_by_call=True)
-            if report.verdict is None:
-                return status, report
-            results.append((status, report.on(JUDGED[name])))
-        status, first = min(results, key=lambda result: (not result[1].verdict.fails, result[1].verdict.holds))
-        calls = tuple(call for _, report in results for call in report.calls)
-        return status, replace(first, lines=(first.lines[0], *(call.line for call in calls)), calls=calls)
+    def known_verdict(self, scope: str, relation: str) -> Verdict | None:
+        known = super().known_verdict(scope, relation)
+        abi = known and known.call and known.call.abi
+        return None if scope == ALL and abi in left_out(self.profile, self.tables).architectures else known
 
-    def _run_on(self, name: str, scope: Sequence[str], relation: str, is_by_call: bool = False) -> tuple[int, Report]:
-        """scf's status and report on the syscalls of one of the architectures."""
-        judged = self.tables.only(name)
-        of_architecture = [] if judged.is_native else SCOPES[LISTED]
-        return self._run_by(judged, [*of_architecture, *scope], self.data, relation, is_by_call)
+    def verdict(self, scope: str, relation: str) -> Verdict | None:
+        """The verdict over a scope, with the stub, or without it where that holds."""
+        verdict = super().verdict(scope, relation)
+        without = replace(self, stub={}).verdict(scope, relation) if self.stub and verdict and verdict.fails else None
+        return verdict if without is None or without.fails else without
 
-    def _report_on(self, name: str, scope: Sequence[str], relation: str, is_by_call: bool = False) -> Report:
-        """The report on the syscalls of one of the architectures. Raises Refusal if it has no verdict."""
-        status, report = self._run_on(name, scope, relation, is_by_call)
-        if report.verdict is None:
-            raise Refusal(report.lines[0] if report.lines else "", status)
-        return report.on(JUDGED[name])
+    def reason_of(self, call: Call) -> Reason:
+        """The profile's reason for its answer to a syscall."""
+        region = self.differences.of(call)
+        return reasons.of(self.profile, self.tables, call.words()) if region is None else \
+            reasons.of_region(region.beside.line)
 
-    def calls_of(self, name: str, relation: str | None = None) -> list[NamedCall]:
-        """The syscalls in the table of an architecture of which the relation isn't proved. Raises Refusal."""
-        if not self.tables.of[name].numbers():
-            return []
-        return list(self._report_on(name, SCOPES[CALLS], relation or self.relation, is_by_call=True).calls)
-
-    def of_calls(self, relation: str | None = None) -> list[NamedCall]:
-        """The syscalls in the tables of all judged architectures of which the relation isn't proved. Raises Refusal."""
-        return [call for name in self.tables.of for call in self.calls_of(name, relation)]
-
-    def of_numbers(self, name: str, first: int, last: int) -> Verdict:
-        """The verdict on the syscalls of an architecture with numbers of records from `first` to `last`, both included.
-        Raises Refusal."""
-        verdict = self._report_on(name, [f"--nr-from={first}", f"--nr-to={last}"], self.relation).verdict
-        assert verdict is not None
-        return verdict
-
-    def foreign(self, scope: str) -> list[other_abis.AbiAccess]:
-        """For other ABIs that a scope doesn't cover, whether some of their syscalls are allowed."""
-        return other_abis.known_of(self.data, self.tables.of if scope in (LISTED, CALLS) else ())
+    def foreign(self, scope: str) -> list[AbiAccess]:
+        """For other ABIs that a scope doesn't cover, all of whose syscalls the profile denies, whether some are
+        allowed."""
+        judged, filters = self.tables.of if scope in (LISTED, CALLS) else (), self.stacks[0]
+        others = [abi for abi in other_abis.ABIS if abi.oci not in judged]
+        try:
+            listed = self.differences.regions if others else []
+            listed = regions.of_filters(filters) if listed is None else listed
+        except Refusal:
+            listed = None
+        return [other_abis.of_abi(filters, listed, abi) for abi in others]
 
 
 def left_out(profile: bytes, judged: Tables) -> Report:

@@ -4,14 +4,13 @@ from __future__ import annotations
 from collections.abc import Iterator, Sequence
 
 from . import architectures, explanation, listing, newer, other_abis, reasons, refusals, tables
-from .answers import DENIED
+from .answers import DENIED, Answer
 from .calls import Call
 from .client import Refusal
 from .compare import Comparison
 from .explanation import join_names
 from .listing import Giver
-from .reasons import Reason
-from .values import Any, dataclass, replace
+from .values import Any, replace
 from .verdicts import (ALL, CALLS, DIFFERS, LESS, LISTED, MORE, NATIVE_SCOPE, NO_LESS, NO_MORE, SAME, UNDECIDED, Fault,
                        NamedCall, Report, Verdict)
 
@@ -89,7 +88,7 @@ def call_lines(comparison: Comparison, report: Report) -> tuple[list[str], list[
 
 def dispositions(comparison: Any, scope: str) -> list[Verdict | None]:
     """The verdicts on whether filters are nowhere more permissive than the other side, and whether nowhere stricter."""
-    return [comparison.run(scope, relation)[1].verdict for relation in (NO_MORE, NO_LESS)]
+    return [comparison.verdict(scope, relation) for relation in (NO_MORE, NO_LESS)]
 
 
 def strictness_lines(comparison: Any, scope: str, count: int, side: str = PROFILE) -> Iterator[str]:
@@ -144,39 +143,28 @@ def foreign_lines(comparison: Comparison, report: Report, scope: str, is_quiet: 
         yield compared + ("; an x86-64 kernel has no others" if architectures.NATIVE in comparison.tables.of else "")
 
 
-@dataclass(frozen=True)
-class Difference:
-    """Why filters and a profile differ on a syscall: the profile's reason, and the filter whose path is shown."""
-
-    comparison: Comparison
-    call: Call
-    reason: Reason
-    giver: Giver | None
-
-    @classmethod
-    def of(cls, comparison: Comparison, verdict: Verdict) -> Difference | None:
-        """Why the example of a verdict differs, None if it has none."""
-        call = verdict.call
-        if call is None or verdict.filters is None or verdict.profile is None:
-            return None
-        return cls(comparison, call, reasons.of(comparison.profile, comparison.tables, call.words()),
-                   listing.to_show(listing.deciding_filters(comparison.filters, call.words(), verdict.filters)))
-
-    def lines(self) -> Iterator[str]:
-        """The profile's reason, and the last tests on the filter's path."""
-        yield from reasons.describe(self.reason, self.comparison.profile, self.call, self.comparison.origins)
-        if self.giver is not None:
-            yield from self.giver.last_tests(self.call, self.comparison.table)
-
-    def as_json(self) -> dict[str, object]:
-        reason = reasons.as_json(self.reason, self.comparison.profile, self.call, self.comparison.origins)
-        return {**reason, "path": self.giver.as_json()} if self.giver is not None else reason
+def _giver(comparison: Comparison, call: Call, answer: Answer) -> Giver | None:
+    """The filter that gives this answer to a syscall, whose path is shown."""
+    return listing.to_show(listing.deciding_filters(comparison.filters, call.words(), answer))
 
 
 def difference_lines(comparison: Comparison, verdict: Verdict) -> Iterator[str]:
-    """The lines after a syscall that differs."""
-    difference = Difference.of(comparison, verdict)
-    yield from difference.lines() if difference is not None else ()
+    """The lines after a syscall that differs: the profile's reason, and the last tests on the filter's path."""
+    call, answer = verdict.call, verdict.filters
+    if call is not None and answer is not None and verdict.profile is not None:
+        yield from reasons.describe(comparison.reason_of(call), comparison.profile, call, comparison.origins)
+        giver = _giver(comparison, call, answer)
+        yield from giver.last_tests(call, comparison.table) if giver is not None else ()
+
+
+def _difference_json(comparison: Comparison, verdict: Verdict) -> dict[str, object]:
+    """The same as members of an object."""
+    call, answer = verdict.call, verdict.filters
+    if call is None or answer is None or verdict.profile is None:
+        return {}
+    reason = reasons.as_json(comparison.reason_of(call), comparison.profile, call, comparison.origins)
+    giver = _giver(comparison, call, answer)
+    return {**reason, "path": giver.as_json()} if giver is not None else reason
 
 
 def notes(comparison: Comparison, report: Report, scope: str) -> Iterator[str]:
@@ -214,8 +202,7 @@ def as_json(comparison: Comparison, report: Report, scope: str, status: int) -> 
         members["fault"] = report.fault.as_json(fault_sentences(comparison, report.fault))
     if report.verdict:
         members.update(report.verdict.as_json(comparison.table))
-        difference = Difference.of(comparison, report.verdict)
-        members.update(difference.as_json() if difference else {})
+        members.update(_difference_json(comparison, report.verdict))
     calls = report.calls
     if report.verdict and report.verdict.word == DIFFERS:
         members.update(strictness_json(comparison, scope))

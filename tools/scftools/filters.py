@@ -103,17 +103,3 @@ def with_exception(data: bytes, number: int, conditions: Sequence[tuple[int, int
     """A filter that gives this answer to a syscall of this number whose arguments meet these conditions, each an index,
     a mask and a value, and otherwise runs these bytes."""
     return _tests(number, conditions) + instruction(RETURN_CONSTANT, answer) + instruction(LOAD_CONSTANT, 0) + data
-
-
-def split(data: bytes, bounds: Sequence[tuple[int, int, int]], answer: int, runs_beyond: bool) -> bytes:
-    """A filter that gives this answer to the syscalls beyond some bounds, or to all others, and otherwise runs these
-    bytes. A bound is the number of an architecture (linux/audit.h), and the first and the last syscall number."""
-    beyond, code = instruction(JUMP, 0) if runs_beyond else instruction(RETURN_CONSTANT, answer), b""
-    for architecture, first, last in reversed(bounds):
-        if runs_beyond:
-            # over the tests behind it, and over the answer
-            beyond = instruction(JUMP, len(code) // INSTRUCTION.size + 1)
-        code = (instruction(LOAD_WORD, 4) + instruction(JUMP | JEQ, architecture, 0, 4) + instruction(LOAD_WORD, 0)
-                + instruction(JUMP | JGE, first, 0, 2) + instruction(JUMP | JGT, last, 1, 0) + beyond + code)
-    others = instruction(RETURN_CONSTANT, answer) if runs_beyond else b""
-    return code + others + instruction(LOAD_CONSTANT, 0) + data

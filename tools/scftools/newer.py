@@ -1,19 +1,19 @@
 """Syscalls with numbers above all that a profile names, which the filters deny with another answer than the profile.
 
-The results hold for every such syscall: they are looked up in the regions of the filters.
+The results hold for every such syscall: they are looked up in the differences.
 """
 from __future__ import annotations
 
 import itertools
 from collections.abc import Iterator, Sequence
 
-from . import regions
 from .answers import Answer
 from .architectures import JUDGED
 from .calls import Call
 from .compare import Comparison, default_of
 from .explanation import join_names
-from .regions import Numbers
+from .listing import ARCHITECTURE, NUMBER
+from .regions import Numbers, Region
 from .tables import Table
 from .values import dataclass
 from .verdicts import DIFFERS, SAME, NamedCall, Verdict
@@ -62,18 +62,23 @@ def calls_of(comparison: Comparison) -> Newer | None:
     default = default_of(comparison.profile)
     if comparison.relation != SAME or comparison.stub or default is None or not default.denies:
         return None
-    filter_regions = regions.of_filters(comparison.data)
-    firsts, answers = {}, set()
+    firsts: dict[str, int] = {}
+    answers: set[Answer | None] = set()
     for name, least in _bounds_of(comparison).items():
-        ranges = Numbers(filter_regions, JUDGED[name]).ranges
-        above = [(max(low, least), {region.answer if region.is_decided else None for region in here})
-                 for low, high, here in ranges or () if high >= least]
-        differing = list(itertools.dropwhile(lambda part: part[1] == {default}, above))
+        ranges = Numbers(comparison.differences.regions, JUDGED[name]).ranges
+        differing = list(itertools.dropwhile(lambda part: not part[2], (
+            part for part in ranges or () if part[1] >= least)))
         if differing:
-            firsts[name] = differing[0][0]
-            answers.update(*(given for _, given in differing))
-    answer = answers.pop() if len(answers) == 1 and filter_regions is not None else None
+            firsts[name] = max(differing[0][0], least)
+            answers.update(_answer(here) for _, _, here in differing)
+    answer = answers.pop() if len(answers) == 1 else None
     return Newer(firsts, answer, default) if answer is not None and answer.denies else None
+
+
+def _answer(here: Sequence[Region]) -> Answer | None:
+    """The answer of filters to all syscalls of numbers with these regions; None if it isn't one that is known."""
+    is_one = len(here) == 1 and here[0].is_decided and here[0].words.keys() <= {NUMBER, ARCHITECTURE}
+    return here[0].answer if is_one else None
 
 
 def another_call(comparison: Comparison, above: Newer) -> Verdict | None:

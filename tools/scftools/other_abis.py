@@ -5,15 +5,13 @@ the architecture of x86-64, with numbers from 0x40000000 on. An x86-64 kernel ha
 """
 from __future__ import annotations
 
-from collections.abc import Collection, Iterable, Sequence
+from collections.abc import Sequence
 
-from . import architectures, client, regions
-from .answers import ALLOWED, DENIED, KILL_PROCESS, Answer
+from .answers import ALLOWED, DENIED, Answer
 from .architectures import JUDGED, NATIVE, Architecture
 from .calls import NO_CALL, Call, number_text
 from .explanation import join_names
-from .filters import split
-from .questions import IS_ALLOWED, IS_DENIED, Asker
+from .questions import IS_DENIED, Asker
 from .regions import Numbers, Region
 from .tables import Table
 from .values import dataclass
@@ -28,18 +26,6 @@ EVERY_SYSCALL_DENIED = "other ABIs: every {} syscall is denied; the kernel has n
 def _last(architecture: Architecture) -> int:
     """The last number of a record that a kernel makes of a syscall."""
     return min(architecture.last, NO_CALL - 1)
-
-
-def filter_of(architecture: Architecture) -> bytes:
-    """The filter that allows only the syscalls of an architecture."""
-    return split(IS_ALLOWED.filter, [(architecture.number, architecture.first, _last(architecture))], KILL_PROCESS.word,
-                 True)
-
-
-def denial_filters(names: Iterable[str]) -> list[bytes]:
-    """A filter that denies every record of the architectures with these OCI names and allows all others, or none."""
-    bounds = [architectures.bounds_of(name) for name in dict.fromkeys(names) if name in architectures.NUMBERS]
-    return [split(IS_ALLOWED.filter, bounds, KILL_PROCESS.word, False)] if bounds else []
 
 
 @dataclass(frozen=True)
@@ -86,7 +72,8 @@ def _asked(asker: Asker) -> AbiAccess:
 
 
 def of_abi(filters: Sequence[bytes], filter_regions: Sequence[Region] | None, architecture: Architecture) -> AbiAccess:
-    """Whether filters with these regions, or None if they are unfinished, allow a syscall of an ABI."""
+    """Whether filters with these regions, or with these differences from a profile that denies the ABI, or None if they
+    are unfinished, allow a syscall of an ABI."""
     numbers = Numbers(filter_regions, architecture, _last(architecture))
     if filter_regions is None or numbers.ranges is None:
         return AbiAccess(architecture, is_decided=False)
@@ -99,21 +86,9 @@ def of_abi(filters: Sequence[bytes], filter_regions: Sequence[Region] | None, ar
     return AbiAccess(architecture) if are_decided else _asked(Asker(filters, architecture))
 
 
-def of_regions(filters: Sequence[bytes], filter_regions: Sequence[Region] | None,
-               judged: Collection[str] = (), machine: str = NATIVE) -> list[AbiAccess]:
-    """The access of each other ABI of a machine, but for those that are judged otherwise."""
-    return [of_abi(filters, filter_regions, architecture) for architecture in OF_MACHINES[machine]
-            if architecture.oci not in judged]
-
-
-def known_of(filters: Sequence[bytes], judged: Collection[str] = ()) -> list[AbiAccess]:
-    """The access that filters, oldest first, give other ABIs; none if scf refuses the filters."""
-    if all(architecture.oci in judged for architecture in ABIS):
-        return []
-    try:
-        return of_regions(filters, regions.of_filters(filters), judged)
-    except client.Refusal:
-        return []
+def of_machine(filters: Sequence[bytes], filter_regions: Sequence[Region] | None, machine: str) -> list[AbiAccess]:
+    """The access of each other ABI of a machine."""
+    return [of_abi(filters, filter_regions, architecture) for architecture in OF_MACHINES[machine]]
 
 
 def are_none(accesses: Sequence[AbiAccess]) -> bool:

@@ -15,7 +15,7 @@ from .calls import Call
 from .filters import RETURN_CONSTANT, instruction, looks_at_pointer
 from .tables import Table, Tables
 from .values import dataclass
-from .verdicts import CALLS, LISTED, NO_LESS, NO_MORE, RELATIONS, SCOPES, Report, Verdict
+from .verdicts import CALLS, NO_LESS, NO_MORE, RELATIONS, SCOPES, Report, Verdict
 
 NOTHING, EVERYTHING = KILL_PROCESS, ALLOW
 
@@ -45,7 +45,7 @@ class Asker:
 
     def _asked(self, profile: bytes, relation: str, words: Sequence[str], table: bytes = b"") -> Report:
         judged = Tables({self.architecture.oci: Table(table)}, profiles.reading_of(profile))
-        return verdicts.compared(self.filters, profile, judged, [*words, *judged.reading_words, *RELATIONS[relation]])
+        return verdicts.compared(self.filters, profile, judged, [*judged.words, *words, *RELATIONS[relation]])
 
     def _profile_of(self, question: Question) -> bytes:
         return question.answer.as_profile([self.architecture.oci]) or b""
@@ -62,7 +62,7 @@ class Asker:
 
     def of_calls(self, profile: bytes, relation: str, table: bytes) -> Report:
         """The report on each syscall in a table, beside what a profile answers to it. Raises Refusal."""
-        return self._asked(profile, relation, [*SCOPES[LISTED], *SCOPES[CALLS]], table).on(self.architecture)
+        return self._asked(profile, relation, SCOPES[CALLS], table).on(self.architecture)
 
     def of_named(self, question: Question, table: bytes) -> Report:
         """The report on each syscall in a table."""
@@ -71,7 +71,7 @@ class Asker:
     def of_numbers(self, question: Question, first: int, last: int) -> Verdict:
         """The verdict on all syscalls with numbers from `first` to `last`, with a complete record as example."""
         added = self.architecture.first
-        words = [*SCOPES[LISTED], f"--nr-from={added + first}", f"--nr-to={added + last}"]
+        words = [f"--nr-from={added + first}", f"--nr-to={added + last}"]
         return self._asked(self._profile_of(question), question.relation, words).verdict
 
     def decided(self, call: Call) -> Answer | None:

@@ -1,7 +1,9 @@
-"""Regions: everything that filters or a profile answer, by `scf answers`: sets of records, each with its answer.
+"""Regions: everything that filters or a profile answer, by `scf answers`: sets of records, each with its answer. Or all
+that two sides may answer differently, each set with both answers.
 
-Each record lies in a region. All records of an exact one get its answer, and no record lies in two exact ones. Open
-regions come of a test that scf doesn't decide: a record may lie in several of them, and gets the answer of one.
+Each record lies in a region, or is answered alike by both sides. All records of an exact one get its answer, and no
+record lies in two exact ones. Open regions come of a test that scf doesn't decide: a record may lie in several of them,
+and gets the answer of one.
 """
 from __future__ import annotations
 
@@ -17,7 +19,7 @@ from .listing import ARCHITECTURE, ARGUMENTS, NUMBER
 from .tables import Table, Tables
 from .verdicts import UNFINISHED
 
-UNKNOWN, OPEN = "unknown", " open"
+UNKNOWN, OPEN, BESIDE = "unknown", " open", " beside "
 # The index of the instruction pointer, whose words stand before those of argument 0.
 POINTER = -1
 # The greatest value of a word, and the most intervals into which known bits may divide the numbers of a region.
@@ -73,8 +75,8 @@ class Word:
         return [interval for part in intervals
                 for interval in self._split(*part)] if self.mask or self.refuted else intervals
 
-    def _split(self, low: int, high: int) -> list[tuple[int, int]]:
-        pending, intervals = [(low, high)], []
+    def _split(self, low: int, high: int) -> Iterator[tuple[int, int]]:
+        pending, count = [(low, high)], 0
         while pending:
             low, high = pending.pop()
             same = -1 << (low ^ high).bit_length()
@@ -82,26 +84,24 @@ class Word:
             if (low ^ self.bits) & self.mask & same or 0 in refuted:
                 continue
             if not self.mask & ~same and not refuted:
-                intervals.append((low, high))
+                count += 1
+                yield low, high
             else:
                 middle = high & same >> 1
                 pending += (middle, high), (low, middle - 1)
-            if len(intervals) + len(pending) > MOST_INTERVALS:
+            if count + len(pending) > MOST_INTERVALS:
                 raise TooManyRanges
-        return intervals
 
 
 FREE = Word()
 
 
-class Region:
-    """A set of records: those whose words have these values, by the index of each word that isn't free. With the answer
-    and its reason as scf prints them, the answer, None if it is computed, the entry that gives it, and a record."""
+class Side:
+    """What a side answers to the records of a region: the answer and its reason as scf prints them, the answer, None if
+    it is computed, and the entry that gives it."""
 
-    def __init__(self, line: str, answer: Answer | None, entry: int | None, is_exact: bool, words: dict[int, Word],
-                 example: str):
-        self.line, self.answer, self.entry, self.is_exact, self.words = line, answer, entry, is_exact, words
-        self._example = example
+    def __init__(self, line: str, answer: Answer | None, entry: int | None):
+        self.line, self.answer, self.entry = line, answer, entry
 
     @property
     def by(self) -> str:
@@ -110,10 +110,20 @@ class Region:
             return f"by entry {self.entry}"
         return reasons.BY_STUB if self.line.endswith(" stub") else "by the default"
 
+
+class Region(Side):
+    """A set of records: those whose words have these values, by the index of each word that isn't free. With what a
+    side answers, beside which another one may stand, and a record."""
+
+    def __init__(self, line: str, answer: Answer | None, entry: int | None, is_exact: bool, words: dict[int, Word],
+                 example: str, beside: Side | None = None):
+        super().__init__(line, answer, entry)
+        self.is_exact, self.words, self._example, self.beside = is_exact, words, example, beside
+
     @property
     def is_decided(self) -> bool:
-        """Whether each of its records gets its answer."""
-        return self.is_exact and self.answer is not None
+        """Whether each of its records gets its answer, or both."""
+        return self.is_exact and self.answer is not None and (self.beside is None or self.beside.answer is not None)
 
     def is_of(self, number: int, architecture: int) -> bool:
         """Whether some of its records have this number and architecture."""
@@ -128,7 +138,7 @@ class Region:
                 return False
         return True
 
-    @property
+    @functools.cached_property
     def call(self) -> Call:
         """The record that scf shows."""
         call = Call.read(self._example)
@@ -142,17 +152,15 @@ class Region:
         return Call(number, architecture, self.call.pointer, arguments)
 
 
-def _head_in(text: str, places: Sequence[int] | None) -> tuple[str, Answer | None, int | None, bool]:
-    """The beginning of a line: an answer and its reason, also by themselves, and whether its tests were decided. Raises
-    ValueError."""
-    reason = text.removesuffix(OPEN)
-    words = reason.split(" ")
+def _side_in(text: str, places: Sequence[int] | None) -> tuple[str, Answer | None, int | None]:
+    """An answer and its reason, also by themselves. Raises ValueError."""
+    words = text.split(" ")
     count = 1 if words[0] == UNKNOWN else 2
     answer = Answer.read(" ".join(words[:count]))
     if not words[count:] or answer is None and count == 2:
         raise ValueError(text)
     entry = int(words[-1]) if words[count] == "entry" else None
-    return reason, answer, entry if None in (entry, places) else places[entry], reason == text
+    return text, answer, entry if None in (entry, places) else places[entry]
 
 
 def read(text: str, places: Sequence[int] | None = None) -> list[Region] | None:
@@ -160,25 +168,29 @@ def read(text: str, places: Sequence[int] | None = None) -> list[Region] | None:
     profile that a user gave."""
     *lines, last = text.splitlines() or [""]
     # what many lines have alike is parsed once
-    heads: dict[str, tuple[str, Answer | None, int | None, bool]] = {}
+    sides: dict[str, tuple[str, Answer | None, int | None]] = {}
     words: dict[str, tuple[int, Word]] = {}
     regions: list[Region] = []
     try:
         for line, example in zip(lines[::2], lines[1::2]):
             head, *given = line.split(" w")
-            if head not in heads:
-                heads[head] = _head_in(head, places)
+            texts = head.removesuffix(OPEN).split(BESIDE)
+            for text in texts:
+                if text not in sides:
+                    sides[text] = _side_in(text, places)
             for word in given:
                 if word not in words:
                     index, values = word.split(" ")
                     words[word] = int(index), Word.read(values)
-            regions.append(Region(*heads[head], dict(map(words.__getitem__, given)), example))
+            side, *beside = map(sides.__getitem__, texts)
+            regions.append(Region(*side, not head.endswith(OPEN), dict(map(words.__getitem__, given)), example,
+                                  *(Side(*other) for other in beside)))
     except ValueError:
         return None
     return regions if last.startswith(f"regions {len(regions)} steps ") and len(lines) == 2 * len(regions) else None
 
 
-def _asked(words: Sequence[str], bundle: bytes, places: Sequence[int] | None = None) -> list[Region] | None:
+def asked(words: Sequence[str], bundle: bytes, places: Sequence[int] | None = None) -> list[Region] | None:
     """The regions that scf prints; None if it took as many steps as it may. Raises Refusal."""
     done = client.answers(["--examples", *words], bundle)
     regions = read(done.text, places) if done.status == program.SUCCESS else None
@@ -194,13 +206,13 @@ def _asked(words: Sequence[str], bundle: bytes, places: Sequence[int] | None = N
 
 def of_filters(filters: Sequence[bytes]) -> list[Region] | None:
     """The regions of filters, oldest first; None if they are unfinished. Raises Refusal."""
-    return _asked([], bundles.of_stack(filters))
+    return asked([], bundles.of_stack(filters))
 
 
 def of_profile(profile: bytes, judged: Tables, places: Sequence[int] | None = None) -> list[Region] | None:
     """The regions of a profile's architectures, on request with other places of entries; None if they are unfinished.
     Raises Refusal."""
-    return _asked(judged.words, bundles.of_compilation(profile, judged), places)
+    return asked(judged.words, bundles.of_compilation(profile, judged), places)
 
 
 class Numbers:

@@ -3,19 +3,22 @@ from __future__ import annotations
 
 from collections.abc import Iterator, Sequence
 
-from . import (bundles, client, compare_output, explanation, filters, listing, output, program, refusals, shown_answers,
-               tables, verdicts)
-from .filters import Filter, looks_at_pointer
+from . import (bundles, client, compare_output, explanation, filters, listing, output, program, refusals, tables,
+               verdicts)
+from .architectures import NATIVE
+from .client import Refusal
+from .differences import Differences, Sides
+from .filters import Filter
 from .listing import Giver
-from .tables import Table
+from .tables import Table, Tables
 from .values import Any, dataclass
-from .verdicts import ALL, CALLS, DIFFERS, NATIVE_SCOPE, RELATIONS, SAME, SCOPES, Report, Verdict
+from .verdicts import (ALL, CALLS, DIFFERS, NATIVE_SCOPE, RELATIONS, SAME, SCOPES, NamedCall, Report, Verdict)
 
 OTHER_SIDE = "the other side"
 
 
 @dataclass(frozen=True)
-class StackComparison:
+class StackComparison(Sides):
     """Two stacks of filters, each oldest first, a table, and a relation of the left side's answers to the right's."""
 
     left: Sequence[Filter]
@@ -23,33 +26,48 @@ class StackComparison:
     table: Table
     relation: str = SAME
 
-    def run(self, scope: str = ALL, relation: str | None = None,
-            numbers: tuple[int, int] | None = None) -> tuple[int, Report]:
-        """scf's exit status and report, for this relation or the comparison's own, on request only over x86-64 syscalls
-        with numbers from one to another; `Verdict.profile` is the answer of the right side."""
-        left_data, right = ([bpf_filter.data for bpf_filter in side] for side in (self.left, self.right))
-        given = bundles.of_stacks(left_data, right, self.table.data if scope == CALLS else None)
-        words = ["--beside", *SCOPES[scope], *RELATIONS[relation or self.relation]]
-        words += [] if numbers is None else [f"--nr-from={numbers[0]}", f"--nr-to={numbers[1]}"]
-        if left_data == right:
-            return self._of_equal(words, given, relation or self.relation)
-        done = client.compare(words, given)
-        pointer = None if scope == CALLS and any(map(looks_at_pointer, left_data + right)) else 0
-        return done.status, shown_answers.check(verdicts.report(done.text, pointer=pointer), left_data, right)
+    beside = bundles.BESIDE
 
-    def _of_equal(self, words: Sequence[str], given: bytes, relation: str) -> tuple[int, Report]:
-        """The status and report on two stacks of the same bytes: if scf takes them, each relation holds, and no step is
-        needed."""
+    @property
+    def tables(self) -> Tables:
+        return Tables({NATIVE: self.table})
+
+    @property
+    def stacks(self) -> list[list[bytes]]:
+        return [[bpf_filter.data for bpf_filter in side] for side in (self.left, self.right)]
+
+    @property
+    def found(self) -> Differences:
+        left, right = self.stacks
+        return Differences([], self.beside) if left == right else super().found
+
+    def words(self, judged: Tables) -> list[str]:
+        return ["--beside"]
+
+    def bundle(self, judged: Tables, is_by_call: bool = False) -> bytes:
+        return bundles.of_stacks(*self.stacks, self.table.data if is_by_call else None)
+
+    def run(self, scope: str = ALL, relation: str | None = None) -> tuple[int, Report]:
+        """scf's exit status and report, for this relation or the comparison's own; `Verdict.profile` is the answer of
+        the right side. Two stacks of the same bytes need no step: if scf takes them, each relation holds."""
+        relation = relation or self.relation
+        left, right = self.stacks
+        if left != right:
+            status, report = self.by_call(relation) if scope == CALLS else self.asked(SCOPES[scope], relation)
+            self.check(report)
+            return status, report
         limits = [f"--{name}={text}" for name, text in {"limit": "0", **client.limits}.items()]
-        done = client.run(["compare", *words, *limits], given)
+        words = ["compare", "--beside", *SCOPES[scope], *RELATIONS[relation], *limits]
+        done = client.run(words, self.bundle(self.tables, scope == CALLS))
         report = verdicts.report(done.text)
-        if report.verdict is None:
-            return done.status, report
-        return program.SUCCESS, Report((relation,), Verdict(relation))
+        return (done.status, report) if report.verdict is None else (program.SUCCESS, Report.of(Verdict(relation)))
 
-    def of_numbers(self, first: int, last: int) -> Verdict | None:
-        """The verdict on the x86-64 syscalls with numbers from `first` to `last`, both included."""
-        return self.run(ALL, numbers=(first, last))[1].verdict
+    def named_calls(self) -> Sequence[NamedCall] | None:
+        """The x86-64 syscalls in the table of which the relation isn't proved; None if scf refuses the table."""
+        try:
+            return self.of_calls()
+        except Refusal:
+            return None
 
 
 def _answers(side: Sequence[Filter]) -> str:
@@ -58,15 +76,12 @@ def _answers(side: Sequence[Filter]) -> str:
 
 def _givers(comparison: StackComparison, verdict: Verdict) -> list[Giver | None]:
     """The filter of each side that gives its answer to the example."""
-    sides, call = ((comparison.left, verdict.filters), (comparison.right, verdict.profile)), verdict.call
-    return [None if call is None or answer is None else
-            listing.to_show(listing.deciding_filters(side, call.words(), answer)) for side, answer in sides]
+    sides = (comparison.left, verdict.filters), (comparison.right, verdict.profile)
+    return [*map(listing.to_show, listing.deciding_on_sides(sides, verdict.call.words()))]
 
 
 def _of_difference(comparison: StackComparison, verdict: Verdict) -> Iterator[str]:
     """The syscall that differs, both answers, and which tests of which filter lead to each."""
-    if verdict.call is None or verdict.filters is None or verdict.profile is None:
-        return
     yield from explanation.of_call(verdict.call, comparison.table)
     yield f"the {_answers(comparison.left)} {verdict.filters.describe()}"
     yield f"the other {_answers(comparison.right)} {verdict.profile.describe()}"
@@ -76,14 +91,12 @@ def _of_difference(comparison: StackComparison, verdict: Verdict) -> Iterator[st
 
 def _of_calls(comparison: StackComparison) -> Iterator[str]:
     """The x86-64 syscalls in the table that differ."""
-    by_name = comparison.run(CALLS)[1]
-    if by_name.verdict is None:
-        return
-    if by_name.verdict.holds:
+    calls = comparison.named_calls()
+    if calls:
+        yield from compare_output.count_lines(calls, OTHER_SIDE)
+    elif calls is not None:
         yield "each x86-64 syscall in the table gets the same answer from both sides" if comparison.relation == SAME \
             else "no x86-64 syscall in the table is among those"
-    else:
-        yield from compare_output.count_lines(by_name.calls, OTHER_SIDE)
 
 
 def faulty(comparison: StackComparison, report: Report) -> list[str]:
@@ -131,7 +144,7 @@ def as_json(comparison: StackComparison, report: Report, scope: str, status: int
     if verdict.word == DIFFERS and comparison.relation == SAME:
         members.update(compare_output.strictness_json(comparison, scope))
     if scope == CALLS or verdict.fails:
-        calls = report.calls if scope == CALLS else comparison.run(CALLS)[1].calls
+        calls = report.calls if scope == CALLS else comparison.named_calls() or ()
         members["calls"] = [{**call.as_json(), **call.verdict.as_json(table, bundles.BESIDE)} for call in calls]
     return members
 
@@ -142,7 +155,7 @@ def tell(options: Any) -> int:
                                  tables.read(options.table), options.relation)
     scope = options.scope or ALL
     status, report = comparison.run(scope)
-    report = verdicts.most_telling(report, comparison.table, lambda: comparison.run(CALLS)[1].calls)
+    report = verdicts.most_telling(report, comparison.table, lambda: comparison.named_calls() or ())
     if options.json:
         output.put_json(as_json(comparison, report, scope, status))
         return status

@@ -6,18 +6,21 @@ from collections.abc import Iterable, Iterator, Sequence
 
 from . import (client, constants, explanation, other_abis, output, program, questions, refusals, surface_output,
                surfaces, verify)
+from .answers import ALLOW
 from .architectures import JUDGED, NATIVE, Architecture
 from .bundles import BESIDE
+from .calls import NO_CALL
 from .client import Fault, Refusal
+from .differences import span_of
 from .filters import Filter
 from .processes import Inspection, Stack
 from .refusals import faulty_filters
 from .stack_comparison import StackComparison
 from .surface_output import LEAST_WIDTH, Groups, details, fitted, grouped, of_whole, row_json, wrapped
 from .surfaces import DEPENDS, Row, Surface
-from .tables import Table
+from .tables import Table, Tables
 from .values import dataclass
-from .verdicts import CALLS, NamedCall, Verdict
+from .verdicts import SAME, NamedCall, Verdict
 
 
 @dataclass(frozen=True)
@@ -56,9 +59,9 @@ class Beside:
 
     sides: tuple[Surface, Surface]
     pairs: tuple[Pair, ...] = ()
-    # scf's verdicts on the numbers that the table doesn't name, and on the syscalls of other ABIs
-    of_unnamed: tuple[Verdict | None, ...] = ()
-    of_foreign: tuple[Verdict | None, ...] = ()
+    # the verdicts on the numbers that the table doesn't name, and on the syscalls of other ABIs, if they are known
+    of_unnamed: Sequence[Verdict | None] = ()
+    of_foreign: Sequence[Verdict | None] = ()
 
     @property
     def foreign_differ(self) -> bool:
@@ -78,9 +81,9 @@ class Beside:
         return client.SUCCESS if are_same and not self.pairs else client.UNKNOWN
 
 
-def _comparison(sides: Iterable[Sequence[bytes]], table: Table, before: Sequence[bytes] = ()) -> StackComparison:
-    """The comparison of two stacks, both behind some filters."""
-    return StackComparison(*([Filter("", data) for data in (*before, *side)] for side in sides), table)
+def _comparison(sides: Iterable[Sequence[bytes]], table: Table) -> StackComparison:
+    """The comparison of two stacks."""
+    return StackComparison(*([Filter("", data) for data in side] for side in sides), table)
 
 
 def are_same(surface: Surface, filters: Sequence[bytes]) -> bool:
@@ -89,17 +92,24 @@ def are_same(surface: Surface, filters: Sequence[bytes]) -> bool:
     return verdict is not None and verdict.holds
 
 
+def _of_abi(comparison: StackComparison, abi: Architecture) -> Verdict | None:
+    """The verdict on the syscalls of another ABI: by the differences, or else by a comparison behind a filter that
+    allows them alone, since no scope of scf has them."""
+    known = comparison.differences.verdict(SAME, [span_of(abi.oci, last=NO_CALL - 1)])
+    if known is not None:
+        return known
+    alone = client.compile_profile(ALLOW.as_profile([abi.oci]) or b"", Tables({abi.oci: Table(b"")}))
+    return _comparison([[alone, *side] for side in comparison.stacks], comparison.table).run()[1].verdict
+
+
 def of_surfaces(*sides: Surface) -> Beside:
     """Compares two surfaces."""
-    filters, table = [side.asker.filters for side in sides], sides[0].table
-    comparison = _comparison(filters, table)
-    lines = {line.number: line for line in comparison.run(CALLS)[1].calls}
+    comparison = _comparison([side.asker.filters for side in sides], sides[0].table)
+    lines = {line.number: line for line in comparison.of_calls()}
     pairs = tuple(Pair(rows, lines[rows[0].number]) for rows in zip(*(side.rows for side in sides))
                   if rows[0].number in lines)
-    # no scope of scf has the syscalls of another ABI alone
-    of_abis = (_comparison(filters, table, [other_abis.filter_of(abi)]).run()[1] for abi in other_abis.ABIS)
-    return Beside(sides, pairs, tuple(comparison.of_numbers(first, end - 1) for first, end in questions.gaps(table)),
-                  tuple(report.verdict for report in of_abis))
+    of_unnamed = [comparison.of_numbers(NATIVE, first, end - 1) for first, end in questions.gaps(comparison.table)]
+    return Beside(sides, pairs, of_unnamed, [_of_abi(comparison, abi) for abi in other_abis.ABIS])
 
 
 def _of_both(beside: Beside) -> Iterator[str]:

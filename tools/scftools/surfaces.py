@@ -240,7 +240,7 @@ def of_regions(filters: Sequence[bytes], filter_regions: Sequence[Region] | None
     if filter_regions is not None:
         asker.check(table)
         _ask(asker, rows)
-    foreign = other_abis.of_regions(filters, filter_regions, machine=architecture.oci) if is_machine else []
+    foreign = other_abis.of_machine(filters, filter_regions, architecture.oci) if is_machine else []
     return Surface(asker, table, filter_regions, rows, foreign, _of_unnamed(numbers, table, architecture))
 
 

@@ -138,9 +138,9 @@ class Tables:
                  if name in self.of]
         return [*((JUDGED[name].kind, table.data) for name, table in self.of.items()), *stubs]
 
-    def only(self, name: str, table: Table | None = None) -> Tables:
-        """The table of one of the architectures, on request another one in its place."""
-        return replace(self, of={name: table or self.of[name]})
+    def only(self, name: str) -> Tables:
+        """The table of one of the architectures."""
+        return replace(self, of={name: self.of[name]})
 
 
 def native_alone(data: bytes) -> Tables:

@@ -110,7 +110,7 @@ def main():
                                     profile.stub, is_native=options.scope == verdicts.NATIVE_SCOPE)
     scope = options.scope or comparison.scope
     status, report = comparison.run(scope)
-    report = verdicts.most_telling(report, comparison.table, lambda: comparison.run(compare.CALLS)[1].calls)
+    report = verdicts.most_telling(report, comparison.table, comparison.of_calls)
     if options.html is not None:
         write_page(options, comparison, report, scope)
     if options.json:

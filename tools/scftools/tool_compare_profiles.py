@@ -7,11 +7,11 @@
                          [--keep-first] [--limit N]
                          [--splits N] [--table FILE] [--json] OLD NEW
 
-OLD and NEW are resolved OCI seccomp profiles, or whole config.json files that hold one. Both are compiled, as by
-`scf compile`, and the filters compared; if they differ, syscall by syscall. First comes the verdict over the syscalls
-of each architecture that a profile names and scf has a table of, or with --native of x86-64's alone, `same` or
-`differs`, and the number of changes of each kind. Then the changes: those where NEW is more permissive (`more`), those
-where it is stricter (`less`; some are both), and those that only get another answer (`otherwise`). Each has a line: the
+OLD and NEW are resolved OCI seccomp profiles, or whole config.json files that hold one. scf compares what both answer
+to every record; if they differ, that is told syscall by syscall. First comes the verdict over the syscalls of each
+architecture that a profile names and scf has a table of, or with --native of x86-64's alone, `same` or `differs`, and
+the number of changes of each kind. Then the changes: those where NEW is more permissive (`more`), those where it is
+stricter (`less`; some are both), and those that only get another answer (`otherwise`). Each has a line: the
 architecture if it isn't x86-64, the number, the names, the kind, the arguments of an example, and for both profiles the
 answer to it and what gives it, as `scf ask` says. Lines marked by `# ` add the conditions that the example meets, and
 at the end the entries. --no-more asks whether NEW is nowhere more permissive than OLD, --no-less whether it is nowhere

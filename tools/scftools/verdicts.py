@@ -21,8 +21,8 @@ from .values import Pattern, dataclass, replace
 # architecture that the profile names and scf has a table of.
 ALL, NATIVE_SCOPE, CALLS, LISTED = "all", "native", "calls", "listed"
 SAME, DIFFERS, UNDECIDED, UNFINISHED = "same", "differs", "undecided", "unfinished"
-# The options of scf for each of them.
-SCOPES = {ALL: [], NATIVE_SCOPE: ["--native"], CALLS: ["--calls"], LISTED: ["--architectures"]}
+# The options of scf for each of them, beside those of the tables.
+SCOPES = {ALL: [], NATIVE_SCOPE: ["--native"], CALLS: ["--calls"], LISTED: []}
 # Only from the tools: the syscall that decides is of an architecture that the profile names, and scf has no table of
 # it.
 UNDETERMINED = "undetermined"
@@ -33,9 +33,11 @@ NO_MORE, MORE, NO_LESS, LESS = "no more", "more", "no less", "less"
 SAME_DISPOSITION = "same disposition"
 # The options for each relation, by the verdict if it holds.
 RELATIONS = {SAME: [], NO_MORE: ["--no-more"], NO_LESS: ["--no-less"], SAME_DISPOSITION: ["--disposition"]}
-HOLDING, FAILING = (SAME, NO_MORE, NO_LESS, SAME_DISPOSITION), (DIFFERS, MORE, LESS)
+# The words of each relation if it fails.
+FAILING_WORDS = {SAME: DIFFERS, NO_MORE: MORE, NO_LESS: LESS, SAME_DISPOSITION: DIFFERS}
+HOLDING, FAILING = tuple(FAILING_WORDS), (DIFFERS, MORE, LESS)
 NAMED_CALL_LINE = Pattern(r"([0-9]+) ([A-Za-z0-9_,]+) (differs|more|less|undecided|unfinished)\b(.*)")
-ANSWERED = Pattern(r" args((?: 0x[0-9a-f]+){6}) filter (\w+ \w+) (?:profile|beside) (\w+ \w+)")
+ANSWERED = Pattern(r" args((?: 0x[0-9a-f]+){6}) (?:filter|profile) (\w+ \w+) (?:profile|beside) (\w+ \w+)")
 LEFT_OUT = ("skipped ", "other ")
 LEFT_OUT_END = b"left-out skipped"
 
@@ -60,6 +62,11 @@ class Verdict:
         return self.word in FAILING
 
     @property
+    def status(self) -> int:
+        """scf's exit status with it."""
+        return program.SUCCESS if self.holds else program.NEGATIVE if self.fails else program.UNKNOWN
+
+    @property
     def both_deny(self) -> bool:
         return bool(self.filters and self.profile and self.filters.denies and self.profile.denies)
 
@@ -80,8 +87,8 @@ class Verdict:
 
 @dataclass(frozen=True)
 class NamedCall:
-    """A line of `scf compare --calls`: a syscall in the table for which the relation isn't proved. The architecture is
-    that of the table; the line of another one than x86-64 is the tools' own."""
+    """A line of `scf compare --calls`, or the same line by regions: a syscall in the table for which the relation isn't
+    proved. The architecture is that of the table; the line of another one than x86-64 is the tools' own."""
 
     line: str
     number: int
@@ -128,6 +135,14 @@ class Report:
     def on(self, architecture: Architecture) -> Report:
         """The same report as one on the table of this architecture."""
         return replace(self, calls=tuple(call.on(architecture) for call in self.calls))
+
+    @classmethod
+    def of(cls, verdict: Verdict, beside: str = "profile") -> Report:
+        """The report on a verdict as scf prints it."""
+        if verdict.call is None:
+            return cls((verdict.word if verdict.at is None else f"{verdict.word} at {verdict.at}",), verdict)
+        return cls((verdict.word, verdict.call.line, f"filter {verdict.filters.line}",
+                    f"{beside} {verdict.profile.line}"), verdict)
 
     @property
     def printed(self) -> list[str]:
@@ -200,8 +215,7 @@ def checked(status: int, checked_report: Report, is_by_call: bool = False) -> Re
     since the relation is taken to hold for a syscall without a line."""
     if checked_report.fault is not None:
         raise Refusal(checked_report.fault.line, status)
-    verdict = checked_report.verdict
-    expected = None if verdict is None else 0 if verdict.holds else 1 if verdict.fails else program.UNKNOWN
+    expected = None if checked_report.verdict is None else checked_report.verdict.status
     if status != expected or is_by_call and len(checked_report.calls) != len(checked_report.lines) - 1:
         raise program.ToolError(f"scf ended with status {status} and unexpected output", program.IO_ERROR)
     return checked_report
@@ -209,7 +223,7 @@ def checked(status: int, checked_report: Report, is_by_call: bool = False) -> Re
 
 def most_telling(checked_report: Report, table: Table, calls_of: Callable[[], Sequence[NamedCall]]) -> Report:
     """A report of a difference with the most telling example: a native syscall with a name that one side allows and the
-    other denies, if there is one among those that scf lists."""
+    other denies, if there is one among those that differ."""
     def is_telling(verdict: Verdict) -> bool:
         return verdict.call is not None and verdict.call.is_native and verdict.call.pointer is not None and \
             verdict.is_allowed_and_denied and bool(table.names_of(verdict.call.number))
@@ -217,14 +231,9 @@ def most_telling(checked_report: Report, table: Table, calls_of: Callable[[], Se
     whole = checked_report.verdict
     if whole is None or not whole.fails or whole.call is None or is_telling(whole):
         return checked_report
-    shown = next((named.verdict for named in calls_of() if is_telling(named.verdict)), None)
-    if shown is None:
-        return checked_report
-    sides = [f"{line.partition(' ')[0]} {answer.line}"
-             for line, answer in zip(checked_report.lines[2:4], (shown.filters, shown.profile))]
-    lines = (checked_report.lines[0], shown.call.line, *sides)
-    return replace(checked_report, lines=(*lines, *checked_report.lines[4:]), verdict=replace(
-        whole, call=shown.call, filters=shown.filters, profile=shown.profile))
+    shown = next((named.verdict for named in calls_of() if is_telling(named.verdict)), whole)
+    beside = checked_report.lines[3].partition(" ")[0]
+    return replace(checked_report, lines=Report.of(shown, beside).lines, verdict=shown)
 
 
 def compared(filters: Sequence[bytes], profile: bytes, tables: Tables, words: Sequence[str]) -> Report:

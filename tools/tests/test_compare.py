@@ -362,6 +362,11 @@ class OtherAbis(Case):
             status, lines = self.said("--all", self.file("f.bpf", data), self.profile(*names))
             self.assertEqual((status, lines[0]), (0, "same") if architecture is None else (1, "differs"))
             self.assertEqual(architecture is None or lines[1].split()[4] == architecture, True, lines)
+        # what the profile may be for, and what it isn't for
+        mips, arm = (load(4) + jeq(arch, 0, 1) + ret(EPERM) for arch in (8, 0x40000028))
+        for data, status, first in ((mips, 4, self.UNDETERMINED), (arm + mips, 1, "differs")):
+            actual, lines = self.said("--all", self.file("f.bpf", data + of_three(x32)), self.profile(*names, "MIPS"))
+            self.assertEqual((actual, lines[0]), (status, first))
 
     def test_a_call_that_decides_and_that_the_profile_may_be_for(self):
         """Of an architecture that scf has no table of, if nothing else decides."""

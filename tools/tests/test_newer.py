@@ -87,6 +87,13 @@ class Newer(Case):
                 _, added = self.added(some + stub(450) + filter_of(self.rules))
                 self.assertFalse(any(SAID in line for line in added), (hex(answer), number, added))
 
+    def test_a_newer_call_that_differs_by_an_argument(self):
+        """Its other arguments are answered as the profile says."""
+        for number in (450, LAST, 2**30 - 1):
+            some = load(0) + jeq(number, 0, 3) + load(16) + jeq(7, 0, 1) + ret(0x00050026)
+            _, added = self.added(some + filter_of(self.rules))
+            self.assertEqual((added[0], any(SAID in line for line in added)), (ONLY_ANSWERS, False), number)
+
     def test_a_profile_that_lets_newer_calls_through(self):
         profile = self.file("lax.json", b'{"defaultAction":"SCMP_ACT_ALLOW","syscalls":[{"names":["read"],'
                                         b'"action":"SCMP_ACT_ERRNO"}]}')

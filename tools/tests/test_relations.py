@@ -10,7 +10,8 @@ from support.common import (ALLOW, CORE, EPERM, I386, KILL_PROCESS, KILL_THREAD,
 from support.confined import Confined, here
 from support.stand_in import StandIn
 import kernel_profiles
-from scftools import answers, calls, client, other_abis
+from scftools import answers, architectures, calls, client, compare, other_abis, regions, tables, verdicts
+from scftools.filters import Filter
 
 READ, WRITE, SOCKET, GETPID, EXIT_GROUP = 0, 1, 41, 39, 231
 ENOSYS, TRAP, USER_NOTIF, TRACE, LOG = 0x00050026, 0x00030000, 0x7FC00000, 0x7FF00000, 0x7FFC0000
@@ -51,6 +52,17 @@ def is_in(scope, call):
 
 def word(printed):
     return answers.Answer.read(printed).word
+
+
+def allows_alone(kind):
+    """A filter that allows the syscalls of i386 alone, or those of x32."""
+    x32 = load(0) + jge(X32, 0, 1) + jge(2 * X32, 0, 1) + ret(KILL_PROCESS)
+    return load(4) + jeq(kind.number, 1, 0) + ret(KILL_PROCESS) + (x32 if kind.first else b"") + ret(ALLOW)
+
+
+def known_of(filters):
+    """What filters allow of i386 and x32."""
+    return other_abis.of_machine(filters, regions.of_filters(filters), architectures.NATIVE)
 
 
 def one_number(number, answer, default):
@@ -298,12 +310,12 @@ class Foreign(Case):
         """The filters of the pairs and some more: a call of the kind is shown exactly where one isn't refused."""
         given = [filters for filters, _, _ in PAIRS.values()]
         for kind in other_abis.ABIS:
-            alone = other_abis.filter_of(kind)
+            alone = allows_alone(kind)
             given.append([alone])
             given.append([load(0) + jeq(43, 0, 1) + ret(LOG) + ret(EPERM), alone])
         given += [[filter_of([READ], foreign=answer)] for answer in EACH]
         for filters in given:
-            for kind, access in zip(other_abis.ABIS, other_abis.known_of(filters)):
+            for kind, access in zip(other_abis.ABIS, known_of(filters)):
                 self.assertTrue(access.is_decided)
                 through = [call for call in CORNERS if self.is_of(kind, call)
                            and degree(word(StandIn().decide(filters, call)))]
@@ -319,17 +331,19 @@ class Foreign(Case):
         return kind.name == "i386" and call.architecture == I386 and call.number < 2 * X32
 
     def test_told(self):
-        lines = [access.describe() for access in other_abis.known_of([ret(TRACE)])]
+        lines = [access.describe() for access in known_of([ret(TRACE)])]
         self.assertEqual(lines, ["i386: not every syscall is denied, such as restart_syscall (0): TRACE 0",
                                 "x32: not every syscall is denied, such as read (0x40000000 + 0): TRACE 0"])
 
     def test_which_are_denied(self):
         """i386, all of which this filter allows, isn't among them where it is judged otherwise."""
         i386, _ = other_abis.ABIS
-        for filters, judged, names in (([other_abis.filter_of(i386)], [i386.oci], "x32"),
-                                       ([ret(EPERM)], [], "i386 and x32")):
-            self.assertEqual(other_abis.describe(other_abis.known_of(filters, judged)),
-                             [f"other ABIs: every {names} syscall is denied; the kernel has no others"])
+        for data, names, shown in ((allows_alone(i386), ["SCMP_ARCH_X86_64", i386.oci], "x32"),
+                                   (ret(EPERM), ["SCMP_ARCH_X86_64"], "i386 and x32")):
+            given = json.dumps({"defaultAction": "SCMP_ACT_ERRNO", "architectures": names}).encode()
+            comparison = compare.Comparison([Filter("", data)], given, tables.read(None))
+            self.assertEqual(other_abis.describe(comparison.foreign(verdicts.LISTED)),
+                             [f"other ABIs: every {shown} syscall is denied; the kernel has no others"])
 
     def test_undecided_and_unfinished(self):
         """It is said so."""
@@ -341,18 +355,18 @@ class Foreign(Case):
             insn(0xAC, 0) + jeq(product ^ product >> 16, 0, 1) + ret(LOG) + ret(EPERM)
         self.assertEqual({number for number in range(1000) if StandIn().decide([mixed], calls.Call(number, I386))
                           != "ERRNO 1"}, {3})
-        accesses = other_abis.known_of([mixed])
+        accesses = known_of([mixed])
         self.assertEqual(accesses[0].describe(), "i386: undecided whether any syscall is allowed")
         self.assertEqual(accesses[0].as_json(), {"kind": "i386", "is_decided": False, "not_denied": []})
         with mock.patch.dict(client.limits, {"limit": "0"}):
-            self.assertEqual([access.describe() for access in other_abis.known_of([filter_of([READ])])], [
+            self.assertEqual([access.describe() for access in known_of([filter_of([READ])])], [
                 f"{kind}: undecided whether any syscall is allowed" for kind in ("i386", "x32")])
 
     def test_a_computation_that_is_decided(self):
         """The number times the number is known from its lowest bit on."""
         squares = load(4) + jeq(X86_64, 1, 0) + load(0) + insn(0x07, 0) + insn(0x2C, 0) + jeq(9, 0, 1) + ret(LOG) + \
             ret(EPERM)
-        accesses = other_abis.known_of([squares])
+        accesses = known_of([squares])
         self.assertEqual([access.is_decided for access in accesses], [True, True])
         call, answer = accesses[0].not_denied
         self.assertTrue(self.is_of(accesses[0].abi, call), accesses)
@@ -360,9 +374,6 @@ class Foreign(Case):
         # x86-64 and x32 share an architecture, whose own number is squared there
         self.assertNotEqual(X86_64 ** 2 & 0xFFFFFFFF, 9)
         self.assertTrue(accesses[1].are_denied, accesses)
-
-    def test_refused_filters(self):
-        self.assertEqual(other_abis.known_of([b""]), [])
 
 
 class VerifyProcess(Confined):

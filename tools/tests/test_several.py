@@ -18,7 +18,7 @@ from support.common import PROGRAM, TOP, Case, insn, jeq, jge, load, ret
 from support.seccomp_library import NEEDED, Conflict, Library
 from support.stand_in import StandIn, unpacked
 from test_library import OUT, RELATIONS, python_module
-from scftools import bundles, client, filters, runtimes, tables, verdicts, verify
+from scftools import bundles, client, runtimes, tables, verdicts, verify
 from scftools.architectures import JUDGED
 from scftools.calls import Call
 from scftools.filters import Filter
@@ -27,7 +27,7 @@ from scftools.filters import Filter
 # records are tried of a syscall that has conditions.
 PROFILES, BY_PROGRAM, DRAWS, RECORDS = int(os.environ.get("SCF_SEVERAL_PROFILES", "4000")), 60, 4000, 12
 IN_PROCESS = unittest.skipUnless(os.path.exists(os.path.join(OUT, "libscf.so.0")), "libscf isn't built: library/build")
-ALLOW, EPERM = 0x7FFF0000, 0x50001
+ALLOW = 0x7FFF0000
 X86_64, I386, X32 = 0xC000003E, 0x40000003, 0x40000000
 NAMED = ["SCMP_ARCH_X86_64", "SCMP_ARCH_X86", "SCMP_ARCH_X32"]
 MACHINE = StandIn()
@@ -509,20 +509,6 @@ class Stub(unittest.TestCase):
             lacking = {architecture: first for architecture, first in self.BOUNDS.items() if architecture != name}
             block, _ = self.judged(lacking)
             self.assertEqual((block.verdict, block.report.verdict.call.abi), ("differs", name))
-
-    def test_split(self):
-        """What is put before a filter answers alike on one side of the bounds, and runs it on the other."""
-        data = load(0) + jeq(3, 0, 1) + ret(0x7FFC0000) + ret(0x30000)
-        bounds = [(JUDGED[name].number, first, JUDGED[name].last) for name, first in self.BOUNDS.items()]
-        for arch in (X86_64, I386, 0xC00000B7):
-            for number in (0, 3, 135, 136, 137, X32 - 1, X32, X32 + 135, X32 + 136, 0xFFFFFFFF):
-                words = words_of(arch, number, [0] * 6)
-                is_beyond = any(arch == own_arch and first <= number <= last for own_arch, first, last in bounds)
-                answer = MACHINE.answer(unpacked(data), words)
-                for runs_beyond in (True, False):
-                    split_answer = MACHINE.answer(unpacked(filters.split(data, bounds, EPERM, runs_beyond)), words)
-                    self.assertEqual(split_answer, answer if is_beyond == runs_beyond else EPERM,
-                                     (arch, number, runs_beyond))
 
 
 @NEEDED

@@ -91,17 +91,46 @@ class Starts(Counting):
         self.assertEqual(self.starts("lint", self.file("p.json", json.dumps(several))), 2)
 
     def test_compare_profiles(self):
-        first, second = (self.file(f"{at}.json", profile_of(*names)) for at, names in enumerate((NAMES, NAMES[::-1])))
-        for words in ([], ["--no-more"], ["--no-less"]):
-            self.assertEqual(self.starts("compare-profiles", *words, first, second), 2)
-        stated = {"defaultAction": "SCMP_ACT_ERRNO", "architectures": ["SCMP_ARCH_X86_64"],
-                  "syscalls": [{"names": NAMES, "action": "SCMP_ACT_ALLOW"}]}
-        first = self.file("runc.json", json.dumps(stated))
-        stated["syscalls"][0]["names"] = NAMES[::-1]
-        other = self.file("other.json", json.dumps(stated))
-        self.assertEqual(self.starts("compare-profiles", "--runtime", "runc", first, other), 3)
-        # what is asked twice is asked once
-        self.assertEqual(self.starts("compare-profiles", "--runtime", "runc", first, first), 2)
+        """Both as two sides, where they have the same tables and stubs; else the old one's filter, and its regions."""
+        first, second, fewer = (self.file(f"{at}.json", profile_of(*names))
+                                for at, names in enumerate((NAMES, NAMES[::-1], NAMES[1:])))
+        for words in ([], ["--no-more"], ["--no-less"], ["--json"]):
+            self.assertEqual(self.starts("compare-profiles", *words, first, second), 1)
+            self.assertEqual(self.starts("compare-profiles", *words, first, fewer, status=words != ["--no-more"]), 1)
+
+        def stated(name, names, architectures=("X86_64",)):
+            return self.file(name, json.dumps({
+                "defaultAction": "SCMP_ACT_ERRNO", "architectures": [f"SCMP_ARCH_{each}" for each in architectures],
+                "syscalls": [{"names": names, "action": "SCMP_ACT_ALLOW"}]}))
+
+        first, other, alike = stated("1", NAMES), stated("2", NAMES[::-1]), stated("3", NAMES[1:])
+        greater, listed = stated("4", [*NAMES, "futex_waitv"]), stated("5", NAMES, ("X86_64", "X86"))
+        self.assertEqual(self.starts("compare-profiles", "--runtime", "runc", first, other), 1)
+        self.assertEqual(self.starts("compare-profiles", "--runtime", "runc", first, alike, status=1), 1)
+        self.assertEqual(self.starts("compare-profiles", "--runtime", "runc", first, greater, status=1), 3)
+        self.assertEqual(self.starts("compare-profiles", first, listed, status=1), 2)
+
+    def test_compare(self):
+        """What differs, and how, is one answer; the last is the path that is shown. An example that says little is
+        replaced, and newer syscalls are told by themselves."""
+        numbers = [tables.read(None).number_of(name) for name in NAMES]
+        more, newer = filter_of([*numbers, 400, 41]), stub(500) + filter_of([*numbers, 400])
+        given = self.file("p.json", profile_of(*NAMES))
+        for data in (more, newer, load(4) + jeq(I386, 0, 1) + ret(ALLOW) + more):
+            name = self.file("f.bpf", data)
+            for words in ([], ["--json"], ["--native"], ["--all"], ["--no-more"]):
+                self.assertEqual(self.starts("compare", *words, name, given, status=1), 3, words)
+        self.assertEqual(self.starts("compare", self.file("f.bpf", filter_of(numbers)), given), 2)
+
+    def test_diff(self):
+        first, second = (self.file(f"{at}.bpf", filter_of(numbers)) for at, numbers in enumerate(([0, 400], [1, 41])))
+        for words in ([], ["--json"], ["--native"], ["--no-less"]):
+            self.assertEqual(self.starts("diff", *words, first, second, status=1), 3, words)
+            self.assertEqual(self.starts("compare", *words, first, second, "--beside", second, status=1), 3, words)
+
+    def test_surface_beside_another_answer(self):
+        first, second = (self.file(f"{at}.bpf", filter_of(numbers)) for at, numbers in enumerate(([0, 400], [1, 41])))
+        self.assertEqual(self.starts("surface", first, "--beside", second, status=1), 4)
 
 
 class OfProcesses(Confined, Counting):
