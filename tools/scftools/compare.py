@@ -82,10 +82,11 @@ class Comparison(Sides):
 
     def run_as_it_is(self, scope: str | None = None, relation: str | None = None) -> tuple[int, Report]:
         """scf's status and report for the profile with its stub."""
-        scope, relation, beside = scope or self.scope, relation or self.relation, left_out(self.profile, self.tables)
+        scope, relation = scope or self.scope, relation or self.relation
         status, report = self.by_call(relation) if scope == CALLS else self.asked(SCOPES[scope], relation)
         if report.verdict is None:
             return status, report
+        beside = left_out(self.profile, self.tables)
         if scope == ALL:
             report = self._of_all(report, relation, beside.architectures)
         return report.verdict.status, replace(report, skipped=beside.skipped, architectures=beside.architectures)
