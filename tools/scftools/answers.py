@@ -28,6 +28,8 @@ DENYING_ACTIONS = ("ERRNO", "TRAP", "KILL_THREAD", "KILL_PROCESS", "UNNAMED")
 # The disposition of a syscall, the strictest first. It follows from the action alone; the rank of an answer only says
 # which of a stack's answers decides.
 DISPOSITIONS = DENIED, DELEGATED, ALLOWED = "denied", "delegated", "allowed"
+# What it depends on the arguments whether a syscall is.
+DEPENDS = "depends"
 # Actions whose data a profile gives, as an errno or a number, 1 if it gives none (the OCI specification).
 ACTIONS_WITH_DATA = ("ERRNO", "TRACE")
 # Actions whose data is always printed, even if it is 0.

@@ -28,12 +28,12 @@ from .profiles import reading_of
 from .questions import IS_ALLOWED
 from .tables import Table
 from .values import Any, dataclass, field, replace
-from .verdicts import NO_LESS, NO_MORE, SAME, Verdict
+from .verdicts import NO_LESS, NO_MORE, OTHERWISE, SAME, Verdict
 from .verify import Request
 
 # The verdicts. Unconfined rows stand first, then these in this order.
-(UNCONFINED_THOUGH, BY_CONFIGURATION, WEAKER, NOT_KNOWN, OTHERWISE, STRICTER, AS_CONFIGURED) = AUDIT_VERDICTS = (
-    "unconfined though configured", "unconfined by configuration", "weaker", "not known", "otherwise", "stricter",
+AUDIT_VERDICTS = (UNCONFINED_THOUGH, BY_CONFIGURATION, WEAKER, NOT_KNOWN, _, STRICTER, AS_CONFIGURED) = (
+    "unconfined though configured", "unconfined by configuration", "weaker", "not known", OTHERWISE, "stricter",
     "as configured")
 # The verdicts that don't bear on the exit status.
 WITHOUT_CONSEQUENCE = (OTHERWISE, STRICTER, AS_CONFIGURED)

@@ -9,7 +9,7 @@ from .amendment import Amendment
 from .answers import ERRNOS
 from .calls import Call
 from .client import Refusal
-from .diagnosis import CONTRADICTS, FITS, UNKNOWN, Case, AnsweringStack, cases, rank, verdict_of
+from .diagnosis import CONTRADICTS, FITS, UNKNOWN_FIT, Case, AnsweringStack, cases, rank, verdict_of
 from .events import CORE, RECORD, STRACE, Event
 from .filters import Filter
 from .tables import Table, Tables
@@ -32,7 +32,7 @@ class Side:
     # "the profile", "the filter" or "the filters"
     name: str
     cases: tuple[Case, ...] = ()
-    verdict: str = UNKNOWN
+    verdict: str = UNKNOWN_FIT
     refusal: Refusal | None = None
     # whether the syscall is of an architecture that the profile names, and that isn't judged
     is_undetermined: bool = False
@@ -91,7 +91,7 @@ class Cause:
 
     @property
     def status(self) -> int:
-        verdicts = {CONTRADICTS: program.NEGATIVE, UNKNOWN: program.UNKNOWN, FITS: program.SUCCESS}
+        verdicts = {CONTRADICTS: program.NEGATIVE, UNKNOWN_FIT: program.UNKNOWN, FITS: program.SUCCESS}
         return client.worst(verdicts[side.verdict] if side.refusal is None else side.refusal.status
                             for side in self.sides)
 
@@ -173,7 +173,7 @@ def _of_verdict(side: Side, event: Event) -> Iterator[str]:
     s = "" if side.are else "s"
     if side.verdict == CONTRADICTS:
         yield _relation(side, event)
-    elif side.verdict == UNKNOWN:
+    elif side.verdict == UNKNOWN_FIT:
         yield f"whether {side.name} answer{s} so with other arguments isn't known"
     elif all(case.fits and case.is_for_all for case in side.cases):
         yield f"so {side.name} answer{s} it"

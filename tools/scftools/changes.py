@@ -17,13 +17,12 @@ from .profile_inputs import ProfileInput
 from .reasons import Reason
 from .tables import Table, Tables
 from .values import dataclass, field, replace
-from .verdicts import (FAILING_WORDS, LESS, MORE, NO_LESS, NO_MORE, SAME, UNDECIDED, UNFINISHED, Report, Verdict,
-                       checked)
+from .verdicts import (FAILING_WORDS, LESS, MORE, NO_LESS, NO_MORE, OTHERWISE, SAME, UNDECIDED, UNFINISHED, Report,
+                       Verdict, checked)
 
 OLD, NEW = "old", "new"
 BOTH_WAYS = (OLD, NEW), (NEW, OLD)
 # The new profile is more permissive, stricter, or only gives another answer; or scf can't decide.
-OTHERWISE = "otherwise"
 CHANGE_KINDS = (MORE, LESS, OTHERWISE, UNDECIDED, UNFINISHED)
 # The relation that the old profile has to the new one, if the new one has this to the old one.
 TURNED = {NO_MORE: NO_LESS, NO_LESS: NO_MORE}

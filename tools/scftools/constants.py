@@ -132,7 +132,7 @@ def argument_in(text: str, architecture: str) -> str:
 
 # More constants than these are shown as a number, and of so many zeros at the end of a call each by itself. Numbers
 # below SMALL are shown in decimal, and negative ones down to its negative.
-MOST_NAMES, MOST_ZEROS, SMALL = 6, 2, 1 << 16
+MOST_NAMES_OF_VALUE, MOST_ZEROS, SMALL = 6, 2, 1 << 16
 WORD_VALUES, REGISTER_VALUES = 1 << 32, 1 << 64
 
 
@@ -185,7 +185,7 @@ class Family:
         names = [self.of_mask[low]] if low in self.of_mask and (low or self.mask or not remainder) else []
         named, remainder = self._of_bits(remainder if names else remainder + low)
         names += named
-        if not names or len(names) > MOST_NAMES:
+        if not names or len(names) > MOST_NAMES_OF_VALUE:
             return None
         return "|".join(sorted(names, key=lambda name: self.ranks[name]) + ([hex(remainder)] if remainder else []))
 

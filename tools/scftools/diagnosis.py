@@ -13,7 +13,7 @@ from .regions import POINTER, Lookup, Region
 from .tables import Tables
 from .values import dataclass
 
-FITS, CONTRADICTS, UNKNOWN = "fits", "contradicts", "unknown"
+FITS, CONTRADICTS, UNKNOWN_FIT = "fits", "contradicts", "unknown"
 
 
 @dataclass(frozen=True)
@@ -81,4 +81,4 @@ def verdict_of(cases: Sequence[Case]) -> str:
     """Whether the filters answer as the event was answered, in some way that its arguments may be."""
     if any(case.fits for case in cases):
         return FITS
-    return CONTRADICTS if all(case.fits is False for case in cases) else UNKNOWN
+    return CONTRADICTS if all(case.fits is False for case in cases) else UNKNOWN_FIT

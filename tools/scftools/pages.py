@@ -14,12 +14,12 @@ from collections import Counter
 from collections.abc import Iterable, Iterator, Sequence
 
 from . import client, output, surface_output, surfaces, watchlist
-from .answers import ALLOWED, DELEGATED, DENIED
+from .answers import ALLOWED, DELEGATED, DENIED, DEPENDS
 from .calls import Call
 from .compare import Comparison
 from .stack_surfaces import StackSurface
 from .surface_output import Groups
-from .surfaces import DEPENDS, Surface
+from .surfaces import Surface
 from .tables import Table
 from .values import dataclass
 from .verdicts import Report

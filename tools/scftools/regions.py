@@ -19,7 +19,7 @@ from .listing import ARCHITECTURE, ARGUMENTS, NUMBER
 from .tables import Table, Tables
 from .verdicts import UNFINISHED
 
-UNKNOWN, OPEN, BESIDE = "unknown", " open", " beside "
+UNKNOWN_ANSWER, OPEN, BESIDE = "unknown", " open", " beside "
 # The index of the instruction pointer, whose words stand before those of argument 0.
 POINTER = -1
 # The greatest value of a word, and the most intervals into which known bits may divide the numbers of a region.
@@ -155,7 +155,7 @@ class Region(Side):
 def _side_in(text: str, places: Sequence[int] | None) -> tuple[str, Answer | None, int | None]:
     """An answer and its reason, also by themselves. Raises ValueError."""
     words = text.split(" ")
-    count = 1 if words[0] == UNKNOWN else 2
+    count = 1 if words[0] == UNKNOWN_ANSWER else 2
     answer = Answer.read(" ".join(words[:count]))
     if not words[count:] or answer is None and count == 2:
         raise ValueError(text)

@@ -10,7 +10,7 @@ import json
 from collections.abc import Iterable, Iterator, Sequence
 
 from . import client, entries, output, profiles, program, reasons, regions, strace, tables, traces
-from .answers import ALLOWED, KILL_PROCESS, Answer
+from .answers import ALLOWED, DEPENDS, KILL_PROCESS, Answer
 from .architectures import JUDGED, NATIVE, Architecture, of_machine
 from .calls import Call
 from .engines import PASSED_ON
@@ -23,7 +23,7 @@ from .traces import Trace
 from .values import dataclass
 from .verdicts import UNDECIDED, UNFINISHED
 
-NOT_ALLOWED, DEPENDS = "not allowed", "depends"
+NOT_ALLOWED = "not allowed"
 # What in a log isn't judged, by its name in JSON.
 UNJUDGED = {"foreign": "syscalls not judged, since scf has no table of their architecture",
             "cut": "syscalls not judged, since the log lacks their beginning or end",

@@ -27,7 +27,7 @@ SIGNS = {EQUAL: "==", NOT_EQUAL: "!=", AT_MOST: "<=", AT_LEAST: ">="}
 LEAST_LISTED, MOST_VALUES = 4, 16
 # The most answers of a syscall of which one is sought that stands for all other arguments; and the most alternatives
 # that are printed beside it, if those of dispositions are fewer.
-MOST_PARTS, MOST_PRINTED = 512, 16
+MOST_PARTS, MOST_PRINTED_CONDITIONS = 512, 16
 # The syscall of i386 whose first argument points to the others.
 IN_MEMORY = (I386, "mmap")
 # For each disposition the answer that stands for all of it.
@@ -213,7 +213,7 @@ def _fewest(answers: FilterAnswers, parts: dict[Answer, int]) -> tuple[Answer, d
         count, least = (sum(map(len, alternatives.values())) for alternatives in (fitting, best[1]))
         if len(fitting) == len(covers) and (not best[1] or count < least):
             best = otherwise, fitting
-        if best[1] and count <= MOST_PRINTED:
+        if best[1] and count <= MOST_PRINTED_CONDITIONS:
             break
     return best
 
@@ -226,7 +226,7 @@ def _of_answers(answers: FilterAnswers, number_answers: Answers) -> \
         return None
     parts, is_whole = answers.parts(number_answers, True), answers.unsaid(number_answers) is None
     otherwise, others = _fewest(answers, parts) if is_whole else (NOTHING, {})
-    if not 0 < sum(map(len, others.values())) <= MOST_PRINTED:
+    if not 0 < sum(map(len, others.values())) <= MOST_PRINTED_CONDITIONS:
         dispositions: dict[Answer, int] = {}
         for answer, arguments in parts.items():
             utmost = ANSWERS[answer.disposition]

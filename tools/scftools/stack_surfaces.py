@@ -6,7 +6,7 @@ from collections.abc import Iterable, Iterator, Sequence
 
 from . import (client, constants, explanation, other_abis, output, program, questions, refusals, surface_output,
                surfaces, verify)
-from .answers import ALLOW
+from .answers import ALLOW, DEPENDS
 from .architectures import JUDGED, NATIVE, Architecture
 from .bundles import BESIDE
 from .calls import NO_CALL
@@ -17,7 +17,7 @@ from .processes import Inspection, Stack
 from .refusals import faulty_filters
 from .stack_comparison import StackComparison
 from .surface_output import LEAST_WIDTH, Groups, details, fitted, grouped, of_whole, row_json, wrapped
-from .surfaces import DEPENDS, Row, Surface
+from .surfaces import Row, Surface
 from .tables import Table, Tables
 from .values import dataclass
 from .verdicts import SAME, NamedCall, Verdict

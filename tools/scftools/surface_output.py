@@ -5,10 +5,10 @@ import os
 from collections.abc import Iterable, Iterator, Sequence
 
 from . import other_abis, program
-from .answers import ALLOWED, DENIED
+from .answers import ALLOWED, DENIED, DEPENDS
 from .architectures import NATIVE
 from .explanation import join_names
-from .surfaces import DEPENDS, ROW_WORDS, Row, Surface
+from .surfaces import ROW_WORDS, Row, Surface
 
 # The width of a terminal that doesn't report one, and the least width of a column of names beside others.
 USUAL, LEAST_WIDTH = 80, 24

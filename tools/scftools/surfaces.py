@@ -6,7 +6,7 @@ from collections import Counter
 from collections.abc import Iterable, Sequence
 
 from . import constants, other_abis, regions, tables
-from .answers import ALLOWED, DELEGATED, DENIED, Answer
+from .answers import ALLOWED, DELEGATED, DENIED, DEPENDS, Answer
 from .architectures import JUDGED, NATIVE, Architecture
 from .calls import Call
 from .questions import IS_ALLOWED, IS_DENIED, IS_NEVER_ALLOWED, IS_NEVER_DENIED, Asker
@@ -21,7 +21,6 @@ if TYPE_CHECKING:
 
 MOST_PERMISSIVE_FIRST = (ALLOWED, DELEGATED, DENIED)
 # What may hold for all syscalls of a number, in the order in which it is printed; the last two if scf can't decide.
-DEPENDS = "depends"
 ROW_WORDS = (ALLOWED, DEPENDS, DELEGATED, DENIED, UNDECIDED, UNFINISHED)
 # The dispositions that may occur if a relation holds.
 QUESTIONS = {IS_DENIED: {DENIED}, IS_ALLOWED: {ALLOWED}, IS_NEVER_ALLOWED: {DELEGATED, DENIED},

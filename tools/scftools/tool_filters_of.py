@@ -34,7 +34,7 @@ import tempfile
 from . import c_arrays, filter_loads, filters, inputs, output, processes, program, strace, tracing, words
 from .processes import Stack
 
-STRACE_OPTIONS = ("-f", "-v", "-e", f"trace={filter_loads.TRACED_CALLS}", "-e", "signal=none",
+TRACING_OPTIONS = ("-f", "-v", "-e", f"trace={filter_loads.TRACED_CALLS}", "-e", "signal=none",
                   "--quiet=attach,personality")
 
 
@@ -100,7 +100,7 @@ def of_program(options):
     """Runs the program: the stack that it loads, and its status."""
     with tempfile.TemporaryDirectory(prefix="scf-filters-of-") as folder:
         log = os.path.join(folder, "log")
-        status = tracing.run(log, STRACE_OPTIONS, options.traced)
+        status = tracing.run(log, TRACING_OPTIONS, options.traced)
         hint = "its numbers change: `strace -f -v -o LOG` before it writes them, and --log LOG --thread"
         return loaded_in(log, "the program", options.thread, hint), status
 

@@ -30,7 +30,7 @@ import tempfile
 
 from . import client, output, profile_inputs, program, refusals, requirements, tracing, words
 
-STRACE_OPTIONS = ("-f", "-n", "-e", "raw=all", "--quiet=attach")
+RECORDING_OPTIONS = ("-f", "-n", "-e", "raw=all", "--quiet=attach")
 
 
 def read_words():
@@ -60,7 +60,7 @@ def least(options, judges):
     judges.of(judges.own.oci)
     with tempfile.TemporaryDirectory(prefix="scf-record-") as folder:
         log = os.path.join(folder, "log")
-        status = tracing.run(log, STRACE_OPTIONS, options.traced)
+        status = tracing.run(log, RECORDING_OPTIONS, options.traced)
         text, remarks = requirements.least_profile(requirements.read([log], judges), judges)
     with open(options.file, "w", encoding="utf-8") as file:
         file.write(text)
@@ -71,7 +71,7 @@ def least(options, judges):
 def main():
     options = read_words()
     if options.profile is None:
-        return tracing.end_as(tracing.run(options.file, STRACE_OPTIONS, options.traced))
+        return tracing.end_as(tracing.run(options.file, RECORDING_OPTIONS, options.traced))
     judges = requirements.Judges(profile_inputs.read(options.profile, None).data, None, None)
     try:
         return tracing.end_as(least(options, judges))

@@ -47,7 +47,7 @@ OCI_NAMES = {name: f"SCMP_ARCH_{oci}" for name, oci in (
 # What an x86-64 kernel runs, of which systemd filters each.
 LOCAL = (NATIVE, "SCMP_ARCH_X86", "SCMP_ARCH_X32")
 # The most bytes of what a command of systemd prints, and the deepest nesting of groups.
-MOST_PRINTED, DEEPEST_GROUP = 1 << 20, 16
+MOST_PRINTED_BYTES, DEEPEST_GROUP = 1 << 20, 16
 # The most bytes of a unit's file, and the most names that are listed as left out.
 MOST_FILE_BYTES, MOST_TOLD = 1 << 20, 20
 
@@ -263,8 +263,8 @@ def printed_by(words: Sequence[str]) -> str:
         message = done.stderr.decode("utf-8", "backslashreplace").strip().split("\n")[0]
         raise program.ToolError(f"{words[0]} ended with status {done.returncode}" + (f": {message}" if message else ""),
                               program.IO_ERROR)
-    if len(done.stdout) > MOST_PRINTED:
-        raise program.ToolError(f"{words[0]} printed more than {MOST_PRINTED} bytes", program.IO_ERROR)
+    if len(done.stdout) > MOST_PRINTED_BYTES:
+        raise program.ToolError(f"{words[0]} printed more than {MOST_PRINTED_BYTES} bytes", program.IO_ERROR)
     return done.stdout.decode("utf-8", "surrogateescape")
 
 

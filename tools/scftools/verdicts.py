@@ -29,6 +29,8 @@ UNDETERMINED = "undetermined"
 FOR_OTHER_ABI = f"{UNDETERMINED}: the profile is for this architecture, too"
 # The first two with --no-more and --no-less.
 NO_MORE, MORE, NO_LESS, LESS = "no more", "more", "no less", "less"
+# Only from the tools: other answers, neither more permissive nor stricter.
+OTHERWISE = "otherwise"
 # With --disposition.
 SAME_DISPOSITION = "same disposition"
 # The options for each relation, by the verdict if it holds.
