@@ -214,18 +214,21 @@ class Sides:
         return self.known_verdict(scope, relation) or self.run(scope, relation)[1].verdict
 
     def calls_of(self, name: str) -> list[NamedCall]:
-        """The syscalls in the table of an architecture of which the relation isn't proved. Raises Refusal."""
-        table = self.tables.of[name]
-        known = self.differences.calls(name, table, self.relation) if table.numbers() else []
-        if known is None:
-            report = checked(*self.asked(SCOPES[CALLS], self.relation, name), True)
-            self.check(report)
-            known = [*report.calls]
-        return known
+        """The syscalls in the table of an architecture of which the relation isn't proved, by scf's lines. Raises
+        Refusal."""
+        has_numbers = bool(self.tables.of[name].numbers())
+        return [*checked(*self.asked(SCOPES[CALLS], self.relation, name), True).calls] if has_numbers else []
 
     def of_calls(self) -> list[NamedCall]:
         """The syscalls in the tables of all architectures of which the relation isn't proved. Raises Refusal."""
-        return [call for name in self.tables.of for call in self.calls_of(name)]
+        calls: list[NamedCall] = []
+        for name, table in self.tables.of.items():
+            known = self.differences.calls(name, table, self.relation)
+            if known is None:
+                known = self.calls_of(name)
+                self.check(Report((), calls=tuple(known)))
+            calls += known
+        return calls
 
     def of_numbers(self, name: str, first: int, last: int) -> Verdict:
         """The verdict on the syscalls of an architecture with numbers of records from one to another, both included."""
