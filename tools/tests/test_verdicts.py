@@ -237,7 +237,8 @@ ARCHITECTURES = (
     ("--nr-from 0x40000084", THREE, "same\n", ARM, 0),
     ("--nr-from 5 --nr-to 4", THREE, "fault command Range\n", "", 2),
 )
-# Flags exclude each other, and so do two of which one says over which calls. The number comes first.
+# Flags exclude each other, and so do two of which one says over which calls. The number comes first. No call has a
+# number in the last two ranges.
 EXCLUDED = (
     (["compare", "--no-more", "--no-less"], "fault command Flags\n"),
     (["compare", "--no-less", "--native", "--no-more", "--limit", "7"], "fault command Flags\n"),
@@ -252,6 +253,8 @@ EXCLUDED = (
     (["compare", "--architectures", "--calls", "--nr-from", "1"], "fault command Flags\n"),
     (["compare", "--architectures", "--calls", "--native"], "fault command Flags\n"),
     (["compare", "--nr-to", "0x100000000"], "fault number nr-to\n"),
+    (["compare", "--native", "--nr-from", "0x40000000"], "fault command Range\n"),
+    (["compare", "--beside", "--nr-from", "1", "--nr-to", "0"], "fault command Range\n"),
 )
 
 

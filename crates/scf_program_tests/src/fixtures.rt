@@ -14,7 +14,3 @@ pub(crate) const READ_TABLE: &str = "read 0\n";
 
 /// The profile that allows each call.
 pub(crate) const DEFAULT_ALLOW: &str = r#"{"defaultAction":"SCMP_ACT_ALLOW"}"#;
-
-/// The profile that allows `read`.
-pub(crate) const ONE_CALL: &str =
-    r#"{"defaultAction":"SCMP_ACT_ERRNO","syscalls":[{"names":["read"],"action":"SCMP_ACT_ALLOW"}]}"#;

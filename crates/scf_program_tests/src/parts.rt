@@ -14,13 +14,7 @@ pub(crate) enum Part {
     /// A filter beside others.
     Beside(&'static str),
     Profile(&'static str),
-    /// A profile beside another one.
-    BesideProfile(&'static str),
     Table(&'static str),
-    /// A table of i386.
-    TableX86(&'static str),
-    /// A table of x32, whose numbers are without its bit.
-    TableX32(&'static str),
 }
 
 /// Takes every call.
@@ -55,10 +49,7 @@ fn add_part(rt: &impl Abort, alloc: Global, bundle: &mut Vec<u8>, part: Part) {
         Part::Filter(text) => add(rt, alloc, bundle, "filter", &filter_of(rt, alloc, text)),
         Part::Beside(text) => add(rt, alloc, bundle, "beside", &filter_of(rt, alloc, text)),
         Part::Profile(text) => add(rt, alloc, bundle, "profile", text.as_bytes()),
-        Part::BesideProfile(text) => add(rt, alloc, bundle, "beside-profile", text.as_bytes()),
         Part::Table(text) => add(rt, alloc, bundle, "table", text.as_bytes()),
-        Part::TableX86(text) => add(rt, alloc, bundle, "table-x86", text.as_bytes()),
-        Part::TableX32(text) => add(rt, alloc, bundle, "table-x32", text.as_bytes()),
     }
 }
 

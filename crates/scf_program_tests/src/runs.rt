@@ -93,13 +93,3 @@ pub(crate) fn run_on_std(
         reads: input.asks(),
     }
 }
-
-/// Runs the program with a reader that gives so many bytes at a time.
-pub(crate) fn run(alloc: Global, words: &[&str], input: &[u8], step: usize) -> Ended {
-    run_on(
-        alloc,
-        words,
-        Reader::new(input, step, Failing::Never),
-        ample(alloc),
-    )
-}
