@@ -39,8 +39,8 @@
 //! enough splits (`budget`) every comparison ends with `Holds` or `Fails`, else with `Undecided`.
 //!
 //! Everything that two sides answer is found by the same steps (`regions`): at each leaf what the store knows is kept
-//! as a region (`region`), with both answers, their origins (`origin`) and a record. A side by itself is walked beside a
-//! stack without filters, whose tree is one leaf.
+//! as a region (`region`), with both answers, their origins (`origin`) and a record. A side by itself is walked beside
+//! a stack without filters, whose tree is one leaf.
 //!
 //! A stack of filters is walked oldest first (`stack`). Of the profiles of several architectures each is asked in turn
 //! whether the call is its architecture's, and the later ones where it isn't (`profiles`). The proofs of the walk speak

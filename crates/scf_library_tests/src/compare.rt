@@ -27,8 +27,8 @@ const STORED: &str =
 /// A division by the low word of the first argument, which ends the run where that is 0.
 const DIVISION: &str = "ld [16]; tax; ld #1; div x; ret #0x7fff0000";
 
-/// A filter behind the gate, a table and a profile, and the two answers to a call that is shown, the filter's first; none
-/// where both answer alike.
+/// A filter behind the gate, a table and a profile, and the two answers to a call that is shown, the filter's first;
+/// none where both answer alike.
 type Pair = (&'static str, &'static str, &'static str, Option<(u32, u32)>);
 
 const PAIRS: &[Pair] = &[
@@ -54,8 +54,8 @@ fn pairs() -> &'static [Pair] {
     PAIRS
 }
 
-/// Whether the verdict within a limit is the one that is wanted, and the same one within the steps that it took, but not
-/// within one step fewer.
+/// Whether the verdict within a limit is the one that is wanted, and the same one within the steps that it took, but
+/// not within one step fewer.
 fn is_wanted<F: WordFacts>(
     rt: &impl Abort,
     alloc: Global,

@@ -1,6 +1,6 @@
 //! What is counted or asked of filters and profiles before any work, and no command prints: the effort of a comparison,
-//! the bound of a compiled filter's size, and whether a filter or a profile is plain. The expected values are worked out
-//! by the formulas that the contracts name.
+//! the bound of a compiled filter's size, and whether a filter or a profile is plain. The expected values are worked
+//! out by the formulas that the contracts name.
 
 use crate::fixtures::{
     ALLOW_ALL, CLONE_MASK, CLONE_TABLE, DEFAULT_ALLOW, EXTREMES, GATE, READ_WRITE_TABLE,

@@ -1,5 +1,5 @@
-//! Readers and writers: each read and each write of the libraries' calls failing in turn, and the longest filter byte by
-//! byte. Also the bytes of a record, which no command reads or prints.
+//! Readers and writers: each read and each write of the libraries' calls failing in turn, and the longest filter byte
+//! by byte. Also the bytes of a record, which no command reads or prints.
 
 use crate::fixtures::{holds_at, holds_of, insn};
 use scf_insn::faults::{Failing, Reader, Writer};
@@ -132,7 +132,7 @@ fn is_written<S: Sink>(what: Written, sink: &mut S) -> bool {
     }
 }
 
-/// Whether a write that fails behind so many bytes is reported: a beginning went out, and nothing is asked for after it.
+/// Whether a write that fails behind so many bytes is reported: a beginning went out, and nothing is asked for after.
 fn is_cut(alloc: Global, what: Written, count: usize, failing: Failing) -> bool {
     let mut sink = Writer::new(alloc, 1, failing);
     !is_written(what, &mut sink)

@@ -1,5 +1,5 @@
-//! The comparisons of filters with a profile from readers, which other crates than the program's call: each read failing
-//! in turn.
+//! The comparisons of filters with a profile from readers, which other crates than the program's call: each read
+//! failing in turn.
 
 use crate::fixtures::{DEFAULT_ALLOW, READ_TABLE};
 use crate::parts::filter_of;
