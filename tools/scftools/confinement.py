@@ -1,4 +1,4 @@
-"""Confinement: the filters that the processes and threads of a strace log are under, as far as it shows their loading."""
+"""Confinement: the filters that the processes and threads of a strace log are under, as far as it shows them loaded."""
 from __future__ import annotations
 
 import re

@@ -51,11 +51,14 @@ def _record_in(region: Region, span: Span) -> Call | None:
     """A record of a region in a span, None if there is none: scf's example, or one with the least numbers. Raises
     TooManyRanges."""
     shown = region.call
-    if all(low <= value <= high for value, (low, high) in zip((shown.architecture, shown.number), span)):
+    if shown and all(low <= value <= high for value, (low, high) in zip((shown.architecture, shown.number), span)):
         return shown
     architecture, number = (region.words.get(word, FREE).within(*bounds)
                             for word, bounds in zip((ARCHITECTURE, NUMBER), span))
-    return region.call_of(number[0][0], architecture[0][0]) if architecture and number else None
+    if not architecture or not number:
+        return None
+    # (the record of an open region isn't shown, and that it has one is all that counts)
+    return region.call_of(number[0][0], architecture[0][0]) or Call(number[0][0], architecture[0][0])
 
 
 def holds(relation: str, region: Region) -> bool:
@@ -108,7 +111,7 @@ class Differences(Lookup):
         architecture, failing = JUDGED[name], []
         for number in sorted(table.numbers()) if self.regions is not None else ():
             call = Call(architecture.first + number, architecture.number)
-            verdict = _verdict(relation, ((region, region.call_of(call.number, call.architecture))
+            verdict = _verdict(relation, ((region, region.call_of(call.number, call.architecture) or call)
                                           for region in self.of_number(call)))
             if verdict is None:
                 return None

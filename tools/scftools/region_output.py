@@ -112,6 +112,8 @@ def lines(entries: Sequence[Listed], table: Table, architecture: Architecture, h
                f"{', '.join(names)}" + (f" where {' and '.join(entry.where)}" if entry.where else ""))
         if has_examples:
             call = entry.region.call_of(architecture.first + entry.first, architecture.number)
+            if call is None:
+                continue
             shown = call.as_c(table) or f"{call.describe(table)} args {' '.join(map(hex, call.arguments))}"
             yield f"# such as {shown}" + (f", ip {call.pointer:#x}" if call.pointer else "")
 
@@ -123,5 +125,6 @@ def as_json(entries: Sequence[Listed], table: Table, architecture: Architecture)
              "is_exact": entry.region.is_exact,
              "syscalls": [{"number": number, "names": table.names_of(number)} for number in entry.numbers],
              "unnamed": entry.unnamed, "where": list(entry.where),
-             "example": entry.region.call_of(architecture.first + entry.first, architecture.number).as_json(table)}
+             "example": call.as_json(table) if (call := entry.region.call_of(
+                 architecture.first + entry.first, architecture.number)) else None}
             for entry in entries]

@@ -139,15 +139,18 @@ class Region(Side):
         return True
 
     @functools.cached_property
-    def call(self) -> Call:
-        """The record that scf shows."""
+    def call(self) -> Call | None:
+        """The record that scf shows; of an open region it may show none, since it may have none."""
         call = Call.read(self._example)
-        if call is None:
+        if call is None and (self._example or self.is_exact):
             raise program.ToolError(f"scf answers printed an unexpected record: {self._example}", program.IO_ERROR)
         return call
 
-    def call_of(self, number: int, architecture: int, given: Mapping[int, int] | None = None) -> Call:
-        """One of its records that has a number, an architecture and arguments which some have."""
+    def call_of(self, number: int, architecture: int, given: Mapping[int, int] | None = None) -> Call | None:
+        """One of its records that has a number, an architecture and arguments which some have; None if scf shows none
+        of its records."""
+        if self.call is None:
+            return None
         arguments = tuple((given or {}).get(index, value) for index, value in enumerate(self.call.arguments))
         return Call(number, architecture, self.call.pointer, arguments)
 
@@ -167,12 +170,19 @@ def read(text: str, places: Sequence[int] | None = None) -> list[Region] | None:
     """Parses the output of `scf answers --examples`; None if it isn't one. An entry may have another place in the
     profile that a user gave."""
     *lines, last = text.splitlines() or [""]
+    shown: list[list[str]] = []
+    for line in lines:
+        # (an open region may lack a record)
+        if line.startswith("call ") and shown and len(shown[-1]) == 1:
+            shown[-1].append(line)
+        else:
+            shown.append([line])
     # what many lines have alike is parsed once
     sides: dict[str, tuple[str, Answer | None, int | None]] = {}
     words: dict[str, tuple[int, Word]] = {}
     regions: list[Region] = []
     try:
-        for line, example in zip(lines[::2], lines[1::2]):
+        for line, *example in shown:
             head, *given = line.split(" w")
             texts = head.removesuffix(OPEN).split(BESIDE)
             for text in texts:
@@ -183,11 +193,11 @@ def read(text: str, places: Sequence[int] | None = None) -> list[Region] | None:
                     index, values = word.split(" ")
                     words[word] = int(index), Word.read(values)
             side, *beside = map(sides.__getitem__, texts)
-            regions.append(Region(*side, not head.endswith(OPEN), dict(map(words.__getitem__, given)), example,
-                                  *(Side(*other) for other in beside)))
+            regions.append(Region(*side, not head.endswith(OPEN), dict(map(words.__getitem__, given)),
+                                  "".join(example), *(Side(*other) for other in beside)))
     except ValueError:
         return None
-    return regions if last.startswith(f"regions {len(regions)} steps ") and len(lines) == 2 * len(regions) else None
+    return regions if last.startswith(f"regions {len(regions)} steps ") else None
 
 
 def asked(words: Sequence[str], bundle: bytes, places: Sequence[int] | None = None) -> list[Region] | None:

@@ -163,6 +163,8 @@ class Judge:
             for region in self._lookup.of_number(call):
                 if region.answer is not None and region.has(values):
                     shown = region.call_of(call.number, call.architecture, values)
+                    if shown is None:
+                        return Judgement(traced, UNDECIDED, UNDECIDED)
                     (allowed if region.answer.disposition == ALLOWED else denied).append((shown, region))
         if not self._lookup.is_finished:
             return Judgement(traced, UNDECIDED, UNFINISHED)

@@ -13,8 +13,10 @@ from scftools.calls import Call
 from scftools.compare import Comparison
 from scftools.differences import EVERY_RECORD, Differences, span_of
 from scftools.filters import Filter
+from scftools.program import ToolError
 from scftools.stack_comparison import StackComparison
-from scftools.verdicts import ALL, CALLS, NATIVE_SCOPE, NO_LESS, NO_MORE, SAME, SAME_DISPOSITION, UNDECIDED
+from scftools.verdicts import (ALL, CALLS, NATIVE_SCOPE, NO_LESS, NO_MORE, SAME, SAME_DISPOSITION, UNDECIDED,
+                               Verdict)
 
 NATIVE, HOLDS = architectures.NATIVE, {
     SAME: lambda left, right: left == right, NO_MORE: lambda left, right: degree(left) <= degree(right),
@@ -56,7 +58,8 @@ class Parsed(unittest.TestCase):
                          ["differs", "no more", "no less", "same disposition"])
         self.assertEqual(listed.verdict(SAME, [span_of(NATIVE, 57, 449)]).call, clone)
         self.assertEqual(listed.verdict(SAME, [span_of(NATIVE, 58, 449)]).word, SAME)
-        self.assertEqual([line.line for line in listed.calls(NATIVE, tables.Table(b"fork 57\nread 0\nnew 450\n"), SAME)], [
+        table = tables.Table(b"fork 57\nread 0\nnew 450\n")
+        self.assertEqual([line.line for line in listed.calls(NATIVE, table, SAME)], [
             "57 fork differs args 0x100000005 0x0 0x0 0x0 0x0 0x0 filter ALLOW 0 profile ERRNO 1",
             "450 new differs args 0x0 0x0 0x0 0x0 0x0 0x0 filter ERRNO 38 profile ERRNO 1"])
 
@@ -76,6 +79,17 @@ class Parsed(unittest.TestCase):
         listed = found("ALLOW 0 at 0:0 beside unknown at 0:4\ncall nr 0 arch 0x0 ip 0x0 args 0x0 0x0 0x0 0x0 0x0 0x0\n")
         self.assertEqual([listed.verdict(relation, EVERY_RECORD) for relation in HOLDS], [None] * len(HOLDS))
         self.assertIsNone(listed.of(Call(0, 0)))
+
+    def test_an_open_region_without_a_record(self):
+        """It may have none: nothing is told of the records that may lie in it, and it has no example."""
+        listed = found("ERRNO 1 at 0:5 beside ALLOW 0 default open w0 0x87 w1 0xc000003e w4 0x1-0x3!0x3=0x1!0x2=0x2\n",
+                       ERRNO)
+        self.assertIsNone(listed.regions[0].call)
+        self.assertIsNone(listed.verdict(SAME, [span_of(NATIVE, 135, 135)]))
+        self.assertEqual(listed.verdict(SAME, [span_of(NATIVE, 136, 137)]), Verdict(SAME))
+        self.assertEqual(listed.verdict(SAME, [span_of(NATIVE)]).call, Call(450))
+        exact = found("ERRNO 1 at 0:5 beside ALLOW 0 default w0 0x87\n").regions[0]
+        self.assertRaises(ToolError, lambda: exact.call)
 
     def test_scopes(self):
         """Filters that differ for other ABIs alone."""
