@@ -57,19 +57,6 @@ return_put : {answer : ℕ} {before after : List Insn} {index : Position}
 return_put {answer} put =
     answers_put (Unit {0}) (return_answers answer 1 (Unit {0}) (omega arith)) (λ _. tt) put
 
-pub search_none : {before : List Insn} (behind : Position) → 0 < behind.0 → behind.0 ≤ length before
-    → IsValueSearchPut [] behind before before behind
-search_none behind some stands = record {
-  longer = omega arith;
-  small = omega arith;
-  stays = λ p le. refl;
-  some = some;
-  stands = stands;
-  front = λ lt. absurd (omega arith);
-  sound = λ asked s. s;
-  ends = λ words n answer most all pos e. more (e (low n)) (omega arith);
-}
-
 same_low : (n k : ℕ) → high k ≡ high n → low n ≡ low k → n ≡ k
 same_low n k halves lows = omega arith
 
