@@ -1,5 +1,5 @@
 -- Comparisons from the caller's bytes: what they come to, and what is handed out of it.
-use Rattle.std.specs.Prelude.{◌≡◌, ◌*◌, ◌⊎◌, ℕ, not, List, [], ◌∷◌, Option, Some, None, find, min}
+use Rattle.std.specs.Prelude.{◌≡◌, ◌⊎◌, ℕ, not, List, [], ◌∷◌, Option, Some, None, find}
 use Rattle.std.specs.Option.{option_map_or, option_or}
 use Rattle.scf_profile.specs.declared.relation.Relation.{Relation}
 use Rattle.scf_compare.specs.declared.budget.Limit.{Limit}
@@ -7,9 +7,8 @@ use Rattle.scf_compare.specs.declared.finding.Finding.{Finding}
 use Rattle.scf_compare.specs.declared.finding.Finding.TheVariants.{Holds, Fails, Undecided, Unfinished}
 use Rattle.scf_compare.specs.declared.finding.Which.{Which}
 use Rattle.scf_compare.specs.declared.finding.Which.TheVariants.{Left, Right}
-use Rattle.scf_compare.specs.Findings.{LeavesFindingSteps}
 use Rattle.scf_compare.specs.Sides.{Behavior}
-use Rattle.scf_tool.specs.Comparisons.{IsFound}
+use Rattle.scf_tool.specs.Comparisons.{AreFound, IsFoundInTurn, Remaining, all_of}
 use Rattle.scf_tool.specs.JointFindings.{is_failure, is_holding}
 use Rattle.scf_tool.specs.Reports.{report_text}
 use Rattle.scf_tool.specs.declared.findings.Findings.TheVariants.{AtOnce}
@@ -37,19 +36,11 @@ use Rattle.scf_c.specs.Sides.{refusal_of_right, tables_in_scope}
 
 -- ---- findings
 
--- The finding over some records, in no more steps than remain for all. Those that it takes are subtracted.
-pub record IsFoundOf (relation : Relation) (left right : Behavior) (limit : Limit) (remaining : ℕ) (records : Records)
-    (finding : Finding) (after : ℕ) : Type 0 where
-  pub found : IsFound relation left right records.scope (record limit { steps = min limit.steps remaining }) finding
-  pub spent : LeavesFindingSteps (min limit.steps remaining) (left.size * right.size) remaining finding after
-
--- Each of several has its finding, one after another, where so many steps remain before them and so many after.
-abbrev pub AreFound : Relation → Behavior → Behavior → Limit → ℕ → List Records → List Finding → ℕ → Type 0
-AreFound relation left right limit remaining [] [] after = after ≡ remaining
-AreFound relation left right limit remaining (first ∷ records) (finding ∷ findings) after = (between : ℕ)
-    × IsFoundOf relation left right limit remaining first finding between
-    × AreFound relation left right limit between records findings after
-AreFound relation left right limit remaining records findings after = ⊥
+-- each of several sets of records has its finding, in no more steps than remain
+abbrev pub AreFoundOver : Relation → Behavior → Behavior → Limit → Remaining → List Records → List Finding → Remaining
+    → Type 0
+AreFoundOver relation left right limit =
+    AreFound (λ remaining records. IsFoundInTurn relation left right records.scope limit remaining)
 
 -- The finding that speaks for several: the first that fails, else the first that doesn't hold, else the first that
 -- does. None if there is none.
@@ -122,12 +113,12 @@ pub record IsCompared (question : Question) (left right : SideInput) (tables : L
   pub right_side : ReadSide
   pub records : List Records
   pub findings : List Finding
-  pub remaining : ℕ
+  pub remaining : Remaining
   pub is_left : IsRead left asked.left tables left_side
   pub is_right : IsRead right asked.right tables right_side
   pub are_records : AreSomeRecords asked.over (tables_in_scope left_side right_side tables) records
-  pub are_found : AreFound asked.relation (behavior_of_read left_side) (behavior_of_read right_side)
-      (limit_of question) question.total_limit records findings remaining
+  pub are_found : AreFoundOver asked.relation (behavior_of_read left_side) (behavior_of_read right_side)
+      (limit_of question) (all_of question.total_limit) records findings remaining
   pub comparison_is : compared.comparison ≡ comparison_of findings left_side right_side
   pub each_is : compared.each.items ≡ of_each records findings
   pub text_is : compared.text.items ≡ text_of asked.relation right_side (joint_finding findings)

@@ -1,14 +1,14 @@
 //! Comparisons of two sides over several sets of records.
 
-ghost use Rattle.std.specs.Prelude.{◌≡◌, ◌++◌, ℕ, find, not, IfErr, IfOk, MatchOption, OnOk};
+ghost use Rattle.std.specs.Prelude.{◌≡◌, ◌++◌, find, not, IfErr, IfOk, MatchOption, OnOk};
 ghost use Rattle.scf_compare.specs.Sides.{behavior_of};
+ghost use Rattle.scf_tool.specs.Comparisons.{IsFoundInTurn, Remaining, all_of};
 ghost use Rattle.scf_tool.specs.JointFindings.{is_failure, is_holding};
 ghost use Rattle.scf_c.specs.Sides.{behavior_of_read};
 ghost use Rattle.scf_c.specs.Comparisons.{
-  AreFound,
+  AreFoundOver,
   IsComparisonRefused,
   IsCompared,
-  IsFoundOf,
   IsOverNone,
   comparison_of,
   joint_finding,
@@ -55,8 +55,9 @@ fn compare_over(
     remaining: &mut u64,
     remaining_below: &mut u64,
 ) -> Result<Finding, Memory>
-    ensures { IfOk result (λ finding. IsFoundOf relation (behavior_of left.now) (behavior_of right.now)
-        limit remaining.old records finding remaining.new) }
+    ensures { IfOk result (λ finding. IsFoundInTurn relation (behavior_of left.now) (behavior_of right.now)
+        records.scope limit (record { steps = remaining.old; search_steps = remaining_below.old }) finding
+        (record { steps = remaining.new; search_steps = remaining_below.new })) }
 {
     word_sets_start_exact();
     compare_sides_within::<WordSets>(
@@ -81,9 +82,9 @@ fn compare_each(
     limit: Limit,
     total: u64,
 ) -> Result<Vec<Finding>, Memory>
-    ensures { IfOk result (λ findings. (remaining : ℕ)
-        × AreFound relation (behavior_of left.now) (behavior_of right.now) limit total several.now findings.items
-        remaining) }
+    ensures { IfOk result (λ findings. (remaining : Remaining)
+        × AreFoundOver relation (behavior_of left.now) (behavior_of right.now) limit (all_of total) several.now
+        findings.items remaining) }
 {
     let mut findings = Vec::new(alloc);
     let mut remaining = total;
@@ -114,9 +115,9 @@ fn compare_read(
     limit: Limit,
     total: u64,
 ) -> Result<Vec<Finding>, Memory>
-    ensures { IfOk result (λ findings. (remaining : ℕ)
-        × AreFound relation (behavior_of_read left.now) (behavior_of_read right.now) limit total several.now
-        findings.items remaining) }
+    ensures { IfOk result (λ findings. (remaining : Remaining)
+        × AreFoundOver relation (behavior_of_read left.now) (behavior_of_read right.now) limit (all_of total)
+        several.now findings.items remaining) }
 {
     let left = left.as_side();
     let right = right.as_side();

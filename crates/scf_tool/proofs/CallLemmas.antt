@@ -1,42 +1,38 @@
--- The calls of a table, compared one after another.
-use Rattle.std.proofs.Common.{◌<◌, ◌++◌, ◌∙◌, ℕ, List, [], ◌∷◌, Bor, Contains, ap, arith, length, map, refl, subst}
+-- Comparisons one after another, and the calls of a table.
+use Rattle.std.proofs.Common.{◌≡◌, ◌+◌, ◌<◌, ◌++◌, ◌∙◌, ℕ, List, [], ◌∷◌, Bor, Contains, ap, arith, get_or, length, map, refl, subst, take}
 use Rattle.std.proofs.Math.ListN.{get_or-map}
 use Rattle.std.proofs.lemmas.List.{length-map}
 use Rattle.std.proofs.lemmas.List.Elements.{All-contains}
-use Rattle.scf_insn.specs.declared.architecture.Architecture.{Architecture}
-use Rattle.scf_compare.specs.declared.budget.Limit.{Limit}
-use Rattle.scf_compare.specs.Sides.{Behavior}
+use Rattle.scf_compile.proofs.Common.{take_more}
 use Rattle.scf_profile.specs.NamedCalls.{AreCallsOf, HasItsNames}
 use Rattle.scf_profile.specs.Table.{Names}
 use Rattle.scf_profile.specs.declared.named_call.NamedCall.{NamedCall}
-use Rattle.scf_profile.specs.declared.relation.Relation.{Relation}
-use Rattle.scf_tool.specs.ArchitectureScopes.{scope_of_call}
-use Rattle.scf_tool.specs.declared.findings.CallFinding.{CallFinding}
-use Rattle.scf_tool.proofs.Common.{AreFound, IsFoundOfCall}
+use Rattle.scf_tool.specs.Comparisons.{AreFound, Remaining}
 
--- one call more
-pub one_finding_more : (relation : Relation) (architecture : Architecture) (left right : Behavior)
-    (limit : Limit) (remaining : ℕ) (of_table : List NamedCall) (calls : List CallFinding) (between : ℕ) (of_last : NamedCall)
-    (last : CallFinding) (after : ℕ)
-    → AreFound relation architecture left right limit remaining of_table calls between
-    → IsFoundOfCall relation (scope_of_call architecture of_last.number) left right limit between of_last last after
-    → AreFound relation architecture left right limit remaining (of_table ++ of_last ∷ []) (calls ++ last ∷ []) after
-one_finding_more relation architecture left right limit remaining [] [] between of_last last after before here = (
-  after,
-  subst (λ (m : ℕ). IsFoundOfCall relation (scope_of_call architecture of_last.number) left right limit m of_last last
-      after)
-      before here,
-  refl,
-)
-one_finding_more relation architecture left right limit remaining [] (call ∷ calls) between of_last last after before here =
-    absurd before
-one_finding_more relation architecture left right limit remaining (first ∷ of_table) [] between of_last last after before here =
-    absurd before
-one_finding_more relation architecture left right limit remaining (first ∷ of_table) (call ∷ calls) between of_last last after before here = (
+-- one finding more
+one_finding_more : {A F : Type 0} (IsNext : Remaining → A → F → Remaining → Type 0) (remaining : Remaining)
+    (several : List A) (findings : List F) (between : Remaining) (last : A) (finding : F) (after : Remaining)
+    → AreFound IsNext remaining several findings between → IsNext between last finding after
+    → AreFound IsNext remaining (several ++ last ∷ []) (findings ++ finding ∷ []) after
+one_finding_more IsNext remaining [] [] between last finding after before here =
+    (after, subst (λ (m : Remaining). IsNext m last finding after) before here, refl)
+one_finding_more IsNext remaining [] (f ∷ findings) between last finding after before here = absurd before
+one_finding_more IsNext remaining (first ∷ several) [] between last finding after before here = absurd before
+one_finding_more IsNext remaining (first ∷ several) (f ∷ findings) between last finding after before here = (
   before.0,
   before.1,
-  one_finding_more relation architecture left right limit before.0 of_table calls between of_last last after before.2 here,
+  one_finding_more IsNext before.0 several findings between last finding after before.2 here,
 )
+
+-- the finding of the next of several
+pub next_found : {A F : Type 0} (IsNext : Remaining → A → F → Remaining → Type 0) (remaining : Remaining)
+    (several : List A) (i : ℕ) (d : A) (findings : List F) (between : Remaining) (finding : F) (after : Remaining)
+    (findings_after : List F) → i < length several → AreFound IsNext remaining (take i several) findings between
+    → IsNext between (get_or several i d) finding after → findings_after ≡ findings ++ finding ∷ []
+    → AreFound IsNext remaining (take (i + 1) several) findings_after after
+next_found IsNext remaining several i d findings between finding after findings_after lt before here is =
+    rw (take_more several i d lt, is)
+    (one_finding_more IsNext remaining (take i several) findings between (get_or several i d) finding after before here)
 
 -- ---- the calls of a table
 

@@ -30,7 +30,6 @@ pub use Rattle.scf_request.specs.Requests.{AsksFor}
 pub use Rattle.scf_request.specs.CommandLine.{scf}
 pub use Rattle.scf_tool.specs.Runs.{SpeaksOfWords}
 pub use Rattle.scf_tool.specs.Verifying.{HasEnded, IsAcceptedFilter, LeavesProfileReader, LeavesTableReader}
-pub use Rattle.scf_tool.specs.Comparisons.{AreFound, IsFoundOfCall}
 pub use Rattle.scf_tool.specs.VerifyingStacks.{LeavesFilterReaders}
 pub use Rattle.scf_request.specs.declared.contents.PartReader.{PartReader}
 pub use Rattle.scf_tool.specs.declared.fault.Fault.{Fault}

@@ -13,12 +13,12 @@ pub loop-profile-preserved : goal.loop-profile-preserved
 loop-profile-preserved c =
     let compared : Profile → Finding → Type 0 =
     λ p finding. IsFound c.args.relation (behavior_of c.args.left.now) (profile_behavior p)
-    (scope_of c.args.scope p.architecture) (limit_of c.args.limits) finding in
-    let own : compared c.profile-item.result c.in_ok-compare_at_once.field-0 =
+    (scope_of c.args.scope p.architecture) (limit_of c.args.limits) c.args.limits.each finding in
+    let finding : compared c.profile-item.result c.in_ok-compare_at_once.field-0 =
     rw (c.scope_of-over.ensures, c.architecture.ensures) at c.in_ok-compare_at_once.ensures in
     rw (take_more _ _ c.profile-item.result c.loop-profile-test.true, c.in_ok-push.ensures.items)
     (all_zipped_more compared _ _ _ _ c.loop-profile.invariant
-    (subst (λ (p : Profile). compared p c.in_ok-compare_at_once.field-0) c.profile-item.is own))
+    (subst (λ (p : Profile). compared p c.in_ok-compare_at_once.field-0) c.profile-item.is finding))
 
 pub returns : goal.returns
 returns c =
@@ -26,7 +26,7 @@ returns c =
     let over = scope_of c.args.scope in
     let compared : Profile → Finding → Type 0 =
     λ p finding. IsFound c.args.relation (behavior_of c.args.left.now) (profile_behavior p)
-    (over p.architecture) (limit_of c.args.limits) finding in
+    (over p.architecture) (limit_of c.args.limits) c.args.limits.each finding in
     let each : AllZip compared c.args.profiles.now findings =
     subst (λ (ps : List Profile). AllZip compared ps findings)
     (take_all c.loop-profile.profile-index _ c.loop-profile-test.false)

@@ -7,6 +7,6 @@ use Rattle.scf_tool.proofs.side_verification.compare_profiles.Given as goal
 abbrev pub invariant-loop-profile : goal.invariant-loop-profile
 invariant-loop-profile l =
     AllZip
-    (λ p own. IsFound l.relation (behavior_of l.left) (profile_behavior p) (scope_of l.scope p.architecture)
-    (limit_of l.limits) own)
+    (λ p finding. IsFound l.relation (behavior_of l.left) (profile_behavior p) (scope_of l.scope p.architecture)
+    (limit_of l.limits) l.limits.each finding)
     (take l.profile-index l.profiles) l.findings.items
