@@ -84,18 +84,18 @@ fn is_wanted<F: WordFacts>(
 }
 
 fn compared(rt: &impl Abort, alloc: Global, pair: &Pair) {
-    let (rest, table, text, shown) = *pair;
+    let (filter, table, text, shown) = *pair;
     let profile = profile_of(rt, alloc, table, text);
-    let program = assembled(rt, alloc, GATE, rest);
+    let program = assembled(rt, alloc, GATE, filter);
     holds_of(
         rt,
         is_wanted::<AtomList>(rt, alloc, &program, &profile, shown),
-        rest,
+        filter,
     );
     holds_of(
         rt,
         is_wanted::<WordSets>(rt, alloc, &program, &profile, shown),
-        rest,
+        filter,
     );
 }
 
@@ -113,8 +113,10 @@ const DEFAULT_LIMIT: u64 = 1_000_000;
 fn tests_of_numbers(rt: &impl Abort, alloc: Global, count: usize) -> String {
     let mut text = String::from_str(alloc, "st M[1]; ld #7; ld M[1];").expect(rt, "no fault");
     for number in 0..count {
-        let one = format!(in alloc; "jeq #{number}, 0, 1; ret #0x7ffc0000;").expect(rt, "no fault");
-        text.push_str(one.as_str()).expect(rt, "no fault");
+        let test = format!(in alloc; "jeq #{number}, 0, 1; ret #0x7ffc0000;").expect(
+            rt, "no fault",
+        );
+        text.push_str(test.as_str()).expect(rt, "no fault");
     }
     text
 }
@@ -124,10 +126,11 @@ fn tests_of_numbers(rt: &impl Abort, alloc: Global, count: usize) -> String {
 fn a_long_pair_that_is_not_plain(rt: HostRuntime) {
     let alloc = rt.alloc();
     let profile = profile_of(&rt, alloc, "", r#"{"defaultAction":"SCMP_ACT_LOG"}"#);
-    let mut rest = tests_of_numbers(&rt, alloc, 150);
-    rest.push_str("jeq #150, 0, 1; ret #0x7fff0000; ret #0x7ffc0000")
+    let mut tests = tests_of_numbers(&rt, alloc, 150);
+    tests
+        .push_str("jeq #150, 0, 1; ret #0x7fff0000; ret #0x7ffc0000")
         .expect(&rt, "no fault");
-    let program = assembled(&rt, alloc, GATE, rest.as_str());
+    let program = assembled(&rt, alloc, GATE, tests.as_str());
     assert!(rt; !is_plain(&program));
     let verdict = compare::<AtomList>(alloc, &program, &profile, DEFAULT_LIMIT);
     let verdict = verdict.expect(&rt, "no fault");

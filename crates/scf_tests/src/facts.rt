@@ -48,8 +48,8 @@ const LEARNED: &[(Atom, bool)] = &[
     (within!(6, 9, 12), false),
 ];
 
-/// What is told then: what the number of word 4 decides, an atom that was learned, and nothing else.
-const TOLD: &[(Atom, Tell)] = &[
+/// The answers of `tell` then: what the number of word 4 decides, an atom that was learned, and nothing else.
+const ANSWERS: &[(Atom, Tell)] = &[
     (is!(4, 7), Always),
     (is!(4, 8), Never),
     (equal!(4, 3, 3), Always),
@@ -70,8 +70,8 @@ fn learned() -> &'static [(Atom, bool)] {
     LEARNED
 }
 
-fn told() -> &'static [(Atom, Tell)] {
-    TOLD
+fn answers() -> &'static [(Atom, Tell)] {
+    ANSWERS
 }
 
 /// Learns an answer of an atom.
@@ -88,11 +88,11 @@ fn tells<F: WordFacts>(rt: &impl Abort, facts: &F, atom: Atom, wanted: Tell, num
 
 /// That these are words 0 and 4 of what is picked.
 fn picks<F: WordFacts>(rt: &impl Abort, facts: &F, word_0: u32, word_4: u32) {
-    let is_so = match facts.pick() {
+    let are_picked = match facts.pick() {
         Some(words) => words[0] == word_0 && words[4] == word_4,
         None => false,
     };
-    assert!(rt; is_so, "{word_0} {word_4}");
+    assert!(rt; are_picked, "{word_0} {word_4}");
 }
 
 #[test]
@@ -102,7 +102,7 @@ fn a_list_tells_and_picks(rt: HostRuntime) {
     for (atom, holds) in learned() {
         learn(&rt, &mut facts, *atom, *holds);
     }
-    for (number, (atom, wanted)) in (0..).zip(told()) {
+    for (number, (atom, wanted)) in (0..).zip(answers()) {
         tells(&rt, &facts, *atom, *wanted, number);
     }
     let mut fixed = AtomList::all(rt.alloc()).expect(&rt, "no fault");

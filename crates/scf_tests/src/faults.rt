@@ -87,7 +87,7 @@ fn commands() -> &'static [Asked] {
     COMMANDS
 }
 
-/// What is wanted of a run: its text, its status, and how many reads and writes failed.
+/// The wanted outcome of a run: its text, its status, and how many reads and writes failed.
 type Wanted<'a> = (&'a [u8], u8, u64);
 
 /// That a run ended as is wanted, and as many reads or writes were asked for as bytes came through, and one more.
@@ -100,8 +100,8 @@ fn ends(
     wanted: Wanted<'_>,
 ) {
     let (text, status, failures) = wanted;
-    let is_so = ended.is(text, status, failures) && asks.checked_sub(1) == Some(share as u64);
-    assert!(rt; is_so, "{words:?}, {share}: {ended:?}");
+    let is_wanted = ended.is(text, status, failures) && asks.checked_sub(1) == Some(share as u64);
+    assert!(rt; is_wanted, "{words:?}, {share}: {ended:?}");
 }
 
 /// A reader that gives all at once.

@@ -17,6 +17,13 @@ pub(crate) const GATE: &str =
 /// Allows each call.
 pub(crate) const ALLOW_ALL: &str = "ret #0x7fff0000";
 
+/// Kills the process on calls of other architectures, and allows all others, those of x32 too.
+pub(crate) const ARCH_GATE: &str =
+    "ld [4]; jeq #0xc000003e, 1, 0; ret #0x80000000; ret #0x7fff0000";
+
+/// Allows each call but `write`.
+pub(crate) const WITHOUT_WRITE: &str = "ld [0]; jeq #1, 0, 1; ret #0x50001; ret #0x7fff0000";
+
 /// The profile that allows each call.
 pub(crate) const DEFAULT_ALLOW: &str = r#"{"defaultAction":"SCMP_ACT_ALLOW"}"#;
 
@@ -24,6 +31,8 @@ pub(crate) const DEFAULT_ALLOW: &str = r#"{"defaultAction":"SCMP_ACT_ALLOW"}"#;
 pub(crate) const CLONE_MASK: &str =
     r#"{"defaultAction":"SCMP_ACT_ERRNO","syscalls":[{"names":["clone"],"action":"SCMP_ACT_ALLOW",
     "args":[{"index":0,"value":2114060288,"op":"SCMP_CMP_MASKED_EQ"}]}]}"#;
+
+pub(crate) const READ_TABLE: &str = "read 0\n";
 
 pub(crate) const CLONE_TABLE: &str = "clone 56\n";
 
@@ -44,14 +53,14 @@ pub(crate) const TWO_RULES: &str = r#"{"defaultAction":"SCMP_ACT_ERRNO","syscall
 
 pub(crate) const SOCKET_TABLE: &str = "socket 41\n";
 
-/// That what a text tells of is as it is to be.
-pub(crate) fn holds_of(rt: &impl Abort, is_so: bool, text: &str) {
-    assert!(rt; is_so, "{text}");
+/// That something holds; the text tells it from others.
+pub(crate) fn holds_of(rt: &impl Abort, holds: bool, text: &str) {
+    assert!(rt; holds, "{text}");
 }
 
-/// That what stands at a number is as it is to be.
-pub(crate) fn holds_at(rt: &impl Abort, is_so: bool, number: usize) {
-    assert!(rt; is_so, "{number}");
+/// That something holds; the number tells it from others.
+pub(crate) fn holds_at(rt: &impl Abort, holds: bool, number: usize) {
+    assert!(rt; holds, "{number}");
 }
 
 pub(crate) fn insn(code: u16, jt: u8, jf: u8, k: u32) -> Insn {
@@ -70,8 +79,8 @@ pub(crate) fn profile_of(rt: &impl Abort, alloc: Global, names: &str, text: &str
 }
 
 /// The filter of a text, which is given in two parts.
-pub(crate) fn assembled(rt: &impl Abort, alloc: Global, head: &str, rest: &str) -> Program {
-    let text = format!(in alloc; "{head}{rest}").expect(rt, "no fault");
+pub(crate) fn assembled(rt: &impl Abort, alloc: Global, head: &str, tail: &str) -> Program {
+    let text = format!(in alloc; "{head}{tail}").expect(rt, "no fault");
     let list = assemble(alloc, text.as_bytes()).expect(rt, "no fault");
     check(alloc, list).ok().expect(rt, "no fault")
 }

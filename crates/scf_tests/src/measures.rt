@@ -38,9 +38,9 @@ fn efforts() -> &'static [Repeated] {
 
 /// That a filter has this effort beside a profile.
 fn has_effort(rt: &impl Abort, alloc: Global, profile: &Profile, row: &Repeated) {
-    let (part, count, rest, wanted) = *row;
+    let (part, count, end, wanted) = *row;
     let text = part.repeat(alloc, count).expect(rt, "no fault");
-    let program = assembled(rt, alloc, text.as_str(), rest);
+    let program = assembled(rt, alloc, text.as_str(), end);
     holds_of(rt, effort(&program, profile) == wanted, part);
 }
 

@@ -37,7 +37,7 @@ const BYTES: &[u8; 24] = b"\x20\0\0\0\x04\0\0\0\x15\0\x01\x02\x3e\0\0\xc0\x06\0\
 
 const LINES: &[u8] = b"ld [4]\njeq #0xc000003e, 1, 2\nret #0x7fff0000\n";
 
-/// What is read.
+/// Which call reads.
 #[derive(Clone, Copy)]
 enum Read {
     Program,
@@ -48,11 +48,11 @@ enum Read {
 fn is_read<S: Source>(alloc: Global, what: Read, source: &mut S, fails: bool) -> bool {
     match what {
         Read::Program => match read_program(alloc, source) {
-            Ok(found) => !fails && found.as_slice() == LIST.as_slice(),
+            Ok(insns) => !fails && insns.as_slice() == LIST.as_slice(),
             Err(fault) => fails && fault == ReadFault::Read,
         },
         Read::Input => match read_input(alloc, source, BYTES.len()) {
-            Ok(found) => !fails && found.as_slice() == BYTES.as_slice(),
+            Ok(bytes) => !fails && bytes.as_slice() == BYTES.as_slice(),
             Err(fault) => fails && fault == InputFault::Read,
         },
     }
@@ -108,7 +108,7 @@ fn reads_that_fail(rt: HostRuntime) {
     fail_each_read(&rt, rt.alloc(), Read::Input);
 }
 
-/// What is written.
+/// Which call writes.
 #[derive(Clone, Copy)]
 enum Written {
     Program,
@@ -177,18 +177,18 @@ fn writes_that_fail(rt: HostRuntime) {
 /// Whether zeros are read byte by byte as the longest filter, or refused where they are more.
 fn is_longest(alloc: Global, zeros: &[u8], filter: &[Insn]) -> bool {
     let mut source = Reader::new(zeros, 1, Failing::Never);
-    let is_so = match read_program(alloc, &mut source) {
-        Ok(found) => zeros.len() == 32768 && found.as_slice() == filter,
+    let is_wanted = match read_program(alloc, &mut source) {
+        Ok(insns) => zeros.len() == 32768 && insns.as_slice() == filter,
         Err(fault) => zeros.len() == 32769 && fault == ReadFault::TooLong,
     };
-    is_so && source.asks() == 32769
+    is_wanted && source.asks() == 32769
 }
 
 /// Whether zeros are read byte by byte up to a limit.
 fn is_within(alloc: Global, zeros: &[u8], limit: usize) -> bool {
     let mut source = Reader::new(zeros, 1, Failing::Never);
     match read_input(alloc, &mut source, limit) {
-        Ok(found) => zeros.len() == limit && found.as_slice() == zeros,
+        Ok(bytes) => zeros.len() == limit && bytes.as_slice() == zeros,
         Err(fault) => zeros.len() > limit && fault == InputFault::TooLong,
     }
 }

@@ -30,18 +30,18 @@ fn is_token(token: &Token<'_>, wanted: Option<&(usize, &[u8])>) -> bool {
 }
 
 /// Whether tokens are these, with their starts.
-fn are(found: &[Token<'_>], wanted: &[(usize, &[u8])]) -> bool {
-    let mut are_so = found.len() == wanted.len();
-    for (index, token) in found.iter().enumerate() {
-        are_so &= is_token(token, wanted.get(index));
+fn are_tokens(tokens: &[Token<'_>], wanted: &[(usize, &[u8])]) -> bool {
+    let mut are_wanted = tokens.len() == wanted.len();
+    for (index, token) in tokens.iter().enumerate() {
+        are_wanted &= is_token(token, wanted.get(index));
     }
-    are_so
+    are_wanted
 }
 
 #[test]
 fn tokens_of_a_text(rt: HostRuntime) {
-    let found = tokens(rt.alloc(), TEXT).expect(&rt, "no fault");
-    assert!(rt; are(&found, TOKENS));
+    let list = tokens(rt.alloc(), TEXT).expect(&rt, "no fault");
+    assert!(rt; are_tokens(&list, TOKENS));
 }
 
 /// Writes a text so many times.
@@ -55,6 +55,6 @@ fn tokens_of_4096_lines_of_200(rt: HostRuntime) {
     let line = repeated(&rt, rt.alloc(), "; ", 200);
     let line = format!(in rt.alloc(); "{line}// ret a\n").expect(&rt, "no fault");
     let text = repeated(&rt, rt.alloc(), line.as_str(), 4096);
-    let found = tokens(rt.alloc(), text.as_bytes()).expect(&rt, "no fault");
-    assert!(rt; found.len() == 819_200);
+    let list = tokens(rt.alloc(), text.as_bytes()).expect(&rt, "no fault");
+    assert!(rt; list.len() == 819_200);
 }

@@ -88,11 +88,11 @@ fn ends(
     (failing, share): (usize, usize),
 ) {
     let (fault, asks) = outcome;
-    let mut is_so = fault == Some(fault_of(failing));
+    let mut is_wanted = fault == Some(fault_of(failing));
     for index in first..4usize {
-        is_so &= asks[index] == asks_at(given, index, failing, share);
+        is_wanted &= asks[index] == asks_at(given, index, failing, share);
     }
-    assert!(rt; is_so, "{failing} after {share}: {asks:?}");
+    assert!(rt; is_wanted, "{failing} after {share}: {asks:?}");
 }
 
 /// Each comparison where the reader at an index fails behind each count of its bytes.
