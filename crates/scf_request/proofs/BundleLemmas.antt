@@ -14,7 +14,7 @@ pub record SamePart (p q : Part) (a b r s : List ℕ) : Type 0 where
   pub start : p.start ≡ q.start
   pub size : p.length ≡ q.length
   pub bytes : a ≡ b
-  pub rest : r ≡ s
+  pub behind : r ≡ s
 
 pub if_none : {T : Type 0} (o : Option T) (P : Type 0) → P → IfNone o P
 if_none o P h = grind arith
@@ -41,16 +41,16 @@ module _ (kinds : List PartKind) where
   pub same_part : (o : ℕ) (p q : Part) (a b r s : List ℕ) → IsBundlePart kinds o p a → IsBundlePart kinds o q b
       → a ++ r ≡ b ++ s → SamePart p q a b r s
   same_part o p q a b r s h g e =
-      let same = same_header h.front.header g.front.header p.kind q.kind p.length q.length (h.front.rest ++ r)
-      (g.front.rest ++ s) h.front.is_header g.front.is_header (grind (arith, append_assoc)) in
-      let content : h.front.rest ≡ g.front.rest = same_front _ _ r s (cc) same.rest in
+      let same = same_header h.front.header g.front.header p.kind q.kind p.length q.length (h.front.content ++ r)
+      (g.front.content ++ s) h.front.is_header g.front.is_header (grind (arith, append_assoc)) in
+      let content : h.front.content ≡ g.front.content = same_front _ _ r s (cc) same.behind in
       let bytes : a ≡ b = cc in
       record {
         word = same.word;
         start = cc;
         size = same.count;
         bytes = bytes;
-        rest = append_cancel_left a r s (cc);
+        behind = append_cancel_left a r s (cc);
       }
 
   -- ---- lists of parts
@@ -60,88 +60,88 @@ module _ (kinds : List PartKind) where
 
   pub one_spelling : AreToldApart kinds → (o : ℕ) (bs : List ℕ) (ps qs : List Part) → SpellsParts kinds o bs ps
       → SpellsParts kinds o bs qs → ps ≡ qs
-  one_spelling told o bs [] [] h g = refl
-  one_spelling told o bs [] (q ∷ qs) h g = absurd (nothing_more o q g.0 g.1 g.3 (sym g.2 ∙ h))
-  one_spelling told o bs (p ∷ ps) [] h g = absurd (nothing_more o p h.0 h.1 h.3 (sym h.2 ∙ g))
-  one_spelling told o bs (p ∷ ps) (q ∷ qs) h g =
+  one_spelling apart o bs [] [] h g = refl
+  one_spelling apart o bs [] (q ∷ qs) h g = absurd (nothing_more o q g.0 g.1 g.3 (sym g.2 ∙ h))
+  one_spelling apart o bs (p ∷ ps) [] h g = absurd (nothing_more o p h.0 h.1 h.3 (sym h.2 ∙ g))
+  one_spelling apart o bs (p ∷ ps) (q ∷ qs) h g =
       let same = same_part o p q h.0 g.0 h.1 g.1 h.3 g.3 (sym h.2 ∙ g.2) in
-      let kind : p.kind ≡ q.kind = told p.kind q.kind h.3.is_kind g.3.is_kind same.word in
+      let kind : p.kind ≡ q.kind = apart p.kind q.kind h.3.is_kind g.3.is_kind same.word in
       let part : p ≡ q = same_fields p q kind same.start same.size in
-      let rest : SpellsParts kinds (o + length h.0) h.1 qs = rw (same.bytes, same.rest) g.4 in
-      let others : ps ≡ qs = one_spelling told (o + length h.0) h.1 ps qs h.4 rest in
+      let behind : SpellsParts kinds (o + length h.0) h.1 qs = rw (same.bytes, same.behind) g.4 in
+      let others : ps ≡ qs = one_spelling apart (o + length h.0) h.1 ps qs h.4 behind in
       rw (part, others) refl
 
   -- one more part behind the others
-  pub one_more : (o : ℕ) (bs own : List ℕ) (ps : List Part) (p : Part) → SpellsParts kinds o bs ps
-      → IsBundlePart kinds (o + length bs) p own → SpellsParts kinds o (bs ++ own) (ps ++ p ∷ [])
-  one_more o bs own [] p h part =
+  pub one_more : (o : ℕ) (bs of_part : List ℕ) (ps : List Part) (p : Part) → SpellsParts kinds o bs ps
+      → IsBundlePart kinds (o + length bs) p of_part → SpellsParts kinds o (bs ++ of_part) (ps ++ p ∷ [])
+  one_more o bs of_part [] p h part =
       let index : o + length bs ≡ o = rw h (omega arith) in
-      let here : IsBundlePart kinds o p own = rw index at part in
-      (own, [], rw h (sym (append-nil own)), here, refl)
-  one_more o bs own (q ∷ ps) p h part =
+      let here : IsBundlePart kinds o p of_part = rw index at part in
+      (of_part, [], rw h (sym (append-nil of_part)), here, refl)
+  one_more o bs of_part (q ∷ ps) p h part =
       let index : o + length bs ≡ (o + length h.0) + length h.1 = rw (h.2, length-append h.0 h.1) (omega arith) in (
         h.0,
-        h.1 ++ own,
-        rw h.2 (append_assoc h.0 h.1 own),
+        h.1 ++ of_part,
+        rw h.2 (append_assoc h.0 h.1 of_part),
         h.3,
-        one_more (o + length h.0) h.1 own ps p h.4
+        one_more (o + length h.0) h.1 of_part ps p h.4
             (rw (← index) part),
       )
 
   -- what stands behind whole parts is spelled too, where all is
-  pub rest_is_spelled : (o : ℕ) (bs rest : List ℕ) (ps qs : List Part) → SpellsParts kinds o bs ps
-      → SpellsParts kinds o (bs ++ rest) qs → (rs : List Part) × SpellsParts kinds (o + length bs) rest rs
-  rest_is_spelled o bs rest [] qs h g =
-      let all : SpellsParts kinds o rest qs = rw h at g in
+  pub rest_is_spelled : (o : ℕ) (bs behind : List ℕ) (ps qs : List Part) → SpellsParts kinds o bs ps
+      → SpellsParts kinds o (bs ++ behind) qs → (rs : List Part) × SpellsParts kinds (o + length bs) behind rs
+  rest_is_spelled o bs behind [] qs h g =
+      let all : SpellsParts kinds o behind qs = rw h at g in
       let index : o + length bs ≡ o = rw h (omega arith) in
       (qs, rw index all)
-  rest_is_spelled o bs rest (p ∷ ps) [] h g =
-      absurd (nothing_more o p h.0 (h.1 ++ rest) h.3
-      (sym (append_assoc h.0 h.1 rest) ∙ ap (λ (xs : List ℕ). xs ++ rest) (sym h.2) ∙ g))
-  rest_is_spelled o bs rest (p ∷ ps) (q ∷ qs) h g =
-      let whole : h.0 ++ (h.1 ++ rest) ≡ g.0 ++ g.1 =
-      sym (append_assoc h.0 h.1 rest) ∙ ap (λ (xs : List ℕ). xs ++ rest) (sym h.2) ∙ g.2 in
-      let same = same_part o p q h.0 g.0 (h.1 ++ rest) g.1 h.3 g.3 whole in
-      let others : SpellsParts kinds (o + length h.0) (h.1 ++ rest) qs = rw (same.bytes, same.rest) g.4 in
-      let found = rest_is_spelled (o + length h.0) h.1 rest ps qs h.4 others in
+  rest_is_spelled o bs behind (p ∷ ps) [] h g =
+      absurd (nothing_more o p h.0 (h.1 ++ behind) h.3
+      (sym (append_assoc h.0 h.1 behind) ∙ ap (λ (xs : List ℕ). xs ++ behind) (sym h.2) ∙ g))
+  rest_is_spelled o bs behind (p ∷ ps) (q ∷ qs) h g =
+      let whole : h.0 ++ (h.1 ++ behind) ≡ g.0 ++ g.1 =
+      sym (append_assoc h.0 h.1 behind) ∙ ap (λ (xs : List ℕ). xs ++ behind) (sym h.2) ∙ g.2 in
+      let same = same_part o p q h.0 g.0 (h.1 ++ behind) g.1 h.3 g.3 whole in
+      let others : SpellsParts kinds (o + length h.0) (h.1 ++ behind) qs = rw (same.bytes, same.behind) g.4 in
+      let spelled = rest_is_spelled (o + length h.0) h.1 behind ps qs h.4 others in
       let index : o + length bs ≡ (o + length h.0) + length h.1 = rw (h.2, length-append h.0 h.1) (omega arith) in
-      (found.0, rw index found.1)
+      (spelled.0, rw index spelled.1)
 
   -- ---- faults
 
   -- no whole part stands in front where a fault is
-  whole_in_front : (o at : ℕ) (bs own rest : List ℕ) (p : Part) (fault : BundleFault) → bs ≡ own ++ rest
-      → IsBundlePart kinds o p own → IsPartFault kinds bs at fault → ⊥
-  whole_in_front o at bs own rest p (Header offset) whole part here =
+  whole_in_front : (o at : ℕ) (bs of_part behind : List ℕ) (p : Part) (fault : BundleFault) → bs ≡ of_part ++ behind
+      → IsBundlePart kinds o p of_part → IsPartFault kinds bs at fault → ⊥
+  whole_in_front o at bs of_part behind p (Header offset) whole part here =
       let front = part.front in
       here.2 p.kind p.length part.is_kind (record {
         header = front.header;
-        rest = front.rest ++ rest;
+        content = front.content ++ behind;
         is_header = front.is_header;
-        whole = whole ∙ ap (λ (xs : List ℕ). xs ++ rest) front.whole ∙ append_assoc front.header front.rest rest;
+        whole = whole ∙ ap (λ (xs : List ℕ). xs ++ behind) front.whole ∙ append_assoc front.header front.content behind;
       })
-  whole_in_front o at bs own rest p (Short offset) whole part here =
+  whole_in_front o at bs of_part behind p (Short offset) whole part here =
       let front = part.front in
-      let found = here.4 in
-      let is : bs ≡ front.header ++ (front.rest ++ rest) =
-      whole ∙ ap (λ (xs : List ℕ). xs ++ rest) front.whole ∙ append_assoc front.header front.rest rest in
-      let same = same_header found.header front.header here.1 p.kind here.2 p.length found.rest (front.rest ++ rest)
-      found.is_header front.is_header (sym found.whole ∙ is) in
-      let long : length found.rest ≡ length front.rest + length rest =
-      ap (λ (xs : List ℕ). length xs) same.rest ∙ length-append front.rest rest in
+      let short = here.4 in
+      let is : bs ≡ front.header ++ (front.content ++ behind) =
+      whole ∙ ap (λ (xs : List ℕ). xs ++ behind) front.whole ∙ append_assoc front.header front.content behind in
+      let same = same_header short.header front.header here.1 p.kind here.2 p.length short.content (front.content ++ behind)
+      short.is_header front.is_header (sym short.whole ∙ is) in
+      let long : length short.content ≡ length front.content + length behind =
+      ap (λ (xs : List ℕ). length xs) same.behind ∙ length-append front.content behind in
       absurd (omega (arith, long, same.count, part.size, here.5))
-  whole_in_front o at bs own rest p Memory whole part here = here
+  whole_in_front o at bs of_part behind p Memory whole part here = here
 
   pub broken_no_parts : (o at : ℕ) (bs : List ℕ) (ps : List Part) (fault : BundleFault)
       → IsPartFault kinds bs at fault → SpellsParts kinds o bs ps → ⊥
   broken_no_parts o at bs (p ∷ ps) fault here h = whole_in_front o at bs h.0 h.1 p fault h.2 h.3 here
   broken_no_parts o at bs [] (Header offset) here h = here.1 h
   broken_no_parts o at bs [] (Short offset) here h =
-      let found = here.4 in
-      let some = header_some found.header here.1 here.2 found.is_header in
+      let short = here.4 in
+      let some = header_some short.header here.1 here.2 short.is_header in
       let none : length bs ≡ 0 = ap (λ (xs : List ℕ). length xs) h in
-      let long : length bs ≡ length found.header + length found.rest =
-      ap (λ (xs : List ℕ). length xs) found.whole ∙ length-append found.header found.rest in
+      let long : length bs ≡ length short.header + length short.content =
+      ap (λ (xs : List ℕ). length xs) short.whole ∙ length-append short.header short.content in
       absurd (omega (arith, some, none, long))
   broken_no_parts o at bs [] Memory here h = here
 
@@ -150,8 +150,8 @@ module _ (kinds : List PartKind) where
       → ⊥
   breaks_no_parts bs o before fault ps spelled here h =
       let whole : SpellsParts kinds 0 (take o bs ++ drop o bs) ps = rw take-append-drop h in
-      let rest = rest_is_spelled 0 (take o bs) (drop o bs) before ps spelled whole in
-      broken_no_parts (0 + length (take o bs)) o (drop o bs) rest.0 fault here rest.1
+      let later = rest_is_spelled 0 (take o bs) (drop o bs) before ps spelled whole in
+      broken_no_parts (0 + length (take o bs)) o (drop o bs) later.0 fault here later.1
 
   pub fault_no_parts : (bs : List ℕ) (fault : BundleFault) → AreNoParts kinds bs fault → fault ≢ Memory
       → (ps : List Part) → SpellsParts kinds 0 bs ps → ⊥
@@ -170,7 +170,7 @@ module _ (kinds : List PartKind) where
         is_kind = is_kind;
         front = record {
           header = take n bs;
-          rest = take p.length (drop n bs);
+          content = take p.length (drop n bs);
           is_header = header;
           whole = take-add n p.length bs;
         };
@@ -203,14 +203,14 @@ module _ (kinds : List PartKind) where
   part_inside o bs (p ∷ ps) zero d h lt =
       let part = h.3 in
       let long : length bs ≡ length h.0 + length h.1 = rw h.2 (length-append h.0 h.1) in
-      let own : length h.0 ≡ length part.front.header + length part.front.rest =
-      rw part.front.whole (length-append part.front.header part.front.rest) in
-      omega (arith, long, own, part.start, part.size)
+      let long_part : length h.0 ≡ length part.front.header + length part.front.content =
+      rw part.front.whole (length-append part.front.header part.front.content) in
+      omega (arith, long, long_part, part.start, part.size)
   part_inside o bs (p ∷ ps) (suc i) d h lt =
       let long : length bs ≡ length h.0 + length h.1 = rw h.2 (length-append h.0 h.1) in
       let inside : i < length ps = omega arith in
-      let rest = part_inside (o + length h.0) h.1 ps i d h.4 inside in
-      omega (arith, long, rest)
+      let behind = part_inside (o + length h.0) h.1 ps i d h.4 inside in
+      omega (arith, long, behind)
 
   -- ---- bytes that begin with no whole part
 
@@ -230,13 +230,13 @@ module _ (kinds : List PartKind) where
       ap (λ (qs : List Part). length qs) (none_before bs n (ps ++ p ∷ []) fault here spelled) in
       absurd (omega (arith, none, length-append ps (p ∷ [])))
 
-  one_fault : (bs : List ℕ) (fault other : BundleFault) → IsPartFault kinds bs 0 fault → IsPartFault kinds bs 0 other
-      → fault ≡ other
+  one_fault : (bs : List ℕ) (fault second : BundleFault) → IsPartFault kinds bs 0 fault → IsPartFault kinds bs 0 second
+      → fault ≡ second
   one_fault bs (Header offset) (Header at) h g = cc
   one_fault bs (Header offset) (Short at) h g = absurd (h.2 g.1 g.2 g.3 g.4)
   one_fault bs (Short offset) (Header at) h g = absurd (g.2 h.1 h.2 h.3 h.4)
   one_fault bs (Short offset) (Short at) h g = cc
-  one_fault bs Memory other h g = absurd h
+  one_fault bs Memory second h g = absurd h
   one_fault bs fault Memory h g = absurd g
 
   -- a fault behind whole parts is that of the front, where there is one

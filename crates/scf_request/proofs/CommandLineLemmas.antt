@@ -2,16 +2,16 @@
 use Rattle.scf_request.proofs.Common.{◌≡◌, ◌&&◌, ◌∙◌, Bool, codes, true, false, not, List, [], ◌∷◌, ◌++◌, Option, Some, ◌<◌, Answers, append-nil, append_assoc, arith, get_or, length, map, option_map, refl, sym, ap, ap₂, and_parts, not-true, find, fold, is_some, option_map_or, built_fault, check_fault, defaults_fault, entered_fault, level_fault, settle_fault, turn_fault, walk_fault, Kinds, or_else, built, entered, inherited, built_leaf, label_of, marked_built, names_of, rows_at, with_leaf_noted, Rule, Walk, answers_to, finished, idle, nothing_held, settled, stop_after, walk, walk_from, walked, AddsSubcommand, App, Shape, app_of, is_simple_and_free, new_app, with_subcommand, Command, clap_on_literals, Asked, command_word, scf, scf_shape, shape_for, ReadsAsProgram, scf_with}
 use Rattle.clap.specs.Walk.{Names, Text}
 
-third : (a b g rest : Bool) → (a && (not b && (not g && rest))) ≡ true → g ≡ false
-third a b g rest h = grind (arith, and_parts, not-true)
+third : (a b g further : Bool) → (a && (not b && (not g && further))) ≡ true → g ≡ false
+third a b g further h = grind (arith, and_parts, not-true)
 
 abbrev pub program_alone : Shape → App
-program_alone own = record { top = own; subs = [] }
+program_alone shape = record { top = shape; subs = [] }
 
 -- one more command
-pub one_more_command : (old sub new : Command) (before : App) (own : Shape) → AddsSubcommand old sub new
-    → app_of old ≡ before → app_of sub ≡ program_alone own → own.is_plain ≡ true → app_of new ≡ with_subcommand before own
-one_more_command old sub new before own h1 h2 h3 h4 = grind (arith, third)
+pub one_more_command : (old sub new : Command) (before : App) (shape : Shape) → AddsSubcommand old sub new
+    → app_of old ≡ before → app_of sub ≡ program_alone shape → shape.is_plain ≡ true → app_of new ≡ with_subcommand before shape
+one_more_command old sub new before shape h1 h2 h3 h4 = grind (arith, third)
 
 -- the program without its commands
 abbrev pub bare : App
@@ -52,7 +52,7 @@ no_fault_behind s names name before (word ∷ words) = no_fault_behind s names n
 record Enters (a : App) (word : Text) (leaf : Shape) : Type 0 where
   step : walked a.top.rules (names_of a) (walk_from nothing_held) word ≡ stopped_at word []
   fault : turn_fault a.top (names_of a) (walk_from nothing_held) word ≡ []
-  found : find (λ s. answers_to word (label_of s)) a.subs ≡ Some leaf
+  is_leaf : find (λ s. answers_to word (label_of s)) a.subs ≡ Some leaf
 
 walk_of : (a : App) (word : Text) (leaf : Shape) (words : List Text) → Enters a word leaf
     → walk a.top.rules (names_of a) nothing_held (word ∷ words) ≡ stopped_at word words
@@ -62,16 +62,16 @@ entered_rows : (a : App) (word : Text) (leaf : Shape) (words : List Text) → En
     → entered a (stop_after a.top.rules (names_of a) (word ∷ words)) ≡ Some (rows_at leaf words)
 entered_rows a word leaf words e =
     ap (λ (w : Walk). entered a w.stopped) (walk_of a word leaf words e)
-    ∙ ap (option_map (λ (s : Shape). rows_at s words)) e.found
+    ∙ ap (option_map (λ (s : Shape). rows_at s words)) e.is_leaf
 
 -- the faults of the command on the words behind it, and then those of the program's own options, of which none is given
 abbrev faults_behind : Shape → Option Shape → List Text → Kinds
-faults_behind top found words =
-    or_else (option_map_or (λ s. level_fault s [] nothing_held words false []) found [])
+faults_behind top leaf words =
+    or_else (option_map_or (λ s. level_fault s [] nothing_held words false []) leaf [])
     (or_else (settle_fault top.rules top.args_override_self nothing_held)
     (or_else (defaults_fault (settled top.rules nothing_held).rows top.rules)
     (check_fault top (finished top.rules nothing_held)
-    (is_some (option_map (λ (s : Shape). rows_at s words) found)))))
+    (is_some (option_map (λ (s : Shape). rows_at s words) leaf)))))
 
 entered_faults : (a : App) (word : Text) (leaf : Shape) (words : List Text) → Enters a word leaf
     → built_fault a nothing_held (word ∷ words) ≡ faults_behind a.top (Some leaf) words
@@ -85,7 +85,7 @@ entered_faults a word leaf words e =
     (or_else (defaults_fault (settled a.top.rules w.held).rows a.top.rules)
     (check_fault a.top (finished a.top.rules w.held) (is_some (entered a w.stopped)))))) in
     ap₂ behind none (walk_of a word leaf words e)
-    ∙ ap (λ (found : Option Shape). faults_behind a.top found words) e.found
+    ∙ ap (λ (leaf : Option Shape). faults_behind a.top leaf words) e.is_leaf
 
 -- ---- definitions by which the words come to the same as by the program's
 
@@ -127,5 +127,5 @@ pub behind_first : {A : Type 0} (f : A → Text) (words : List A) (word : A) →
     → word ≡ get_or words 1 word → (name : Text) × (behind : List Text) × (map f words ≡ name ∷ f word ∷ behind)
 behind_first f [] word lt is = absurd (omega arith)
 behind_first f (name ∷ []) word lt is = absurd (omega arith)
-behind_first {A} f (name ∷ second ∷ rest) word lt is =
-    (f name, map f rest, ap (λ (x : A). f name ∷ f x ∷ map f rest) (sym is))
+behind_first {A} f (name ∷ second ∷ further) word lt is =
+    (f name, map f further, ap (λ (x : A). f name ∷ f x ∷ map f further) (sym is))

@@ -59,10 +59,10 @@ module _ (bytes : List ℕ) (before : List Part) (part : Part) where
           rw (same, append-nil h.filters, append-nil h.profiles, append-nil h.beside, append-nil h.beside_profiles, append-nil h.tables) refl
 
 -- one more part
-pub held_more : (bytes own : List ℕ) (parts : List Part) (i : ℕ) (d : Part) (old new : Held) → i < length parts
-    → own ≡ content_of bytes (get_or parts i d) → old ≡ held_of bytes (take i parts)
-    → new ≡ with_part (get_or parts i d).kind own old → new ≡ held_of bytes (take (i + 1) parts)
-held_more bytes own parts i d old new lt is before added =
+pub held_more : (bytes content : List ℕ) (parts : List Part) (i : ℕ) (d : Part) (old new : Held) → i < length parts
+    → content ≡ content_of bytes (get_or parts i d) → old ≡ held_of bytes (take i parts)
+    → new ≡ with_part (get_or parts i d).kind content old → new ≡ held_of bytes (take (i + 1) parts)
+held_more bytes content parts i d old new lt is before added =
     let part = get_or parts i d in
     added ∙ ap₂ (λ (text : List ℕ) (held : Held). with_part part.kind text held) is before
     ∙ sym (ap (held_of bytes) (take_more parts i d lt) ∙ held_append bytes (take i parts) part

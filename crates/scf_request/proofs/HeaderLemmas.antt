@@ -75,7 +75,7 @@ pub record SameHeader (h g : List ℕ) (k l : PartKind) (m n : ℕ) (r s : List 
   pub header : h ≡ g
   pub word : kind_word k ≡ kind_word l
   pub count : m ≡ n
-  pub rest : r ≡ s
+  pub behind : r ≡ s
 
 pub same_header : (h g : List ℕ) (k l : PartKind) (m n : ℕ) (r s : List ℕ) → IsHeader h k m → IsHeader g l n
     → h ++ r ≡ g ++ s → SameHeader h g k l m n r s
@@ -95,7 +95,7 @@ same_header h g k l m n r s a b e =
       header = header;
       word = parts.0;
       count = let some : Some m ≡ Some n = sym a.is_count.1 ∙ numbers ∙ b.is_count.1 in cc;
-      rest = append_cancel_left h r s (e ∙ ap (λ (xs : List ℕ). xs ++ s) (sym header));
+      behind = append_cancel_left h r s (e ∙ ap (λ (xs : List ℕ). xs ++ s) (sym header));
     }
 
 -- a header has its line end
@@ -105,15 +105,15 @@ header_some h k n a = rw (a.text, length-append) (omega arith)
 -- the header in front ends at the first line end
 pub header_by_line : (bs : List ℕ) (k : PartKind) (n end : ℕ) → end < length bs → get_or bs end 0 ≡ 10
     → ((i : ℕ) → i < end → get_or bs i 0 ≢ 10) → HasHeader bs k n → IsHeader (take end bs ++ codes "\n") k n
-header_by_line bs k n end inside here before found =
-    let a = found.is_header in
+header_by_line bs k n end inside here before front =
+    let a = front.is_header in
     let line = kind_word k ++ (codes " " ++ a.digits) in
-    let left : bs ≡ line ++ 10 ∷ found.rest =
-    found.whole ∙ ap (λ (xs : List ℕ). xs ++ found.rest) a.text ∙ append_assoc line (codes "\n") found.rest in
+    let left : bs ≡ line ++ 10 ∷ front.content =
+    front.whole ∙ ap (λ (xs : List ℕ). xs ++ front.content) a.text ∙ append_assoc line (codes "\n") front.content in
     let right : bs ≡ take end bs ++ 10 ∷ drop (end + 1) bs =
     sym (take-append-drop end bs) ∙ ap (λ (xs : List ℕ). take end bs ++ xs)
     (drop_more bs end 0 inside ∙ ap (λ (b : ℕ). b ∷ drop (end + 1) bs) here) in
-    let same : line ≡ take end bs = same_before 10 line (take end bs) found.rest (drop (end + 1) bs)
+    let same : line ≡ take end bs = same_before 10 line (take end bs) front.content (drop (end + 1) bs)
     (header_is_line k a.digits n a.is_count) (line_before bs end (omega arith) before) (sym left ∙ right) in
     record { digits = a.digits; is_count = a.is_count; text = ap (λ (xs : List ℕ). xs ++ codes "\n") (sym same) }
 
@@ -122,27 +122,27 @@ header_by_line bs k n end inside here before found =
 -- a prefix of two pieces
 pub after_both : (line word first digits : List ℕ) (whole : line ≡ word ++ first) → first ≡ codes " " ++ digits
     → line ≡ word ++ (codes " " ++ digits)
-after_both line word first digits whole rest = rw whole (ap (λ (xs : List ℕ). word ++ xs) rest)
+after_both line word first digits whole tail = rw whole (ap (λ (xs : List ℕ). word ++ xs) tail)
 
 -- a word in two parts, of which a line begins with neither or with both
-pub no_first : (line first second rest : List ℕ) → ((behind : List ℕ) → line ≢ first ++ behind)
-    → line ≢ (first ++ second) ++ rest
-no_first line first second rest none is = none (second ++ rest) (is ∙ append_assoc first second rest)
+pub no_first : (line first second tail : List ℕ) → ((behind : List ℕ) → line ≢ first ++ behind)
+    → line ≢ (first ++ second) ++ tail
+no_first line first second tail none is = none (second ++ tail) (is ∙ append_assoc first second tail)
 
-pub behind_both : (line first second : List ℕ) (behind : List ℕ) (found : Option (Bor (List ℕ)))
+pub behind_both : (line first second : List ℕ) (behind : List ℕ) (stripped : Option (Bor (List ℕ)))
     → line ≡ first ++ behind
-    → MatchOption found ((rest : List ℕ) → behind ≢ second ++ rest) (λ rest. behind ≡ second ++ rest.now)
-    → MatchOption found ((rest : List ℕ) → line ≢ (first ++ second) ++ rest)
-    (λ rest. line ≡ (first ++ second) ++ rest.now)
-behind_both line first second behind None is none = λ rest whole.
-    none rest (append_cancel_left first behind (second ++ rest) (sym is ∙ whole ∙ append_assoc first second rest))
-behind_both line first second behind (Some found) is rest =
-    is ∙ ap (λ (xs : List ℕ). first ++ xs) rest ∙ sym (append_assoc first second found.now)
+    → MatchOption stripped ((tail : List ℕ) → behind ≢ second ++ tail) (λ tail. behind ≡ second ++ tail.now)
+    → MatchOption stripped ((tail : List ℕ) → line ≢ (first ++ second) ++ tail)
+    (λ tail. line ≡ (first ++ second) ++ tail.now)
+behind_both line first second behind None is none = λ tail whole.
+    none tail (append_cancel_left first behind (second ++ tail) (sym is ∙ whole ∙ append_assoc first second tail))
+behind_both line first second behind (Some stripped) is tail =
+    is ∙ ap (λ (xs : List ℕ). first ++ xs) tail ∙ sym (append_assoc first second stripped.now)
 
 pub no_count : (ds : List ℕ) (n : ℕ) (e : NumeralFault) → ReadsNumber (numeral 10 ds) (Err e) → IsCount ds n → ⊥
 no_count ds n e h1 h2 = grind (arith, count_is_small)
 
--- what is said of the digits of a line is said of the header that it ends
+-- the digits of a line are those of the header that it ends
 pub header_by_count : (kind : PartKind) (line digits : List ℕ) (counted : Option ℕ)
     → line ≡ kind_word kind ++ (codes " " ++ digits)
     → MatchOption counted ((n : ℕ) → IsCount digits n → ⊥) (IsCount digits)

@@ -21,13 +21,13 @@ none_wrong (o ∷ options) rows (n ∷ numbers) e =
     rw first (none_wrong options rows numbers others)
 
 -- the ends of another range behind the same limits
-pub with_range : (rows : List Row) (limits : Limits) (range other : List ℕ)
+pub with_range : (rows : List Row) (limits : Limits) (range moved_range : List ℕ)
     → map Some (numbers_of_limits limits ++ range) ≡ map (number_in rows) comparison_options
-    → (map Some range ≡ map (number_in rows) range_options → map Some other ≡ map (number_in rows) range_options)
-    → map Some (numbers_of_limits limits ++ other) ≡ map (number_in rows) comparison_options
-with_range rows limits range other spelled moved =
+    → (map Some range ≡ map (number_in rows) range_options → map Some moved_range ≡ map (number_in rows) range_options)
+    → map Some (numbers_of_limits limits ++ moved_range) ≡ map (number_in rows) comparison_options
+with_range rows limits range moved_range spelled moved =
     let ends : map Some range ≡ map (number_in rows) range_options = cc in
-    let moved_ends : map Some other ≡ map (number_in rows) range_options = moved ends in
+    let moved_ends : map Some moved_range ≡ map (number_in rows) range_options = moved ends in
     cc
 
 -- no flag stands for a range
@@ -101,33 +101,33 @@ given_more {A} rows group i d lt =
 
 -- a flag that isn't given
 pub given_as_before : {A : Type 0} (rows : List Row) (group : List (Bor (List ℕ) × A)) (i : ℕ) (d : Bor (List ℕ) × A)
-    (found : Option A) → i < length group → chosen_of rows (flags_in (take i group)) ≡ option_to_list found
+    (chosen : Option A) → i < length group → chosen_of rows (flags_in (take i group)) ≡ option_to_list chosen
     → is_given rows (get_or group i d).0.now ≡ false
-    → chosen_of rows (flags_in (take (i + 1) group)) ≡ option_to_list found
-given_as_before rows group i d found lt before here =
-    given_more rows group i d lt ∙ rw (before, here) (append-nil (option_to_list found))
+    → chosen_of rows (flags_in (take (i + 1) group)) ≡ option_to_list chosen
+given_as_before rows group i d chosen lt before here =
+    given_more rows group i d lt ∙ rw (before, here) (append-nil (option_to_list chosen))
 
 -- the first that is
 pub given_first : {A : Type 0} (rows : List Row) (group : List (Bor (List ℕ) × A)) (i : ℕ) (d : Bor (List ℕ) × A)
-    (found : Option A) → i < length group → chosen_of rows (flags_in (take i group)) ≡ option_to_list found
-    → is_some found ≡ false → is_given rows (get_or group i d).0.now ≡ true
+    (chosen : Option A) → i < length group → chosen_of rows (flags_in (take i group)) ≡ option_to_list chosen
+    → is_some chosen ≡ false → is_given rows (get_or group i d).0.now ≡ true
     → chosen_of rows (flags_in (take (i + 1) group)) ≡ (get_or group i d).1 ∷ []
 given_first rows group i d None lt before none here = given_more rows group i d lt ∙ rw (before, here) refl
-given_first rows group i d (Some one) lt before none here = absurd (cc)
+given_first rows group i d (Some first) lt before none here = absurd (cc)
 
 -- another one
 pub given_twice : {A : Type 0} (rows : List Row) (group : List (Bor (List ℕ) × A)) (i : ℕ) (d : Bor (List ℕ) × A)
-    (found : Option A) (without : A) → i < length group
-    → chosen_of rows (flags_in (take i group)) ≡ option_to_list found → is_some found ≡ true
+    (chosen : Option A) (without : A) → i < length group
+    → chosen_of rows (flags_in (take i group)) ≡ option_to_list chosen → is_some chosen ≡ true
     → is_given rows (get_or group i d).0.now ≡ true → choice_in rows (without, flags_in group) ≡ None
 given_twice rows group i d None without lt before some here = absurd (cc)
-given_twice {A} rows group i d (Some one) without lt before some here =
+given_twice {A} rows group i d (Some first) without lt before some here =
     let behind = chosen_of rows (flags_in (drop (i + 1) group)) in
     let whole : flags_in group ≡ flags_in (take i group) ++ flags_in (drop i group) =
     ap flags_in (sym (take-append-drop i group))
     ∙ map-append (λ flag. (flag.0.now, flag.1)) (take i group) (drop i group)
     in
-    let given : chosen_of rows (flags_in group) ≡ one ∷ (get_or group i d).1 ∷ behind =
+    let given : chosen_of rows (flags_in group) ≡ first ∷ (get_or group i d).1 ∷ behind =
     ap (λ (flags : List (List ℕ × A)). chosen_of rows flags) whole
     ∙ filter_map-append (if_given rows) (flags_in (take i group)) (flags_in (drop i group))
     ∙ rw (before, drop_more group i d lt, here) refl in

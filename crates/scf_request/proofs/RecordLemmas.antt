@@ -55,15 +55,15 @@ numbers_meet a first last = (
 pub some_of : (a : Architecture) → HasRecord (IsInScope (Of a))
 some_of a =
     let order = some_number a in
-    let own = numbered a (row_of a).first (row_of a).first (row_of a).first (omega arith) order (omega arith) (omega arith) in
-    record { call = own.call; is_record = own.is_record; is_one = own.is_one.0 }
+    let some = numbered a (row_of a).first (row_of a).first (row_of a).first (omega arith) order (omega arith) (omega arith) in
+    record { call = some.call; is_record = some.is_record; is_one = some.is_one.0 }
 
 pub some_native : HasRecord (IsInScope Native)
 some_native =
-    let own = some_of X8664 in record { call = own.call; is_record = own.is_record; is_one = own.is_one }
+    let some = some_of X8664 in record { call = some.call; is_record = some.is_record; is_one = some.is_one }
 
 pub some_record : HasRecord (IsInScope All)
-some_record = let own = some_of X8664 in record { call = own.call; is_record = own.is_record; is_one = tt }
+some_record = let some = some_of X8664 in record { call = some.call; is_record = some.is_record; is_one = tt }
 
 -- and so has each number of x86-64
 pub some_call : (number : ℕ) → number < 2 ^ 32 → HasRecord (IsInScope (Call number))

@@ -54,23 +54,23 @@ pub record IsHeader (header : List ℕ) (kind : PartKind) (count : ℕ) : Type 0
 -- A header stands in front.
 pub record HasHeader (bytes : List ℕ) (kind : PartKind) (count : ℕ) : Type 0 where
   pub header : List ℕ
-  pub rest : List ℕ
+  pub content : List ℕ
   pub is_header : IsHeader header kind count
-  pub whole : bytes ≡ header ++ rest
+  pub whole : bytes ≡ header ++ content
 
 -- Bytes are a part of a bundle, from an offset on: a header of one of these kinds, and as many bytes as it says.
 pub record IsBundlePart (kinds : List PartKind) (offset : ℕ) (part : Part) (bytes : List ℕ) : Type 0 where
   pub is_kind : Contains kinds part.kind
   pub front : HasHeader bytes part.kind part.length
   pub start : part.start ≡ offset + length front.header
-  pub size : part.length ≡ length front.rest
+  pub size : part.length ≡ length front.content
 
 -- Bytes from an offset on spell parts of these kinds: they are these parts, one after another, and nothing else.
 abbrev pub SpellsParts : List PartKind → ℕ → List ℕ → List Part → Type 0
 SpellsParts kinds offset bytes [] = bytes ≡ []
 SpellsParts kinds offset bytes (part ∷ parts) =
-    (own : List ℕ) × (rest : List ℕ) × (bytes ≡ own ++ rest) × IsBundlePart kinds offset part own
-    × SpellsParts kinds (offset + length own) rest parts
+    (of_part : List ℕ) × (behind : List ℕ) × (bytes ≡ of_part ++ behind) × IsBundlePart kinds offset part of_part
+    × SpellsParts kinds (offset + length of_part) behind parts
 
 -- The bytes from an offset on begin with no whole part: they go on, and no header of one of these kinds stands in
 -- front, or one does, and fewer bytes follow than it says. Want of memory may come anywhere.
@@ -78,7 +78,7 @@ abbrev pub IsPartFault : List PartKind → List ℕ → ℕ → BundleFault → 
 IsPartFault kinds bytes at (Header offset) = (offset ≡ at) × (bytes ≢ [])
     × ((kind : PartKind) (count : ℕ) → Contains kinds kind → HasHeader bytes kind count → ⊥)
 IsPartFault kinds bytes at (Short offset) = (offset ≡ at) × (kind : PartKind) × (count : ℕ) × Contains kinds kind
-    × (found : HasHeader bytes kind count) × (length found.rest < count)
+    × (front : HasHeader bytes kind count) × (length front.content < count)
 IsPartFault kinds bytes at Memory = ⊥
 
 -- why bytes are refused: behind whole parts this stands at an offset

@@ -118,11 +118,11 @@ is_given rows name = option_map_or (λ text. bytes_eq text (codes "true")) (firs
 abbrev pub chosen_of : {A : Type 0} → List Row → List (List ℕ × A) → List A
 chosen_of rows group = filter_map (λ flag. if is_given rows flag.0 then Some flag.1 else None) group
 
--- the one of them, where none is more than one of them, and what stands without any
+-- the only one of several, what stands without any, or None where they are more than one
 abbrev pub one_of : {A : Type 0} → A → List A → Option A
 one_of without [] = Some without
-one_of without (one ∷ []) = Some one
-one_of without (one ∷ other ∷ more) = None
+one_of without (chosen ∷ []) = Some chosen
+one_of without (first ∷ second ∷ more) = None
 
 -- what a group comes to, of what stands without a flag and of its flags: None where more than one of them is given
 abbrev pub choice_in : {A : Type 0} → List Row → A × List (List ℕ × A) → Option A

@@ -145,8 +145,8 @@ fn count_of(digits: &[u8]) -> Option<usize>
 
 /// What stands behind the word of this kind.
 fn behind_word(kind: PartKind, line: &[u8]) -> Option<&[u8]>
-    ensures { MatchOption result ((rest : List ℕ) → line.now ≢ kind_word kind ++ rest)
-        (λ rest. line.now ≡ kind_word kind ++ rest.now) }
+    ensures { MatchOption result ((tail : List ℕ) → line.now ≢ kind_word kind ++ tail)
+        (λ tail. line.now ≡ kind_word kind ++ tail.now) }
 {
     line.strip_prefix(kind.prefix())?.strip_prefix(kind.word())
 }
@@ -177,7 +177,7 @@ fn kind_and_count(kinds: &[PartKind], line: &[u8]) -> Option<(PartKind, usize)>
 
 /// The index of the first line end.
 fn line_len(bytes: &[u8]) -> Option<usize>
-    ensures found { IfSome result (λ n. n < length bytes.now × (slice_index bytes.now n ≡ 10)) }
+    ensures line_end { IfSome result (λ n. n < length bytes.now × (slice_index bytes.now n ≡ 10)) }
     ensures first { IfSome result (λ n. (k : ℕ) → k < n → slice_index bytes.now k ≢ 10) }
     ensures none { IfNone result ((k : ℕ) → k < length bytes.now → slice_index bytes.now k ≢ 10) }
 {
@@ -215,11 +215,11 @@ fn part_at(kinds: &[PartKind], bytes: &[u8], offset: usize) -> Result<Part, Bund
         (take (part.start + part.length - offset) (drop offset bytes.now))) }
     ensures fault { IfErr result (IsPartFault kinds.now (drop offset bytes.now) offset) }
 {
-    let rest = &bytes[offset..];
-    let Some(header) = header_of(kinds, rest) else {
+    let tail = &bytes[offset..];
+    let Some(header) = header_of(kinds, tail) else {
         return Err(BundleFault::Header { offset });
     };
-    if rest.len() - header.length < header.count {
+    if tail.len() - header.length < header.count {
         return Err(BundleFault::Short { offset });
     }
     Ok(Part {

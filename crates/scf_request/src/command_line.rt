@@ -258,9 +258,9 @@ fn with<'a>(
     program: Result<Command<'a>, AllocError>,
     command: Result<Command<'a>, AllocError>,
 ) -> Result<Command<'a>, AllocError>
-    ensures { (before : App) (own : Shape) → IfOk program.entry (λ p. app_of p ≡ before)
-        → IfOk command.entry (λ c. app_of c ≡ record { top = own; subs = [] }) → own.is_plain ≡ true
-        → IfOk result (λ whole. app_of whole ≡ with_subcommand before own) }
+    ensures { (before : App) (shape : Shape) → IfOk program.entry (λ p. app_of p ≡ before)
+        → IfOk command.entry (λ c. app_of c ≡ record { top = shape; subs = [] }) → shape.is_plain ≡ true
+        → IfOk result (λ whole. app_of whole ≡ with_subcommand before shape) }
 {
     program?.subcommand(command?)
 }

@@ -62,7 +62,7 @@ fn long(name: &'static str, default: u64, help: &'static str) -> NumberOption
 
 /// The options that describe a call record.
 pub(crate) fn call_options() -> [NumberOption; 9]
-    ensures kept { options_kept result ≡ table.call_options }
+    ensures options { options_kept result ≡ table.call_options }
     ensures fair { AllByRecursion (λ o. o.default ≤ o.most) result }
 {
     let arch = "The architecture [default: 0xc000003e, x86-64]";
@@ -88,7 +88,7 @@ const LAST_NUMBER: &str = "nr-to";
 /// The options of a comparison: its most steps, those of all comparisons of `--calls` together, its most splits, and
 /// the ends of a range of numbers.
 pub(crate) fn comparison_options() -> [NumberOption; 5]
-    ensures kept { options_kept result ≡ table.comparison_options }
+    ensures options { options_kept result ≡ table.comparison_options }
     ensures fair { AllByRecursion (λ o. o.default ≤ o.most) result }
 {
     let each = "The most steps of a comparison [default: 1000000]";
@@ -110,7 +110,7 @@ pub(crate) fn comparison_options() -> [NumberOption; 5]
 
 /// The options of a walk over the records of a scope: its most steps, and the ends of a range of numbers.
 pub(crate) fn exploration_options() -> [NumberOption; 3]
-    ensures kept { options_kept result ≡ table.exploration_options }
+    ensures options { options_kept result ≡ table.exploration_options }
     ensures fair { AllByRecursion (λ o. o.default ≤ o.most) result }
 {
     let limit = "The most steps [default: 1000000]";
@@ -215,22 +215,22 @@ pub(crate) fn chosen_flag<T: Copy>(
     group: &[(&'static str, T)],
     without: T,
 ) -> Result<T, RequestFault>
-    ensures one { IfOk result (λ choice.
+    ensures choice { IfOk result (λ choice.
         table.choice_in (rows_of (found_of matches.now)) (without, flags_in group.now) ≡ Some choice) }
     ensures more { IfErr result (λ fault.
         table.choice_in (rows_of (found_of matches.now)) (without, flags_in group.now) ≡ None) }
     ensures flags { IfErr result (λ fault. fault ≡ RequestFault.Flags) }
 {
-    let mut found = None;
+    let mut chosen = None;
     for flag in group {
         if is_given(matches, flag.0) {
-            if found.is_some() {
+            if chosen.is_some() {
                 return Err(RequestFault::Flags);
             }
-            found = Some(flag.1);
+            chosen = Some(flag.1);
         }
     }
-    Ok(found.unwrap_or(without))
+    Ok(chosen.unwrap_or(without))
 }
 
 impl NumberOption {

@@ -333,7 +333,7 @@ fn over_record(request: Request) -> Result<Request, RequestFault>
     }
 }
 
-/// What is asked for by the command with this name and these options.
+/// The request of the command with this name and these options, if it goes over a record at least.
 fn request_asked(name: &str, options: &ArgMatches<'_>) -> Result<Request, RequestFault>
     ensures { AsksFor (Some (name.now, rows_of (found_of options.now))) result }
 {

@@ -7,7 +7,7 @@ pub returns-in_err-strip_prefix : goal.returns-in_err-strip_prefix
 returns-in_err-strip_prefix c =
     let none = strip_prefix_is {A = ℕ} Decides-eqb c.args.line.now c.prefix.result.now None
     c.in_err-strip_prefix.ensures.cases in
-    rw c.from_residual.ensures (λ rest. no_first c.args.line.now _ _ rest (rw c.prefix.ensures at none))
+    rw c.from_residual.ensures (λ tail. no_first c.args.line.now _ _ tail (rw c.prefix.ensures at none))
 
 pub returns : goal.returns
 returns c =
