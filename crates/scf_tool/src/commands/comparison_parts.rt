@@ -2,7 +2,7 @@
 
 ghost use Rattle.std.specs.Prelude.{◌≡◌, length, IfOk, IfErr, MatchOption};
 ghost use Rattle.scf_request.specs.Contents.{held_by};
-ghost use Rattle.scf_tool.specs.Commands.{AreSidesOf, AreTaken, AreWithProfile, TakesProfile, TakesSides};
+ghost use Rattle.scf_tool.specs.Commands.{AreSidesOf, AreWithProfile, TakesProfile, TakesSides};
 ghost use Rattle.scf_tool.specs.Commands as spec;
 ghost use Rattle.scf_tool.specs.internal.Parts.{AreComparisonParts};
 
@@ -37,57 +37,6 @@ pub(super) fn is_native(form: BundleForm) -> bool
     matches!(form, BundleForm::Profile)
 }
 
-/// Filters and a profile.
-fn filters_and_profile<'a>(
-    alloc: Global,
-    reading: Reading,
-    only_one: bool,
-    contents: Contents<'a>,
-) -> Result<Option<ComparisonParts<'a>>, BundleFault>
-    ensures parts { IfOk result (λ parts. MatchOption parts
-        (AreTaken BesideProfile.Filters only_one (held_by contents.entry) → ⊥)
-        (λ own. AreTaken BesideProfile.Filters only_one (held_by contents.entry)
-        × AreComparisonParts AreWithProfile reading (held_by contents.entry) own)) }
-    ensures fault { IfErr result (λ fault. fault ≡ BundleFault.Memory) }
-{
-    match profile_parts(alloc, reading, contents, BesideProfile::Filters, only_one)? {
-        Some(parts) => Ok(Some(ComparisonParts {
-            left: SideParts::Filters(parts.filters),
-            right: SideParts::Profile(parts.profile),
-            tables: parts.tables,
-            by: parts.by,
-        })),
-        None => Ok(None),
-    }
-}
-
-/// A profile and another one beside it.
-fn two_profiles<'a>(
-    alloc: Global,
-    reading: Reading,
-    only_one: bool,
-    contents: Contents<'a>,
-) -> Result<Option<ComparisonParts<'a>>, BundleFault>
-    ensures parts { IfOk result (λ parts. MatchOption parts
-        (AreTaken BesideProfile.Profile only_one (held_by contents.entry) → ⊥)
-        (λ own. AreTaken BesideProfile.Profile only_one (held_by contents.entry)
-        × AreComparisonParts AreWithProfile reading (held_by contents.entry) own)) }
-    ensures fault { IfErr result (λ fault. fault ≡ BundleFault.Memory) }
-{
-    match profile_parts(alloc, reading, contents, BesideProfile::Profile, only_one)? {
-        Some(parts) => match only(parts.beside) {
-            Some(beside) => Ok(Some(ComparisonParts {
-                left: SideParts::Profile(parts.profile),
-                right: SideParts::Profile(beside),
-                tables: parts.tables,
-                by: parts.by,
-            })),
-            None => Ok(None),
-        },
-        None => Ok(None),
-    }
-}
-
 /// Filters and a profile, or two profiles.
 fn with_profile<'a>(
     alloc: Global,
@@ -97,15 +46,32 @@ fn with_profile<'a>(
 ) -> Result<Option<ComparisonParts<'a>>, BundleFault>
     ensures parts { IfOk result (λ parts. MatchOption parts
         (TakesProfile only_one (held_by contents.entry) → ⊥)
-        (λ own. TakesProfile only_one (held_by contents.entry)
-        × AreComparisonParts AreWithProfile reading (held_by contents.entry) own)) }
+        (λ parts. TakesProfile only_one (held_by contents.entry)
+        × AreComparisonParts AreWithProfile reading (held_by contents.entry) parts)) }
     ensures fault { IfErr result (λ fault. fault ≡ BundleFault.Memory) }
 {
-    if contents.beside_profiles.is_empty() {
-        filters_and_profile(alloc, reading, only_one, contents)
+    let kind = if contents.beside_profiles.is_empty() {
+        BesideProfile::Filters
     } else {
-        two_profiles(alloc, reading, only_one, contents)
-    }
+        BesideProfile::Profile
+    };
+    let Some(parts) = profile_parts(alloc, reading, contents, kind, only_one)? else {
+        return Ok(None);
+    };
+    let filters = parts.filters;
+    let profile = parts.profile;
+    let tables = parts.tables;
+    let by = parts.by;
+    let (left, right) = match only(parts.beside) {
+        Some(beside) => (SideParts::Profile(profile), SideParts::Profile(beside)),
+        None => (SideParts::Filters(filters), SideParts::Profile(profile)),
+    };
+    Ok(Some(ComparisonParts {
+        left,
+        right,
+        tables,
+        by,
+    }))
 }
 
 /// Filters and others beside them.
@@ -119,8 +85,8 @@ fn two_stacks<'a>(
     requires { (scopes : Scopes) × (form ≡ BundleForm.Beside scopes) }
     ensures parts { IfOk result (λ parts. MatchOption parts
         (TakesSides form over (held_by contents.entry) → ⊥)
-        (λ own. TakesSides form over (held_by contents.entry)
-        × AreComparisonParts (AreSidesOf form) reading (held_by contents.entry) own)) }
+        (λ parts. TakesSides form over (held_by contents.entry)
+        × AreComparisonParts (AreSidesOf form) reading (held_by contents.entry) parts)) }
     ensures fault { IfErr result (λ fault. fault ≡ BundleFault.Memory) }
 {
     if is_call_by_call(over) && contents.tables.len() != 1 {
@@ -145,8 +111,8 @@ pub(super) fn comparison_parts<'a>(
 ) -> Result<Option<ComparisonParts<'a>>, BundleFault>
     ensures parts { IfOk result (λ parts. MatchOption parts
         (TakesSides form over (held_by contents.entry) → ⊥)
-        (λ own. TakesSides form over (held_by contents.entry)
-        × AreComparisonParts (AreSidesOf form) reading (held_by contents.entry) own)) }
+        (λ parts. TakesSides form over (held_by contents.entry)
+        × AreComparisonParts (AreSidesOf form) reading (held_by contents.entry) parts)) }
     ensures fault { IfErr result (λ fault. fault ≡ BundleFault.Memory) }
 {
     match form {
