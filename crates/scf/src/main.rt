@@ -2,7 +2,7 @@
 #![tactic(auto)]
 
 use scf_insn::Counted;
-use scf_tool::{refuse_words, run_command};
+use scf_tool::{report_usage_error, run_command};
 use std::process::ExitCode;
 use std::{env, io};
 
@@ -16,7 +16,7 @@ fn main(rt: HostRuntime) -> ExitCode {
     let mut out = Counted::new(io::writer(&rt));
     let status = match words_of(&rt) {
         Ok(words) => run_command(rt.alloc(), words.as_slice(), &mut input, &mut out),
-        Err(error) => refuse_words(&error, &mut out),
+        Err(error) => report_usage_error(&error, &mut out),
     };
     ExitCode::from(status)
 }

@@ -8,14 +8,14 @@ use Rattle.scf_tool.specs.FilterStacks.{HasNoStack}
 use Rattle.scf_tool.specs.declared.verify_fault.VerifyFault.{VerifyFault}
 use Rattle.scf_tool.specs.declared.verify_fault.VerifyFault.TheVariants.{Memory}
 use Rattle.scf_c.specs.Filters.{IsStackRefused}
-use Rattle.scf_c.specs.Layout.{known}
+use Rattle.scf_c.specs.Layout.{known_bytes}
 use Rattle.scf_c.specs.Sides.{IsSideOf, behavior_of_read}
 use Rattle.scf_c.specs.declared.side.ReadSide.{ReadSide}
 use Rattle.scf_c.specs.declared.side.ReadSide.TheVariants as sides
 use Rattle.scf_c.specs.declared.layout.Bytes.{Bytes}
 use Rattle.scf_c.specs.declared.refusal.Refusal.TheVariants.{Verify}
 
-pub stack_refused : (filters : List Bytes) (fault : VerifyFault) → HasNoStack (known filters) fault → NoReadFailed fault
+pub stack_refused : (filters : List Bytes) (fault : VerifyFault) → HasNoStack (known_bytes filters) fault → NoReadFailed fault
     → IsStackRefused filters (Verify fault)
 stack_refused filters Memory refused well = tt
 stack_refused filters fault refused well = (refused, well)

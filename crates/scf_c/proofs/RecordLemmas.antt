@@ -25,12 +25,12 @@ abbrev text_of : Table → Option (Architecture × List ℕ)
 text_of table = option_map (λ architecture. (architecture, table.bytes.now)) (architecture_of table.architecture)
 
 -- the records of the calls of one table more
-one_list_more : (lists : List (Architecture × List ℕ)) (own : Architecture × List ℕ)
-    → flat_map of_calls (lists ++ own ∷ []) ≡ flat_map of_calls lists ++ of_calls own
-one_list_more [] own = append-nil (of_calls own)
-one_list_more (first ∷ lists) own =
-    ap (λ (records : List Records). of_calls first ++ records) (one_list_more lists own)
-    ∙ sym (append_assoc (of_calls first) (flat_map of_calls lists) (of_calls own))
+one_list_more : (lists : List (Architecture × List ℕ)) (last : Architecture × List ℕ)
+    → flat_map of_calls (lists ++ last ∷ []) ≡ flat_map of_calls lists ++ of_calls last
+one_list_more [] last = append-nil (of_calls last)
+one_list_more (first ∷ lists) last =
+    ap (λ (records : List Records). of_calls first ++ records) (one_list_more lists last)
+    ∙ sym (append_assoc (of_calls first) (flat_map of_calls lists) (of_calls last))
 
 module _ (tables : List Table) (i : ℕ) (d : Table) (lt : i < length tables) where
   texts_more : texts_of (take (i + 1) tables) ≡ texts_of (take i tables) ++ texts_of (get_or tables i d ∷ [])

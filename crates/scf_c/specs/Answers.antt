@@ -1,4 +1,4 @@
--- What a side answers, by regions of records, and what is handed out of it.
+-- The answers of a side, by regions of records, as numbers.
 use Rattle.std.specs.Prelude.{◌≡◌, ◌==◌, ◌⊎◌, ◌≤◌, ◌<◌, ◌++◌, ℕ, Bool, true, false, List, [], ◌∷◌}
 use Rattle.std.specs.Prelude.{Option, Some, None, flat_map, is_some, length, map, slice_get, sum_by, if◌then◌else◌}
 use Rattle.std.specs.List.{AllZip}
@@ -53,7 +53,7 @@ interval_fact index interval = record { word = index; kind = 1; low = interval.l
 abbrev pub bits_fact : ℕ → ℕ → Bits → WordFact
 bits_fact kind index bits = record { word = index; kind = kind; low = bits.mask; high = bits.value }
 
--- What is known of a word: intervals, unless they are the whole word, the bits that it has, if any, and those that it
+-- The facts about a word: intervals, unless they are the whole word, the bits that it has, if any, and those that it
 -- doesn't have.
 abbrev pub facts_of_set : ℕ → NumberFacts → List WordFact
 facts_of_set index facts =
@@ -112,7 +112,7 @@ all_regions listed = flat_map (λ regions. regions.list.items) listed
 abbrev pub no_listing : Listing
 no_listing = record { is_finished = 0; unused = 0; left_out = nothing_left_out }
 
--- what is handed out of walks: nothing if they are unfinished
+-- the regions of walks as numbers: none if they are unfinished
 abbrev pub regions_handed : Option (List Regions) → List RegionNumbers
 regions_handed None = []
 regions_handed (Some listed) = map numbers_of_region (all_regions listed)

@@ -15,7 +15,7 @@ use Rattle.scf_c.specs.declared.layout.Table.{Table}
 -- an architecture's number: its position among all of them, counted from 1
 abbrev pub architecture_number : Architecture → ℕ
 architecture_number architecture =
-    position_or_len (λ other. is_named (row_of other).name architecture) architectures + 1
+    position_or_len (λ listed. is_named (row_of listed).name architecture) architectures + 1
 
 -- the architecture with a number
 abbrev pub architecture_of : ℕ → Option Architecture

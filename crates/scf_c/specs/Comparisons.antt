@@ -1,4 +1,4 @@
--- Comparisons from the caller's bytes: what they come to, and what is handed out of it.
+-- Comparisons of sides in the caller's bytes, and their findings as numbers.
 use Rattle.std.specs.Prelude.{◌≡◌, ◌⊎◌, ℕ, not, List, [], ◌∷◌, Option, Some, None, find}
 use Rattle.std.specs.Option.{option_map_or, option_or}
 use Rattle.scf_profile.specs.declared.relation.Relation.{Relation}
@@ -58,7 +58,7 @@ abbrev pub side_number : Which → ℕ
 side_number Left = 1
 side_number Right = 2
 
--- what is handed out of a finding: the verdict, and of the others what they show
+-- a finding as numbers: the verdict, and what Fails and Undecided show
 abbrev pub numbers_of : Finding → FindingNumbers
 numbers_of (Holds steps) = record { verdict = 1; left = 0; right = 0; side = 0; at = 0; call = no_call }
 numbers_of (Fails call left right) =

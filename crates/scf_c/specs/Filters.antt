@@ -1,4 +1,4 @@
--- Why filters and texts are refused, and what is handed out of a stack's decision.
+-- Why filters and texts are refused, and a stack's decision as numbers.
 use Rattle.std.specs.Prelude.{ℕ, List, [], ◌∷◌, Option, Some, None, Err}
 use Rattle.scf_machine.specs.declared.stack.DecidingInsn.{DecidingInsn}
 use Rattle.scf_text.specs.Faults.{IsFault, fault_of}
@@ -10,7 +10,7 @@ use Rattle.scf_c.specs.declared.layout.Bytes.{Bytes}
 use Rattle.scf_c.specs.declared.layout.DecisionNumbers.{DecisionNumbers}
 use Rattle.scf_c.specs.declared.refusal.Refusal.{Refusal}
 use Rattle.scf_c.specs.declared.refusal.Refusal.TheVariants.{Verify, Text}
-use Rattle.scf_c.specs.Layout.{known}
+use Rattle.scf_c.specs.Layout.{known_bytes}
 
 -- Why the bytes are no accepted filter. It isn't that they can't be read.
 abbrev pub IsFilterRefused : List ℕ → Refusal → Type 0
@@ -20,7 +20,7 @@ IsFilterRefused bytes why = ⊥
 -- why the filters are no stack, or out of memory, which may come at any time
 abbrev pub IsStackRefused : List Bytes → Refusal → Type 0
 IsStackRefused filters (Verify Memory) = Unit {0}
-IsStackRefused filters (Verify why) = HasNoStack (known filters) why × NoReadFailed why
+IsStackRefused filters (Verify why) = HasNoStack (known_bytes filters) why × NoReadFailed why
 IsStackRefused filters why = ⊥
 
 -- why the bytes are no list of instructions

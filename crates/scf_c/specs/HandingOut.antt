@@ -1,4 +1,4 @@
--- What is handed out into the caller's memory.
+-- Lists that are handed out into the caller's memory.
 use Rattle.std.specs.Prelude.{◌≡◌, ℕ, List, ◌++◌, length, take, drop}
 
 -- A list is handed out: how long it is, and as much of its front as there is room for. The room behind it stays.

@@ -16,5 +16,5 @@ abbrev pub no_call : Call
 no_call = record { nr = 0; arch = 0; ip = 0; args = 0 ∷ 0 ∷ 0 ∷ 0 ∷ 0 ∷ 0 ∷ [] }
 
 -- the bytes of filters, which are known
-abbrev pub known : List Bytes → List (Option (List ℕ))
-known filters = map (λ filter. Some filter.bytes.now) filters
+abbrev pub known_bytes : List Bytes → List (Option (List ℕ))
+known_bytes filters = map (λ filter. Some filter.bytes.now) filters

@@ -1,4 +1,4 @@
--- What is said of a profile and its tables.
+-- Profiles and their tables in the caller's bytes, and their answers as numbers.
 use Rattle.std.specs.Prelude.{◌≡◌, ◌≢◌, ◌⊎◌, ◌<◌, ◌≤◌, ℕ, List, [], ◌∷◌, length}
 use Rattle.scf_insn.specs.Kernel.{bpf_maxinsns}
 use Rattle.scf_profile.specs.declared.loaded.LoadedProfiles.{LoadedProfiles}
@@ -75,7 +75,7 @@ IsCompilationRefused profile tables reading (Compile why) = (loaded : LoadedProf
     × (why ≡ compiles.TooLarge → bpf_maxinsns < size_bound_of_each loaded.profiles)
 IsCompilationRefused profile tables reading why = IsProfileRefused profile tables reading why
 
--- ---- what is handed out of it
+-- ---- as numbers
 
 -- how much of the profile has no table
 abbrev pub left_out_of : LoadedProfiles → LeftOutCounts

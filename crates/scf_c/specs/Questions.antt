@@ -1,4 +1,4 @@
--- What is asked of a comparison.
+-- Questions: what their numbers mean.
 use Rattle.std.specs.Prelude.{◌≡◌, ◌≤◌, ℕ, Bool, true, false, List, [], ◌∷◌, Some, length}
 use Rattle.scf_insn.specs.Architectures.{row_of}
 use Rattle.scf_insn.specs.declared.architecture.Architecture.{Architecture}

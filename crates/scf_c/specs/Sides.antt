@@ -15,7 +15,7 @@ use Rattle.scf_c.specs.declared.side.SideKind.{SideKind}
 use Rattle.scf_c.specs.declared.side.SideKind.TheVariants.{Profile, Filters}
 use Rattle.scf_c.specs.Architectures.{tables_of}
 use Rattle.scf_c.specs.Filters.{IsStackRefused}
-use Rattle.scf_c.specs.Layout.{known}
+use Rattle.scf_c.specs.Layout.{known_bytes}
 use Rattle.scf_c.specs.Profiles.{IsLoaded, IsProfileRefused, IsReadBy, left_out_of, nothing_left_out}
 
 -- ---- what is asked for
@@ -44,7 +44,7 @@ is_profile Filters = false
 -- The bytes of a side are those of a stack, or state these profiles under the tables.
 abbrev pub IsRead : SideInput → SideKind → List Table → ReadSide → Type 0
 IsRead side (Profile reading) tables (sides.Profiles loaded) = IsLoaded side.profile tables reading loaded
-IsRead side Filters tables (sides.Filters stack) = HasStack (known side.filters.now) stack
+IsRead side Filters tables (sides.Filters stack) = HasStack (known_bytes side.filters.now) stack
 IsRead side kind tables read = ⊥
 
 -- why they don't

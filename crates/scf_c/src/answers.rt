@@ -53,7 +53,7 @@ use std::alloc::{AllocError, Global};
 /// The indices of a record's words.
 const WORD_INDICES: [u8; 16] = [0, 1, 2, 3, 4, 5, 6, 7, 8, 9, 10, 11, 12, 13, 14, 15];
 
-/// What is handed out of walks.
+/// The regions of walks as numbers.
 #[derive(Drop)]
 pub(crate) struct Listed {
     pub listing: Listing,
@@ -274,7 +274,7 @@ fn add_walks(
     Ok(())
 }
 
-/// What is handed out of walks that are finished.
+/// The regions of finished walks as numbers.
 fn listed_of(
     alloc: Global,
     walks: &[Regions],
@@ -334,7 +334,7 @@ fn listing_of(is_finished: bool, left_out: LeftOutCounts) -> Listing
     }
 }
 
-/// What is handed out where nothing is listed.
+/// The listing where nothing is listed: its numbers are 0.
 fn no_listing() -> Listing
     ensures { result ≡ no_listing }
 {

@@ -190,14 +190,14 @@ fn only(verdict: u32) -> FindingNumbers
     }
 }
 
-/// What is handed out where nothing is compared.
+/// The finding where nothing is compared: its numbers are 0.
 pub(crate) fn no_finding() -> FindingNumbers
     ensures { result ≡ no_finding }
 {
     only(0)
 }
 
-/// What is handed out of a finding.
+/// A finding as numbers.
 fn numbers_of(finding: &Finding) -> FindingNumbers
     ensures { result ≡ numbers_of finding.now }
 {
@@ -234,7 +234,7 @@ fn of_records(records: &Records, finding: &Finding) -> RecordsComparison
     }
 }
 
-/// Adds what is handed out of findings over sets of records.
+/// Adds each set of records with its finding as numbers.
 fn add_each(
     list: &mut Vec<RecordsComparison>,
     several: &[Records],
@@ -252,7 +252,7 @@ fn add_each(
     add_each(list, later, further)
 }
 
-/// What is handed out of all findings.
+/// All findings together as numbers, and what was left out of the sides.
 fn comparison_of(findings: &[Finding], left: &ReadSide, right: &ReadSide) -> Comparison
     ensures { result ≡ comparison_of findings.now left.now right.now }
 {
@@ -267,7 +267,7 @@ fn comparison_of(findings: &[Finding], left: &ReadSide, right: &ReadSide) -> Com
     }
 }
 
-/// What is printed as left out of a side.
+/// What was left out of a side, as it is printed.
 fn printed_left_out(side: ReadSide) -> Option<LeftOut>
     ensures { result ≡ printed_left_out side }
 {

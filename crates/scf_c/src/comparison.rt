@@ -18,7 +18,7 @@ use crate::question::asked_of;
 use crate::status::{OK, WRONG_ARGUMENT};
 use std::alloc::Global;
 
-/// What is handed out where nothing is compared.
+/// The comparison where nothing is compared: its numbers are 0.
 fn no_comparison() -> Comparison
     ensures { result ≡ no_comparison }
 {

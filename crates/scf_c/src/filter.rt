@@ -88,8 +88,8 @@ pub extern "C" fn scf_run(
 
 /// The run of the filter with these bytes on a record. Out of memory for the path is a fault of the filter.
 fn traced(alloc: Global, filter: &[u8], call: &CallRecord) -> Result<Trace, Refusal>
-    ensures path { IfOk result (λ own. (insns : List Insn) × IsAcceptedFilter (Some filter.now) insns
-        × IsPathOf insns (words_of call.now) own.answer.0 own.indices.items) }
+    ensures path { IfOk result (λ trace. (insns : List Insn) × IsAcceptedFilter (Some filter.now) insns
+        × IsPathOf insns (words_of call.now) trace.answer.0 trace.indices.items) }
     ensures refused { IfErr result (IsFilterRefused filter.now) }
 {
     let program = accepted(alloc, filter)?;
@@ -120,9 +120,9 @@ pub extern "C" fn scf_trace(
     *needed = 0;
     *fault = no_fault();
     match traced(alloc, filter, &call.record()) {
-        Ok(own) => {
-            *answer = own.answer.0;
-            hand_out(own.indices.as_slice(), path, needed);
+        Ok(trace) => {
+            *answer = trace.answer.0;
+            hand_out(trace.indices.as_slice(), path, needed);
             OK
         }
         Err(why) => refuse(why, fault),

@@ -75,9 +75,9 @@ pub struct DecisionNumbers {
 #[repr(C)]
 #[derive(Clone, Copy)]
 pub struct Fault {
-    /// What is refused.
+    /// Which input is refused.
     pub source: u32,
-    /// Why.
+    /// Why it is refused.
     pub kind: u32,
     /// The numbers of this kind, in the order of the printed line, and 0 behind them.
     pub numbers: [u64; 3],
@@ -125,7 +125,7 @@ pub struct SideInput<'a> {
     pub profile: ProfileInput<'a>,
 }
 
-/// What is asked of a comparison.
+/// A question: over which records sides are compared, by which relation, and within which limits.
 #[repr(C)]
 pub struct Question {
     /// 0 for all records at once, 1 for those of an architecture with a number of a range, 2 for those of each
@@ -243,7 +243,7 @@ pub struct RegionNumbers {
     pub reserved: [u64; 4],
 }
 
-/// What is known of a word of the records of a region.
+/// A fact about a word of the records of a region.
 #[repr(C)]
 #[derive(Clone, Copy)]
 pub struct WordFact {

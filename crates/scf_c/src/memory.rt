@@ -2,7 +2,7 @@
 
 ghost use Rattle.std.specs.Prelude.{◌≡◌};
 ghost use Rattle.scf_c.specs.HandingOut.{IsHandedOut};
-ghost use Rattle.scf_c.specs.internal.Reading.{rest_of};
+ghost use Rattle.scf_c.specs.internal.Reading.{unread_of};
 
 use scf_insn::{Failed, Source};
 use scf_tool::InMemory;
@@ -10,37 +10,37 @@ use scf_tool::InMemory;
 /// A reader of bytes in memory. Never fails.
 #[derive(Drop)]
 pub(crate) struct Reader<'a> {
-    rest: &'a [u8],
+    unread: &'a [u8],
 }
 
 impl<'a> Reader<'a> {
     pub(crate) fn new(bytes: &'a [u8]) -> Reader<'a>
-        ensures { rest_of result ≡ bytes.now }
+        ensures { unread_of result ≡ bytes.now }
     {
-        Reader { rest: bytes }
+        Reader { unread: bytes }
     }
 }
 
 impl Source for Reader<'_> {
     ghost use Rattle.std.specs.Prelude.{Some};
 
-    ghost remaining = { λ s. Some (rest_of s) };
+    ghost remaining = { λ s. Some (unread_of s) };
 
     ghost failures = { λ _. 0 };
 
     fn read(&mut self, buffer: &mut [u8]) -> Result<usize, Failed> {
-        let count = self.rest.len().min(buffer.len());
-        buffer[..count].copy_from_slice(&self.rest[..count]);
-        self.rest = &self.rest[count..];
+        let count = self.unread.len().min(buffer.len());
+        buffer[..count].copy_from_slice(&self.unread[..count]);
+        self.unread = &self.unread[count..];
         Ok(count)
     }
 }
 
 impl InMemory for Reader<'_> {
-    ghost text = { λ s. rest_of s };
+    ghost text = { λ s. unread_of s };
 
     fn bytes(&self) -> &[u8] {
-        self.rest
+        self.unread
     }
 }
 

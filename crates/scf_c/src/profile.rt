@@ -208,9 +208,9 @@ pub extern "C" fn scf_compile(
         return WRONG_ARGUMENT;
     };
     match filter_of(alloc, profile, tables, reading) {
-        Ok(own) => {
-            hand_out(own.bytes.as_slice(), filter, needed);
-            *left_out = own.left_out;
+        Ok(compiled) => {
+            hand_out(compiled.bytes.as_slice(), filter, needed);
+            *left_out = compiled.left_out;
             OK
         }
         Err(why) => refuse(why, fault),
@@ -237,7 +237,7 @@ pub(crate) fn entry_of(reason: Reason) -> u32
     }
 }
 
-/// What is handed out where nothing is answered.
+/// The answer where there is none: its numbers are 0.
 fn no_answer() -> ProfileAnswer
     ensures { result ≡ no_answer }
 {
@@ -279,9 +279,9 @@ pub extern "C" fn scf_ask(
 ) -> u32
     ensures answered { result ≡ ok → (reading : Reading) × IsReadUnder profile.now tables.now reading
         × (loaded : LoadedProfiles) × IsLoaded profile.now tables.now reading loaded
-        × (own : ℕ) × ProfilesAnswer loaded.profiles (record_of call.now) own
+        × (value : ℕ) × ProfilesAnswer loaded.profiles (record_of call.now) value
         × (reason : Reason) × IsReasonAmong loaded.profiles (record_of call.now) reason
-        × (answer.new ≡ answer_of own reason loaded) × (fault.new ≡ no_fault) }
+        × (answer.new ≡ answer_of value reason loaded) × (fault.new ≡ no_fault) }
     ensures wrong { result ≡ wrong_argument → IsNotRead profile.now tables.now × (fault.new ≡ no_fault) }
     ensures refused { result ≢ ok → result ≢ wrong_argument → (reading : Reading)
         × IsReadUnder profile.now tables.now reading

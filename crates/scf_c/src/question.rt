@@ -1,4 +1,4 @@
-//! What is asked of a comparison.
+//! Questions: over which records sides are compared, and by which relation.
 
 ghost use Rattle.std.specs.Prelude.{◌≡◌, ◌≢◌, ◌↔◌, IsTrue, MatchOption};
 ghost use Rattle.scf_profile.specs.declared.relation.Relation.{Relation};

@@ -183,7 +183,7 @@ pub(crate) fn some_records(
     over: Over,
     tables: &[Table],
 ) -> Result<Option<Vec<Records>>, Refusal>
-    ensures records { IfOk result (λ found. MatchOption found (AreRecords over tables.now [])
+    ensures records { IfOk result (λ records. MatchOption records (AreRecords over tables.now [])
         (λ records. AreSomeRecords over tables.now records.items)) }
     ensures refused { IfErr result (AreRecordsRefused tables.now) }
 {

@@ -50,7 +50,7 @@ impl From<Memory> for Refusal {
 
     ghost from_gives = { λ _ e. e ≡ Verify verifies.Memory };
 
-    fn from(_refused: Memory) -> Refusal {
+    fn from(_: Memory) -> Refusal {
         Refusal::Verify(VerifyFault::Memory)
     }
 }

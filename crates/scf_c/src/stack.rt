@@ -8,9 +8,9 @@ ghost use Rattle.scf_machine.specs.declared.stack.DecidingInsn.{DecidingInsn};
 ghost use Rattle.scf_tool.specs.FilterStacks.{HasStack};
 ghost use Rattle.scf_c.specs.Faults.{IsRefusal, no_fault};
 ghost use Rattle.scf_c.specs.Filters.{IsStackRefused, decided_by, no_decision};
-ghost use Rattle.scf_c.specs.Layout.{known, record_of};
+ghost use Rattle.scf_c.specs.Layout.{known_bytes, record_of};
 ghost use Rattle.scf_c.specs.Statuses.{ok};
-ghost use Rattle.scf_c.specs.internal.Reading.{rest_of};
+ghost use Rattle.scf_c.specs.internal.Reading.{unread_of};
 
 use crate::fault::{no_fault, refuse};
 use crate::layout::{Bytes, Call, DecisionNumbers, Fault};
@@ -23,7 +23,7 @@ use std::alloc::{AllocError, Global};
 
 /// Readers of filters, in their order.
 fn readers_of<'a>(alloc: Global, filters: &[Bytes<'a>]) -> Result<Vec<Reader<'a>>, AllocError>
-    ensures { IfOk result (λ readers. map (λ reader. Some (rest_of reader)) readers.items ≡ known filters.now) }
+    ensures { IfOk result (λ readers. map (λ reader. Some (unread_of reader)) readers.items ≡ known_bytes filters.now) }
 {
     let mut readers = Vec::new(alloc);
     for filter in filters {
@@ -34,14 +34,14 @@ fn readers_of<'a>(alloc: Global, filters: &[Bytes<'a>]) -> Result<Vec<Reader<'a>
 
 /// The stack of the filters with these bytes, the oldest first.
 pub(crate) fn stack_of(alloc: Global, filters: &[Bytes]) -> Result<FilterStack, Refusal>
-    ensures stack { IfOk result (HasStack (known filters.now)) }
+    ensures stack { IfOk result (HasStack (known_bytes filters.now)) }
     ensures refused { IfErr result (IsStackRefused filters.now) }
 {
     let mut readers = readers_of(alloc, filters)?;
     Ok(read_stack(alloc, &mut readers)?)
 }
 
-/// What is handed out where nothing is decided.
+/// The decision where nothing is decided: its numbers are 0.
 fn no_decision() -> DecisionNumbers
     ensures { result ≡ no_decision }
 {
@@ -54,7 +54,7 @@ fn no_decision() -> DecisionNumbers
     }
 }
 
-/// What is handed out of a decision.
+/// A decision as numbers.
 fn numbers_of(decision: Decision) -> DecisionNumbers
     ensures { result ≡ decided_by decision.answer.0 decision.by }
 {
@@ -84,7 +84,7 @@ pub extern "C" fn scf_decide(
     decision: &mut DecisionNumbers,
     fault: &mut Fault,
 ) -> u32
-    ensures decided { result ≡ ok → (stack : List (List Insn)) × HasStack (known filters.now) stack
+    ensures decided { result ≡ ok → (stack : List (List Insn)) × HasStack (known_bytes filters.now) stack
         × StackAnswers stack (words_of (record_of call.now)) decision.new.answer
         × (by : Option DecidingInsn) × IsDecidedBy stack (words_of (record_of call.now)) by decision.new.answer
         × (decision.new ≡ decided_by decision.new.answer by) × (fault.new ≡ no_fault) }

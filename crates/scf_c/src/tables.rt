@@ -6,7 +6,7 @@ ghost use Rattle.scf_profile.specs.StatedProfile.{is_named};
 ghost use Rattle.scf_tool.specs.VerifyingArchitectures.{table_text};
 ghost use Rattle.scf_c.specs.Architectures.{AreMeant, HasTables, IsMeant, architecture_of, count_for, texts_of};
 ghost use Rattle.scf_c.specs.Architectures as spec;
-ghost use Rattle.scf_c.specs.internal.Reading.{rest_of};
+ghost use Rattle.scf_c.specs.internal.Reading.{unread_of};
 
 use crate::layout::Table;
 use crate::memory::Reader;
@@ -92,7 +92,7 @@ pub(crate) fn table_readers_of<'a>(
     alloc: Global,
     tables: &[Table<'a>],
 ) -> Result<Vec<TableReader<Reader<'a>>>, AllocError>
-    ensures { IfOk result (λ readers. map (table_text rest_of) readers.items ≡ texts_of tables.now) }
+    ensures { IfOk result (λ readers. map (table_text unread_of) readers.items ≡ texts_of tables.now) }
 {
     let mut readers = Vec::new(alloc);
     for table in tables {

@@ -35,19 +35,19 @@ module _ {P V : Type 0} (R : P → V → Type 0) (f : V → Bool) where
           → (find f vs ≡ Some v → (p : P) × Contains ps p × R p v × (f v ≡ true))
           → (p : P) × Contains (x ∷ ps) p × R p v × (f v ≡ true)
       by_test true here behind =
-          let found : Some y ≡ Some v = rw here at e in
+          let first_found : Some y ≡ Some v = rw here at e in
           let same : y ≡ v = cc in
           (x, (0, omega arith, refl), subst (R x) same each.0, ap f (sym same) ∙ here)
       by_test false here behind =
-          let rest : find f vs ≡ Some v = rw here at e in
-          let more = behind rest in
+          let later : find f vs ≡ Some v = rw here at e in
+          let more = behind later in
           (more.0, Contains-append_right (x ∷ []) ps more.0 more.1, more.2, more.3)
 
   none_parts : (y : V) (vs : List V) → find f (y ∷ vs) ≡ None → (f y ≡ false) × (find f vs ≡ None)
   none_parts y vs none = by_test (f y) refl
     where
       by_test : (b : Bool) → f y ≡ b → (f y ≡ false) × (find f vs ≡ None)
-      by_test true here = let found : Some y ≡ None = rw here at none in absurd (cc)
+      by_test true here = let first_found : Some y ≡ None = rw here at none in absurd (cc)
       by_test false here = let behind : find f vs ≡ None = rw here at none in (here, behind)
 
   -- where nothing is found, each element of the first has one that isn't
@@ -78,8 +78,8 @@ module _ (relation : Relation) (over : Architecture → Scope)
   one_is_true : (p : Profile) (finding : Finding) → Contains profiles p
       → IsTrueFinding (compared p) finding → is_holding finding ≡ false
       → IsTrueOfEach relation over side profiles finding
-  one_is_true p (Holds steps) among holds other = absurd (cc)
-  one_is_true p (Fails call left right) among holds other = (
+  one_is_true p (Holds steps) among holds not_holding = absurd (cc)
+  one_is_true p (Fails call left right) among holds not_holding = (
     p,
     among,
     holds.0,
@@ -88,9 +88,9 @@ module _ (relation : Relation) (over : Architecture → Scope)
     answered p call right.0 among holds.0 holds.1 holds.3,
     holds.4,
   )
-  one_is_true p (Undecided Left at) among holds other = holds
-  one_is_true p (Undecided Right at) among holds other = holds
-  one_is_true p Unfinished among holds other = tt
+  one_is_true p (Undecided Left at) among holds not_holding = holds
+  one_is_true p (Undecided Right at) among holds not_holding = holds
+  one_is_true p Unfinished among holds not_holding = tt
 
   failure_is_other : (finding : Finding) → is_failure finding ≡ true → is_holding finding ≡ false
   failure_is_other (Holds steps) is = absurd (cc)
@@ -123,15 +123,15 @@ module _ (relation : Relation) (over : Architecture → Scope)
         → IsTrueOfEach relation over side profiles (joint_finding findings)
     joint_is_true findings each = by_first (find is_failure findings) refl (find is_other findings) refl
       where
-        by_first : (first : Option Finding) → find is_failure findings ≡ first → (other : Option Finding)
-            → find is_other findings ≡ other → IsTrueOfEach relation over side profiles (joint_finding findings)
-        by_first (Some finding) found other others =
-            let at = zip_found Found is_failure profiles findings finding each found in
-            rw found (one_is_true at.0 finding at.1 at.2.holds (failure_is_other finding at.3))
-        by_first None found (Some finding) others =
+        by_first : (first : Option Finding) → find is_failure findings ≡ first → (not_holding : Option Finding)
+            → find is_other findings ≡ not_holding → IsTrueOfEach relation over side profiles (joint_finding findings)
+        by_first (Some finding) first_found not_holding others =
+            let at = zip_found Found is_failure profiles findings finding each first_found in
+            rw first_found (one_is_true at.0 finding at.1 at.2.holds (failure_is_other finding at.3))
+        by_first None first_found (Some finding) others =
             let at = zip_found Found is_other profiles findings finding each others in
-            rw (found, others) (one_is_true at.0 finding at.1 at.2.holds (other_is_not_holding finding at.3))
-        by_first None found None others =
+            rw (first_found, others) (one_is_true at.0 finding at.1 at.2.holds (other_is_not_holding finding at.3))
+        by_first None first_found None others =
             let all : IsTrueOfEach relation over side profiles (Holds (most_steps findings)) = λ p call among record_is in_it.
             let at = zip_none Found is_other profiles findings among.0 p each among.1 among.2 others in
             let answers = holding_is_related p at.0 at.1.holds at.2 call record_is in_it in (
@@ -141,7 +141,7 @@ module _ (relation : Relation) (over : Architecture → Scope)
               answered p call answers.right among record_is in_it answers.of_right,
               answers.are_related,
             ) in
-            rw (found, others) all
+            rw (first_found, others) all
 
 -- the records that are compared are those of the architecture
 pub scope_is_of : (scope : Scope) (architecture : Architecture) (call : CallRecord)

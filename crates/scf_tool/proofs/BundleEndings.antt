@@ -60,27 +60,27 @@ module _ (form : BundleForm) (only_one : Bool) (reading : Reading) (input : Opti
         (λ of end. (text : List ℕ) × (of.profiles ≡ text ∷ [])
         × Holds (interpretation_of reading of) text of.tables end)
         held ending bundle taken.0 record {
-          no_input = λ fault own. (none own.0).no_input fault own.2;
-          no_bundle = λ fault own. (none own.0).no_bundle fault own.2;
-          no_parts = λ own. (none own.0).no_parts own.2;
+          no_input = λ fault here. (none here.0).no_input fault here.2;
+          no_bundle = λ fault here. (none here.0).no_bundle fault here.2;
+          no_parts = λ here. (none here.0).no_parts here.2;
         } (rest_of parts.profile, are.profile, holds_held)
 
 -- the only table
 pub only_table : (tables : List (TableReader PartReader)) (first : TableReader PartReader)
     → length (map rest_of_table tables) ≡ 1 → first ≡ get_or tables 0 first
     → map rest_of_table tables ≡ rest_of_table first ∷ []
-only_table [] first one is = absurd (omega (arith, one))
-only_table (table ∷ []) first one is = rw is refl
-only_table (table ∷ other ∷ tables) first one is = absurd (omega (arith, one))
+only_table [] first count is = absurd (omega (arith, count))
+only_table (table ∷ []) first count is = rw is refl
+only_table (table ∷ second ∷ tables) first count is = absurd (omega (arith, count))
 
 -- what holds of the only table says nothing of these either
 pub of_only_parts : (Holds : List ℕ → List ℕ → Result Reply Fault → Type 0) (profile : List ℕ)
     (tables : List (Architecture × List ℕ)) → ((table : List ℕ) → IsOfParts (Holds profile table))
     → IsOfParts (OfOnly Holds profile tables)
 of_only_parts Holds profile tables of_parts = record {
-  no_input = λ fault own. (of_parts own.0.1).no_input fault own.2;
-  no_bundle = λ fault own. (of_parts own.0.1).no_bundle fault own.2;
-  no_parts = λ own. (of_parts own.0.1).no_parts own.2;
+  no_input = λ fault here. (of_parts here.0.1).no_input fault here.2;
+  no_bundle = λ fault here. (of_parts here.0.1).no_bundle fault here.2;
+  no_parts = λ here. (of_parts here.0.1).no_parts here.2;
 }
 
 -- this holds of the only table, too

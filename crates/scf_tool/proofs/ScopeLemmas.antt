@@ -40,18 +40,18 @@ some_among : (tables : List (TableReader PartReader)) (scope : Scope) (k : ℕ) 
     → HoldsAt (HasOne scope) tables k → HasRecordAmong (map rest_of_table tables) scope
 some_among [] scope k inside at = absurd (omega (arith, inside))
 some_among (table ∷ tables) scope k inside at =
-    let own = rest_of_table (get_or (table ∷ tables) k table) in
+    let text = rest_of_table (get_or (table ∷ tables) k table) in
     let within : k < length (map rest_of_table (table ∷ tables)) =
     omega (arith, inside, length-map (table ∷ tables) rest_of_table) in
-    (own, (k, within, get_or-map rest_of_table (table ∷ tables) k table own inside), at table)
+    (text, (k, within, get_or-map rest_of_table (table ∷ tables) k table text inside), at table)
 
 none_among : (tables : List (TableReader PartReader)) (scope : Scope)
     → AllWithin (λ table. HasOne scope table → ⊥) tables 0 (length tables)
     → HasRecordAmong (map rest_of_table tables) scope → ⊥
 none_among tables scope none (table, contained, has) =
-    let each = All-map (λ (own : Architecture × List ℕ). HasRecord (IsInScope (scope_of scope own.0)) → ⊥) rest_of_table
-    tables (All-from_all_within (λ own. HasOne scope own → ⊥) tables none) in
-    All-contains (λ (own : Architecture × List ℕ). HasRecord (IsInScope (scope_of scope own.0)) → ⊥)
+    let each = All-map (λ (text : Architecture × List ℕ). HasRecord (IsInScope (scope_of scope text.0)) → ⊥) rest_of_table
+    tables (All-from_all_within (λ text. HasOne scope text → ⊥) tables none) in
+    All-contains (λ (text : Architecture × List ℕ). HasRecord (IsInScope (scope_of scope text.0)) → ⊥)
     (map rest_of_table tables) table each contained has
 
 pub among_cases : (r : Bool) (tables : List (TableReader PartReader)) (scope : Scope)
@@ -64,12 +64,12 @@ among_cases false tables scope none =
 
 -- ---- a table without a call
 
-some_named : (names : Names) (calls : List NamedCall) (name : List ℕ) (found : Option ℕ) → AreCallsOf names calls
-    → length calls ≡ 0 → get names name ≡ found → found ≡ None
+some_named : (names : Names) (calls : List NamedCall) (name : List ℕ) (number : Option ℕ) → AreCallsOf names calls
+    → length calls ≡ 0 → get names name ≡ number → number ≡ None
 some_named names [] name None are none is = refl
 some_named names [] name (Some number) are none is =
     let listed = (are.exact number).1 (name, is) in absurd (omega (arith, listed.1))
-some_named names (call ∷ calls) name found are none is = absurd (omega (arith, none))
+some_named names (call ∷ calls) name number are none is = absurd (omega (arith, none))
 
 pub no_calls : (text : List ℕ) (names : Names) (calls : List NamedCall) → table_of text ≡ Ok names
     → AreCallsOf names calls → length calls ≡ 0 → NamesNoCall text
@@ -88,15 +88,15 @@ some_calls text names (call ∷ calls) is are (others, states, none) =
 pub only_names_none : (tables : List (TableReader PartReader)) (default : TableReader PartReader) (text : List ℕ)
     → length tables ≡ 1 → text ≡ rest_of (get_or tables 0 default).reader
     → NamesNoCall text ↔ NameNoCall (map rest_of_table tables)
-only_names_none [] default text one is = absurd (omega (arith, one))
-only_names_none (table ∷ []) default text one is = (
+only_names_none [] default text count is = absurd (omega (arith, count))
+only_names_none (table ∷ []) default text count is = (
   λ none. (rest_of_table table, refl, subst NamesNoCall is none),
   λ none.
       let only = none.1 in
       let same : rest_of_table table ≡ none.0 = cc in
-      subst NamesNoCall (ap (λ (own : Architecture × List ℕ). own.1) (sym same) ∙ sym is) none.2,
+      subst NamesNoCall (ap (λ (text : Architecture × List ℕ). text.1) (sym same) ∙ sym is) none.2,
 )
-only_names_none (table ∷ other ∷ tables) default text one is = absurd (omega (arith, one))
+only_names_none (table ∷ second ∷ tables) default text count is = absurd (omega (arith, count))
 
 -- ---- faults
 
@@ -107,9 +107,9 @@ IsOther fault = Unit {0}
 
 none_other : (form : BundleForm) (over : Scopes) (tables : List (Architecture × List ℕ)) (fault : Fault)
     → IsOther fault → GoesOverNone form over tables fault → ⊥
-none_other form EachCall tables faults.Calls other none = other
-none_other forms.Architectures (AtOnce scope) tables faults.Range other none = other
-none_other form over tables fault other none = none
+none_other form EachCall tables faults.Calls is_other none = is_other
+none_other forms.Architectures (AtOnce scope) tables faults.Range is_other none = is_other
+none_other form over tables fault is_other none = none
 
 goes_over_none : (form : BundleForm) (reading : Reading) (comparison : Comparison) (input : Option (List ℕ))
     (held : Held) (fault : Fault) → HoldsBundle form input held → TakesSides form comparison.scopes held

@@ -56,10 +56,11 @@ one_more_read input Taken Ended i olds news old new before after from upto taken
     }
 
 -- it is the last that is asked
-pub readers_stop : {R A B : Type 0} (input : R → A) (Taken : List A → B → Type 0) (Ended Left : R → R → Type 0) (i : ℕ)
+pub readers_stop : {R A B : Type 0} (input : R → A) (Taken : List A → B → Type 0) (Ended Stopped : R → R → Type 0) (i : ℕ)
     (olds news : List R) (old new : R) (taken : B) → SameFrom i olds news old
-    → IsReadUpTo input Taken Ended i olds news taken → Left old new → HaveStoppedBy Ended Left olds (set news i new)
-readers_stop input Taken Ended Left i olds news old new taken from upto left = record {
+    → IsReadUpTo input Taken Ended i olds news taken → Stopped old new
+    → HaveStoppedBy Ended Stopped olds (set news i new)
+readers_stop input Taken Ended Stopped i olds news old new taken from upto stopped = record {
   before = take i olds;
   before_new = take i news;
   old = old;
@@ -68,7 +69,7 @@ readers_stop input Taken Ended Left i olds news old new taken from upto left = r
   olds_are = olds_split i olds news old from;
   news_are = rw add-one (set_split news i new from.within);
   ended = upto.ended;
-  left = left;
+  stopped = stopped;
 }
 
 -- what they have, with one that isn't taken
@@ -106,7 +107,7 @@ pub no_stack : {R : Type 0} (remaining : R → Option (List ℕ)) (failures : R 
     → HasNoStack (map remaining olds) fault
 no_stack remaining failures i olds news old stack fault from upto refused = record {
   before = map remaining (take i olds);
-  own = remaining old;
+  filter = remaining old;
   behind = map remaining (drop (i + 1) news);
   whole = texts_split remaining i olds news old from;
   stack = stack;
@@ -129,7 +130,7 @@ module _ {R : Type 0} (remaining : R → Option (List ℕ)) where
   -- no read of one is why there is no stack
   pub stopped_reads_well : (texts : List (Option (List ℕ))) (fault : VerifyFault) (olds news : List R)
       → HasNoStack texts fault → HaveStopped remaining none fault olds news → NoReadFailed fault
-  stopped_reads_well texts (FilterRead fault) olds news refused left = λ is. absurd (omega (arith, left.left.0 is))
-  stopped_reads_well texts (TableRead fault) olds news refused left = absurd refused.why
-  stopped_reads_well texts (ProfileRead fault) olds news refused left = absurd refused.why
-  stopped_reads_well texts fault olds news refused left = tt
+  stopped_reads_well texts (FilterRead fault) olds news refused stopped = λ is. absurd (omega (arith, stopped.stopped.0 is))
+  stopped_reads_well texts (TableRead fault) olds news refused stopped = absurd refused.why
+  stopped_reads_well texts (ProfileRead fault) olds news refused stopped = absurd refused.why
+  stopped_reads_well texts fault olds news refused stopped = tt

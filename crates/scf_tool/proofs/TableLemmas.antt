@@ -47,7 +47,7 @@ module _ {R : Type 0} (remaining : R → Option (List ℕ)) (failures : R → �
         → HasNoTable (map (table_text remaining) olds) fault
     no_table fault refused = record {
       before = map (table_text remaining) (take i olds);
-      own = table_text remaining old;
+      text = table_text remaining old;
       behind = map (table_text remaining) (drop (i + 1) news);
       whole = texts_split (table_text remaining) i olds news old from;
       tables = tables;
@@ -88,26 +88,26 @@ module _ {R : Type 0} (text : R → List ℕ) (tables : List (TableReader R)) (i
       ∙ map-append (table_text text) (take i tables) (get_or tables i reader ∷ [])
       ∙ ap (λ x. map (table_text text) (take i tables) ++ table_text text x ∷ []) (sym is)
 
-  module _ (own : List OwnedTable)
-      (before : AllZip SpellsTable (map (table_text text) (take i tables)) (map named_of own)) where
+  module _ (owned : List OwnedTable)
+      (before : AllZip SpellsTable (map (table_text text) (take i tables)) (map named_of owned)) where
     -- one more is spelled
     pub spelled_more : (pushed : List OwnedTable) (table : Names)
-        → pushed ≡ own ++ record { architecture = reader.architecture; table = table } ∷ []
+        → pushed ≡ owned ++ record { architecture = reader.architecture; table = table } ∷ []
         → table_of (text reader.reader) ≡ Ok table
         → AllZip SpellsTable (map (table_text text) (take (i + 1) tables)) (map named_of pushed)
     spelled_more pushed table added spelled =
-        let one : OwnedTable = record { architecture = reader.architecture; table = table } in
-        let names : map named_of pushed ≡ map named_of own ++ named_of one ∷ [] =
-        ap (map named_of) added ∙ map-append named_of own (one ∷ []) in
+        let last : OwnedTable = record { architecture = reader.architecture; table = table } in
+        let names : map named_of pushed ≡ map named_of owned ++ named_of last ∷ [] =
+        ap (map named_of) added ∙ map-append named_of owned (last ∷ []) in
         rw (one_text_more, names)
-        (all_zipped_more SpellsTable (map (table_text text) (take i tables)) (map named_of own)
-        (table_text text reader) (named_of one) before (refl, spelled))
+        (all_zipped_more SpellsTable (map (table_text text) (take i tables)) (map named_of owned)
+        (table_text text reader) (named_of last) before (refl, spelled))
 
     -- one isn't
     pub cant_spell : (by : Interpretation) (profile : List ℕ) (fault : TableFault)
         → (fault ≢ faults.Memory → table_of (text reader.reader) ≡ Err fault)
         → CantLoadEach by profile (map (table_text text) tables) (Table fault)
-    cant_spell by profile fault refused = λ other. (
+    cant_spell by profile fault refused = λ no_memory. (
       map (table_text text) (take i tables),
       table_text text reader,
       map (table_text text) (drop (i + 1) tables),
@@ -115,9 +115,9 @@ module _ {R : Type 0} (text : R → List ℕ) (tables : List (TableReader R)) (i
           ∙ ap (λ (behind : List (TableReader R)). take i tables ++ behind) (drop_more tables i reader lt)
           ∙ ap (λ (x : TableReader R). take i tables ++ x ∷ drop (i + 1) tables) (sym is))
           ∙ map-append (table_text text) (take i tables) (reader ∷ drop (i + 1) tables),
-      map named_of own,
+      map named_of owned,
       before,
-      refused other,
+      refused no_memory,
     )
 
 -- ---- the only table
@@ -131,18 +131,18 @@ tables_counted (text ∷ texts) [] are = absurd are
 tables_counted (text ∷ texts) (table ∷ tables) are = omega (arith, tables_counted texts tables are.1)
 
 -- and as there are parts
-pub parts_counted : (parts : List (TableReader PartReader)) (own : List OwnedTable)
-    → AreTables (map known_text (map rest_of_table parts)) (map named_of own) → length own ≡ length parts
-parts_counted parts own are = omega (
+pub parts_counted : (parts : List (TableReader PartReader)) (owned : List OwnedTable)
+    → AreTables (map known_text (map rest_of_table parts)) (map named_of owned) → length owned ≡ length parts
+parts_counted parts owned are = omega (
   arith,
-  tables_counted (map known_text (map rest_of_table parts)) (map named_of own) are,
-  length-map own named_of,
+  tables_counted (map known_text (map rest_of_table parts)) (map named_of owned) are,
+  length-map owned named_of,
   length-map (map rest_of_table parts) known_text,
   length-map parts rest_of_table,
 )
 
 -- the only element of a list
 pub only_element : {A : Type 0} (xs : List A) (d : A) → length xs ≡ 1 → xs ≡ get_or xs 0 d ∷ []
-only_element [] d one = absurd (omega (arith, one))
-only_element (x ∷ []) d one = refl
-only_element (x ∷ y ∷ xs) d one = absurd (omega (arith, one))
+only_element [] d count = absurd (omega (arith, count))
+only_element (x ∷ []) d count = refl
+only_element (x ∷ y ∷ xs) d count = absurd (omega (arith, count))

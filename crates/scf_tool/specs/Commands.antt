@@ -371,8 +371,8 @@ pub record AreStated (by : Interpretation) (profile : List ℕ) (texts : List (A
 -- why a profile and tables state nothing: the first that is no table, or all are, and the profile is refused
 abbrev pub CantLoadEach : Interpretation → List ℕ → List (Architecture × List ℕ) → VerifyFault → Type 0
 CantLoadEach by profile texts (verifies.Table fault) = fault ≢ tables.Memory
-    → (before : List (Architecture × List ℕ)) × (own : Architecture × List ℕ) × (behind : List (Architecture × List ℕ))
-    × (texts ≡ before ++ own ∷ behind) × (read : Tables) × AllZip SpellsTable before read × (table_of own.1 ≡ Err fault)
+    → (before : List (Architecture × List ℕ)) × (text : Architecture × List ℕ) × (behind : List (Architecture × List ℕ))
+    × (texts ≡ before ++ text ∷ behind) × (read : Tables) × AllZip SpellsTable before read × (table_of text.1 ≡ Err fault)
 CantLoadEach by profile texts (verifies.Profile fault) =
     (read : Tables) × AllZip SpellsTable texts read × RefusesEachAs by.reading profile read fault
 CantLoadEach by profile texts fault = ⊥

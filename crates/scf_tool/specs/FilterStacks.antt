@@ -24,12 +24,12 @@ IsNotPushed stack bytes fault = IsNoFilter bytes fault
 -- Of these filters, the oldest first, the first that isn't pushed.
 pub record HasNoStack (filters : List (Option (List ℕ))) (fault : VerifyFault) : Type 0 where
   pub before : List (Option (List ℕ))
-  pub own : Option (List ℕ)
+  pub filter : Option (List ℕ)
   pub behind : List (Option (List ℕ))
-  pub whole : filters ≡ before ++ own ∷ behind
+  pub whole : filters ≡ before ++ filter ∷ behind
   pub stack : List (List Insn)
   pub has_stack : HasStack before stack
-  pub why : IsNotPushed stack own fault
+  pub why : IsNotPushed stack filter fault
 
 -- ---- the readers
 
@@ -38,7 +38,7 @@ abbrev pub HaveEnded : {R : Type 0} → (R → Option (List ℕ)) → (R → ℕ
 HaveEnded remaining failures olds news = AllZip (HasEnded remaining failures) olds news
 
 -- The readers before one have ended, this one is left so, and those behind it aren't asked.
-pub record HaveStoppedBy {R : Type 0} (Ended Left : R → R → Type 0) (olds news : List R) : Type 0 where
+pub record HaveStoppedBy {R : Type 0} (Ended Stopped : R → R → Type 0) (olds news : List R) : Type 0 where
   pub before : List R
   pub before_new : List R
   pub old : R
@@ -47,7 +47,7 @@ pub record HaveStoppedBy {R : Type 0} (Ended Left : R → R → Type 0) (olds ne
   pub olds_are : olds ≡ before ++ old ∷ behind
   pub news_are : news ≡ before_new ++ new ∷ behind
   pub ended : AllZip Ended before before_new
-  pub left : Left old new
+  pub stopped : Stopped old new
 
 -- those of filters, where this is the fault of one
 abbrev pub HaveStopped : {R : Type 0} → (R → Option (List ℕ)) → (R → ℕ) → VerifyFault → List R → List R → Type 0

@@ -45,7 +45,7 @@ pub record IsAnswered {R : Type 0} (words : List Text) (remaining : R → Option
   pub reading : Reading
   pub read_by : ReadsBy (subcommand_of scf words) (Ok reading)
   pub answered : IsTrueReply reading request (remaining old) ending
-  pub left : LeavesInput request remaining failures old ending new
+  pub input : LeavesInput request remaining failures old ending new
 
 -- How a run ends: it speaks of its words, before it reads any input, or answers what they ask for.
 abbrev pub Ends : {R : Type 0} → List Text → (R → Option (List ℕ)) → (R → ℕ) → R → Result Reply Fault → R → Type 0

@@ -30,12 +30,12 @@ AreTables texts tables = AllZip IsTableOf texts tables
 -- Of these, the first that is none.
 pub record HasNoTable (texts : List (Architecture × Option (List ℕ))) (fault : VerifyFault) : Type 0 where
   pub before : List (Architecture × Option (List ℕ))
-  pub own : Architecture × Option (List ℕ)
+  pub text : Architecture × Option (List ℕ)
   pub behind : List (Architecture × Option (List ℕ))
-  pub whole : texts ≡ before ++ own ∷ behind
+  pub whole : texts ≡ before ++ text ∷ behind
   pub tables : Tables
   pub are_tables : AreTables before tables
-  pub why : IsNoTable own.1 fault
+  pub why : IsNoTable text.1 fault
 
 -- ---- the profile
 

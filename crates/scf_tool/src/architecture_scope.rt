@@ -33,11 +33,11 @@ pub(crate) fn scope_of_call(architecture: Architecture, number: u32) -> Scope
     match architecture {
         Architecture::X8664 => Scope::Call(number),
         _ => {
-            let own = architecture.first() + number;
+            let nr = architecture.first() + number;
             Scope::NumbersOf {
                 architecture,
-                first: own,
-                last: own,
+                first: nr,
+                last: nr,
             }
         }
     }

@@ -18,10 +18,10 @@ use std::alloc::Global;
 use std::io;
 use std::io::ErrorKind as IoErrorKind;
 
-/// What is printed if an argument isn't UTF-8.
+/// The line printed if an argument isn't UTF-8.
 const NOT_UTF8: &[u8] = b"error: invalid UTF-8 was detected in one or more arguments\n";
 
-/// What is printed if memory runs out before any input is read.
+/// The line printed if memory runs out before any input is read.
 const NO_MEMORY: &[u8] = b"fault command Memory\n";
 
 /// The reply to arguments that name no command to run: help, the version, or a usage error.
@@ -43,7 +43,7 @@ pub(crate) fn explain(alloc: Global, error: &Error) -> Result<Reply, Fault>
 }
 
 /// Prints that memory ran out before any input was read. Returns the exit status.
-pub(crate) fn refuse_memory<W: Sink>(out: &mut W) -> u8
+pub(crate) fn report_out_of_memory<W: Sink>(out: &mut W) -> u8
     ensures { Prints W.contents W.failures out.old (printed_fault faults.CommandLine) result out.new }
 {
     let _written = write_whole(out, NO_MEMORY);
@@ -52,7 +52,7 @@ pub(crate) fn refuse_memory<W: Sink>(out: &mut W) -> u8
 
 /// Prints why the program's arguments can't be collected. Returns the exit status: 2 if one isn't UTF-8, 3 if memory
 /// ran out or writing failed.
-pub fn refuse_words<W: Sink>(error: &io::Error, out: &mut W) -> u8
+pub fn report_usage_error<W: Sink>(error: &io::Error, out: &mut W) -> u8
     ensures not_utf8 { error_kind error.now ≡ IoErrorKind.InvalidData
         → Prints W.contents W.failures out.old printed_of_no_utf8 result out.new }
     ensures memory { error_kind error.now ≢ IoErrorKind.InvalidData
@@ -63,6 +63,6 @@ pub fn refuse_words<W: Sink>(error: &io::Error, out: &mut W) -> u8
             Ok(()) => Status::CommandLine.code(),
             Err(_) => Status::Failed.code(),
         },
-        _ => refuse_memory(out),
+        _ => report_out_of_memory(out),
     }
 }

@@ -18,7 +18,7 @@ mod stack;
 mod text;
 
 use crate::buffer::Buffer;
-use crate::command_line::{explain, refuse_memory};
+use crate::command_line::{explain, report_out_of_memory};
 use crate::fault::Fault;
 use crate::reply::{LINE_ROOM, Reply, print_ending, status_of};
 use crate::status::Status;
@@ -58,7 +58,7 @@ fn answer<R: Source>(
     input: &mut R,
 ) -> Result<Reply, Fault>
     ensures answer { IsTrueReply reading request.now (R.remaining input.old) result }
-    ensures left { LeavesInput request.now R.remaining R.failures input.old result input.new }
+    ensures input { LeavesInput request.now R.remaining R.failures input.old result input.new }
 {
     match request {
         Request::Answers(exploration) => list_answers(alloc, reading, *exploration, input),
@@ -135,7 +135,7 @@ pub fn run_command<T: AsStr, R: Source, W: Sink>(
         result }
 {
     let Ok(room) = Buffer::with_room(alloc, LINE_ROOM) else {
-        return refuse_memory(out);
+        return report_out_of_memory(out);
     };
     let ending = ending_of(alloc, words, input);
     match print_ending(out, &ending, room) {

@@ -12,7 +12,7 @@ use std::alloc::Global;
 pub(crate) fn read_filter<R: Source>(alloc: Global, input: &mut R) -> Result<Program, VerifyFault>
     ensures filter { IfOk result (IsAcceptedFilter (R.remaining input.old)) }
     ensures refused { IfErr result (IsNoFilter (R.remaining input.old)) }
-    ensures left { LeavesFilterReader R.remaining R.failures input.old result input.new }
+    ensures input { LeavesFilterReader R.remaining R.failures input.old result input.new }
 {
     let insns = read_program(alloc, input)?;
     match check(alloc, insns) {

@@ -25,7 +25,7 @@ fn push_filter<R: Source>(
         × IsPush stack.old insns (Ok tt) stack.new) }
     ensures ended { OnOk result (HasEnded R.remaining R.failures reader.old reader.new) }
     ensures refused { IfErr result (IsNotPushed stack.old (R.remaining reader.old)) }
-    ensures left { LeavesFilterReader R.remaining R.failures reader.old result reader.new }
+    ensures reader { LeavesFilterReader R.remaining R.failures reader.old result reader.new }
 {
     let program = read_filter(alloc, reader)?;
     match stack.push(program) {

@@ -43,9 +43,9 @@ pub struct ComparisonOutcome {
     pub left_out: Option<LeftOut>,
 }
 
-/// These texts, kept.
-fn kept(alloc: Global, words: &[&str]) -> Result<Texts, AllocError>
-    ensures { IfOk result (λ own. own ≡ texts_at words.now) }
+/// A copy of these texts.
+fn owned_texts(alloc: Global, words: &[&str]) -> Result<Texts, AllocError>
+    ensures { IfOk result (λ texts. texts ≡ texts_at words.now) }
 {
     let mut list = Vec::new(alloc);
     for word in words {
@@ -126,7 +126,7 @@ fn compare_call(
     )?;
     Ok(CallFinding {
         number: call.number,
-        names: kept(alloc, &call.names)?,
+        names: owned_texts(alloc, &call.names)?,
         finding,
     })
 }

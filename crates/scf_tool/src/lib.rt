@@ -33,7 +33,7 @@ mod verification;
 mod verify_fault;
 
 pub use buffer::{encoding_of, listing_of};
-pub use command_line::refuse_words;
+pub use command_line::report_usage_error;
 pub use commands::run_command;
 pub use compilation::{filter_of, filter_of_each};
 pub use compiled_filter::compiled_is_same;

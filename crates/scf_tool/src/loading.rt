@@ -33,23 +33,23 @@ fn owned_tables<R: InMemory>(
     alloc: Global,
     tables: &[TableReader<R>],
 ) -> Result<Vec<OwnedTable>, VerifyFault>
-    ensures tables { IfOk result (λ own.
-        AllZip SpellsTable (map (table_text R.text) tables.now) (map named_of own.items)) }
+    ensures tables { IfOk result (λ owned.
+        AllZip SpellsTable (map (table_text R.text) tables.now) (map named_of owned.items)) }
     ensures fault { IfErr result (λ fault. (by : Interpretation) (profile : List ℕ)
         → CantLoadEach by profile (map (table_text R.text) tables.now) fault) }
 {
-    let mut own = Vec::new(alloc);
+    let mut owned = Vec::new(alloc);
     for part in tables {
         let table = CallTable::read(alloc, part.reader.bytes())?;
         let architecture = part.architecture;
-        let Ok(()) = own.push(OwnedTable {
+        let Ok(()) = owned.push(OwnedTable {
             architecture,
             table,
         }) else {
             return Err(VerifyFault::Table(TableFault::Memory));
         };
     }
-    Ok(own)
+    Ok(owned)
 }
 
 /// Loads a profile for each architecture that has a table.
@@ -62,6 +62,6 @@ pub fn load_with_tables<R: InMemory>(
     ensures stated { IfOk result (AreStated by.now profile.now (map (table_text R.text) tables.now)) }
     ensures fault { IfErr result (CantLoadEach by.now profile.now (map (table_text R.text) tables.now)) }
 {
-    let own = owned_tables(alloc, tables)?;
-    Ok(load_under(alloc, by, profile, &own)?)
+    let owned = owned_tables(alloc, tables)?;
+    Ok(load_under(alloc, by, profile, &owned)?)
 }

@@ -43,7 +43,7 @@ fn add_table<R: Source>(
         × (map named_of tables.new.items ≡ map named_of tables.old.items ++ (reader.old.architecture, table) ∷ [])) }
     ensures ended { OnOk result (TableHasEnded R.remaining R.failures reader.old reader.new) }
     ensures refused { IfErr result (IsNoTable (R.remaining reader.old.reader)) }
-    ensures left { IfErr result (λ fault. TableIsLeft R.remaining R.failures fault reader.old reader.new) }
+    ensures reader { IfErr result (λ fault. TableIsLeft R.remaining R.failures fault reader.old reader.new) }
 {
     let table = read_table(alloc, &mut reader.reader)?;
     let architecture = reader.architecture;
@@ -86,10 +86,10 @@ pub(crate) fn load_under(
     ensures err { IfErr result (RefusesEachAs by.now.reading text.now (map named_of tables.now)) }
 {
     let mut under = Vec::new(alloc);
-    for own in tables {
+    for owned in tables {
         under.push(ArchitectureTable {
-            architecture: own.architecture,
-            table: &own.table,
+            architecture: owned.architecture,
+            table: &owned.table,
         })?;
     }
     by.load_profiles(alloc, text, &under)

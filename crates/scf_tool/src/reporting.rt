@@ -264,12 +264,12 @@ fn add_left_out(
         (left_out_text (skipped_word.now, other_word.now) left_out.now) result text.new }
 {
     match left_out {
-        Some(own) => add_names_left_out(
+        Some(left_out) => add_names_left_out(
             text,
             skipped_word,
             other_word,
-            &own.skipped,
-            &own.other_architectures,
+            &left_out.skipped,
+            &left_out.other_architectures,
         ),
         None => Ok(()),
     }

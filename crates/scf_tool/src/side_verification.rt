@@ -89,15 +89,15 @@ fn compare_each_call(
     ensures { IfOk result (λ calls. AreFoundOfOnlyTable comparison (map named_of input.now.tables.items)
         (behavior_of_input input.now.left) (behavior_of_input input.now.right) calls.items) }
 {
-    let own = &input.tables[0];
+    let only = &input.tables[0];
     let left = input.left.side();
     let right = input.right.side();
     compare_calls(
         alloc,
         &left,
         &right,
-        own.architecture,
-        &own.table,
+        only.architecture,
+        &only.table,
         comparison.relation,
         comparison.limits,
     )

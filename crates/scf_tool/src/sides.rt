@@ -158,8 +158,8 @@ fn load(
     ensures read { IfErr result NoReadFailed }
 {
     if native {
-        let own = &tables[0];
-        let loaded = read_profile(alloc, by, reader, &own.table)?;
+        let only = &tables[0];
+        let loaded = read_profile(alloc, by, reader, &only.table)?;
         Ok(SideInput::Profile(loaded))
     } else {
         let loaded = read_profiles(alloc, by, reader, tables)?;
@@ -212,8 +212,8 @@ pub(crate) fn read_sides(
     tables: &mut [TableReader<PartReader<'_>>],
 ) -> Result<SidesInput, BesideFault>
     requires { native ≡ true → length tables.old ≡ 1 }
-    ensures sides { IfOk result (λ own. AreSides native by.now (side_bytes left.entry) (side_bytes right.entry)
-        (map known_text (map rest_of_table tables.old)) (map named_of own.tables.items) own.left own.right) }
+    ensures sides { IfOk result (λ input. AreSides native by.now (side_bytes left.entry) (side_bytes right.entry)
+        (map known_text (map rest_of_table tables.old)) (map named_of input.tables.items) input.left input.right) }
     ensures refused { IfErr result (AreRefused native by.now (side_bytes left.entry) (side_bytes right.entry)
         (map known_text (map rest_of_table tables.old))) }
     ensures read { IfErr result (λ fault. NoReadFailed (fault_of_either fault)) }

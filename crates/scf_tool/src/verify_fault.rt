@@ -58,7 +58,7 @@ impl From<LoadFault> for VerifyFault {
 impl From<Memory> for VerifyFault {
     ghost from_gives = { λ _ e. e ≡ verifies.Memory };
 
-    fn from(_refused: Memory) -> VerifyFault {
+    fn from(_: Memory) -> VerifyFault {
         VerifyFault::Memory
     }
 }
@@ -85,7 +85,7 @@ impl From<VerifyFault> for BesideFault {
 impl From<Memory> for BesideFault {
     ghost from_gives = { λ _ e. e ≡ besides.Verify verifies.Memory };
 
-    fn from(_refused: Memory) -> BesideFault {
+    fn from(_: Memory) -> BesideFault {
         BesideFault::Verify(VerifyFault::Memory)
     }
 }

@@ -163,8 +163,8 @@ fn compare_filters<R: Print>(lines: &mut Lines<R>, alloc: Global, profile: &Prof
             "compare_stack",
             compare_stack::<WordSets>(alloc, &stack, profile, Scope::All, LIMIT)
         );
-        let mut left = LIMIT;
-        let mut left_below = LIMIT;
+        let mut remaining = LIMIT;
+        let mut remaining_below = LIMIT;
         tell_twice!(
             lines,
             "compare_sides_within",
@@ -175,8 +175,8 @@ fn compare_filters<R: Print>(lines: &mut Lines<R>, alloc: Global, profile: &Prof
                 Scope::All,
                 Relation::Same,
                 Limit::of_steps(LIMIT),
-                &mut left,
-                &mut left_below,
+                &mut remaining,
+                &mut remaining_below,
             )
         );
         tell_twice!(
@@ -294,7 +294,7 @@ fn try_verify_stack<R: Print>(lines: &mut Lines<R>, alloc: Global) {
     );
 }
 
-/// What is printed of a difference takes more memory than of none.
+/// The report of a difference takes more memory than that of none.
 fn report_difference<R: Print>(lines: &mut Lines<R>, alloc: Global) {
     let outcome = Outcome {
         verdict: Verdict::Differs {

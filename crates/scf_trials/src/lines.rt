@@ -44,8 +44,8 @@ impl<'a, R: Print> Lines<'a, R> {
         }
     }
 
-    /// What a call answered, if it didn't fail. Both have a line.
-    pub(crate) fn told<T: Drop, E: Debug + Drop>(
+    /// The answer of a call, if it didn't fail. Prints the call's line.
+    pub(crate) fn answer<T: Drop, E: Debug + Drop>(
         &mut self,
         call: &str,
         outcome: Result<T, E>,
@@ -54,8 +54,8 @@ impl<'a, R: Print> Lines<'a, R> {
         outcome.ok()
     }
 
-    /// Whether a call was answered. There is a line for either.
-    pub(crate) fn is_told<T: Drop, E: Debug + Drop>(
+    /// Whether a call was answered. Prints the call's line.
+    pub(crate) fn is_answered<T: Drop, E: Debug + Drop>(
         &mut self,
         call: &str,
         outcome: Result<T, E>,
@@ -68,8 +68,8 @@ impl<'a, R: Print> Lines<'a, R> {
 /// Makes a call, and makes it again where it fails. What it answered, if one of the two did.
 macro_rules! twice {
     ($lines:expr, $call:expr, $made:expr) => {
-        match $lines.told($call, $made) {
-            None => $lines.told($call, $made),
+        match $lines.answer($call, $made) {
+            None => $lines.answer($call, $made),
             answer => answer,
         }
     };
@@ -80,8 +80,8 @@ pub(crate) use twice;
 /// The same of a call whose answer isn't used.
 macro_rules! tell_twice {
     ($lines:expr, $call:expr, $made:expr) => {
-        if !$lines.is_told($call, $made) {
-            $lines.is_told($call, $made);
+        if !$lines.is_answered($call, $made) {
+            $lines.is_answered($call, $made);
         }
     };
 }

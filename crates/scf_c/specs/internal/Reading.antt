@@ -3,5 +3,5 @@ use Rattle.std.specs.Prelude.{ℕ, List}
 use Rattle.scf_c.specs.declared.memory.Reader.{Reader}
 
 -- the bytes that aren't read yet
-abbrev pub rest_of : Reader → List ℕ
-rest_of reader = reader.rest.now
+abbrev pub unread_of : Reader → List ℕ
+unread_of reader = reader.unread.now

@@ -5,4 +5,4 @@ use Rattle.scf_tool.specs.declared.owned_table.OwnedTable.{OwnedTable}
 
 -- a table with its architecture
 abbrev pub named_of : OwnedTable → Architecture × Names
-named_of own = (own.architecture, own.table)
+named_of owned = (owned.architecture, owned.table)

@@ -79,7 +79,7 @@ pub(super) fn list_answers<R: Source>(
     input: &mut R,
 ) -> Result<Reply, Fault>
     ensures answer { ListsAnswers reading exploration (R.remaining input.old) result }
-    ensures left { LeavesWhole R.remaining R.failures input.old result input.new }
+    ensures input { LeavesWhole R.remaining R.failures input.old result input.new }
 {
     let bytes = whole_input(alloc, input)?;
     let contents = Contents::of(alloc, BundleForm::Profile, &bytes)?;
@@ -102,7 +102,7 @@ pub(super) fn list_architectures<R: Source>(
     input: &mut R,
 ) -> Result<Reply, Fault>
     ensures answer { EndsOnTables reading (R.remaining input.old) (ListsProfiles exploration) result }
-    ensures left { LeavesWhole R.remaining R.failures input.old result input.new }
+    ensures input { LeavesWhole R.remaining R.failures input.old result input.new }
 {
     let bytes = whole_input(alloc, input)?;
     let contents = Contents::of(alloc, BundleForm::Architectures, &bytes)?;

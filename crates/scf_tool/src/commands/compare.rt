@@ -129,7 +129,7 @@ pub(super) fn compare_bundle<R: Source>(
     input: &mut R,
 ) -> Result<Reply, Fault>
     ensures answer { Compares form reading comparison (R.remaining input.old) result }
-    ensures left { LeavesWhole R.remaining R.failures input.old result input.new }
+    ensures input { LeavesWhole R.remaining R.failures input.old result input.new }
 {
     let bytes = whole_input(alloc, input)?;
     let contents = Contents::of(alloc, form, &bytes)?;

@@ -49,7 +49,7 @@ pub(super) fn list_differences<R: Source>(
     input: &mut R,
 ) -> Result<Reply, Fault>
     ensures answer { ListsDifferences form reading exploration (R.remaining input.old) result }
-    ensures left { LeavesWhole R.remaining R.failures input.old result input.new }
+    ensures input { LeavesWhole R.remaining R.failures input.old result input.new }
 {
     let bytes = whole_input(alloc, input)?;
     let contents = Contents::of(alloc, form, &bytes)?;

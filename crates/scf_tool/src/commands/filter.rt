@@ -20,7 +20,7 @@ use std::alloc::Global;
 /// `check`: whether a filter is accepted.
 pub(super) fn check_filter<R: Source>(alloc: Global, input: &mut R) -> Result<Reply, Fault>
     ensures answer { EndsOnFilter requests.Check (R.remaining input.old) result }
-    ensures left { LeavesFilter R.remaining R.failures input.old result input.new }
+    ensures input { LeavesFilter R.remaining R.failures input.old result input.new }
 {
     let program = read_filter(alloc, input)?;
     Ok(Reply::Accepted(program.len()))
@@ -33,7 +33,7 @@ pub(super) fn run_filter<R: Source>(
     input: &mut R,
 ) -> Result<Reply, Fault>
     ensures answer { EndsOnFilter (requests.Run call.now) (R.remaining input.old) result }
-    ensures left { LeavesFilter R.remaining R.failures input.old result input.new }
+    ensures input { LeavesFilter R.remaining R.failures input.old result input.new }
 {
     let program = read_filter(alloc, input)?;
     Ok(Reply::Ran(run(&program, call)))
@@ -64,7 +64,7 @@ pub(super) fn trace_filter<R: Source>(
     input: &mut R,
 ) -> Result<Reply, Fault>
     ensures answer { EndsOnFilter (requests.Trace call.now) (R.remaining input.old) result }
-    ensures left { LeavesFilter R.remaining R.failures input.old result input.new }
+    ensures input { LeavesFilter R.remaining R.failures input.old result input.new }
 {
     let program = read_filter(alloc, input)?;
     match traced(alloc, &program, call) {
@@ -76,7 +76,7 @@ pub(super) fn trace_filter<R: Source>(
 /// `dis`: the listing of a filter, which isn't checked.
 pub(super) fn list_filter<R: Source>(alloc: Global, input: &mut R) -> Result<Reply, Fault>
     ensures answer { Lists (R.remaining input.old) result }
-    ensures left { LeavesFilter R.remaining R.failures input.old result input.new }
+    ensures input { LeavesFilter R.remaining R.failures input.old result input.new }
 {
     let insns = read_program(alloc, input)?;
     match listing_of(alloc, &insns) {

@@ -32,7 +32,7 @@ fn read_filters<R: Source>(alloc: Global, input: &mut R) -> Result<FilterStack, 
         × AreFilters held × HasStack (map Some held.filters) stack) }
     ensures fault { IfErr result (λ fault. (request : Request)
         → Decides request (R.remaining input.old) (Err fault)) }
-    ensures left { LeavesWhole R.remaining R.failures input.old result input.new }
+    ensures input { LeavesWhole R.remaining R.failures input.old result input.new }
 {
     let bytes = whole_input(alloc, input)?;
     let contents = Contents::of(alloc, BundleForm::Profile, &bytes)?;
@@ -50,7 +50,7 @@ pub(super) fn decide_stack<R: Source>(
     input: &mut R,
 ) -> Result<Reply, Fault>
     ensures answer { Decides (requests.Decide call.now) (R.remaining input.old) result }
-    ensures left { LeavesWhole R.remaining R.failures input.old result input.new }
+    ensures input { LeavesWhole R.remaining R.failures input.old result input.new }
 {
     let stack = read_filters(alloc, input)?;
     Ok(Reply::Decided(stack.decide(call)))
@@ -63,7 +63,7 @@ pub(super) fn decide_stack_at<R: Source>(
     input: &mut R,
 ) -> Result<Reply, Fault>
     ensures answer { Decides (requests.DecideBy call.now) (R.remaining input.old) result }
-    ensures left { LeavesWhole R.remaining R.failures input.old result input.new }
+    ensures input { LeavesWhole R.remaining R.failures input.old result input.new }
 {
     let stack = read_filters(alloc, input)?;
     Ok(Reply::DecidedBy(stack.decision(call)))
@@ -120,7 +120,7 @@ pub(super) fn trace_stack<R: Source>(
     input: &mut R,
 ) -> Result<Reply, Fault>
     ensures answer { Decides (requests.DecidePaths call.now) (R.remaining input.old) result }
-    ensures left { LeavesWhole R.remaining R.failures input.old result input.new }
+    ensures input { LeavesWhole R.remaining R.failures input.old result input.new }
 {
     let stack = read_filters(alloc, input)?;
     match lines_of_runs(alloc, &stack, call) {

@@ -14,7 +14,7 @@ use std::alloc::Global;
 /// `asm`: the filter that a text spells, which isn't checked.
 pub(super) fn assemble_text<R: Source>(alloc: Global, input: &mut R) -> Result<Reply, Fault>
     ensures answer { Assembles (R.remaining input.old) result }
-    ensures left { LeavesWhole R.remaining R.failures input.old result input.new }
+    ensures input { LeavesWhole R.remaining R.failures input.old result input.new }
 {
     let text = whole_input(alloc, input)?;
     let insns = assemble(alloc, &text)?;

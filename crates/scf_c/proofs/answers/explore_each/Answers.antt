@@ -16,10 +16,10 @@ loop-records-preserved c =
     let regions = c.in-Some.regions in
     let index = c.loop-records.records-index in
     let before = c.loop-records.listed.items in
-    let found = rw c.in-Some.is at c.in_ok-regions.ensures in
+    let are_listed = rw c.in-Some.is at c.in_ok-regions.ensures in
     let spent = c.loop-records.invariant.spent in
-    let within = found.are_regions.within_limit in
-    let small : regions.steps ≤ side.size = omega (arith, found.are_regions.within_size) in
+    let within = are_listed.are_regions.within_limit in
+    let small : regions.steps ≤ side.size = omega (arith, are_listed.are_regions.within_size) in
     let all_steps = ap (λ (rs : List Regions). sum_by steps rs) c.in_ok-push.ensures.items in
     let more_steps = sum_by_push steps before regions in
     let more_sizes = sum_by_more size c.args.several.now index all_records c.loop-records-test.true in
@@ -27,7 +27,7 @@ loop-records-preserved c =
     record {
       each = walks_more side c.args.limit c.args.several.now index _ before regions _ c.loop-records-test.true
           c.loop-records.invariant.each
-          (widened side no_side _ c.loop-records.remaining c.args.limit regions found (omega arith))
+          (widened side no_side _ c.loop-records.remaining c.args.limit regions are_listed (omega arith))
           c.in_ok-push.ensures.items;
       spent = omega arith;
       below = omega arith;

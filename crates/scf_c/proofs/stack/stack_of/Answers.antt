@@ -1,7 +1,7 @@
 use Rattle.scf_tool.proofs.Common.{Some, err_from_is_err_and}
 use Rattle.scf_tool.proofs.StackLemmas.{stopped_reads_well}
 use Rattle.scf_c.specs.declared.memory.Reader.{Reader}
-use Rattle.scf_c.specs.internal.Reading.{rest_of}
+use Rattle.scf_c.specs.internal.Reading.{unread_of}
 use Rattle.scf_c.proofs.ComparisonLemmas.{stack_refused}
 use Rattle.scf_c.proofs.stack.stack_of.Goals as goal
 
@@ -12,4 +12,4 @@ returns-in_err-read_stack-clause-refused c =
     let fault = c.in_err-read_stack.field-0.0 in
     let refused = rw (c.deref_mut.ensures.value, c.in_ok-readers.ensures) at left.refused in
     rw (p.1, p.2) (stack_refused c.args.filters.now fault refused
-    (stopped_reads_well (λ (reader : Reader). Some (rest_of reader)) _ fault _ _ refused left.stopped))
+    (stopped_reads_well (λ (reader : Reader). Some (unread_of reader)) _ fault _ _ refused left.stopped))

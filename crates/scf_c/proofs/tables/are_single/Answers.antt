@@ -12,7 +12,7 @@ loop-table-preserved c =
 
 pub returns : goal.returns
 returns c = (
-  λ is. subst (λ (own : List Table). All (λ table. count_for table.architecture c.args.tables.now ≤ 1) own)
+  λ is. subst (λ (tables : List Table). All (λ table. count_for table.architecture c.args.tables.now ≤ 1) tables)
       (take_all c.loop-table.table-index c.args.tables.now c.loop-table-test.false) c.loop-table.invariant,
   λ all. search rules,
 )

@@ -5,7 +5,7 @@ use Rattle.scf_tool.proofs.call_reporting.joined.Goals as goal
 join_by-texts : (texts : List (String Global)) → join_by string_bytes (codes ",") texts
     ≡ join_by (λ (name : List ℕ). name) (codes ",") (map string_bytes texts)
 join_by-texts [] = refl
-join_by-texts (text ∷ texts) = ap (λ (rest : List ℕ). string_bytes text ++ rest)
+join_by-texts (text ∷ texts) = ap (λ (tail : List ℕ). string_bytes text ++ tail)
     (sym (flat_map-map (λ (name : List ℕ). codes "," ++ name) string_bytes texts))
 
 pub returns : goal.returns

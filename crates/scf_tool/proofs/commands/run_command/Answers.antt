@@ -6,5 +6,5 @@ pub returns-in_default : goal.returns-in_default
 returns-in_default g c = record {
   ending = Err faults.CommandLine;
   ends = inl (tt, refl);
-  prints = c.refuse_memory.ensures;
+  prints = c.report_out_of_memory.ensures;
 }

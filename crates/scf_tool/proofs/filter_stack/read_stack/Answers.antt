@@ -22,4 +22,4 @@ returns-in_err-push_filter-clause-stopped g c =
     let from = same_from c.loop-reader.reader-index c.args.readers.now c.loop-reader.readers c.reader-item.result
     (omega (arith, c.loop-reader-test.true, c.loop-reader.auto.readers)) c.reader-item.is c.loop-reader.invariant.same in
     let p = err_from_is_err_and c.from_residual.result c.from_residual.ensures.1 in
-    rw (p.1, p.2) (readers_stop _ _ _ _ _ _ _ _ _ _ from c.loop-reader.invariant c.in_err-push_filter.ensures.left)
+    rw (p.1, p.2) (readers_stop _ _ _ _ _ _ _ _ _ _ from c.loop-reader.invariant c.in_err-push_filter.ensures.reader)

@@ -1,7 +1,7 @@
 use Rattle.scf_tool.proofs.Common.{err_from_is_err_and}
 use Rattle.scf_tool.proofs.loading.load_with_tables.Goals as goal
 
-pub returns-in_err-own-clause-fault : goal.returns-in_err-own-clause-fault
-returns-in_err-own-clause-fault g c =
+pub returns-in_err-owned-clause-fault : goal.returns-in_err-owned-clause-fault
+returns-in_err-owned-clause-fault g c =
     let p = err_from_is_err_and c.from_residual.result c.from_residual.ensures.1 in
-    rw (p.1, p.2) (c.in_err-own.ensures.fault c.args.by.now c.args.profile.now)
+    rw (p.1, p.2) (c.in_err-owned.ensures.fault c.args.by.now c.args.profile.now)

@@ -6,4 +6,4 @@ use Rattle.scf_tool.proofs.loading.owned_tables.Given as goal
 
 abbrev pub invariant-loop-part : goal.invariant-loop-part
 invariant-loop-part g l =
-    AllZip SpellsTable (map (table_text g.R.InMemory.text) (take l.part-index l.tables)) (map named_of l.own.items)
+    AllZip SpellsTable (map (table_text g.R.InMemory.text) (take l.part-index l.tables)) (map named_of l.owned.items)

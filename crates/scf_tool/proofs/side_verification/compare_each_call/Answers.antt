@@ -11,18 +11,18 @@ use Rattle.scf_tool.proofs.side_verification.compare_each_call.Goals as goal
 pub returns : goal.returns
 returns c =
     let input = c.args.input.now in
-    let own = c.index-own.result.now in
-    let is_table : input.tables.items ≡ own ∷ [] =
-    only_element input.tables.items own c.requires ∙ ap (λ (table : OwnedTable). table ∷ []) (sym c.index-own.ensures) in
+    let only = c.index-only.result.now in
+    let is_table : input.tables.items ≡ only ∷ [] =
+    only_element input.tables.items only c.requires ∙ ap (λ (table : OwnedTable). table ∷ []) (sym c.index-only.ensures) in
     let relation = c.args.comparison.relation in
     let limits = c.args.comparison.limits in
     IfOk-weaker c.compare_calls.result _ _
-    (λ calls found. (
-      named_of own,
+    (λ calls holds. (
+      named_of only,
       ap (map named_of) is_table,
-      of_side (λ (left : Behavior). AreFoundOfTable relation own.architecture left (behavior_of_input input.right) own.table limits calls.items)
+      of_side (λ (left : Behavior). AreFoundOfTable relation only.architecture left (behavior_of_input input.right) only.table limits calls.items)
           input.left c.side-left.result c.side-left.ensures
-          (of_side (λ (right : Behavior). AreFoundOfTable relation own.architecture (behavior_of c.side-left.result) right own.table limits calls.items)
-          input.right c.side-right.result c.side-right.ensures found),
+          (of_side (λ (right : Behavior). AreFoundOfTable relation only.architecture (behavior_of c.side-left.result) right only.table limits calls.items)
+          input.right c.side-right.result c.side-right.ensures holds),
     ))
     c.compare_calls.ensures

@@ -7,16 +7,16 @@ use Rattle.scf_tool.proofs.sides.load.Goals as goal
 pub returns-in_err-loaded-clause-refused : goal.returns-in_err-loaded-clause-refused
 returns-in_err-loaded-clause-refused c =
     let p = err_from_is_err_and c.from_residual.result c.from_residual.ensures.1 in
-    let own = c.index-tables-0.result in
-    let is_table : c.args.tables.now ≡ own ∷ [] =
-    only_element c.args.tables.now own (c.requires c.if-native.true)
+    let only = c.index-tables-0.result in
+    let is_table : c.args.tables.now ≡ only ∷ [] =
+    only_element c.args.tables.now only (c.requires c.if-native.true)
     ∙ ap (λ (table : OwnedTable). table ∷ []) (sym c.index-tables-0.is) in
-    rw (p.1, p.2, c.if-native.true) (named_of own, ap (map named_of) is_table, c.in_err-loaded.ensures.refused)
+    rw (p.1, p.2, c.if-native.true) (named_of only, ap (map named_of) is_table, c.in_err-loaded.ensures.refused)
 
 pub returns-in_ok-loaded-clause-side : goal.returns-in_ok-loaded-clause-side
 returns-in_ok-loaded-clause-side c =
-    let own = c.index-tables-0.result in
-    let is_table : c.args.tables.now ≡ own ∷ [] =
-    only_element c.args.tables.now own (c.requires c.if-native.true)
+    let only = c.index-tables-0.result in
+    let is_table : c.args.tables.now ≡ only ∷ [] =
+    only_element c.args.tables.now only (c.requires c.if-native.true)
     ∙ ap (λ (table : OwnedTable). table ∷ []) (sym c.index-tables-0.is) in
-    rw c.if-native.true (named_of own, ap (map named_of) is_table, c.in_ok-loaded.ensures.loaded)
+    rw c.if-native.true (named_of only, ap (map named_of) is_table, c.in_ok-loaded.ensures.loaded)

@@ -19,9 +19,9 @@ Lists reading exploration held ending =
 
 of_parts : (reading : Reading) (exploration : Exploration) (held : Held) → IsOfParts (Lists reading exploration held)
 of_parts reading exploration held = record {
-  no_input = λ fault lists. elim lists [ inl own ↦ own.1 | inr own ↦ own.2.2 ];
-  no_bundle = λ fault lists. elim lists [ inl own ↦ own.1 | inr own ↦ own.2.2 ];
-  no_parts = λ lists. elim lists [ inl own ↦ own.1 | inr own ↦ own.2.2 ];
+  no_input = λ fault lists. elim lists [ inl holds ↦ holds.1 | inr holds ↦ holds.2.2 ];
+  no_bundle = λ fault lists. elim lists [ inl holds ↦ holds.1 | inr holds ↦ holds.2.2 ];
+  no_parts = λ lists. elim lists [ inl holds ↦ holds.1 | inr holds ↦ holds.2.2 ];
 }
 
 pub returns-clause-answer : goal.returns-clause-answer

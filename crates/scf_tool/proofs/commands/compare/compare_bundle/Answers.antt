@@ -45,8 +45,8 @@ returns-in_err-over_record-clause-answer g c =
     (c.deref.result.now, read, c.in_ok-contents.ensures.bundle) taken.0
     (rw (c.deref-2.ensures.value, taken.1.tables) at c.in_err-over_record.ensures.fault))
 
-pub returns-in_err-over_record-clause-left : goal.returns-in_err-over_record-clause-left
-returns-in_err-over_record-clause-left g c =
+pub returns-in_err-over_record-clause-input : goal.returns-in_err-over_record-clause-input
+returns-in_err-over_record-clause-input g c =
     let p = err_from_is_err_and c.from_residual-in_err-over_record.result c.from_residual-in_err-over_record.ensures.1 in
     rw (p.1, p.2) (ended_over_none g.R.Source.remaining g.R.Source.failures _ _ c.args.form c.args.comparison.scopes _
     c.in_err-over_record.field-0.0 (search rules) c.in_err-over_record.ensures.fault)

@@ -17,8 +17,8 @@ returns-in_err-verified-clause-fault c =
 pub returns-in_err-report_of-clause-fault : goal.returns-in_err-report_of-clause-fault
 returns-in_err-report_of-clause-fault c =
     let p = err_from_is_err_and c.from_residual-in_err-report_of.result c.from_residual-in_err-report_of.ensures.1 in
-    let own = rw c.deref_mut.ensures.value at c.in_ok-verified.ensures.verified in
-    rw (p.1, p.2) (tt, by_memory own.tables own.left_input own.right_input own.are_sides)
+    let verified = rw c.deref_mut.ensures.value at c.in_ok-verified.ensures.verified in
+    rw (p.1, p.2) (tt, by_memory verified.tables verified.left_input verified.right_input verified.are_sides)
 
 pub returns-clause-reply : goal.returns-clause-reply
 returns-clause-reply c = (
