@@ -1,5 +1,4 @@
--- What is true of standard input where a command ends with a reply or a fault. The bytes of the input count where its
--- reader tells them.
+-- The replies and faults of each command, by the bytes of standard input. These count where its reader tells them.
 use Rattle.std.specs.Prelude.{◌≡◌, ◌≢◌, ◌⊎◌, ◌<◌, ◌≤◌, ◌++◌, ℕ, Bool, true, false, List, [], ◌∷◌, length, map, All, Option, Some, Result, Ok, Err}
 use Rattle.std.specs.List.{AllZip, flat_map}
 use Rattle.scf_insn.specs.declared.encoding.ReadFault.TheVariants as reads
@@ -94,8 +93,8 @@ EndsOnBundle form input Takes Holds ending =
 
 -- ---- one filter
 
--- What is replied of an accepted filter to `check`, the count of its instructions; to `run`, its answer to the call and
--- the length of its run; to `run --path`, these and the indices of the instructions on its way.
+-- The reply on an accepted filter: of `check` the count of its instructions; of `run` its answer to the call and the
+-- length of its run; of `run --path` also the indices of the instructions on the path.
 abbrev pub IsReplyOn : Request → List Insn → Reply → Type 0
 IsReplyOn requests.Check insns (Accepted count) = count ≡ length insns
 IsReplyOn (requests.Run call) insns (Ran ran) = IsRun insns (words_of call) ran.answer.0 ran.steps
@@ -143,8 +142,8 @@ ShowsRuns stack words text = (runs : List (ℕ × List ℕ))
     × AllZip (λ filter run. IsPathOf filter words run.0 run.1) stack runs
     × (text ≡ flat_map (λ run. traced_text run.0 run.1) runs)
 
--- What is replied of a stack to `decide`, its answer to the call; to `decide --at`, this and the instruction that gives
--- it; to `decide --path`, these, and the run of each filter with the instructions on its way.
+-- The reply on a stack: of `decide` its answer to the call; of `decide --at` also the instruction that gives it; of
+-- `decide --path` also the run of each filter with the instructions on its path.
 abbrev pub IsReplyOnStack : Request → List (List Insn) → Reply → Type 0
 IsReplyOnStack (requests.Decide call) stack (Decided answer) = StackAnswers stack (words_of call) answer.0
 IsReplyOnStack (requests.DecideBy call) stack (DecidedBy decision) =
@@ -154,8 +153,8 @@ IsReplyOnStack (requests.DecidePaths call) stack (Bytes bytes) = (decision : Dec
     × (bytes.items ≡ decision_text decision.by decision.answer.0 ++ runs)
 IsReplyOnStack request stack reply = ⊥
 
--- What these end with: the reply is true of the stack that the filters are, or they are none. Memory for the lines of
--- runs may be wanting.
+-- The end of these commands: the reply is true of the stack that the filters are, or they are none, or memory runs out
+-- for the lines of runs.
 abbrev pub EndsOnStack : Request → List (List ℕ) → Result Reply Fault → Type 0
 EndsOnStack request filters (Ok reply) =
     (stack : List (List Insn)) × HasStack (map Some filters) stack × IsReplyOnStack request stack reply
@@ -371,8 +370,9 @@ pub record AreStated (by : Interpretation) (profile : List ℕ) (texts : List (A
 -- why a profile and tables state nothing: the first that is no table, or all are, and the profile is refused
 abbrev pub CantLoadEach : Interpretation → List ℕ → List (Architecture × List ℕ) → VerifyFault → Type 0
 CantLoadEach by profile texts (verifies.Table fault) = fault ≢ tables.Memory
-    → (before : List (Architecture × List ℕ)) × (text : Architecture × List ℕ) × (behind : List (Architecture × List ℕ))
-    × (texts ≡ before ++ text ∷ behind) × (read : Tables) × AllZip SpellsTable before read × (table_of text.1 ≡ Err fault)
+    → (before : List (Architecture × List ℕ)) × (text : Architecture × List ℕ)
+    × (behind : List (Architecture × List ℕ)) × (texts ≡ before ++ text ∷ behind)
+    × (read : Tables) × AllZip SpellsTable before read × (table_of text.1 ≡ Err fault)
 CantLoadEach by profile texts (verifies.Profile fault) =
     (read : Tables) × AllZip SpellsTable texts read × RefusesEachAs by.reading profile read fault
 CantLoadEach by profile texts fault = ⊥
@@ -399,7 +399,8 @@ GivesReasonAmong call by profile texts ending = ⊥
 
 -- ---- answers by regions
 
--- What filters come to: why they are no stack, or what that answers to the records of the scope. Memory may be wanting.
+-- The end of a listing of filters: why they are no stack, or what that answers to the records of the scope, or memory
+-- runs out.
 abbrev pub ListsStack : Exploration → List (List ℕ) → Result Reply Fault → Type 0
 ListsStack exploration filters (Ok reply) = (stack : List (List Insn)) × HasStack (map Some filters) stack
     × ListsWalks exploration (ExploresSides (stack_behavior stack) no_side exploration.scope exploration.limit) reply
@@ -438,8 +439,8 @@ ListsAnswers reading exploration input =
 
 -- ---- differences by regions
 
--- What two sides and their tables come to: why they aren't read, or what they aren't known to answer alike. Memory may
--- be wanting.
+-- The end of a listing of two sides and their tables: why they aren't read, or what they aren't known to answer alike,
+-- or memory runs out.
 abbrev pub ListsSides : Bool → Exploration → Interpretation → SideBytes → SideBytes → List (Architecture × List ℕ)
     → Result Reply Fault → Type 0
 ListsSides native exploration by left right texts (Ok reply) = (tables : Tables) × (left_input right_input : SideInput)

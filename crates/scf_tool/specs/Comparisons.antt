@@ -1,4 +1,4 @@
--- What findings say of two sides that are compared, over the calls of a scope or call by call of a table.
+-- Findings on two sides: over the records of a scope, or call by call of a table.
 use Rattle.std.specs.Prelude.{◌≡◌, ◌==◌, ◌*◌, ◌-◌, ◌^◌, ℕ, List, [], ◌∷◌, min, if◌then◌else◌}
 use Rattle.scf_insn.specs.declared.architecture.Architecture.{Architecture}
 use Rattle.scf_facts.specs.Masks.{AreFew}

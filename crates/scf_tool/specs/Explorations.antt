@@ -39,12 +39,12 @@ is_alike leaf =
     option_map_or (λ (left : Answer). option_map_or (λ (right : Answer). left.0 == right.0) leaf.right.answer false)
     leaf.left.answer false
 
--- What is left of regions without those that are answered alike.
+-- The regions that aren't known to be answered alike.
 pub record AreDiffering (all differing : Regions) : Type 0 where
   pub list : differing.list.items ≡ filter (λ region. not (is_alike region.leaf)) all.list.items
   pub steps : differing.steps ≡ all.steps
 
--- what is left of what a walk over two sides comes to
+-- a walk over two sides comes to its regions that aren't known to be answered alike
 abbrev pub ExploresDiffering : Behavior → Behavior → Scope → ℕ → Option (List Regions) → Type 0
 ExploresDiffering left right scope limit None = limit < left.size * right.size
 ExploresDiffering left right scope limit (Some (differing ∷ [])) =

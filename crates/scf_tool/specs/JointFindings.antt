@@ -1,4 +1,4 @@
--- The finding that speaks for several, and what it claims of a side and the profiles of several architectures.
+-- The finding that speaks for several, and its claim on a side and the profiles of several architectures.
 use Rattle.std.specs.Prelude.{◌≡◌, ℕ, Bool, true, false, not, List, find, map, max, Contains, Option}
 use Rattle.std.specs.List.{AllZip, fold}
 use Rattle.std.specs.Option.{option_map_or, option_or}

@@ -25,7 +25,7 @@ kind_status DisplayVersion = Success
 kind_status kind = CommandLine
 
 -- The words are refused, or ask for help, for one of the reasons that the command line's reader has; or they are taken,
--- but ask for nothing that can be done. Want of memory may come in place of anything.
+-- but ask for nothing that can be done. In place of anything memory may run out.
 abbrev pub SpeaksOfWords : List Text → Result Reply Fault → Type 0
 SpeaksOfWords words (Ok (replies.CommandLine text status)) =
     (kind : ErrorKind) × IsAmong kind (fault_of scf words) × (status ≡ kind_status kind)

@@ -1,5 +1,4 @@
--- What is known of a filter, a call table and a profile once they are read. The bytes of each reader count where the
--- reader tells them.
+-- Filters, call tables and profiles that are read. The bytes of each reader count where the reader tells them.
 use Rattle.std.specs.Prelude.{◌≡◌, ◌≢◌, ◌≤◌, ◌⊎◌, ℕ, List, length, Option, Result, Ok, Err, IfSome}
 use Rattle.std.specs.List.{AllByRecursion}
 use Rattle.std.specs.Io.KnownBytes.{IsAtEnd}
@@ -101,7 +100,7 @@ IsNoFilter bytes (Check fault) = (insns : List Insn) × IsEncoded bytes insns ×
     × (fault ≢ checks.Memory → IsValidList insns → KeepsScratchRule insns → ⊥)
 IsNoFilter bytes fault = ⊥
 
--- why it has no call table: the bytes spell none, for this fault first. Want of memory may come in place of it.
+-- why it has no call table: the bytes spell none, for this fault first, or memory runs out.
 abbrev pub IsNoTable : Option (List ℕ) → VerifyFault → Type 0
 IsNoTable bytes (TableRead fault) = ReadsUnder max_text_len bytes (Err fault)
 IsNoTable bytes (Table fault) =

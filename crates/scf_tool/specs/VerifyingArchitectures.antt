@@ -1,5 +1,5 @@
--- What is known of the call tables of several architectures and a profile once they are read. The bytes of each reader
--- count where the reader tells them.
+-- Call tables of several architectures and profiles that are read. The bytes of each reader count where the reader
+-- tells them.
 use Rattle.std.specs.Prelude.{◌≡◌, ◌++◌, ℕ, List, ◌∷◌, Option, Err, IfSome}
 use Rattle.std.specs.List.{AllZip}
 use Rattle.scf_insn.specs.declared.architecture.Architecture.{Architecture}

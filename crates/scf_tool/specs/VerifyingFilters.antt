@@ -1,5 +1,5 @@
--- What is known of a filter, a call table and a profile once they are read and compared. The bytes of each reader count
--- where the reader tells them.
+-- Filters, call tables and profiles that are read and compared. The bytes of each reader count where the reader tells
+-- them.
 use Rattle.std.specs.Prelude.{◌≡◌, ◌⊎◌, ◌∷◌, [], ℕ, List, Option, Result, Ok, Err}
 use Rattle.scf_insn.specs.declared.insn.Insn.{Insn}
 use Rattle.scf_machine.specs.Machine.{RunAnswers}

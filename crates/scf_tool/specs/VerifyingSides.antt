@@ -1,5 +1,4 @@
--- What is known of two sides once they are read from their bytes and compared: of filters and a profile, of two stacks
--- of filters, of two profiles.
+-- Two sides that are read from their bytes and compared: filters and a profile, two stacks of filters, two profiles.
 use Rattle.std.specs.Prelude.{◌≡◌, ℕ, Bool, true, false, List, [], ◌∷◌, map, Option, None, Some}
 use Rattle.scf_insn.specs.declared.architecture.Architecture.{Architecture}
 use Rattle.scf_insn.specs.declared.insn.Insn.{Insn}

@@ -1,5 +1,5 @@
--- What is known of a stack of filters, a call table and a profile once they are read and compared. The bytes of each
--- reader count where the reader tells them.
+-- Stacks of filters, call tables and profiles that are read and compared. The bytes of each reader count where the
+-- reader tells them.
 use Rattle.std.specs.Prelude.{◌≡◌, ◌⊎◌, ℕ, List, All, Option, Some, Result, Ok, Err}
 use Rattle.scf_insn.specs.declared.insn.Insn.{Insn}
 use Rattle.scf_machine.specs.Plain.{IsPlainProgram}

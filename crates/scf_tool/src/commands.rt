@@ -116,11 +116,11 @@ fn ending_of<T: AsStr, R: Source>(alloc: Global, words: &[T], input: &mut R) -> 
     }
 }
 
-/// One run of the program on its words, of which the first is its name. The answer is the exit status: 0 where all is
-/// well, 1 where a filter, a text, a table, a profile or a stack is refused, the compiled filter would be too large or
-/// a filter answers otherwise than a profile, 2 where the words are refused, 3 where the input can't be read, the
-/// output can't be written or memory is refused, 4 where a comparison leaves open whether the answers differ, or a walk
-/// over all answers is unfinished.
+/// One run of the program on its arguments, of which the first is its name. Returns the exit status: 0 for success, 1
+/// if a filter, a text, a table, a profile or a stack is refused, the compiled filter would be too large or a filter
+/// answers otherwise than a profile, 2 for a usage error, 3 if the input can't be read, the output can't be written or
+/// memory runs out, 4 if a comparison leaves open whether the answers differ, or a walk over all answers is
+/// unfinished.
 ///
 /// Where the output fails, a beginning of the text was written, and nothing more is.
 pub fn run_command<T: AsStr, R: Source, W: Sink>(

@@ -150,7 +150,7 @@ fn is_alike(leaf: &PairLeaf) -> bool
     }
 }
 
-/// What is left of regions without those that are answered alike.
+/// The regions that aren't known to be answered alike.
 fn differing(regions: Regions) -> Regions
     ensures { AreDiffering regions result }
 {

@@ -29,7 +29,7 @@ pub struct FaultKind {
     pub numbers: [FaultNumber; 3],
 }
 
-/// What is refused, and why.
+/// An input that is refused, and the kind of its fault.
 #[derive(Clone, Copy)]
 pub struct FaultRow {
     pub source: FaultName,

@@ -1,4 +1,4 @@
--- The reply to words that are refused.
+-- The reply to arguments that aren't taken.
 use Rattle.std.specs.Prelude.{◌≡◌, ◌≢◌, Result, Ok, Err}
 use Rattle.clap.specs.declared.error.kind.ErrorKind.{ErrorKind}
 use Rattle.clap.specs.declared.error.kind.ErrorKind.TheVariants.{OutOfMemory}
@@ -8,7 +8,7 @@ use Rattle.scf_tool.specs.declared.reply.Reply.{Reply}
 use Rattle.scf_tool.specs.declared.reply.Reply.TheVariants as replies
 use Rattle.scf_tool.specs.Runs.{kind_status}
 
--- What is said of words that are refused, by the kind of the error. Want of memory may come in place of it.
+-- The reply to an error in the arguments, by its kind, or memory runs out.
 abbrev pub Explains : ErrorKind → Result Reply Fault → Type 0
 Explains kind (Ok (replies.CommandLine text status)) = (kind ≢ OutOfMemory) × (status ≡ kind_status kind)
 Explains kind (Ok reply) = ⊥
