@@ -1,5 +1,5 @@
 -- Comparisons of sides in the caller's bytes, and their findings as numbers.
-use Rattle.std.specs.Prelude.{◌≡◌, ◌⊎◌, ℕ, not, List, [], ◌∷◌, Option, Some, None, find}
+use Rattle.std.specs.Prelude.{◌≡◌, ◌⊎◌, ℕ, List, [], ◌∷◌, Option, Some, None, find}
 use Rattle.std.specs.Option.{option_map_or, option_or}
 use Rattle.scf_profile.specs.declared.relation.Relation.{Relation}
 use Rattle.scf_compare.specs.declared.budget.Limit.{Limit}
@@ -9,7 +9,7 @@ use Rattle.scf_compare.specs.declared.finding.Which.{Which}
 use Rattle.scf_compare.specs.declared.finding.Which.TheVariants.{Left, Right}
 use Rattle.scf_compare.specs.Sides.{Behavior}
 use Rattle.scf_tool.specs.Comparisons.{AreFound, IsFoundInTurn, Remaining, all_of}
-use Rattle.scf_tool.specs.JointFindings.{is_failure, is_holding}
+use Rattle.scf_tool.specs.JointFindings.{is_holding, worst_of}
 use Rattle.scf_tool.specs.Reports.{report_text}
 use Rattle.scf_tool.specs.declared.findings.Findings.TheVariants.{AtOnce}
 use Rattle.scf_tool.specs.declared.left_out.LeftOut.{LeftOut}
@@ -42,12 +42,9 @@ abbrev pub AreFoundOver : Relation → Behavior → Behavior → Limit → Remai
 AreFoundOver relation left right limit =
     AreFound (λ remaining records. IsFoundInTurn relation left right records.scope limit remaining)
 
--- The finding that speaks for several: the first that fails, else the first that doesn't hold, else the first that
--- does. None if there is none.
+-- The finding that speaks for several: the worst, else the first that holds. None if there is none.
 abbrev pub joint_finding : List Finding → Option Finding
-joint_finding findings =
-    option_or (option_or (find is_failure findings) (find (λ finding. not (is_holding finding)) findings))
-    (find is_holding findings)
+joint_finding findings = option_or (worst_of findings) (find is_holding findings)
 
 -- ---- as numbers
 

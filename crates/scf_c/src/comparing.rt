@@ -1,9 +1,9 @@
 //! Comparisons of two sides over several sets of records.
 
-ghost use Rattle.std.specs.Prelude.{◌≡◌, ◌++◌, find, not, IfErr, IfOk, MatchOption, OnOk};
+ghost use Rattle.std.specs.Prelude.{◌≡◌, ◌++◌, find, IfErr, IfOk, MatchOption, OnOk};
 ghost use Rattle.scf_compare.specs.Sides.{behavior_of};
 ghost use Rattle.scf_tool.specs.Comparisons.{IsFoundInTurn, Remaining, all_of};
-ghost use Rattle.scf_tool.specs.JointFindings.{is_failure, is_holding};
+ghost use Rattle.scf_tool.specs.JointFindings.{is_holding};
 ghost use Rattle.scf_c.specs.Sides.{behavior_of_read};
 ghost use Rattle.scf_c.specs.Comparisons.{
   AreFoundOver,
@@ -32,7 +32,7 @@ use scf_compare::{Finding, Limit, Side, Which, compare_sides_within};
 use scf_facts::{WordSets, word_sets_start_exact};
 use scf_insn::Memory;
 use scf_profile::Relation;
-use scf_tool::{ComparisonOutcome, Findings, LeftOut, report_by};
+use scf_tool::{ComparisonOutcome, Findings, LeftOut, report_by, worst_of};
 use std::alloc::{AllocError, Global};
 
 /// What comparisons come to together and each, and the lines that the program prints of them together.
@@ -124,30 +124,10 @@ fn compare_read(
     compare_each(alloc, &left, &right, several, relation, limit, total)
 }
 
-fn fails(finding: &Finding) -> bool
-    ensures { result ≡ is_failure finding.now }
-{
-    matches!(finding, Finding::Fails { .. })
-}
-
 fn holds(finding: &Finding) -> bool
     ensures { result ≡ is_holding finding.now }
 {
     matches!(finding, Finding::Holds { .. })
-}
-
-/// The first that fails.
-fn first_failure(findings: &[Finding]) -> Option<Finding>
-    ensures { result ≡ find is_failure findings.now }
-{
-    findings.iter().copied().find(|finding| fails(finding))
-}
-
-/// The first that doesn't hold.
-fn first_open(findings: &[Finding]) -> Option<Finding>
-    ensures { result ≡ find (λ finding. not (is_holding finding)) findings.now }
-{
-    findings.iter().copied().find(|finding| !holds(finding))
 }
 
 /// The first that holds.
@@ -157,14 +137,11 @@ fn first_holding(findings: &[Finding]) -> Option<Finding>
     findings.iter().copied().find(|finding| holds(finding))
 }
 
-/// The finding that speaks for several: the first that fails, else the first that doesn't hold, else the first that
-/// does.
+/// The finding that speaks for several: the worst, else the first that holds.
 fn joint_finding(findings: &[Finding]) -> Option<Finding>
     ensures { result ≡ joint_finding findings.now }
 {
-    first_failure(findings)
-        .or(first_open(findings))
-        .or(first_holding(findings))
+    worst_of(findings).or(first_holding(findings))
 }
 
 fn side_number(side: Which) -> u32

@@ -51,13 +51,18 @@ fn first_other(findings: &[Finding]) -> Option<Finding>
     findings.iter().copied().find(|finding| !holds(finding))
 }
 
-/// The finding that speaks for several: the first that fails, else the first that doesn't hold, else `Holds` in the
-/// most steps that one of them took.
+/// The first finding that fails, else the first that doesn't hold, if there is one.
+pub fn worst_of(findings: &[Finding]) -> Option<Finding>
+    ensures { result ≡ spec.worst_of findings.now }
+{
+    first_failure(findings).or(first_other(findings))
+}
+
+/// The finding that speaks for several: the worst, else `Holds` in the most steps that one of them took.
 pub(crate) fn joint_finding(findings: &[Finding]) -> Finding
     ensures { result ≡ spec.joint_finding findings.now }
 {
-    let worst = first_failure(findings).or(first_other(findings));
-    worst.unwrap_or(Finding::Holds {
+    worst_of(findings).unwrap_or(Finding::Holds {
         steps: most_steps(findings),
     })
 }

@@ -42,6 +42,7 @@ pub use fault_row::{FaultRow, MEMORY, beside_row, compile_row, text_row, verify_
 pub use filter_stack::read_stack;
 pub use findings::{CallFinding, ComparisonOutcome, Findings};
 pub use in_memory::InMemory;
+pub use joint_finding::worst_of;
 pub use left_out::LeftOut;
 pub use loading::{load_with_table, load_with_tables};
 pub use reporting::{report, report_by};
