@@ -99,7 +99,7 @@ fn explore_each(
     Ok(Some(listed))
 }
 
-/// The same of a side that is read.
+/// The regions of a side that is read, over each of several sets of records.
 fn explore_read(
     alloc: Global,
     side: &ReadSide,

@@ -105,7 +105,7 @@ fn compare_each(
     Ok(findings)
 }
 
-/// The same of sides that are read.
+/// Compares two sides that are read over each of several sets of records.
 fn compare_read(
     alloc: Global,
     left: &ReadSide,

@@ -65,7 +65,7 @@ pub(crate) fn reading_of(profile: &ProfileInput) -> Option<Reading>
     reading_numbered(profile.reading)
 }
 
-/// The same, if there are tables whose numbers have a meaning.
+/// The reading that the numbers of a profile ask for, if each has a meaning and a table's numbers have one.
 fn reading_under(profile: &ProfileInput, tables: &[Table]) -> Option<Reading>
     ensures { MatchOption result (IsNotRead profile.now tables.now) (IsReadUnder profile.now tables.now) }
 {

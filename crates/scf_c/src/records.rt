@@ -176,7 +176,7 @@ fn records_of(alloc: Global, over: Over, tables: &[Table]) -> Result<Vec<Records
     }
 }
 
-/// The same, if there are some.
+/// The records that are asked for, if there are some.
 #[tactic(auto, using(crate::proofs::RecordLemmas::no_records, crate::proofs::RecordLemmas::some_records))]
 pub(crate) fn some_records(
     alloc: Global,

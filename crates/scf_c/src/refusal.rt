@@ -14,7 +14,7 @@ use std::alloc::AllocError;
 pub(crate) enum Refusal {
     /// A filter, a stack, a table or a profile is refused, or memory ran out during their comparison.
     Verify(VerifyFault),
-    /// The same of the right side, where the left one is of the same kind.
+    /// A filter, a stack or a profile of the right side is refused, and the left side is of the same kind.
     Beside(VerifyFault),
     Text(TextFault),
     Compile(CompileFault),
@@ -68,7 +68,7 @@ impl From<AllocError> for Refusal {
 }
 
 impl Refusal {
-    /// The same of the right side, if it is of the same kind as the left one.
+    /// The refusal of the right side: `Beside`, if both sides are of the same kind.
     pub(crate) fn of_right(self, is_same_kind: bool) -> Refusal
         ensures { result ≡ refusal_of_right is_same_kind self }
     {

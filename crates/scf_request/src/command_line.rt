@@ -102,7 +102,7 @@ fn command_reading<'a>(
     }
 }
 
-/// The same with flags, of each its name and its help.
+/// A command with these options and flags, each flag with its name and its help.
 fn define<'a>(
     alloc: Global,
     name: &'a str,

@@ -68,7 +68,8 @@ fn has_record_under(form: BundleForm, scope: Scope, tables: &[TableReader<PartRe
     }
 }
 
-/// That a comparison goes over a record under the tables of a bundle. The error: it goes over none, or out of memory.
+/// Checks that a comparison goes over a record under the tables of a bundle. The error: it goes over none, or out of
+/// memory.
 fn over_record(
     alloc: Global,
     form: BundleForm,
