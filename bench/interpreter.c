@@ -4,12 +4,17 @@
    taken as a checker has left them, and the filter's last instruction as a return; so it is run only on filters that
    `scf check` accepts.
 
-   It reads a filter on standard input and runs it TIMES times (once if no argument says so) on call 0 of x86-64, each
-   time with another instruction pointer, and prints the answer of the last run and the steps of all: what the program
-   of crates/scf_trials does. */
+       interpreter TIMES <FILTER
+
+   It prints the nanoseconds of a step by libscf and by the interpreter, which take turns in this process. Each runs the
+   filter so many times on syscall 0 of x86-64, and as many times on one with number 2^32 - 1, which the filter has to
+   answer at once: the difference is that of their steps, without the reading and checking that each call of scf_run
+   begins with. Of nine such times the least count. */
+#include <scf.h>
 #include <stdint.h>
 #include <stdio.h>
 #include <stdlib.h>
+#include <time.h>
 
 struct insn {
     uint16_t code;
@@ -18,6 +23,7 @@ struct insn {
 };
 
 static struct insn program[4096];
+static size_t length;
 
 __attribute__((noinline)) static uint32_t run(const uint32_t *words, uint32_t *steps) {
     uint32_t a = 0, x = 0, scratch[16] = {0}, pc = 0, count = 0;
@@ -74,18 +80,45 @@ __attribute__((noinline)) static uint32_t run(const uint32_t *words, uint32_t *s
     }
 }
 
+static uint32_t steps_of_scf(uint32_t nr, uint64_t ip) {
+    const struct scf_call call = {.nr = nr, .arch = SCF_AUDIT_X86_64, .ip = ip};
+    uint32_t answer, steps;
+    struct scf_fault fault;
+    if (scf_run((const uint8_t *)program, length * sizeof *program, &call, &answer, &steps, &fault) != SCF_OK) exit(1);
+    return steps;
+}
+
+static uint32_t steps_of_c(uint32_t nr, uint64_t ip) {
+    const uint32_t words[16] = {nr, SCF_AUDIT_X86_64, (uint32_t)ip, (uint32_t)(ip >> 32)};
+    uint32_t steps;
+    run(words, &steps);
+    return steps;
+}
+
+/* The time of so many runs, and their steps. */
+static double timed(uint32_t (*steps_of)(uint32_t, uint64_t), uint32_t nr, unsigned times, uint64_t *steps) {
+    struct timespec begun, ended;
+    clock_gettime(CLOCK_MONOTONIC, &begun);
+    *steps = 0;
+    for (unsigned round = 0; round < times; round++) *steps += steps_of(nr, round);
+    clock_gettime(CLOCK_MONOTONIC, &ended);
+    return (double)(ended.tv_sec - begun.tv_sec) * 1e9 + (double)(ended.tv_nsec - begun.tv_nsec);
+}
+
 int main(int argc, char **argv) {
-    unsigned long times = argc > 1 ? strtoul(argv[1], NULL, 10) : 1;
-    uint32_t words[16] = {0, 0xc000003e}, steps = 0, answer = 0;
-    unsigned long total = 0;
-    if (fread(program, sizeof *program, 4096, stdin) == 0)
-        return 3;
-    for (unsigned long round = 0; round < times; round++) {
-        words[2] = (uint32_t)round;
-        words[3] = (uint32_t)(round >> 32);
-        answer = run(words, &steps);
-        total += steps;
-    }
-    printf("0x%08x steps %lu\n", answer, total);
+    uint32_t (*const sides[])(uint32_t, uint64_t) = {steps_of_scf, steps_of_c};
+    static const uint32_t numbers[] = {0, UINT32_MAX};
+    double least[2][2] = {{0}};
+    uint64_t steps[2][2];
+    const unsigned times = argc > 1 ? (unsigned)strtoul(argv[1], NULL, 10) : 1;
+    length = fread(program, sizeof *program, 4096, stdin);
+    for (int round = 0; round < 9; round++)
+        for (int side = 0; side < 2; side++)
+            for (int at = 0; at < 2; at++) {
+                const double spent = timed(sides[side], numbers[at], times, &steps[side][at]);
+                if (round == 0 || spent < least[side][at]) least[side][at] = spent;
+            }
+    for (int side = 0; side < 2; side++)
+        printf("%.4f\n", (least[side][0] - least[side][1]) / (double)(steps[side][0] - steps[side][1]));
     return 0;
 }

@@ -349,7 +349,7 @@ class Names(unittest.TestCase):
                                       "library/rust/src/*.rs", "docs/*.json", "crates/*/src/**/*.rt",
                                       "crates/*/specs/**/*.antt", "crates/*/proofs/**/*.antt")
                  for path in glob.glob(os.path.join(TOP, pattern), recursive=True)]
-        sources = {path: text_of(path) for path in paths if not re.search("_tests?[/.]|scf_trials/|/tool_", path)}
+        sources = {path: text_of(path) for path in paths if not re.search("_tests?[/.]|/tool_", path)}
         for what, pattern in self.ADDED.items():
             item = re.search(rf"^\*\*{what}\*\*.*?(?=^\*\*)", page, re.M | re.S)[0]
             listed = set()

@@ -10,7 +10,7 @@ from support.common import PATIENCE, TOP, Case
 # Prints what it is told, and makes what the gate takes from it.
 RT = """#!/bin/sh
 [ "$1" = ci ] || exit 1
-for name in scf scf_trials; do mkdir -p "crates/$name/out" && touch "crates/$name/out/$name"; done
+mkdir -p crates/scf/out && touch crates/scf/out/scf
 printf '%s\\n' "$CI"
 exit "${CI_STATUS-0}"
 """
@@ -36,7 +36,7 @@ class Gate(Case):
     def setUp(self):
         super().setUp()
         self.tree = os.path.join(self.folder, "tree")
-        for name in ("scf_insn", "scf", "scf_trials"):
+        for name in ("scf_insn", "scf_machine", "scf"):
             os.makedirs(os.path.join(self.tree, "crates", name))
         shutil.copy2(os.path.join(TOP, "test"), self.tree)
         self.script("bin/rt", RT)
@@ -78,17 +78,16 @@ class Gate(Case):
         self.assertIn("fn f: not proved", lines)
         self.assertIn("step 5 of 5: dev/must-fail", "\n".join(self.gate()[1]))
 
-    def test_programs_of_the_gate_are_put_in_place(self):
-        """`rt ci` works in a copy, without what was built here, and the later steps use its programs."""
+    def test_the_program_of_the_gate_is_put_in_place(self):
+        """`rt ci` works in a copy, without what was built here, and the later steps use its program."""
         self.file("tree/crates/scf/out/scf", "old\n")
         self.script("bin/rt", "#!/bin/sh\n[ -e crates/scf/out ] && exit 1\n"
-                    "mkdir crates/scf/out crates/scf_trials/out\necho new >crates/scf/out/scf\necho new >crates/scf_trials/out/scf_trials\n"
+                    "mkdir crates/scf/out\necho new >crates/scf/out/scf\n"
                     "cat \"$HELD\"\necho '1 passed, 0 failed'\n")
         held = os.path.join(self.tree, "crates/scf/out/scf")
         self.assertIn("old", self.gate(HELD=held)[1])
-        for name in ("scf", "scf_trials"):
-            with open(os.path.join(self.tree, "crates", name, "out", name), encoding="utf-8") as program:
-                self.assertEqual(program.read(), "new\n")
+        with open(held, encoding="utf-8") as program:
+            self.assertEqual(program.read(), "new\n")
 
     def test_modules_are_counted_together_and_a_failed_one_is_shown(self):
         status, lines = self.gate(WELL, WELL + MIXED)

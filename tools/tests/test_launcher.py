@@ -97,7 +97,6 @@ logic=proved functions=1 sum=dac8208d650f15bf incremental=trusted
         status, out, err = self.run_here("scf", "check", FAILS="1")
         self.assertEqual((status, out), (125, ""))
         self.assertRegex(err, "(?m)^build: scf wasn't built: see /.+\n\\Z")
-        self.assertEqual(self.run_here("build", "none")[0], 125)
 
     def test_through_links(self):
         self.run_here("scf", "check")
