@@ -76,7 +76,7 @@ class Gate(Case):
         status, lines = self.gate(ci=f"{refused}\n0 passed, 1 failed", CI_STATUS="1")
         self.assertEqual((status, lines[-1]), (1, "0 passed, 1 failed"))
         self.assertIn("fn f: not proved", lines)
-        self.assertIn("step 5 of 5: dev/must-fail", "\n".join(self.gate()[1]))
+        self.assertIn("step 4 of 4: dev/must-fail", "\n".join(self.gate()[1]))
 
     def test_the_program_of_the_gate_is_put_in_place(self):
         """`rt ci` works in a copy, without what was built here, and the later steps use its program."""
@@ -125,7 +125,13 @@ class Gate(Case):
         self.script("tree/dev/must-fail", "#!/bin/sh\necho '2 passed, 1 failed'\nexit 1\n")
         self.assertEqual(self.gate()[1][-1], "17 passed, 1 failed")
         self.script("tree/library/build", "#!/bin/sh\n[ \"$1\" = llvm ]\n")
-        self.assertEqual(self.gate()[1][-1], "15 passed, 2 failed")
+        self.assertEqual(self.gate()[1][-1], "7 passed, 1 failed")
+
+    def test_a_crate_that_is_not_proved_ends_the_build_beside_it(self):
+        self.script("tree/library/build", "#!/bin/sh\ntouch begun\nsleep 3600\n")
+        self.script("bin/rt", "#!/bin/sh\nuntil [ -e \"$BEGUN\" ]; do sleep 0.1; done\necho '4 passed, 1 failed'\nexit 1\n")
+        begun = os.path.join(self.tree, "begun")
+        self.assertEqual(self.gate(BEGUN=begun)[1][-1], "4 passed, 1 failed")
 
     def test_a_status_without_a_count_is_a_failure(self):
         for ci, ended, last in (("7 passed, 0 failed", "3", "7 passed, 1 failed"),
@@ -148,7 +154,7 @@ class Gate(Case):
         for number in (signal.SIGINT, signal.SIGTERM):
             with subprocess.Popen([os.path.join(self.tree, "test")], env=self.environment(), stdout=subprocess.PIPE,
                                   stderr=subprocess.DEVNULL) as gate:
-                self.assertIn(b"step 1 of 5", gate.stdout.readline())
+                self.assertIn(b"step 1 of 4", gate.stdout.readline())
                 self.assertEqual(gate.stdout.readline(), b"early\n")
                 gate.send_signal(number)
                 self.assertEqual(gate.wait(PATIENCE), 128 + number)
