@@ -1,5 +1,5 @@
 -- The names that proofs of this crate cite, passed on from one place. Declares nothing.
-pub use Rattle.std.proofs.Common.{length-drop, drop-cons, IsUtf8, bytes_eq, Ordering, Less, All, AllPairs, Any, BTreeMap, Bool, Bor, Contains, Err, Global, IfErr, IfSome, IsSome, List, None, Ok, Option, Result, Some, String, Vec, [], add-one, ap, arith, bit_and, bit_or, cond, drop, eqb, false, get_or, inl, inr, is_none, is_some, leb, length, ltb, map, min, nat_lt, not, ok_or, option_map, refl, rules, string_bytes, string_cmp, subst, suc, sum, sym, take, tests, true, vec_len, zero, ℕ, ◌&&◌, ◌++◌, ◌+◌, ◌-◌, ◌<◌, ◌^◌, ◌||◌, ◌↔◌, ◌∙◌, ◌∷◌, ◌≡◌, ◌≢◌, ◌≤◌, ◌⊎◌}
+pub use Rattle.std.proofs.Common.{length-drop, drop-cons, IsUtf8, bytes_eq, Ordering, Less, All, AllPairs, Any, BTreeMap, Bool, Bor, Contains, Err, Global, IfErr, IfSome, IsSome, List, None, Ok, Option, Result, Some, String, Vec, [], add-one, ap, arith, bit_and, bit_or, cond, drop, eqb, false, get_or, inl, inr, is_none, is_some, leb, length, ltb, map, min, nat_lt, not, ok_or, option_map, refl, rules, subst, suc, sum, sym, take, tests, true, vec_len, zero, ℕ, ◌&&◌, ◌++◌, ◌+◌, ◌-◌, ◌<◌, ◌^◌, ◌||◌, ◌↔◌, ◌∙◌, ◌∷◌, ◌≡◌, ◌≢◌, ◌≤◌, ◌⊎◌}
 pub use Rattle.serde_json.specs.Data.{Data, Items, item, no_items}
 pub use Rattle.serde_json.specs.Events.{items_len, members_len}
 pub use Rattle.serde_json.specs.Find.{as_str}
@@ -23,7 +23,6 @@ pub use Rattle.std.proofs.lemmas.Map.Entries.{lookup-filter-values, option_filte
 pub use Rattle.std.proofs.lemmas.Map.Keys.{IsDistinct-IsPermutation, IsDistinct-from_sorted, IsDistinct-head, IsDistinct-tail, IsStrictlyIncreasing-from_sorted}
 pub use Rattle.std.proofs.lemmas.Map.Lookups.{exact_bytes, exact_unsigned}
 pub use Rattle.std.proofs.lemmas.Map.Made.{Contains-tail, IsDistinct-from_AllPairs}
-pub use Rattle.std.proofs.lemmas.Map.Text.{btree_map_updates_text, is_eq-slice_cmp}
 pub use Rattle.std.proofs.lemmas.Map.Views.{All-found, Contains-keys_from_lookup, IsSome-lookup_from_Contains, btree_map_contains_key_iff, tells_apart}
 pub use Rattle.std.proofs.lemmas.Nat.{and-not, and_mask, and_assoc, and_comm, and_le_l, and_or_apart, or_comm, or_lt}
 pub use Rattle.std.proofs.lemmas.Nat.Bits.{bit_at_and, bit_at_or, same_from_bits}
@@ -43,7 +42,7 @@ unfoldable pub use Rattle.std.specs.List.{IsDistinct}
 pub use Rattle.std.specs.List.Sorted.{IsPermutation, IsStrictlyIncreasing}
 pub use Rattle.std.specs.Map.{keys_of}
 pub use Rattle.std.specs.Option.{option_map_or}
-pub use Rattle.std.specs.Ordering.{eq_by_cmp, is_eq, nat_cmp}
+pub use Rattle.std.specs.Ordering.{eq_by_cmp, nat_cmp}
 pub use Rattle.std.specs.Str.Lines.{lines, lines_of_parts, strip_carriage_return}
 pub use Rattle.scf_insn.proofs.Common.{AllByRecursion, IsRecord, append-nil, append_assoc, and_parts, argument, cases_eq, cases_lt, common_steps, drop_all, eq-eqb, eqb-false, eqb-true, err_from_is_err_and, lookup, lt-ltb, nat_tests, ne_eqb, seccomp_data_args, seccomp_ret_kill_process, take-append-drop, take_all, x32_syscall_bit}
 pub use Rattle.scf_insn.specs.Architectures.{AreApart, IsOf, architectures, argument_in, greatest_argument, row_of, taken_of}
@@ -58,7 +57,7 @@ unfoldable pub use Rattle.scf_profile.specs.JsonMembers.{each}
 pub use Rattle.scf_profile.specs.Limits.{max_rules}
 pub use Rattle.scf_profile.specs.Loading.{EntriesConflict, IsFirstConflict, IsLeastConflict, RefusesBy, IsText, Loads, LoadsEach, Refuses, RefusesAs, RefusesEach, RefusesEachAs, TestsGive}
 pub use Rattle.scf_profile.specs.NamedCalls.{AreCallsOf, HasItsNames}
-pub use Rattle.scf_profile.specs.Names.{named, names_of}
+pub use Rattle.scf_profile.specs.Names.{AreSorted, names_of}
 pub use Rattle.scf_profile.specs.NumberRules.{AreNumbersOf}
 pub use Rattle.scf_profile.specs.PlainProfile.{IsPlainCondition, IsPlainProfile, IsPlainRule}
 pub use Rattle.scf_profile.specs.Profile.{Profile as Answering, AreOfApart, HaveNoConflict, IsNative, IsProfile, Profile}

@@ -6,12 +6,14 @@ pub mod LeastClash
 pub mod Handed
 pub mod Loops
 pub mod Masks
+pub mod NameSearch
 pub mod NamedCalls
 pub mod NamesOf
 pub mod NumberLists
 pub mod NumberTests
 pub mod Numbers
 pub mod Overlaps
+pub mod Prefixes
 pub mod Reasons
 pub mod Stated
 pub mod StatedRules

@@ -1,5 +1,5 @@
 -- The names under the numbers of a table are the calls of the table.
-use Rattle.scf_profile.proofs.Common.{map-map, ◌≡◌, ℕ, Bool, cond, eqb, List, [], ◌∷◌, map, Option, None, Some, String, Global, BTreeMap, Bor, Vec, refl, sym, ap, ◌∙◌, subst, get_or, string_cmp, ltb, length, ◌<◌, arith, ◌↔◌, IsSome, Contains, is_some, IsOrdered, eq_by_cmp_equiv, slice_cmp, nat_list_cmp_total, get, get-from_entries, AllByRecursion, filter, keys_of, lookup, eq_by_cmp, Ordering, Less, eq-eqb, lt-ltb, nat_tests, nat_cmp_total, All-map, Contains-get_or, IsStrictlySortedBy-filter, option_filter, lookup-filter-values, IsDistinct-from_sorted, IsStrictlyIncreasing-from_sorted, exact_bytes, exact_unsigned, All-found, Contains-keys_from_lookup, IsSome-lookup_from_Contains, btree_map_contains_key_iff, tells_apart, HasItsNames, AreCallsOf, named, names_of, texts_at, Names, Named, named_call, names_under, names_with, AreByNumber}
+use Rattle.scf_profile.proofs.Common.{map-map, ◌≡◌, ℕ, Bool, cond, eqb, List, [], ◌∷◌, map, Option, None, Some, Global, Bor, Vec, refl, sym, ap, ◌∙◌, subst, get_or, ltb, length, ◌<◌, arith, ◌↔◌, IsSome, Contains, is_some, IsOrdered, eq_by_cmp_equiv, slice_cmp, nat_list_cmp_total, get, get-from_entries, AllByRecursion, filter, keys_of, lookup, eq_by_cmp, Ordering, Less, eq-eqb, lt-ltb, nat_tests, nat_cmp_total, All-map, Contains-get_or, IsStrictlySortedBy-filter, option_filter, lookup-filter-values, IsDistinct-from_sorted, IsStrictlyIncreasing-from_sorted, exact_bytes, exact_unsigned, All-found, Contains-keys_from_lookup, IsSome-lookup_from_Contains, btree_map_contains_key_iff, tells_apart, HasItsNames, AreCallsOf, AreSorted, names_of, texts_at, Names, Named, named_call, names_under, names_with, AreByNumber}
 use Rattle.std.proofs.Common.{nat_cmp}
 use Rattle.std.specs.BTreeMap as tree
 use Rattle.scf_profile.specs.declared.named_call.NamedCall.{NamedCall}
@@ -41,19 +41,14 @@ is_number n (Some m) h = grind (arith, nat_tests)
 number_is : (n : ℕ) (o : Option ℕ) → o ≡ Some n → IsSome (option_filter (eqb n) o)
 number_is n o e = rw (e, eq-eqb n n refl) refl
 
-module _ (numbers : BTreeMap (String Global) ℕ) (ordered : IsOrdered string_cmp numbers) where
+module _ (entries : List (List ℕ × ℕ)) (sorted : AreSorted entries) where
   abbrev table : Names
-  table = names_of numbers.entries
-
-  abbrev entries : List (List ℕ × ℕ)
-  entries = map named numbers.entries
+  table = names_of entries
 
   rising : IsStrictlySortedBy (λ (x y : List ℕ × ℕ). by_bytes x.0 y.0) entries
-  rising =
-      (sorted_keys (λ x y. by_bytes x.0 y.0) named numbers.entries).1
-      ((sorted_keys string_cmp (λ (e : String Global × ℕ). e.0) numbers.entries).0 ordered)
+  rising = (sorted_keys by_bytes (λ (e : List ℕ × ℕ). e.0) entries).0 sorted
 
-  names_rise : (n : ℕ) → IsStrictlySortedBy by_bytes (names_with n numbers.entries)
+  names_rise : (n : ℕ) → IsStrictlySortedBy by_bytes (names_with n entries)
   names_rise n =
       (sorted_keys by_bytes (λ (e : List ℕ × ℕ). e.0) (filter (has_number n) entries)).1
       (IsStrictlySortedBy-filter _ (has_number n) entries rising)
@@ -61,13 +56,12 @@ module _ (numbers : BTreeMap (String Global) ℕ) (ordered : IsOrdered string_cm
   found_with : (n : ℕ) (q : List ℕ) → lookup (eq_by_cmp by_bytes q) (filter (has_number n) entries)
       ≡ option_filter (eqb n) (get table q)
   found_with n q =
-      let keys = (sorted_keys by_bytes (λ (e : List ℕ × ℕ). e.0) entries).1 rising in
-      let distinct = IsDistinct-from_sorted by_bytes _ keys in
+      let distinct = IsDistinct-from_sorted by_bytes _ sorted in
       lookup-filter-values (eq_by_cmp_equiv nat_list_cmp_total) (eqb n) q entries distinct
       ∙ ap (option_filter (eqb n)) (sym (get-from_entries nat_list_cmp_total entries q ∙ find_is_lookup q entries))
 
   -- the names with a number are those that have it in the map
-  names_exact : (n : ℕ) (q : List ℕ) → Contains (names_with n numbers.entries) q ↔ (get table q ≡ Some n)
+  names_exact : (n : ℕ) (q : List ℕ) → Contains (names_with n entries) q ↔ (get table q ≡ Some n)
   names_exact n q = (
     λ stands. is_number n _ (subst IsSome (found_with n q)
         (IsSome-lookup_from_Contains (eq_by_cmp_equiv nat_list_cmp_total) q _ stands)),
@@ -77,18 +71,18 @@ module _ (numbers : BTreeMap (String Global) ℕ) (ordered : IsOrdered string_cm
 
   -- ---- names under numbers as calls
 
-  module _ (under : Named) (by_number : AreByNumber numbers under) (rising : IsOrdered nat_cmp under) where
+  module _ (under : Named) (by_number : AreByNumber entries under) (rising : IsOrdered nat_cmp under) where
     its_names : (e : ℕ × Vec (Bor (List ℕ)) Global) → tree.get nat_cmp under e.0 ≡ Some e.1
         → HasItsNames table (named_call e)
     its_names e found =
         let there : names_under under e.0 ≡ texts_at e.1.items = rw found refl in
-        let same : texts_at e.1.items ≡ names_with e.0 numbers.entries = sym there ∙ by_number.names e.0 in
+        let same : texts_at e.1.items ≡ names_with e.0 entries = sym there ∙ by_number.names e.0 in
         record { rising = rw same (names_rise e.0); exact = λ q. rw same (names_exact e.0 q) }
 
     numbers_exact : (n : ℕ) → Contains (keys_of under.entries) n ↔ ((name : List ℕ) × (get table name ≡ Some n))
     numbers_exact n =
         let key = btree_map_contains_key_iff nat_cmp_total exact_unsigned under n in
-        let names = names_with n numbers.entries in
+        let names = names_with n entries in
         let is : is_some (tree.get nat_cmp under n) ≡ ltb 0 (length names) =
         by_number.numbers_in n ∙ ap (λ (l : List (List ℕ)). ltb 0 (length l)) (by_number.names n) in (
           λ stands.

@@ -1,36 +1,37 @@
--- The map behind a tree from texts to numbers, and names as text.
-use Rattle.scf_profile.proofs.Common.{All-weaker, AllPass-from_list_all, IsAscii-from_all, ◌≡◌, ℕ, ◌<◌, Option, None, true, cond, List, [], ◌∷◌, map, Some, String, string_bytes, Global, BTreeMap, refl, sym, ap, ◌∙◌, subst, arith, string_cmp, IfSome, IsUtf8, lookup, get, insert, get-from_entries, get-empty, get-insert, same_map, value_of, is_at, Updates, slice_cmp, nat_list_cmp_total, eq_by_cmp, is_eq, eq_by_cmp_equiv, and_parts, nat_tests, IsUtf8-from_ascii, exact_bytes, btree_map_updates_text, is_eq-slice_cmp, x32_syscall_bit, Names, AreCallNumbers, is_call_name, is_in_name, named, names_of}
+-- The map behind entries of names and numbers, and names as text.
+use Rattle.scf_profile.proofs.Common.{All-weaker, AllPass-from_list_all, IsAscii-from_all, ◌≡◌, ℕ, ◌<◌, Option, None, true, cond, List, [], ◌∷◌, Some, length, BTreeMap, refl, sym, ap, ◌∙◌, subst, arith, IfSome, IsUtf8, lookup, get, insert, get-from_entries, get-empty, get-insert, same_map, is_at, Updates, slice_cmp, nat_list_cmp_total, eq_by_cmp, eq_by_cmp_equiv, and_parts, nat_tests, IsUtf8-from_ascii, exact_bytes, x32_syscall_bit, Names, AreCallNumbers, is_call_name, is_in_name, names_of}
 use Rattle.std.proofs.Common.{nat_cmp}
-use Rattle.std.specs.FinMap.{find}
+use Rattle.std.specs.FinMap.{empty, find}
 
-find_named : (es : List (String Global × ℕ)) (q : List ℕ)
-    → find (slice_cmp nat_cmp) q (map named es) ≡ lookup (is_at (λ k. slice_cmp nat_cmp q (string_bytes k))) es
+find_named : (es : List (List ℕ × ℕ)) (q : List ℕ)
+    → find (slice_cmp nat_cmp) q es ≡ lookup (is_at (slice_cmp nat_cmp q)) es
 find_named [] q = refl
-find_named (e ∷ es) q = ap (cond (is_eq (slice_cmp nat_cmp q (string_bytes e.0))) (Some e.1)) (find_named es q)
+find_named (e ∷ es) q = ap (cond (eq_by_cmp (slice_cmp nat_cmp) q e.0) (Some e.1)) (find_named es q)
 
-pub get_named : (es : List (String Global × ℕ)) (q : List ℕ)
-    → get (names_of es) q ≡ lookup (is_at (λ k. slice_cmp nat_cmp q (string_bytes k))) es
-get_named es q = get-from_entries nat_list_cmp_total (map named es) q ∙ find_named es q
-
--- what the map has for a text is what the names have for it
-pub found_named : (m : BTreeMap (String Global) ℕ) (key : String Global) (names : Names) (name : List ℕ)
-    → names_of m.entries ≡ names → string_bytes key ≡ name → value_of string_cmp m key ≡ get names name
-found_named m key names name view is =
-    sym (get_named m.entries (string_bytes key)) ∙ ap (get (names_of m.entries)) is
-    ∙ ap (λ (n : Names). get n name) view
+pub get_named : (es : List (List ℕ × ℕ)) (q : List ℕ)
+    → get (names_of es) q ≡ lookup (is_at (slice_cmp nat_cmp q)) es
+get_named es q = get-from_entries nat_list_cmp_total es q ∙ find_named es q
 
 -- one more name
-pub insert_named : (m n : BTreeMap (String Global) ℕ) (key : String Global) (names : Names) (name : List ℕ) (v : ℕ)
-    → names_of m.entries ≡ names → string_bytes key ≡ name → Updates string_cmp m n key (Some v)
-    → names_of n.entries ≡ insert names name v
-insert_named m n key names name v view is updates =
-    let k = string_bytes key in
-    rw (← view, ← is) (same_map nat_list_cmp_total exact_bytes _ _ (λ q.
-    get_named n.entries q ∙ btree_map_updates_text k m n (Some v) updates q
-    ∙ ap (λ b. cond b (Some v) (lookup (is_at (λ x. slice_cmp nat_cmp q (string_bytes x))) m.entries))
-    (sym (is_eq-slice_cmp k q) ∙ (eq_by_cmp_equiv nat_list_cmp_total).symm k q)
-    ∙ sym (get-insert nat_list_cmp_total (names_of m.entries) k v q
-    ∙ ap (cond (eq_by_cmp (slice_cmp nat_cmp) q k) (Some v)) (get_named m.entries q))))
+pub insert_named : (m n : BTreeMap (List ℕ) ℕ) (name : List ℕ) (v : ℕ)
+    → Updates (slice_cmp nat_cmp) m n name (Some v) → names_of n.entries ≡ insert (names_of m.entries) name v
+insert_named m n name v updates =
+    same_map nat_list_cmp_total exact_bytes _ _ (λ q.
+    get_named n.entries q ∙ updates.0 q
+    ∙ ap (λ b. cond b (Some v) (lookup (is_at (slice_cmp nat_cmp q)) m.entries))
+    ((eq_by_cmp_equiv nat_list_cmp_total).symm name q)
+    ∙ sym (get-insert nat_list_cmp_total (names_of m.entries) name v q
+    ∙ ap (cond (eq_by_cmp (slice_cmp nat_cmp) q name) (Some v)) (get_named m.entries q)))
+
+-- no entries are behind the empty map
+pub no_entries : (es : List (List ℕ × ℕ)) → names_of es ≡ empty → 0 < length es → ⊥
+no_entries [] is some = omega (arith, some)
+no_entries (e ∷ es) is some =
+    let there = get-insert nat_list_cmp_total (names_of es) e.0 e.1 e.0 in
+    let none = get-empty {X = ℕ} (slice_cmp nat_cmp) e.0 in
+    let same = (eq_by_cmp_equiv nat_list_cmp_total).refl e.0 in
+    let absent : get (names_of (e ∷ es)) e.0 ≡ None = rw is none in
+    grind (arith, there, same, absent)
 
 pub names_are_text : (text : List ℕ) → is_call_name text ≡ true → IsUtf8 text
 names_are_text text h =
@@ -51,12 +52,12 @@ call_numbers_insert names name number each below other n h =
     grind (arith, found, before)
 
 -- the same of the maps
-pub call_numbers_updated : (m n : BTreeMap (String Global) ℕ) (key : String Global) (number : ℕ)
-    → Updates string_cmp m n key (Some number) → AreCallNumbers (names_of m.entries) → number < x32_syscall_bit
-    → AreCallNumbers (names_of n.entries)
-call_numbers_updated m n key number updates each below =
-    subst AreCallNumbers (sym (insert_named m n key _ _ number refl refl updates))
-    (call_numbers_insert (names_of m.entries) (string_bytes key) number each below)
+pub call_numbers_updated : (m n : BTreeMap (List ℕ) ℕ) (name : List ℕ) (number : ℕ)
+    → Updates (slice_cmp nat_cmp) m n name (Some number) → AreCallNumbers (names_of m.entries)
+    → number < x32_syscall_bit → AreCallNumbers (names_of n.entries)
+call_numbers_updated m n name number updates each below =
+    subst AreCallNumbers (sym (insert_named m n name number updates))
+    (call_numbers_insert (names_of m.entries) name number each below)
 
 -- what is found among the names is a call number
 pub found_below : (names : Names) (name : List ℕ) (found : Option ℕ) → AreCallNumbers names → found ≡ get names name

@@ -1,11 +1,16 @@
 -- The map that a table holds.
-use Rattle.std.specs.Prelude.{ℕ, List, map, String, string_bytes}
-use Rattle.std.specs.declared.alloc.Global.{Global}
+use Rattle.std.specs.Prelude.{ℕ, List}
+use Rattle.std.specs.Cmp.Lexicographic.{slice_cmp}
 use Rattle.std.specs.FinMap.{from_entries}
+use Rattle.std.specs.List.Sorted.{IsStrictlySortedBy}
+use Rattle.std.specs.Map.{keys_of}
+use Rattle.std.specs.Ordering.{nat_cmp}
 use Rattle.scf_profile.specs.Table.{Names}
 
-abbrev pub named : String Global × ℕ → List ℕ × ℕ
-named e = (string_bytes e.0, e.1)
+-- names, each with its number
+abbrev pub names_of : List (List ℕ × ℕ) → Names
+names_of entries = from_entries entries
 
-abbrev pub names_of : List (String Global × ℕ) → Names
-names_of es = from_entries (map named es)
+-- the names rise in the order of their bytes
+abbrev pub AreSorted : List (List ℕ × ℕ) → Type 0
+AreSorted entries = IsStrictlySortedBy (slice_cmp nat_cmp) (keys_of entries)

@@ -3,6 +3,7 @@ pub mod EntryRanges
 pub mod NamesByNumber
 pub mod NumberSets
 pub mod Overlaps
+pub mod Prefixes
 pub mod Refusals
 pub mod Results
 pub mod RulesUnder

@@ -15,6 +15,7 @@ mod laws;
 mod limits;
 mod load_fault;
 mod loaded;
+mod name;
 mod named_call;
 mod number_rules;
 mod number_set;

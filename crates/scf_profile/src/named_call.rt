@@ -4,9 +4,10 @@ ghost use Rattle.std.specs.Prelude.{◌≡◌, ◌≢◌, ℕ, ◌++◌, ◌∷�
 ghost use Rattle.std.specs.BTreeMap.{get, IsOrdered};
 ghost use Rattle.std.specs.Ordering.{nat_cmp};
 ghost use Rattle.scf_profile.specs.NamedCalls.{AreCallsOf};
-ghost use Rattle.scf_profile.specs.Names.{names_of};
+ghost use Rattle.scf_profile.specs.Names.{AreSorted, names_of};
 ghost use Rattle.scf_profile.specs.internal.NamesByNumber.{AreByNumber, named_call, names_under};
 
+use crate::name::TableEntry;
 use std::alloc::{AllocError, Global};
 use std::collections::BTreeMap;
 
@@ -32,16 +33,16 @@ fn add_name<'a>(
     Ok(())
 }
 
-/// The names, by syscall number.
+/// The names of entries, by syscall number.
 fn names_by_number(
     alloc: Global,
-    numbers: &BTreeMap<String, u32>,
+    entries: &[TableEntry],
 ) -> Result<BTreeMap<u32, Vec<&str>>, AllocError>
-    ensures { IfOk result (AreByNumber numbers.now) }
+    ensures { IfOk result (AreByNumber entries.now) }
 {
     let mut named = BTreeMap::new(alloc);
-    for (name, number) in numbers {
-        add_name(&mut named, *number, name)?;
+    for entry in entries {
+        add_name(&mut named, entry.number(), entry.text())?;
     }
     Ok(named)
 }
@@ -60,13 +61,14 @@ fn calls_of(
         .collect(alloc)
 }
 
-/// The entries of a map from names to syscall numbers, by number.
+/// The entries of a table, by syscall number.
 pub(crate) fn named_calls(
     alloc: Global,
-    numbers: &BTreeMap<String, u32>,
+    entries: &[TableEntry],
 ) -> Result<Vec<NamedCall<'_>>, AllocError>
-    ensures { IfOk result (λ calls. AreCallsOf (names_of numbers.now.entries) calls.items) }
+    requires { AreSorted entries.now }
+    ensures { IfOk result (λ calls. AreCallsOf (names_of entries.now) calls.items) }
 {
-    let named = names_by_number(alloc, numbers)?;
+    let named = names_by_number(alloc, entries)?;
     calls_of(alloc, named)
 }

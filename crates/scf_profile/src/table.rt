@@ -1,27 +1,31 @@
 //! The syscall table: syscall numbers by name, parsed from a text.
 
-ghost use Rattle.std.specs.Prelude.{◌≡◌, ◌≢◌, ◌<◌, IfSome, IfOk, OnOk, IfErr, Ok, Err};
+ghost use Rattle.std.specs.Prelude.{◌≡◌, ◌≢◌, ◌<◌, length, IfSome, IfOk, OnOk, OnErr, IfErr, Ok, Err};
 ghost use Rattle.std.specs.FinMap.{get};
 ghost use Rattle.std.specs.Str.Lines.{lines};
 ghost use Rattle.scf_insn.specs.Kernel.{x32_syscall_bit};
 ghost use Rattle.scf_profile.specs.declared.table_fault.TableFault.TheVariants as faults;
 ghost use Rattle.scf_profile.specs.NamedCalls.{AreCallsOf};
+ghost use Rattle.scf_profile.specs.Names.{AreSorted, names_of};
 ghost use Rattle.scf_profile.specs.Steps.{◌>>=◌ as and_then, Gives};
 ghost use Rattle.scf_profile.specs.Table.{AreCallNumbers, BeginWithCall, HasCall, table_of};
 ghost use Rattle.scf_profile.specs.Table.{fields, entry_in, with_entry};
 
+use crate::name::{Name, TableEntry};
 use crate::named_call::{NamedCall, named_calls};
 use crate::table_fault::TableFault;
 use crate::table_line::{entry_on, first_line};
 use scf_insn::Memory;
-use std::alloc::Global;
+use std::alloc::{AllocError, Global};
+use std::cmp::Ordering;
 use std::collections::BTreeMap;
 use std::marker::Model;
 
 /// Syscall numbers by name. Each is below 0x40000000, where x32's numbers begin.
 #[derive(Drop)]
 pub struct CallTable {
-    numbers: BTreeMap<String, u32>,
+    /// In the order of the names.
+    entries: Vec<TableEntry>,
 }
 
 impl Model for CallTable {
@@ -33,11 +37,11 @@ impl Model for CallTable {
 
     ghost coded = { map.code (coded_list coded_ℕ) coded_ℕ };
 
-    ghost use Rattle.scf_profile.specs.Names.{names_of};
+    ghost use Rattle.scf_profile.specs.Names.{AreSorted, names_of};
 
-    ghost view = { λ t. names_of t.numbers.entries };
+    ghost view = { λ t. names_of t.entries.items };
 
-    ghost invariant = { λ t. AreCallNumbers (names_of t.numbers.entries) };
+    ghost invariant = { λ t. AreSorted t.entries.items × AreCallNumbers (names_of t.entries.items) };
 }
 
 impl CallTable {
@@ -49,27 +53,26 @@ impl CallTable {
         ensures table { Gives faults.Memory result (table_of text.now) }
         ensures memory { result ≡ Err faults.Memory → BeginWithCall (lines text.now) }
     {
-        let mut table = CallTable {
-            numbers: BTreeMap::new(alloc),
-        };
+        let mut numbers = BTreeMap::new(alloc);
         let mut rest = text;
         let mut number: usize = 0;
         while !rest.is_empty() {
             let (line, after) = first_line(rest);
             number += 1;
-            table.add_line(alloc, number, line)?;
+            add_line(&mut numbers, number, line)?;
             rest = after;
         }
-        Ok(table)
+        Ok(CallTable {
+            entries: entries_of(alloc, numbers)?,
+        })
     }
 
     /// The number of the syscall with this name, if the table has it.
-    #[tactic(auto, using(crate::proofs::NamesOf::get_named))]
     pub fn number_of(&self, name: &str) -> Option<u32>
         ensures value { result ≡ get self.now name.now }
         ensures range { IfSome result (λ n. n < x32_syscall_bit) }
     {
-        self.numbers.get(name).copied()
+        number_in(&self.entries, Name::new(name))
     }
 
     /// The syscalls of the table in rising order of their numbers, each with all its names. `Err`: an allocation
@@ -77,31 +80,72 @@ impl CallTable {
     pub fn calls(&self, alloc: Global) -> Result<Vec<NamedCall<'_>>, Memory>
         ensures { IfOk result (λ calls. AreCallsOf self.now calls.items) }
     {
-        Ok(named_calls(alloc, &self.numbers)?)
+        Ok(named_calls(alloc, &self.entries)?)
     }
 
     /// A law for proofs: its numbers are below 0x40000000. Does nothing.
     pub(crate) fn within_range(&self)
         ensures { AreCallNumbers self.now }
     {
-        let _numbers = &self.numbers;
+        let _entries = &self.entries;
     }
+}
 
-    /// Adds the name and number of a line. After an `Err` the table must not be used.
-    #[tactic(auto, using(crate::proofs::NamesOf::found_named, crate::proofs::NamesOf::insert_named))]
-    fn add_line(&mut self, alloc: Global, line: usize, text: &[u8]) -> Result<(), TableFault>
-        ensures ok { OnOk result (and_then (entry_in line (fields text.now)) (with_entry line self.old) ≡ Ok self.new) }
-        ensures err { IfErr result (λ e. e ≢ faults.Memory
-            → and_then (entry_in line (fields text.now)) (with_entry line self.old) ≡ Err e) }
-        ensures memory { IfErr result (λ e. e ≡ faults.Memory → HasCall text.now) }
-    {
-        let Some((name, number)) = entry_on(line, text)? else {
-            return Ok(());
-        };
-        let key = String::from_str(alloc, name)?;
-        if self.numbers.insert(key, number)?.is_some() {
-            return Err(TableFault::Repeated { line });
+/// The number of a name among entries, if they have it.
+fn number_in(entries: &[TableEntry], name: Name) -> Option<u32>
+    requires { AreSorted entries.now }
+    ensures { result ≡ get (names_of entries.now) name.entry }
+{
+    let mut low = 0;
+    let mut high = entries.len();
+    while low < high {
+        let middle = low + (high - low) / 2;
+        let entry = &entries[middle];
+        match name.cmp(&entry.name()) {
+            Ordering::Less => high = middle,
+            Ordering::Greater => low = middle + 1,
+            Ordering::Equal => return Some(entry.number()),
         }
-        Ok(())
     }
+    None
+}
+
+/// Adds the name and number of a line to those of earlier lines.
+#[tactic(auto, using(crate::proofs::NamesOf::get_named, crate::proofs::NamesOf::insert_named))]
+fn add_line<'t>(
+    numbers: &mut BTreeMap<Name<'t>, u32>,
+    line: usize,
+    text: &'t [u8],
+) -> Result<(), TableFault>
+    ensures ok { OnOk result (and_then (entry_in line (fields text.now))
+        (with_entry line (names_of numbers.old.entries)) ≡ Ok (names_of numbers.new.entries)) }
+    ensures err { IfErr result (λ e. e ≢ faults.Memory
+        → and_then (entry_in line (fields text.now)) (with_entry line (names_of numbers.old.entries)) ≡ Err e) }
+    ensures memory { IfErr result (λ e. e ≡ faults.Memory → HasCall text.now) }
+    ensures range { AreCallNumbers (names_of numbers.old.entries)
+        → OnOk result (AreCallNumbers (names_of numbers.new.entries)) }
+{
+    let Some((name, number)) = entry_on(line, text)? else {
+        return Ok(());
+    };
+    if numbers.insert(Name::new(name), number)?.is_some() {
+        return Err(TableFault::Repeated { line });
+    }
+    Ok(())
+}
+
+/// The entries of a map from names to syscall numbers.
+fn entries_of(
+    alloc: Global,
+    numbers: BTreeMap<Name<'_>, u32>,
+) -> Result<Vec<TableEntry>, AllocError>
+    ensures entries { IfOk result (λ entries. entries.items ≡ numbers.entry.entries) }
+    ensures sorted { AreSorted numbers.entry.entries }
+    ensures memory { OnErr result (0 < length numbers.entry.entries) }
+{
+    let mut entries = Vec::with_capacity(alloc, numbers.len())?;
+    for (name, number) in numbers {
+        entries.push(TableEntry::new(alloc, &name, number)?)?;
+    }
+    Ok(entries)
 }
