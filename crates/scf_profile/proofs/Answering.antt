@@ -27,11 +27,11 @@ same_answer a r s call none fits met met_too =
 pub own_or_foreign : (a : Architecture) (call : CallRecord) → IsOf a call ⊎ (IsOf a call → ⊥)
 own_or_foreign a call =
     elim (cases_eq call.arch (row_of a).audit) [
-      | inr other ↦ inr (λ own. other own.arch)
+      | inr differs ↦ inr (λ native. differs native.arch)
       | inl same ↦ elim (cases_lt call.nr (row_of a).first) [
-        | inl below ↦ inr (λ own. let reached = own.first in omega arith)
+        | inl below ↦ inr (λ native. let reached = native.first in omega arith)
         | inr reached ↦ elim (cases_lt (row_of a).last call.nr) [
-          | inl past ↦ inr (λ own. let last = own.last in omega arith)
+          | inl past ↦ inr (λ native. let last = native.last in omega arith)
           | inr within ↦ inl (record { arch = same; first = reached; last = within })
         ]
       ]
@@ -49,21 +49,21 @@ first_is_found a (r ∷ rs) call =
     one_more (meets a r call) refl (find (λ s. meets a s call) rs) (first_is_found a rs call) where
       one_more : (b : Bool) → meets a r call ≡ b → (o : Option Rule) → IsFound a rs call o
           → IsFound a (r ∷ rs) call (cond b (Some r) o)
-      one_more true met o rest = ((0, omega arith, refl), met)
+      one_more true met o behind = ((0, omega arith, refl), met)
       one_more false unmet None none = All-cons (λ s. meets a s call ≡ false) r rs unmet none
       one_more false unmet (Some s) h = ((suc h.0.0, omega (arith, h.0.1), h.0.2), h.1)
 
 -- the answer to a call of its architecture by the first rule that it meets
 pub answered : (p : Profile) (call : CallRecord) → IsOf p.architecture call → is_stubbed p.stub call.nr ≡ false
-    → (found : Option Rule) → found ≡ find (λ r. meets p.architecture r call) p.rules
-    → ProfileAnswers p call (option_map_or (λ (r : Rule). r.answer.0) found p.default_answer.0)
-answered p call native unstubbed found is = by_found found (rw is (first_is_found p.architecture p.rules call)) where
-  by_found : (o : Option Rule) → IsFound p.architecture p.rules call o
+    → (rule : Option Rule) → rule ≡ find (λ r. meets p.architecture r call) p.rules
+    → ProfileAnswers p call (option_map_or (λ (r : Rule). r.answer.0) rule p.default_answer.0)
+answered p call native unstubbed rule is = by_rule_met rule (rw is (first_is_found p.architecture p.rules call)) where
+  by_rule_met : (o : Option Rule) → IsFound p.architecture p.rules call o
       → ProfileAnswers p call (option_map_or (λ (r : Rule). r.answer.0) o p.default_answer.0)
-  by_found None none =
+  by_rule_met None none =
       by_default native unstubbed
       (λ r among. All-contains (λ s. meets p.architecture s call ≡ false) p.rules r none among)
-  by_found (Some r) h = by_rule r native unstubbed h.0 h.1
+  by_rule_met (Some r) h = by_rule r native unstubbed h.0 h.1
 
 -- every call has an answer
 pub some_answer : (p : Profile) (call : CallRecord) → (answer : ℕ) × ProfileAnswers p call answer
@@ -112,12 +112,12 @@ module _ (p : Profile) (call : CallRecord) where
 -- where no two rules conflict, a call record has one answer only
 pub one_answer : (p : Profile) (call : CallRecord) → HaveNoConflict p.architecture p.rules → IsRecord call → {a b : ℕ}
     → ProfileAnswers p call a → ProfileAnswers p call b → a ≡ b
-one_answer p call none fits (foreign h) other = sym (only_foreign p call h other)
-one_answer p call none fits (by_stub native stubbed) other = sym (only_stub p call native stubbed other)
-one_answer p call none fits (by_rule r native unstubbed among met) other =
-    sym (only_rule p call native unstubbed none fits r among met other)
-one_answer p call none fits (by_default native unstubbed unmet) other =
-    sym (only_default p call native unstubbed unmet other)
+one_answer p call none fits (foreign h) answers = sym (only_foreign p call h answers)
+one_answer p call none fits (by_stub native stubbed) answers = sym (only_stub p call native stubbed answers)
+one_answer p call none fits (by_rule r native unstubbed among met) answers =
+    sym (only_rule p call native unstubbed none fits r among met answers)
+one_answer p call none fits (by_default native unstubbed unmet) answers =
+    sym (only_default p call native unstubbed unmet answers)
 
 -- ---- several profiles
 
@@ -125,35 +125,35 @@ one_answer p call none fits (by_default native unstubbed unmet) other =
 not_before : (profiles : List Profile) (call : CallRecord) → AreOfApart profiles → (p q : Profile) (i j : ℕ)
     → j < length profiles → get_or profiles i p ≡ p → get_or profiles j p ≡ q → IsOf p.architecture call
     → IsOf q.architecture call → i < j → ⊥
-not_before profiles call apart p q i j inside first second own other before =
+not_before profiles call apart p q i j inside first second of_p of_q before =
     let follows = rw (first, second) at (apart i j p before inside) in
-    let one = own.arch in
-    let two = other.arch in
-    let past : (row_of p.architecture).last < (row_of q.architecture).first = follows (sym one ∙ two) in
-    let last = own.last in
-    let reached = other.first in
+    let audit_p = of_p.arch in
+    let audit_q = of_q.arch in
+    let past : (row_of p.architecture).last < (row_of q.architecture).first = follows (sym audit_p ∙ audit_q) in
+    let last = of_p.last in
+    let reached = of_q.first in
     omega arith
 
 -- no two of them are for one call
 same_profile : (profiles : List Profile) (call : CallRecord) → AreOfApart profiles → (p q : Profile)
     → Contains profiles p → Contains profiles q → IsOf p.architecture call → IsOf q.architecture call → p ≡ q
-same_profile profiles call apart p q (i, i_lt, i_is) (j, j_lt, j_is) own other =
+same_profile profiles call apart p q (i, i_lt, i_is) (j, j_lt, j_is) of_p of_q =
     let p_there = get_or_default profiles i q p i_lt ∙ i_is in
     let q_there = get_or_default profiles j p q j_lt ∙ j_is in
     elim (cases_order i j) [
       | inl same ↦ sym i_is ∙ ap (λ (k : ℕ). get_or profiles k p) same ∙ q_there
-      | inr (inl before) ↦ absurd (not_before profiles call apart p q i j j_lt i_is q_there own other before)
-      | inr (inr after) ↦ absurd (not_before profiles call apart q p j i i_lt j_is p_there other own after)
+      | inr (inl before) ↦ absurd (not_before profiles call apart p q i j j_lt i_is q_there of_p of_q before)
+      | inr (inr after) ↦ absurd (not_before profiles call apart q p j i i_lt j_is p_there of_q of_p after)
     ]
 
 pub one_answer_among : (profiles : List Profile) (call : CallRecord) → AreOfApart profiles
     → All (λ p. HaveNoConflict p.architecture p.rules) profiles → IsRecord call → {a b : ℕ}
     → ProfilesAnswer profiles call a → ProfilesAnswer profiles call b → a ≡ b
 one_answer_among profiles call apart none fits (by_none h) (by_none k) = refl
-one_answer_among profiles call apart none fits (by_none h) (by_profile p has own answer told) = absurd (h p has own)
-one_answer_among profiles call apart none fits (by_profile p has own answer told) (by_none h) = absurd (h p has own)
-one_answer_among profiles call apart none fits (by_profile p has own answer told)
-    (by_profile q has_too own_too answer_too told_too) =
-    let same = same_profile profiles call apart p q has has_too own own_too in
+one_answer_among profiles call apart none fits (by_none h) (by_profile p has of_p answer answers) = absurd (h p has of_p)
+one_answer_among profiles call apart none fits (by_profile p has of_p answer answers) (by_none h) = absurd (h p has of_p)
+one_answer_among profiles call apart none fits (by_profile p has of_p answer answers)
+    (by_profile q has_too of_q answer_too answers_too) =
+    let same = same_profile profiles call apart p q has has_too of_p of_q in
     one_answer p call (All-contains (λ (r : Profile). HaveNoConflict r.architecture r.rules) profiles p none has) fits
-    told (rw same told_too)
+    answers (rw same answers_too)

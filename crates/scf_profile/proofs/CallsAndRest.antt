@@ -45,7 +45,7 @@ covered first (number ∷ numbers) call native low =
       | inl below ↦ in_first before here call (range_has first number call native low below)
       | inr least ↦ in_second before here call (elim (cases_eq call.nr number) [
         | inl same ↦ inl (native.arch, same)
-        | inr other ↦ inr (covered (number + 1) numbers call native (omega (arith, other)))
+        | inr past ↦ inr (covered (number + 1) numbers call native (omega (arith, past)))
       ])
     ]
 
@@ -57,7 +57,7 @@ all_native first [] call below within =
 all_native first (number ∷ numbers) call below within =
     elim (in_either (range_below first number) (Call number ∷ each_and_rest (number + 1) numbers) call within) [
       | inl before ↦ only_native (ltb first number) first (number - 1) call before
-      | inr rest ↦ elim rest [
+      | inr later ↦ elim later [
         | inl here ↦ record {
           arch = here.0;
           first = omega arith;

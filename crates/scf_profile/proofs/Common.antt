@@ -96,4 +96,4 @@ pub use Rattle.scf_profile.specs.internal.NumberSets.{HaveCommonNumber, IsGreate
 pub use Rattle.scf_profile.specs.internal.Overlaps.{HoldAt, Overlap, OverlapAt}
 pub use Rattle.scf_profile.specs.internal.Refusals.{NamesFirstConflict, NamesLeastConflict}
 pub use Rattle.scf_profile.specs.internal.RulesUnder.{AreUnder, Under, number_rules, rules_under}
-pub use Rattle.scf_profile.specs.internal.Stated.{effective_of, head_stated, loaded_of, loaded_profiles_of, stated_profile, with_own}
+pub use Rattle.scf_profile.specs.internal.Stated.{effective_of, head_stated, loaded_of, loaded_profiles_of, stated_profile, with_machine}

@@ -4,11 +4,11 @@ use Rattle.scf_profile.proofs.Numbers.{contains_filtered}
 use Rattle.scf_profile.proofs.NumberLists.{number_among, own_all, with_own}
 
 -- one of two
-pub one_of_two : (P Q : Clash → Type 0) (first second one : Option Clash) → ((c : Clash) → Q c → P c)
-    → IfSome first P → IfSome second Q → (one ≡ first) ⊎ (one ≡ second) → IfSome one P
-one_of_two P Q first second one weaker h k (inl e) = rw e h
-one_of_two P Q first None one weaker h k (inr e) = rw e tt
-one_of_two P Q first (Some c) one weaker h k (inr e) = rw e (weaker c k)
+pub one_of_two : (P Q : Clash → Type 0) (first second least : Option Clash) → ((c : Clash) → Q c → P c)
+    → IfSome first P → IfSome second Q → (least ≡ first) ⊎ (least ≡ second) → IfSome least P
+one_of_two P Q first second least weaker h k (inl e) = rw e h
+one_of_two P Q first None least weaker h k (inr e) = rw e tt
+one_of_two P Q first (Some c) least weaker h k (inr e) = rw e (weaker c k)
 
 same_number : (a : Architecture) (r s : Rule) → Conflicts a r s → r.number ≡ s.number
 same_number a r s conflict = grind (arith, nat_tests, conflict.meets_first, conflict.meets_second)
@@ -16,7 +16,7 @@ same_number a r s conflict = grind (arith, nat_tests, conflict.meets_first, conf
 -- the least of one that was known and others
 pub one_more : (P Q : Clash → Type 0) (least more : Option Clash) → ((c : Clash) → Q c → P c) → IfSome least P
     → IfSome more (λ c. (least ≡ Some c) ⊎ Q c) → IfSome more P
-one_more P Q least None weaker had found = tt
+one_more P Q least None weaker had clash = tt
 one_more P Q least (Some c) weaker had (inl e) = rw e at had
 one_more P Q least (Some c) weaker had (inr q) = weaker c q
 
@@ -37,9 +37,9 @@ bounded a rules least all first second number (i, rule, i_lt, rule_is, (j, later
 
 pub least_found : (a : Architecture) (rules : List Rule) (least : Option Clash) → AreBounded a rules least
     → IfSome least (λ c. EntriesConflict a rules c.first c.second c.number) → IsLeastClash a rules least
-least_found a rules None all found = bounded a rules None all
-least_found a rules (Some c) all found = record {
-  conflict = found;
+least_found a rules None all clash = bounded a rules None all
+least_found a rules (Some c) all clash = record {
+  conflict = clash;
   least_second = λ f s n e. (bounded a rules (Some c) all f s n e).second;
   least_first = λ f n e. (bounded a rules (Some c) all f c.second n e).first refl;
   least_number = λ n e. (bounded a rules (Some c) all c.first c.second n e).number refl refl;
@@ -48,26 +48,26 @@ least_found a rules (Some c) all found = record {
 -- ---- the rules of each number
 
 module _ (a : Architecture) (numbers : List NumberRules) (rules : List Rule) (are : AreNumbersOf numbers rules) where
-  among : (own : NumberRules) → Contains numbers own → (r : Rule) → r.number ≡ own.number → Contains rules r
-      → Contains own.rules.items r
-  among own has r same inside =
-      rw (All-contains (λ (o : NumberRules). o.rules.items ≡ rules_of o.number rules) numbers own are.own has)
-      (contains_filtered (λ (s : Rule). eqb s.number own.number) rules r (eq-eqb r.number own.number same) inside)
+  among : (group : NumberRules) → Contains numbers group → (r : Rule) → r.number ≡ group.number → Contains rules r
+      → Contains group.rules.items r
+  among group has r same inside =
+      rw (All-contains (λ (o : NumberRules). o.rules.items ≡ rules_of o.number rules) numbers group are.own has)
+      (contains_filtered (λ (s : Rule). eqb s.number group.number) rules r (eq-eqb r.number group.number same) inside)
 
   -- clashes among rules of one number are all
-  pub all_bounded : (least : Option Clash) → All (λ own. AreBounded a own.rules.items least) numbers
+  pub all_bounded : (least : Option Clash) → All (λ group. AreBounded a group.rules.items least) numbers
       → AreBounded a rules least
   all_bounded least bounds k d lt j e inside c clash =
       let later = get_or rules k d in
       let r = get_or rules j e in
       let here = All-contains_itself rules k d lt in
       elim (number_among numbers rules are later.number) [
-        | inl (own, has, is) ↦
+        | inl (group, has, is) ↦
             let same = same_number a r later clash.conflict ∙ sym is in
-            let one = among own has r same (All-contains_itself rules j e inside) in
-            let two = among own has later (sym is) here in
-            bounded a own.rules.items least
-            (All-contains (λ (o : NumberRules). AreBounded a o.rules.items least) numbers own bounds has) _ _ _
+            let one = among group has r same (All-contains_itself rules j e inside) in
+            let two = among group has later (sym is) here in
+            bounded a group.rules.items least
+            (All-contains (λ (o : NumberRules). AreBounded a o.rules.items least) numbers group bounds has) _ _ _
             (one.0, r, one.1, one.2, (two.0, later, two.1, two.2, clash))
         | inr none ↦ absurd
             (let some = with_own rules k d lt in
@@ -75,13 +75,13 @@ module _ (a : Architecture) (numbers : List NumberRules) (rules : List Rule) (ar
       ]
 
   pub all_found : (least : Option Clash)
-      → IfSome least (λ c. Any (λ own. EntriesConflict a own.rules.items c.first c.second c.number) numbers)
+      → IfSome least (λ c. Any (λ group. EntriesConflict a group.rules.items c.first c.second c.number) numbers)
       → IfSome least (λ c. EntriesConflict a rules c.first c.second c.number)
   all_found None h = tt
-  all_found (Some c) (k, own, lt, is, (i, r, i_lt, i_is, (j, later, j_lt, j_is, clash))) =
-      let all = rw is at (own_all numbers rules are (Contains rules) (All-contains_itself rules) k own lt) in
-      let inside : (s : Rule) → Contains own.rules.items s → Contains rules s =
-      λ s. All-contains (Contains rules) own.rules.items s all in
+  all_found (Some c) (k, group, lt, is, (i, r, i_lt, i_is, (j, later, j_lt, j_is, clash))) =
+      let all = rw is at (own_all numbers rules are (Contains rules) (All-contains_itself rules) k group lt) in
+      let inside : (s : Rule) → Contains group.rules.items s → Contains rules s =
+      λ s. All-contains (Contains rules) group.rules.items s all in
       let one = inside r (i, i_lt, i_is) in
       let two = inside later (j, j_lt, j_is) in
       (one.0, r, one.1, one.2, (two.0, later, two.1, two.2, clash))

@@ -35,22 +35,22 @@ find-map p f [] = refl
 find-map p f (x ∷ xs) = by_test (p (f x)) (find-map p f xs) where
   by_test : (b : Bool) → find p (map f xs) ≡ option_map f (find (λ y. p (f y)) xs)
       → cond b (Some (f x)) (find p (map f xs)) ≡ option_map f (cond b (Some x) (find (λ y. p (f y)) xs))
-  by_test true rest = refl
-  by_test false rest = rest
+  by_test true listed = refl
+  by_test false listed = listed
 
 -- the table of an architecture, where one of its name was found
-pub table_found : (tables : List ArchitectureTable) (a : Architecture) (found : Option ArchitectureTable)
-    → found ≡ find (λ t. is_named (row_of a).name t.architecture) tables
-    → option_map (λ t. t.table.now) found ≡ table_for (tables_of tables) a
-table_found tables a found is =
+pub table_found : (tables : List ArchitectureTable) (a : Architecture) (first : Option ArchitectureTable)
+    → first ≡ find (λ t. is_named (row_of a).name t.architecture) tables
+    → option_map (λ t. t.table.now) first ≡ table_for (tables_of tables) a
+table_found tables a first is =
     let of_pairs = find-map (λ (t : Architecture × Names). is_named (row_of a).name t.0)
     (λ (t : ArchitectureTable). (t.architecture, t.table.now)) tables in
-    rw (of_pairs, ← is) (by_found found) where
-      by_found : (o : Option ArchitectureTable) → option_map (λ t. t.table.now) o
+    rw (of_pairs, ← is) (by_first first) where
+      by_first : (o : Option ArchitectureTable) → option_map (λ t. t.table.now) o
           ≡ option_map (λ (t : Architecture × Names). t.1)
           (option_map (λ (t : ArchitectureTable). (t.architecture, t.table.now)) o)
-      by_found None = refl
-      by_found (Some t) = refl
+      by_first None = refl
+      by_first (Some t) = refl
 
 -- ---- tables whose architectures have to be listed
 

@@ -68,9 +68,9 @@ module _ (bits : ArgumentBits) (mask value : ℕ) (mask_fits : mask < 2 ^ 64) wh
         greatest = λ k k_fits h.
             let e = eqb-true (bit_and k mask) value h in
             let all = greatest_fits bits in
-            let rest = and-not 64 mask k mask_fits (omega arith) in
+            let masked_out = and-not 64 mask k mask_fits (omega arith) in
             let turned = and_comm k (2 ^ 64 - 1 - mask) in
-            omega (arith, e, and_comm k mask, rest, turned, left_outside k k_fits, or_add_and value outside, no_common);
+            omega (arith, e, and_comm k mask, masked_out, turned, left_outside k k_fits, or_add_and value outside, no_common);
       }
 
 -- ---- two masks

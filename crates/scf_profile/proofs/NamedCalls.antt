@@ -74,8 +74,8 @@ module _ (entries : List (List ℕ × ℕ)) (sorted : AreSorted entries) where
   module _ (under : Named) (by_number : AreByNumber entries under) (rising : IsOrdered nat_cmp under) where
     its_names : (e : ℕ × Vec (Bor (List ℕ)) Global) → tree.get nat_cmp under e.0 ≡ Some e.1
         → HasItsNames table (named_call e)
-    its_names e found =
-        let there : names_under under e.0 ≡ texts_at e.1.items = rw found refl in
+    its_names e stands =
+        let there : names_under under e.0 ≡ texts_at e.1.items = rw stands refl in
         let same : texts_at e.1.items ≡ names_with e.0 entries = sym there ∙ by_number.names e.0 in
         record { rising = rw same (names_rise e.0); exact = λ q. rw same (names_exact e.0 q) }
 
@@ -86,20 +86,20 @@ module _ (entries : List (List ℕ × ℕ)) (sorted : AreSorted entries) where
         let is : is_some (tree.get nat_cmp under n) ≡ ltb 0 (length names) =
         by_number.numbers_in n ∙ ap (λ (l : List (List ℕ)). ltb 0 (length l)) (by_number.names n) in (
           λ stands.
-              let some : 0 < length names = let told = sym is ∙ key.1 stands in grind (arith, nat_tests) in
+              let some : 0 < length names = let has_names = sym is ∙ key.1 stands in grind (arith, nat_tests) in
               (get_or names 0 [], (names_exact n _).0 (Contains-get_or names 0 [] some)),
           λ (name, has).
-              let found = (names_exact n name).1 has in
-              key.0 (is ∙ lt-ltb 0 (length names) (omega (arith, found.1))),
+              let place = (names_exact n name).1 has in
+              key.0 (is ∙ lt-ltb 0 (length names) (omega (arith, place.1))),
         )
 
     -- the numbers of names, each over its names, are the calls of the table
     pub are_calls : AreCallsOf table (map named_call under.entries)
     are_calls =
-        let told = map-map (λ (call : NamedCall). call.number) named_call under.entries in
+        let numbers = map-map (λ (call : NamedCall). call.number) named_call under.entries in
         record {
-          rising = rw told (IsStrictlyIncreasing-from_sorted _ rising);
-          exact = λ n. rw told (numbers_exact n);
+          rising = rw numbers (IsStrictlyIncreasing-from_sorted _ rising);
+          exact = λ n. rw numbers (numbers_exact n);
           names =
               All-map (HasItsNames table) named_call under.entries
               (λ k d lt. its_names (get_or under.entries k d) (All-found nat_cmp_total under rising k d lt));

@@ -46,10 +46,10 @@ call_numbers_empty name number h = let none = get-empty {X = ℕ} (slice_cmp nat
 -- names with one more number
 call_numbers_insert : (names : Names) (name : List ℕ) (number : ℕ) → AreCallNumbers names → number < x32_syscall_bit
     → AreCallNumbers (insert names name number)
-call_numbers_insert names name number each below other n h =
-    let found = sym (get-insert nat_list_cmp_total names name number other) ∙ h in
-    let before = each other n in
-    grind (arith, found, before)
+call_numbers_insert names name number each below q n h =
+    let inserted = sym (get-insert nat_list_cmp_total names name number q) ∙ h in
+    let before = each q n in
+    grind (arith, inserted, before)
 
 -- the same of the maps
 pub call_numbers_updated : (m n : BTreeMap (List ℕ) ℕ) (name : List ℕ) (number : ℕ)
@@ -60,7 +60,7 @@ call_numbers_updated m n name number updates each below =
     (call_numbers_insert (names_of m.entries) name number each below)
 
 -- what is found among the names is a call number
-pub found_below : (names : Names) (name : List ℕ) (found : Option ℕ) → AreCallNumbers names → found ≡ get names name
-    → IfSome found (λ n. n < x32_syscall_bit)
+pub found_below : (names : Names) (name : List ℕ) (number : Option ℕ) → AreCallNumbers names → number ≡ get names name
+    → IfSome number (λ n. n < x32_syscall_bit)
 found_below names name None each is = tt
 found_below names name (Some n) each is = each name n (sym is)

@@ -24,13 +24,13 @@ same_numbers (x ∷ xs) ys dx dy to from =
     let others = remove ys at.0 in
     let moved : IsPermutation ys (x ∷ others) = IsPermutation-remove ys at.0 x at.1 (sym at.2) in
     let apart = IsDistinct-IsPermutation eqb eqb_flips ys (x ∷ others) moved dy in
-    let rest = same_numbers xs others (IsDistinct-tail eqb x xs dx) (IsDistinct-tail eqb x others apart)
+    let tail = same_numbers xs others (IsDistinct-tail eqb x xs dx) (IsDistinct-tail eqb x others apart)
     (λ n has. Contains-tail x others n (first_alone x xs dx n has)
     (Contains-permutation ys (x ∷ others) n moved (to n (Contains-append_right (x ∷ []) xs n has))))
     (λ n has. Contains-tail x xs n (first_alone x others apart n has)
     (from n (Contains-permutation (x ∷ others) ys n (IsPermutation-sym ys (x ∷ others) moved)
     (Contains-append_right (x ∷ []) others n has)))) in
-    IsPermutation-trans (x ∷ xs) (x ∷ others) ys (IsPermutation-cons x xs others rest)
+    IsPermutation-trans (x ∷ xs) (x ∷ others) ys (IsPermutation-cons x xs others tail)
     (IsPermutation-sym ys (x ∷ others) moved)
 
 -- numbers that rise from each to the next rise from each to all later ones
@@ -46,7 +46,7 @@ numbers_apart : (rules : List Rule) → AllPairs (λ x y. x ≢ y) (numbers_of r
 numbers_apart [] = λ i j d before inside. absurd (omega arith)
 numbers_apart (r ∷ rules) =
     AllPairs-cons (λ x y. x ≢ y) r.number _
-    (All-weaker (λ n. not (eqb n r.number) ≡ true) (λ n. r.number ≢ n) (λ n other same. grind (arith, nat_tests)) _
+    (All-weaker (λ n. not (eqb n r.number) ≡ true) (λ n. r.number ≢ n) (λ n differs same. grind (arith, nat_tests)) _
     (filter_passes (λ n. not (eqb n r.number)) (numbers_of rules)))
     (AllPairs-filter (λ x y. x ≢ y) (λ n. not (eqb n r.number)) (numbers_of rules) (numbers_apart rules))
 
@@ -56,7 +56,7 @@ numbers_distinct rules = IsDistinct-from_AllPairs Decides-eqb (numbers_of rules)
 -- ---- rules under their numbers
 
 abbrev pub number_in : NumberRules → ℕ
-number_in own = own.number
+number_in group = group.number
 
 -- a number of rules is among the distinct ones
 some_rules : (rules : List Rule) (nr : ℕ) → 0 < length (rules_of nr rules) → Contains (numbers_of rules) nr
@@ -85,9 +85,9 @@ with_own rules =
 rules_there : (rules : List Rule) → All (λ nr. 0 < length (rules_of nr rules)) (numbers_of rules)
 rules_there rules = numbers_all (λ nr. 0 < length (rules_of nr rules)) rules (with_own rules)
 
-module _ (rules : List Rule) (under : Under) (kept : AreUnder rules under) (ordered : IsOrdered nat_cmp under) where
+module _ (rules : List Rule) (under : Under) (are_under : AreUnder rules under) (ordered : IsOrdered nat_cmp under) where
   is_there : (nr : ℕ) → is_some (value_of nat_cmp under nr) ≡ ltb 0 (length (rules_of nr rules))
-  is_there nr = kept.numbers_in nr ∙ ap (λ (l : List Rule). ltb 0 (length l)) (kept.kept nr)
+  is_there nr = are_under.numbers_in nr ∙ ap (λ (l : List Rule). ltb 0 (length l)) (are_under.kept nr)
 
   keys_rise : IsStrictlyIncreasing (keys_of under.entries)
   keys_rise = IsStrictlyIncreasing-from_sorted _ ordered
@@ -100,22 +100,22 @@ module _ (rules : List Rule) (under : Under) (kept : AreUnder rules under) (orde
       (is_there nr ∙ lt-ltb 0 (length (rules_of nr rules))
       (All-contains (λ m. 0 < length (rules_of m rules)) (numbers_of rules) nr (rules_there rules) has)))
       (λ nr has.
-      let told = sym (is_there nr) ∙ (btree_map_contains_key_iff nat_cmp_total exact_unsigned under nr).1 has in
+      let has_rules = sym (is_there nr) ∙ (btree_map_contains_key_iff nat_cmp_total exact_unsigned under nr).1 has in
       some_rules rules nr (grind (arith, nat_tests)))
 
   -- the numbers of a tree over their rules
   pub are_numbers : AreNumbersOf (map number_rules under.entries) rules
   are_numbers =
-      let told = sym (map-map number_in number_rules under.entries) in
+      let numbers = sym (map-map number_in number_rules under.entries) in
       record {
-        rising = subst IsStrictlyIncreasing told keys_rise;
-        same = subst (IsPermutation (numbers_of rules)) told same_keys;
+        rising = subst IsStrictlyIncreasing numbers keys_rise;
+        same = subst (IsPermutation (numbers_of rules)) numbers same_keys;
         own =
-            All-map (λ (own : NumberRules). own.rules.items ≡ rules_of own.number rules) number_rules under.entries
+            All-map (λ (group : NumberRules). group.rules.items ≡ rules_of group.number rules) number_rules under.entries
             (λ k d lt.
             let e = get_or under.entries k d in
             let there : rules_under under e.0 ≡ e.1.items = rw (All-found nat_cmp_total under ordered k d lt) refl in
-            sym there ∙ kept.kept e.0);
+            sym there ∙ are_under.kept e.0);
       }
 
 -- ---- what crates above cite
@@ -135,9 +135,9 @@ sum_of_map f g xs = sym (sum-map f (map g xs)) ∙ ap sum (map-map f g xs) ∙ s
 same_sums : {X : Type 0} (f g : X → ℕ) (xs : List X) → All (λ x. f x ≡ g x) xs → sum_by f xs ≡ sum_by g xs
 same_sums f g [] h = refl
 same_sums f g (x ∷ xs) h =
-    let rest = same_sums f g xs (All-tail (λ y. f y ≡ g y) x xs h) in
+    let tail = same_sums f g xs (All-tail (λ y. f y ≡ g y) x xs h) in
     let first = All-head (λ x. f x ≡ g x) x xs h in
-    omega (arith, rest, first, sum_by-cons f x xs, sum_by-cons g x xs)
+    omega (arith, tail, first, sum_by-cons f x xs, sum_by-cons g x xs)
 
 -- what is summed up of rules is summed up number by number
 module _ (f : Rule → ℕ) where
@@ -155,24 +155,24 @@ module _ (f : Rule → ℕ) where
       let before = sum_by-cons (sum_at rules) n ns in
       elim (cases_eq r.number n) [
         | inl same ↦
-            let own : g n ≡ f r + sum_at rules n = rw (eq-eqb r.number n same) (sum_by-cons f r (rules_of n rules)) in
+            let with_rule : g n ≡ f r + sum_at rules n = rw (eq-eqb r.number n same) (sum_by-cons f r (rules_of n rules)) in
             let others = same_sums g (sum_at rules) ns (λ k d lt.
             let apart = All-from_recursion (λ m. eqb n m ≡ false) ns distinct.0 k d lt in
-            let other : eqb r.number (get_or ns k d) ≡ false = rw same apart in rw other refl) in
-            omega (arith, own, others, now, before)
+            let differs : eqb r.number (get_or ns k d) ≡ false = rw same apart in rw differs refl) in
+            omega (arith, with_rule, others, now, before)
         | inr apart ↦
-            let other : g n ≡ sum_at rules n = rw (ne_eqb r.number n apart) refl in
-            let rest = sum_with r rules ns distinct.1 (Contains-tail n ns r.number (λ e. apart (sym e)) has) in
-            omega (arith, other, rest, now, before)
+            let unchanged : g n ≡ sum_at rules n = rw (ne_eqb r.number n apart) refl in
+            let tail = sum_with r rules ns distinct.1 (Contains-tail n ns r.number (λ e. apart (sym e)) has) in
+            omega (arith, unchanged, tail, now, before)
       ]
 
   sum_in_parts : (ns : List ℕ) → IsDistinct eqb ns → (rules : List Rule) → All (λ r. Contains ns r.number) rules
       → sum_by (sum_at rules) ns ≡ sum_by f rules
   sum_in_parts ns distinct [] all = omega (arith, sum_by-le (sum_at []) 0 ns (λ k d lt. omega arith))
   sum_in_parts ns distinct (r ∷ rules) all =
-      let rest = sum_in_parts ns distinct rules (All-tail (λ s. Contains ns s.number) r rules all) in
+      let tail = sum_in_parts ns distinct rules (All-tail (λ s. Contains ns s.number) r rules all) in
       let first = sum_with r rules ns distinct (All-head (λ s. Contains ns s.number) r rules all) in
-      omega (arith, rest, first, sum_by-cons f r rules)
+      omega (arith, tail, first, sum_by-cons f r rules)
 
 module _ (numbers : List NumberRules) (rules : List Rule) (are : AreNumbersOf numbers rules) where
   pub numbers_rise : (i j : ℕ) (d : NumberRules) → i < j → j < length numbers
@@ -184,7 +184,7 @@ module _ (numbers : List NumberRules) (rules : List Rule) (are : AreNumbersOf nu
 
   -- a number has its rules there, or no rule has it
   pub number_among : (nr : ℕ)
-      → ((own : NumberRules) × Contains numbers own × (own.number ≡ nr)) ⊎ (rules_of nr rules ≡ [])
+      → ((group : NumberRules) × Contains numbers group × (group.number ≡ nr)) ⊎ (rules_of nr rules ≡ [])
   number_among nr =
       elim (number_there nr rules) [
         | inl there ↦ inl (contains_mapped number_in numbers nr
@@ -197,27 +197,27 @@ module _ (numbers : List NumberRules) (rules : List Rule) (are : AreNumbersOf nu
       sym (length-map numbers number_in) ∙ length_permutation (numbers_of rules) (map number_in numbers) are.same
 
   pub sum_of_own : (f : List Rule → ℕ)
-      → sum_by (λ (own : NumberRules). f own.rules.items) numbers
+      → sum_by (λ (group : NumberRules). f group.rules.items) numbers
       ≡ sum_by (λ nr. f (rules_of nr rules)) (numbers_of rules)
   sum_of_own f =
       let g : ℕ → ℕ = λ nr. f (rules_of nr rules) in
-      same_sums (λ own. f own.rules.items) (λ own. g own.number) numbers (λ k d lt. ap f (are.own k d lt))
+      same_sums (λ group. f group.rules.items) (λ group. g group.number) numbers (λ k d lt. ap f (are.own k d lt))
       ∙ sym (sum_of_map g number_in numbers)
       ∙ sum_by-IsPermutation g (numbers_of rules) (map number_in numbers) are.same
 
   pub sum_of_rules : (f : Rule → ℕ)
-      → sum_by (λ (own : NumberRules). sum_by f own.rules.items) numbers ≡ sum_by f rules
+      → sum_by (λ (group : NumberRules). sum_by f group.rules.items) numbers ≡ sum_by f rules
   sum_of_rules f =
       sum_of_own (sum_by f) ∙ sum_in_parts f (numbers_of rules) (numbers_distinct rules) rules
       (λ k d lt. some_rules rules _ (with_own rules k d lt))
 
-  numbers_hold : (P : ℕ → Type 0) → All P (numbers_of rules) → All (λ own. P own.number) numbers
+  numbers_hold : (P : ℕ → Type 0) → All P (numbers_of rules) → All (λ group. P group.number) numbers
   numbers_hold P all k d lt =
-      let own = All-permutation P (numbers_of rules) (map number_in numbers) are.same all k 0 in
-      rw (get_or-map number_in numbers k d 0 lt) at (own (omega (arith, length-map numbers number_in)))
+      let each = All-permutation P (numbers_of rules) (map number_in numbers) are.same all k 0 in
+      rw (get_or-map number_in numbers k d 0 lt) at (each (omega (arith, length-map numbers number_in)))
 
   -- what holds of the number of each rule holds of the numbers that they have
-  pub each_number : (P : ℕ → Type 0) → All (λ r. P r.number) rules → All (λ own. P own.number) numbers
+  pub each_number : (P : ℕ → Type 0) → All (λ r. P r.number) rules → All (λ group. P group.number) numbers
   each_number P all = numbers_hold P (numbers_all P rules all)
 
   -- each number has rules

@@ -10,7 +10,7 @@ contains_filtered p (y ∷ ys) x passes (zero, lt, e) =
 contains_filtered p (y ∷ ys) x passes (suc k, lt, e) =
     let later = contains_filtered p ys x passes (k, omega arith, e) in
     elim (cases_Bool (p y)) [
-      | inl kept ↦ rw kept (Contains-append_right (y ∷ []) (filter p ys) x later)
+      | inl passes ↦ rw passes (Contains-append_right (y ∷ []) (filter p ys) x later)
       | inr dropped ↦ rw dropped later
     ]
 

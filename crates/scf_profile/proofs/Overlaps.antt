@@ -11,11 +11,11 @@ abbrev HoldByOne : List Condition → ℕ → ℕ → Option Condition → Type 
 HoldByOne cs index n None = HoldAt cs index n
 HoldByOne cs index n (Some c) = (condition_holds c n ≡ true) ↔ HoldAt cs index n
 
-by_others : (c : Condition) (cs : List Condition) (index n : ℕ) → HoldsOn index n c → (found : Option Condition)
-    → HoldByOne cs index n found → HoldByOne (c ∷ cs) index n found
+by_others : (c : Condition) (cs : List Condition) (index n : ℕ) → HoldsOn index n c → (first : Option Condition)
+    → HoldByOne cs index n first → HoldByOne (c ∷ cs) index n first
 by_others c cs index n here None all = All-cons (HoldsOn index n) c cs here all
-by_others c cs index n here (Some d) one =
-    (λ held. All-cons (HoldsOn index n) c cs here (one.0 held), λ all. one.1 (All-tail (HoldsOn index n) c cs all))
+by_others c cs index n here (Some d) same =
+    (λ held. All-cons (HoldsOn index n) c cs here (same.0 held), λ all. same.1 (All-tail (HoldsOn index n) c cs all))
 
 hold_by_first : (cs : List Condition) (index n : ℕ) → HaveDistinctIndices cs
     → HoldByOne cs index n (find (λ c. eqb c.index index) cs)
@@ -31,9 +31,9 @@ hold_by_first (c ∷ cs) index n h =
           (by_others c cs index n (λ on. absurd (apart on)) _ (hold_by_first cs index n h.1))
     ]
 
-pub hold_by_found : (cs : List Condition) (index n : ℕ) → HaveDistinctIndices cs → (found : Option Condition)
-    → found ≡ find (λ c. eqb c.index index) cs → HoldByOne cs index n found
-hold_by_found cs index n h found is = rw is (hold_by_first cs index n h)
+pub hold_by_found : (cs : List Condition) (index n : ℕ) → HaveDistinctIndices cs → (first : Option Condition)
+    → first ≡ find (λ c. eqb c.index index) cs → HoldByOne cs index n first
+hold_by_found cs index n h first is = rw is (hold_by_first cs index n h)
 
 -- ---- two rules
 
@@ -60,7 +60,7 @@ argument_fits Bits32 n fits = omega arith
 argument_fits Bits64 n fits = omega arith
 
 -- a number for each argument makes a call that meets both rules
-module _ (a : Architecture) (r s : Rule) (rule : IsRule a r) (other : IsRule a s)
+module _ (a : Architecture) (r s : Rule) (of_r : IsRule a r) (of_s : IsRule a s)
     (overlap : Overlap (row_of a).bits r.conditions s.conditions) where
   abbrev number : (i : ℕ) → i < seccomp_data_args → ℕ
   number i lt = (overlap i lt).number
@@ -94,7 +94,7 @@ module _ (a : Architecture) (r s : Rule) (rule : IsRule a r) (other : IsRule a s
 
   fits : IsRecord call
   fits = record {
-    nr = let below = rule.last in omega (arith, (reach a).small);
+    nr = let below = of_r.last in omega (arith, (reach a).small);
     arch = omega arith;
     ip = omega arith;
     count = refl;
@@ -111,10 +111,10 @@ module _ (a : Architecture) (r s : Rule) (rule : IsRule a r) (other : IsRule a s
     is_record = fits;
     meets_first =
         ap (λ (b : Bool). b && all_hold a call r.conditions) (eq-eqb r.number r.number refl)
-        ∙ all_held a call r.conditions rule.conditions.each (at_taken r.conditions (λ j lt. (overlap j lt).first));
+        ∙ all_held a call r.conditions of_r.conditions.each (at_taken r.conditions (λ j lt. (overlap j lt).first));
     meets_second =
         ap (λ (b : Bool). b && all_hold a call s.conditions) (eq-eqb r.number s.number same)
-        ∙ all_held a call s.conditions other.conditions.each (at_taken s.conditions (λ j lt. (overlap j lt).second));
+        ∙ all_held a call s.conditions of_s.conditions.each (at_taken s.conditions (λ j lt. (overlap j lt).second));
     answer = apart;
   }
 

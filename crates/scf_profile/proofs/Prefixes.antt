@@ -44,16 +44,16 @@ ordered_by_bytes (suc count) v [] (y ∷ ys) bx by less = refl
 ordered_by_bytes (suc count) v (x ∷ xs) [] bx by less =
     absurd (omega (arith, less, nothing_least (suc count) 0 v v (x ∷ xs) (omega arith)))
 ordered_by_bytes (suc count) v (x ∷ xs) (y ∷ ys) bx by less =
-    let rest = rw (behind count 0 (v * 256 + x) x xs, behind count 0 (v * 256 + y) y ys) at less in
+    let tails = rw (behind count 0 (v * 256 + x) x xs, behind count 0 (v * 256 + y) y ys) at less in
     elim (cases_order x y) [
       | inl same ↦
           let more = ordered_by_bytes count (v * 256 + x) xs ys (tail_bytes count x xs bx) (tail_bytes count y ys by)
-          (rw (sym same) at rest) in
+          (rw (sym same) at tails) in
           rw (same, more) (grind (arith, nat_tests))
       | inr (inl before) ↦ grind (arith, nat_tests)
       | inr (inr after) ↦
-          let other = less_before count 0 (v * 256 + y) (v * 256 + x) ys xs (tail_bytes count y ys by) (omega arith) in
-          absurd (omega (arith, rest, other))
+          let reversed = less_before count 0 (v * 256 + y) (v * 256 + x) ys xs (tail_bytes count y ys by) (omega arith) in
+          absurd (omega (arith, tails, reversed))
     ]
 
 -- the same of texts and their prefixes

@@ -4,12 +4,12 @@ use Rattle.scf_profile.proofs.Answering.{only_default, only_foreign, only_rule, 
 use Rattle.scf_profile.proofs.Numbers.{contains_filtered}
 
 least_of_fold : (n : ℕ) (numbers : List ℕ) → Contains (n ∷ numbers) (fold min n numbers)
-    × AllByRecursion (λ other. fold min n numbers ≤ other) (n ∷ numbers)
+    × AllByRecursion (λ m. fold min n numbers ≤ m) (n ∷ numbers)
 least_of_fold n [] = ((0, omega arith, refl), (omega arith, tt))
 least_of_fold n (m ∷ numbers) =
-    let rest = least_of_fold (min n m) numbers in
-    let below : fold min (min n m) numbers ≤ min n m = rest.1.0 in
-    (among (fold min (min n m) numbers) rest.0, (omega arith, (omega arith, rest.1.1)))
+    let smaller = least_of_fold (min n m) numbers in
+    let below : fold min (min n m) numbers ≤ min n m = smaller.1.0 in
+    (among (fold min (min n m) numbers) smaller.0, (omega arith, (omega arith, smaller.1.1)))
   where
     among : (l : ℕ) → Contains (min n m ∷ numbers) l → Contains (n ∷ m ∷ numbers) l
     among l (zero, inside, is) = elim (cases_lt n m) [
@@ -20,12 +20,12 @@ least_of_fold n (m ∷ numbers) =
 
 -- the least of numbers is one of them, and none is below it
 pub least_of : (numbers : List ℕ) (least : ℕ) → reduce min numbers ≡ Some least
-    → Contains numbers least × All (λ other. least ≤ other) numbers
+    → Contains numbers least × All (λ number. least ≤ number) numbers
 least_of [] least e = absurd (cc)
 least_of (n ∷ numbers) least e =
     let same : fold min n numbers ≡ least = cc in
-    let found = least_of_fold n numbers in
-    rw (← same) (found.0, All-from_recursion (λ other. fold min n numbers ≤ other) (n ∷ numbers) found.1)
+    let least_number = least_of_fold n numbers in
+    rw (← same) (least_number.0, All-from_recursion (λ number. fold min n numbers ≤ number) (n ∷ numbers) least_number.1)
 
 -- where no entry has a rule that is met, no rule is
 unmet_by_none : (a : Architecture) (rules : List Rule) (call : CallRecord) → entries_met a rules call ≡ []

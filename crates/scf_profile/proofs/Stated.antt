@@ -10,7 +10,7 @@ use Rattle.scf_profile.specs.declared.profile_text.StatedRules.{StatedRules}
 -- one more, where there is one
 abbrev pub with_found : List StatedRules → Option StatedRules → List StatedRules
 with_found stated None = stated
-with_found stated (Some own) = stated ++ own ∷ []
+with_found stated (Some rules) = stated ++ rules ∷ []
 
 by_either : (a b c : Bool) → (b || false) ≡ true → (a || (b || c)) ≡ true
 by_either true b c h = refl
@@ -19,46 +19,46 @@ by_either false false c h = absurd (false≢true h)
 
 module _ (out : Option Answer) (tables : Tables) (entries : List Entry) (all : List Architecture) (i : ℕ)
     (lt : i < length all) where
-  abbrev one : Answer → Option Profile
-  one default = profile_for out tables default entries (get_or all i X8664)
+  abbrev here : Answer → Option Profile
+  here default = profile_for out tables default entries (get_or all i X8664)
 
-  abbrev rest : Answer → List Profile
-  rest default = filter_map (profile_for out tables default entries) (drop (i + 1) all)
+  abbrev behind : Answer → List Profile
+  behind default = filter_map (profile_for out tables default entries) (drop (i + 1) all)
 
-  left : (default : Answer) → filter_map (profile_for out tables default entries) (drop i all)
-      ≡ cons_option (one default) (rest default)
-  left default = rw (add-one, drop-cons all i X8664 lt) refl
+  split : (default : Answer) → filter_map (profile_for out tables default entries) (drop i all)
+      ≡ cons_option (here default) (behind default)
+  split default = rw (add-one, drop-cons all i X8664 lt) refl
 
-  pub stated_more : (default : Answer) (stated : List StatedRules) (found : Option StatedRules) (whole : List Profile)
-      → option_map (stated_profile default) found ≡ one default
+  pub stated_more : (default : Answer) (stated : List StatedRules) (rules : Option StatedRules) (whole : List Profile)
+      → option_map (stated_profile default) rules ≡ here default
       → map (stated_profile default) stated ++ filter_map (profile_for out tables default entries) (drop i all) ≡ whole
-      → map (stated_profile default) (with_found stated found) ++ rest default ≡ whole
-  stated_more default stated found whole is so_far =
-      by_found found (rw (left default, ← is) at so_far) where
-        by_found : (o : Option StatedRules)
-            → map (stated_profile default) stated ++ cons_option (option_map (stated_profile default) o) (rest default)
-            ≡ whole → map (stated_profile default) (with_found stated o) ++ rest default ≡ whole
-        by_found None h = h
-        by_found (Some own) h =
-            rw (map-append (stated_profile default) stated (own ∷ []))
-            (append_assoc (map (stated_profile default) stated) (stated_profile default own ∷ []) (rest default) ∙ h)
+      → map (stated_profile default) (with_found stated rules) ++ behind default ≡ whole
+  stated_more default stated rules whole is so_far =
+      by_rules rules (rw (split default, ← is) at so_far) where
+        by_rules : (o : Option StatedRules)
+            → map (stated_profile default) stated ++ cons_option (option_map (stated_profile default) o) (behind default)
+            ≡ whole → map (stated_profile default) (with_found stated o) ++ behind default ≡ whole
+        by_rules None h = h
+        by_rules (Some r) h =
+            rw (map-append (stated_profile default) stated (r ∷ []))
+            (append_assoc (map (stated_profile default) stated) (stated_profile default r ∷ []) (behind default) ∙ h)
 
-  -- the rules of one are too many
+  -- the rules of one architecture are too many
   pub one_too_many : (default : Answer) (stated : List StatedRules) (whole : List Profile) (fault : LoadFault)
       → map (stated_profile default) stated ++ filter_map (profile_for out tables default entries) (drop i all) ≡ whole
-      → TellsOneTooMany (cons_option (one default) []) fault → TellsOneTooMany whole fault
+      → TellsOneTooMany (cons_option (here default) []) fault → TellsOneTooMany whole fault
   one_too_many default stated whole fault so_far tells not_memory =
-      by_one (one default) (tells not_memory) (rw (left default) at so_far) where
+      by_one (here default) (tells not_memory) (rw (split default) at so_far) where
         too_many : Profile → Bool
         too_many p = ltb max_rules (length p.rules)
 
         by_one : (o : Option Profile) → (fault ≡ faults.TooMany) × (list_any too_many (cons_option o []) ≡ true)
-            → map (stated_profile default) stated ++ cons_option o (rest default) ≡ whole
+            → map (stated_profile default) stated ++ cons_option o (behind default) ≡ whole
             → (fault ≡ faults.TooMany) × (list_any too_many whole ≡ true)
         by_one None h is = absurd (false≢true h.1)
         by_one (Some p) h is = (
           h.0,
-          rw (← is, list_any-append too_many (map (stated_profile default) stated) (p ∷ rest default))
+          rw (← is, list_any-append too_many (map (stated_profile default) stated) (p ∷ behind default))
               (by_either (list_any too_many (map (stated_profile default) stated)) (too_many p) _ h.1),
         )
 
@@ -128,24 +128,24 @@ with_stub_keeps_architecture a first p = keeps (is_named (row_of a).name p.archi
 
 -- ---- conflicts of one profile after another
 
-module _ (reading : Reading) (default : Answer) (all before : List StatedRules) (own : StatedRules)
-    (behind : List StatedRules) (split : before ++ own ∷ behind ≡ all) where
-  -- what holds of all holds of one
-  pub of_own : (P : StatedRules → Type 0) → All P all → P own
+module _ (reading : Reading) (default : Answer) (all before : List StatedRules) (rules : StatedRules)
+    (behind : List StatedRules) (split : before ++ rules ∷ behind ≡ all) where
+  -- what holds of all holds of these
+  pub of_own : (P : StatedRules → Type 0) → All P all → P rules
   of_own P holds =
-      All-contains P all own holds (rw (← split) (Contains-append_right before (own ∷ behind) own (0, omega arith, refl)))
+      All-contains P all rules holds (rw (← split) (Contains-append_right before (rules ∷ behind) rules (0, omega arith, refl)))
 
   pub first_conflict : (profiles : List Profile) (fault : LoadFault)
       → profiles ≡ map (effective_of reading default) before
       → All (λ p. HaveNoConflict p.architecture p.rules) profiles
-      → NamesLeastConflict own.architecture (effective_rules reading own.architecture own.rules.items) fault
+      → NamesLeastConflict rules.architecture (effective_rules reading rules.architecture rules.rules.items) fault
       → NamesFirstConflict (map (effective_of reading default) all) fault
   first_conflict profiles faults.Memory is none names = tt
   first_conflict profiles (faults.Conflict number first second) is none names = record {
     before = map (effective_of reading default) before;
-    profile = effective_of reading default own;
+    profile = effective_of reading default rules;
     behind = map (effective_of reading default) behind;
-    split = rw (← split) (map-append (effective_of reading default) before (own ∷ behind));
+    split = rw (← split) (map-append (effective_of reading default) before (rules ∷ behind));
     none = rw (← is) none;
     least = names;
   }

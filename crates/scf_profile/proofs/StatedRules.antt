@@ -25,9 +25,9 @@ module _ (a : Architecture) (P : Rule → Type 0) (table : Names) (index : ℕ) 
     by_number : (o : Option ℕ) → get table name ≡ o → All P (rules_named a table index conditions answer names)
         → All P (cons_option (option_map (rule_for a index conditions answer) o)
         (rules_named a table index conditions answer names))
-    by_number None is rest = rest
-    by_number (Some number) is rest =
-        All-cons P (rule_for a index conditions answer number) _ (each name number is) rest
+    by_number None is stated = stated
+    by_number (Some number) is stated =
+        All-cons P (rule_for a index conditions answer number) _ (each name number is) stated
 
 all_unless : (P : Rule → Type 0) (out : Bool) (rules : List Rule) → All P rules → All P (cond out [] rules)
 all_unless P true rules all = All-nil P

@@ -7,7 +7,7 @@ use Rattle.scf_profile.specs.Steps.{◌>>=◌}
 
 -- a member; one that is null counts as absent
 abbrev pub member : List ℕ → Data → Option Data
-member name d = option_and_then (λ found. if is_some (as_null found) then None else Some found) (get name d)
+member name d = option_and_then (λ value. if is_some (as_null value) then None else Some value) (get name d)
 
 -- a signed or unsigned number of 64 bits
 abbrev pub whole_number : Data → Option ℤ

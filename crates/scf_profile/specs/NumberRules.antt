@@ -7,6 +7,6 @@ use Rattle.scf_profile.specs.RulesByNumber.{numbers_of, rules_of}
 
 -- the distinct numbers of the rules, rising, each with its rules in their order
 pub record AreNumbersOf (numbers : List NumberRules) (rules : List Rule) : Type 0 where
-  pub rising : IsStrictlyIncreasing (map (λ own. own.number) numbers)
-  pub same : IsPermutation (numbers_of rules) (map (λ own. own.number) numbers)
-  pub own : All (λ own. own.rules.items ≡ rules_of own.number rules) numbers
+  pub rising : IsStrictlyIncreasing (map (λ group. group.number) numbers)
+  pub same : IsPermutation (numbers_of rules) (map (λ group. group.number) numbers)
+  pub own : All (λ group. group.rules.items ≡ rules_of group.number rules) numbers

@@ -25,7 +25,7 @@ IsReason p call Stub = IsOf p.architecture call × (is_stubbed p.stub call.nr �
 IsReason p call (Entry index) =
     let met = entries_met p.architecture p.rules call in
     IsOf p.architecture call × (is_stubbed p.stub call.nr ≡ false) × Contains met index
-    × All (λ other. index ≤ other) met
+    × All (λ entry. index ≤ entry) met
 IsReason p call Default =
     IsOf p.architecture call × (is_stubbed p.stub call.nr ≡ false) × (entries_met p.architecture p.rules call ≡ [])
 

@@ -51,8 +51,8 @@ fn find_action(entry: Option<u32>, name: &str, object: &Value) -> Result<Action,
     ensures { result ≡ and_then (required entry name.now as_str (view object.now))
         (λ text. ok_or (action_named text) (faults.Action entry)) }
 {
-    let found = member_of(object, name).ok_or(LoadFault::Missing { entry })?;
-    let text = found.as_str().ok_or(LoadFault::Kind { entry })?;
+    let member = member_of(object, name).ok_or(LoadFault::Missing { entry })?;
+    let text = member.as_str().ok_or(LoadFault::Kind { entry })?;
     action_of(text).ok_or(LoadFault::Action { entry })
 }
 
@@ -95,7 +95,7 @@ pub(crate) fn find_answer(
     let action = find_action(entry, name, object)?;
     let errno = match member_of(object, errno_name) {
         None => u16::from(takes_errno(action)),
-        Some(found) => errno_of(reading, entry, action, found)?,
+        Some(member) => errno_of(reading, entry, action, member)?,
     };
     Ok(Answer::new(action, errno))
 }

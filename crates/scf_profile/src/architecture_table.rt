@@ -35,7 +35,7 @@ pub(crate) fn table_for<'t>(
     ensures { option_map (λ t. t.now) result ≡ table_stated (tables_of tables.now) architecture }
 {
     match table_named(tables, architecture.name()) {
-        Some(found) => Some(found.table),
+        Some(first) => Some(first.table),
         None => None,
     }
 }

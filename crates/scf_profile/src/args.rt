@@ -45,15 +45,15 @@ fn find_index(entry: Option<u32>, object: &Value) -> Result<u8, LoadFault>
         (λ number. ok_or (number_below seccomp_data_args number) (faults.Index entry)) }
     ensures range { IfOk result (λ index. index < seccomp_data_args) }
 {
-    let found = member_of(object, "index").ok_or(LoadFault::Missing { entry })?;
-    if let Some(index) = found.as_u64() {
+    let member = member_of(object, "index").ok_or(LoadFault::Missing { entry })?;
+    if let Some(index) = member.as_u64() {
         return if index < u64::from(ARGUMENTS) {
             Ok(index as u8)
         } else {
             Err(LoadFault::Index { entry })
         };
     }
-    if found.is_i64() {
+    if member.is_i64() {
         return Err(LoadFault::Index { entry });
     }
     Err(LoadFault::Kind { entry })
@@ -63,16 +63,16 @@ fn find_operator(entry: Option<u32>, object: &Value) -> Result<Operator, LoadFau
     ensures { result ≡ and_then (required entry (codes "op") as_str (view object.now))
         (λ text. ok_or (operator_named text) (faults.Operator entry)) }
 {
-    let found = member_of(object, "op").ok_or(LoadFault::Missing { entry })?;
-    let name = found.as_str().ok_or(LoadFault::Kind { entry })?;
+    let member = member_of(object, "op").ok_or(LoadFault::Missing { entry })?;
+    let name = member.as_str().ok_or(LoadFault::Kind { entry })?;
     operator_of(name).ok_or(LoadFault::Operator { entry })
 }
 
 fn find_value(entry: Option<u32>, object: &Value) -> Result<u64, LoadFault>
     ensures { result ≡ required entry (codes "value") unsigned_number (view object.now) }
 {
-    let found = member_of(object, "value").ok_or(LoadFault::Missing { entry })?;
-    found.as_u64().ok_or(LoadFault::Kind { entry })
+    let member = member_of(object, "value").ok_or(LoadFault::Missing { entry })?;
+    member.as_u64().ok_or(LoadFault::Kind { entry })
 }
 
 fn find_value_two(entry: Option<u32>, object: &Value) -> Result<u64, LoadFault>
@@ -80,7 +80,7 @@ fn find_value_two(entry: Option<u32>, object: &Value) -> Result<u64, LoadFault>
 {
     match member_of(object, "valueTwo") {
         None => Ok(0),
-        Some(found) => found.as_u64().ok_or(LoadFault::Kind { entry }),
+        Some(member) => member.as_u64().ok_or(LoadFault::Kind { entry }),
     }
 }
 

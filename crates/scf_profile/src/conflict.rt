@@ -28,12 +28,12 @@ fn lesser(least: Option<Clash>, clash: Option<Clash>) -> Option<Clash>
     ensures bound { (c : Clash) → clash ≡ Some c → IsBoundedBy result c }
     ensures keeps { (c : Clash) → IsBoundedBy least c → IsBoundedBy result c }
 {
-    let Some(other) = clash else {
+    let Some(new) = clash else {
         return least;
     };
     match least {
-        Some(known) if known <= other => Some(known),
-        _ => Some(other),
+        Some(old) if old <= new => Some(old),
+        _ => Some(new),
     }
 }
 
@@ -59,15 +59,15 @@ fn least_with(
     architecture: Architecture,
     rules: &[Rule],
     later: &Rule,
-    known: Option<Clash>,
+    clash: Option<Clash>,
 ) -> Option<Clash>
     requires rules { All (IsRule architecture) rules.now }
     requires later { IsRule architecture later.now }
-    ensures one { IfSome result (λ c. (known ≡ Some c) ⊎ Any (λ r. IsClashOf architecture r later.now c) rules.now) }
+    ensures one { IfSome result (λ c. (clash ≡ Some c) ⊎ Any (λ r. IsClashOf architecture r later.now c) rules.now) }
     ensures bounds { All (IsClashBounded architecture result later.now) rules.now }
-    ensures keeps { (c : Clash) → IsBoundedBy known c → IsBoundedBy result c }
+    ensures keeps { (c : Clash) → IsBoundedBy clash c → IsBoundedBy result c }
 {
-    let mut least = known;
+    let mut least = clash;
     for rule in rules {
         least = lesser(least, clash_of(architecture, rule, later));
     }
@@ -75,14 +75,14 @@ fn least_with(
 }
 
 /// The least of a clash and those among rules.
-fn least_among(architecture: Architecture, rules: &[Rule], known: Option<Clash>) -> Option<Clash>
+fn least_among(architecture: Architecture, rules: &[Rule], clash: Option<Clash>) -> Option<Clash>
     requires { All (IsRule architecture) rules.now }
-    ensures one { IfSome result (λ c. (known ≡ Some c)
+    ensures one { IfSome result (λ c. (clash ≡ Some c)
         ⊎ EntriesConflict architecture rules.now c.first c.second c.number) }
     ensures bounds { All (λ later. All (IsClashBounded architecture result later) rules.now) rules.now }
-    ensures keeps { (c : Clash) → IsBoundedBy known c → IsBoundedBy result c }
+    ensures keeps { (c : Clash) → IsBoundedBy clash c → IsBoundedBy result c }
 {
-    let mut least = known;
+    let mut least = clash;
     for later in rules {
         least = least_with(architecture, rules, later, least);
     }
@@ -91,12 +91,12 @@ fn least_among(architecture: Architecture, rules: &[Rule], known: Option<Clash>)
 
 /// The least conflict among rules, each of which is tested with those of its number.
 pub(crate) fn least_conflict(architecture: Architecture, numbers: &[NumberRules]) -> Option<Clash>
-    requires { All (λ own. All (IsRule architecture) own.rules.items) numbers.now }
+    requires { All (λ group. All (IsRule architecture) group.rules.items) numbers.now }
     ensures { (rules : List Rule) → AreNumbersOf numbers.now rules → IsLeastClash architecture rules result }
 {
     let mut least = None;
-    for own in numbers {
-        least = least_among(architecture, &own.rules, least);
+    for group in numbers {
+        least = least_among(architecture, &group.rules, least);
     }
     least
 }

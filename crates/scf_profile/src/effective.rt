@@ -51,7 +51,7 @@ pub(crate) fn effective_rules(
     architecture: Architecture,
     rules: Vec<Rule>,
 ) -> Result<Vec<Rule>, AllocError>
-    ensures { IfOk result (λ own. own.items ≡ effective_by reading architecture rules.items) }
+    ensures { IfOk result (λ list. list.items ≡ effective_by reading architecture rules.items) }
 {
     if !reading.is_runtime() {
         return Ok(rules);

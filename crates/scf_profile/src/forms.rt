@@ -41,7 +41,7 @@ pub(crate) fn check_no_engine_form(
     ensures { result ≡ no_engine_form entry name.now (view object.now) }
 {
     match member_of(object, name) {
-        Some(found) if !is_empty(found) => Err(LoadFault::EngineForm { entry }),
+        Some(member) if !is_empty(member) => Err(LoadFault::EngineForm { entry }),
         _ => Ok(()),
     }
 }
@@ -58,7 +58,7 @@ pub(crate) fn find_items<'v>(
 {
     match member_of(object, name) {
         None => Ok(&[]),
-        Some(found) => Ok(found.as_array().ok_or(LoadFault::Kind { entry })?),
+        Some(member) => Ok(member.as_array().ok_or(LoadFault::Kind { entry })?),
     }
 }
 
@@ -94,8 +94,8 @@ pub(crate) fn find_names<'v>(
     ensures { Gives Memory result (and_then (required entry (codes "names") as_array (view object.now)) (λ items.
         and_then (refused_if (items_len items == 0) (EmptyNames entry)) (λ _. strings_stated entry items))) }
 {
-    let found = member_of(object, "names").ok_or(LoadFault::Missing { entry })?;
-    let names = found.as_array().ok_or(LoadFault::Kind { entry })?;
+    let member = member_of(object, "names").ok_or(LoadFault::Missing { entry })?;
+    let names = member.as_array().ok_or(LoadFault::Kind { entry })?;
     if names.is_empty() {
         return Err(LoadFault::EmptyNames { entry });
     }

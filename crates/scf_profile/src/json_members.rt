@@ -11,7 +11,7 @@ pub(crate) fn member_of<'v>(object: &'v Value, name: &str) -> Option<&'v Value>
     ensures { option_map (λ v. view v.now) result ≡ member name.now (view object.now) }
 {
     match object.get(name) {
-        Some(found) if !found.is_null() => Some(found),
+        Some(value) if !value.is_null() => Some(value),
         _ => None,
     }
 }

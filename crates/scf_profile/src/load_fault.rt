@@ -96,7 +96,7 @@ pub enum LoadFault {
 impl From<AllocError> for LoadFault {
     ghost from_gives = { λ _ e. e ≡ faults.Memory };
 
-    fn from(_refused: AllocError) -> LoadFault {
+    fn from(_: AllocError) -> LoadFault {
         LoadFault::Memory
     }
 }
@@ -104,7 +104,7 @@ impl From<AllocError> for LoadFault {
 impl<T: Drop> From<AllocFailed<T>> for LoadFault {
     ghost from_gives = { λ _ e. e ≡ faults.Memory };
 
-    fn from(_refused: AllocFailed<T>) -> LoadFault {
+    fn from(_: AllocFailed<T>) -> LoadFault {
         LoadFault::Memory
     }
 }
@@ -112,7 +112,7 @@ impl<T: Drop> From<AllocFailed<T>> for LoadFault {
 impl From<Memory> for LoadFault {
     ghost from_gives = { λ _ e. e ≡ faults.Memory };
 
-    fn from(_refused: Memory) -> LoadFault {
+    fn from(_: Memory) -> LoadFault {
         LoadFault::Memory
     }
 }

@@ -44,7 +44,7 @@ impl NumberSet {
         }
     }
 
-    /// Its least value.
+    /// The least value.
     #[tactic(auto, using(crate::proofs::Masks::least_masked))]
     fn least(self, bits: ArgumentBits) -> u64
         requires { IsNumberSet bits self }
@@ -53,12 +53,12 @@ impl NumberSet {
         match self {
             NumberSet::AtMost(_) => 0,
             NumberSet::AtLeast(first) => first,
-            NumberSet::AllBut(other) => u64::from(other == 0),
+            NumberSet::AllBut(excluded) => u64::from(excluded == 0),
             NumberSet::Masked { mask: _, value } => value,
         }
     }
 
-    /// Its greatest value.
+    /// The greatest value.
     fn greatest(self, bits: ArgumentBits) -> u64
         requires { IsNumberSet bits self }
         ensures { IsGreatestOf bits self result }
@@ -67,7 +67,7 @@ impl NumberSet {
         match self {
             NumberSet::AtMost(last) => last.min(greatest),
             NumberSet::AtLeast(_) => greatest,
-            NumberSet::AllBut(other) => greatest - u64::from(other == greatest),
+            NumberSet::AllBut(excluded) => greatest - u64::from(excluded == greatest),
             NumberSet::Masked { mask, value } => value | (greatest & !mask),
         }
     }
@@ -88,12 +88,12 @@ impl NumberSet {
         self.greatest(bits) >= first
     }
 
-    /// Whether it has a value other than `one`.
-    fn has_other_than(self, bits: ArgumentBits, one: u64) -> bool
+    /// Whether it has a value other than `excluded`.
+    fn has_other_than(self, bits: ArgumentBits, excluded: u64) -> bool
         requires { IsNumberSet bits self }
-        ensures { IsTrue result ↔ HaveCommonNumber bits self (AllBut one) }
+        ensures { IsTrue result ↔ HaveCommonNumber bits self (AllBut excluded) }
     {
-        self.least(bits) != one || self.greatest(bits) != one
+        self.least(bits) != excluded || self.greatest(bits) != excluded
     }
 
     /// Whether it has a value `n` with `n & mask == value`.
@@ -106,7 +106,7 @@ impl NumberSet {
         match self {
             NumberSet::AtMost(last) => masked.has_at_most(bits, last),
             NumberSet::AtLeast(first) => masked.has_at_least(bits, first),
-            NumberSet::AllBut(one) => masked.has_other_than(bits, one),
+            NumberSet::AllBut(excluded) => masked.has_other_than(bits, excluded),
             NumberSet::Masked {
                 mask: own_mask,
                 value: own_value,
@@ -123,7 +123,7 @@ impl NumberSet {
         match other {
             NumberSet::AtMost(last) => self.has_at_most(bits, last),
             NumberSet::AtLeast(first) => self.has_at_least(bits, first),
-            NumberSet::AllBut(one) => self.has_other_than(bits, one),
+            NumberSet::AllBut(excluded) => self.has_other_than(bits, excluded),
             NumberSet::Masked { mask, value } => self.has_masked(bits, mask, value),
         }
     }

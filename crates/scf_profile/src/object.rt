@@ -15,7 +15,7 @@ ghost use Rattle.scf_profile.specs.References.{texts_at};
 ghost use Rattle.scf_profile.specs.StatedProfile.{required, optional, strings_of as strings_stated, entry_of};
 ghost use Rattle.scf_profile.specs.StatedProfile.{object as object_stated, seccomp_of, is_named as named};
 ghost use Rattle.scf_profile.specs.StatedProfile.{all_listed as all_are_listed, listed_names, own_architecture as own_stated, tables_of};
-ghost use Rattle.scf_profile.specs.internal.Stated.{with_own};
+ghost use Rattle.scf_profile.specs.internal.Stated.{with_machine};
 ghost use Rattle.scf_profile.specs.Steps.{◌>>=◌ as and_then, refused_if, Gives};
 ghost use Rattle.scf_profile.specs.internal.Results.{result_map};
 
@@ -91,25 +91,29 @@ pub(crate) fn check_architectures(
 }
 
 /// Whether an architecture is this one, or among those of these names.
-fn is_own_or_listed(own: Option<Architecture>, names: &[&str], architecture: Architecture) -> bool
-    ensures { result ≡ list_any (λ name. named name architecture) (with_own own (texts_at names.now)) }
+fn is_machine_or_listed(
+    machine: Option<Architecture>,
+    names: &[&str],
+    architecture: Architecture,
+) -> bool
+    ensures { result ≡ list_any (λ name. named name architecture) (with_machine machine (texts_at names.now)) }
 {
-    match own {
-        Some(own) => is_named(own.name(), architecture) || is_listed(names, architecture),
+    match machine {
+        Some(machine) => is_named(machine.name(), architecture) || is_listed(names, architecture),
         None => is_listed(names, architecture),
     }
 }
 
 /// Refuses the first table whose architecture is neither this one nor among the names.
 fn all_listed(
-    own: Option<Architecture>,
+    machine: Option<Architecture>,
     names: &[&str],
     tables: &[ArchitectureTable],
 ) -> Result<(), LoadFault>
-    ensures { result ≡ all_are_listed 0 (with_own own (texts_at names.now)) (tables_of tables.now) }
+    ensures { result ≡ all_are_listed 0 (with_machine machine (texts_at names.now)) (tables_of tables.now) }
 {
     for (i, table) in tables.iter().enumerate() {
-        if !is_own_or_listed(own, names, table.architecture) {
+        if !is_machine_or_listed(machine, names, table.architecture) {
             return Err(LoadFault::NotListed { table: i });
         }
     }

@@ -205,11 +205,11 @@ fn effective_profile(
     ensures err { IfErr result (NamesLeastConflict stated.architecture
         (effective_by reading stated.architecture stated.rules.items)) }
 {
-    let own = StatedRules {
+    let effective = StatedRules {
         architecture: stated.architecture,
         rules: effective_rules(alloc, reading, stated.architecture, stated.rules)?,
     };
-    without_conflict(alloc, default_answer, own)
+    without_conflict(alloc, default_answer, effective)
 }
 
 /// Loads a profile from JSON text (at most 4194304 bytes); a syscall table gives the names their numbers. An error is
@@ -264,20 +264,20 @@ fn rules_for(
 ) -> Result<Option<StatedRules>, LoadFault>
     requires count { length entries.now ≤ 2 ^ 32 }
     requires range { All IsEntry entries.now }
-    ensures rules { IfOk result (λ found. (default : Answer) → option_map (stated_profile default) found
+    ensures rules { IfOk result (λ rules. (default : Answer) → option_map (stated_profile default) rules
         ≡ profile_for left_out (tables_of tables.now) default entries.now architecture) }
-    ensures range { IfOk result (λ found. IfSome found (λ s. AreStatedRules s.architecture s.rules.items)) }
+    ensures range { IfOk result (λ rules. IfSome rules (λ s. AreStatedRules s.architecture s.rules.items)) }
     ensures err { IfErr result (λ fault. (default : Answer) → TellsOneTooMany
         (filter_map (profile_for left_out (tables_of tables.now) default entries.now) (architecture ∷ [])) fault) }
 {
     let Some(table) = table_for(tables, architecture) else {
         return Ok(None);
     };
-    let own = ArchitectureTable {
+    let named_table = ArchitectureTable {
         architecture,
         table,
     };
-    Ok(Some(stated_rules(alloc, &own, left_out, entries)?))
+    Ok(Some(stated_rules(alloc, &named_table, left_out, entries)?))
 }
 
 /// The rules of entries for each architecture that has a table.
@@ -299,8 +299,8 @@ fn stated_for(
     let mut stated = Vec::new(alloc);
     let architectures = Architecture::all();
     for architecture in &architectures {
-        if let Some(own) = rules_for(alloc, tables, left_out, entries, *architecture)? {
-            stated.push(own)?;
+        if let Some(rules) = rules_for(alloc, tables, left_out, entries, *architecture)? {
+            stated.push(rules)?;
         }
     }
     Ok(stated)
@@ -351,8 +351,8 @@ fn all_without_conflict(
     ensures err { IfErr result (NamesFirstConflict (map (effective_of reading default_answer) stated.items)) }
 {
     let mut profiles = Vec::new(alloc);
-    for own in stated {
-        profiles.push(effective_profile(alloc, reading, default_answer, own)?)?;
+    for rules in stated {
+        profiles.push(effective_profile(alloc, reading, default_answer, rules)?)?;
     }
     Ok(Profiles::from_vec(profiles))
 }

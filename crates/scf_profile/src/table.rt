@@ -54,13 +54,13 @@ impl CallTable {
         ensures memory { result ≡ Err faults.Memory → BeginWithCall (lines text.now) }
     {
         let mut numbers = BTreeMap::new(alloc);
-        let mut rest = text;
+        let mut remaining = text;
         let mut number: usize = 0;
-        while !rest.is_empty() {
-            let (line, after) = first_line(rest);
+        while !remaining.is_empty() {
+            let (line, behind) = first_line(remaining);
             number += 1;
             add_line(&mut numbers, number, line)?;
-            rest = after;
+            remaining = behind;
         }
         Ok(CallTable {
             entries: entries_of(alloc, numbers)?,

@@ -27,7 +27,7 @@ pub enum TableFault {
 impl From<AllocError> for TableFault {
     ghost from_gives = { λ _ e. e ≡ Memory };
 
-    fn from(_refused: AllocError) -> TableFault {
+    fn from(_: AllocError) -> TableFault {
         TableFault::Memory
     }
 }
@@ -35,7 +35,7 @@ impl From<AllocError> for TableFault {
 impl<T: Drop> From<AllocFailed<T>> for TableFault {
     ghost from_gives = { λ _ e. e ≡ Memory };
 
-    fn from(_refused: AllocFailed<T>) -> TableFault {
+    fn from(_: AllocFailed<T>) -> TableFault {
         TableFault::Memory
     }
 }

@@ -50,14 +50,14 @@ fn trimmed(text: &[u8]) -> &[u8]
     ensures shorter { length result.now ≤ length text.now }
     ensures begins { 0 < length result.now → is_separator (slice_index result.now 0) ≡ false }
 {
-    let mut rest = text;
-    while let [first, after @ ..] = rest {
+    let mut remaining = text;
+    while let [first, behind @ ..] = remaining {
         if !is_blank(*first) {
-            return rest;
+            return remaining;
         }
-        rest = after;
+        remaining = behind;
     }
-    rest
+    remaining
 }
 
 /// The first field, empty if there is none, and the text behind it.
@@ -65,13 +65,13 @@ fn first_field(text: &[u8]) -> (&[u8], &[u8])
     ensures { fields text.now
         ≡ (if nat_lt 0 (length result.0.now) then result.0.now ∷ fields result.1.now else []) }
 {
-    let rest = trimmed(text);
-    for (i, byte) in rest.iter().enumerate() {
+    let line = trimmed(text);
+    for (i, byte) in line.iter().enumerate() {
         if is_blank(*byte) {
-            return rest.split_at(i);
+            return line.split_at(i);
         }
     }
-    (rest, &[])
+    (line, &[])
 }
 
 fn is_in_name(byte: u8) -> bool
@@ -110,15 +110,15 @@ fn call_number(digits: &[u8]) -> Option<u32>
 pub(crate) fn entry_on(line: usize, text: &[u8]) -> Result<Option<(&str, u32)>, TableFault>
     ensures value { result_map (option_map (λ e. (e.0.now, e.1))) result
         ≡ entry_in line (fields text.now) }
-    ensures range { IfOk result (λ found. IfSome found (λ e. e.1 < x32_syscall_bit)) }
+    ensures range { IfOk result (λ entry. IfSome entry (λ e. e.1 < x32_syscall_bit)) }
     ensures err { IfErr result (λ e. e ≢ Memory) }
 {
-    let (name, rest) = first_field(text);
+    let (name, behind_name) = first_field(text);
     if name.is_empty() || name[0] == b'#' {
         return Ok(None);
     }
-    let (digits, rest) = first_field(rest);
-    let (third, _) = first_field(rest);
+    let (digits, behind_digits) = first_field(behind_name);
+    let (third, _) = first_field(behind_digits);
     if digits.is_empty() || !third.is_empty() {
         return Err(TableFault::Form { line });
     }

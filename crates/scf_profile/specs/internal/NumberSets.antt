@@ -9,14 +9,14 @@ use Rattle.scf_profile.specs.declared.number_set.NumberSet.TheVariants.{AtMost, 
 abbrev pub is_in : NumberSet → ℕ → Bool
 is_in (AtMost last) n = nat_le n last
 is_in (AtLeast first) n = nat_le first n
-is_in (AllBut one) n = not (n == one)
+is_in (AllBut excluded) n = not (n == excluded)
 is_in (Masked mask value) n = bit_and n mask == value
 
 -- its first number is an argument, and a masked value has no bit outside its mask
 abbrev pub IsNumberSet : ArgumentBits → NumberSet → Type 0
 IsNumberSet bits (AtMost last) = Unit {0}
 IsNumberSet bits (AtLeast first) = first ≤ greatest_argument bits
-IsNumberSet bits (AllBut one) = Unit {0}
+IsNumberSet bits (AllBut excluded) = Unit {0}
 IsNumberSet bits (Masked mask value) = (bit_and value mask ≡ value) × (value ≤ greatest_argument bits)
 
 -- a number is in a set, where there is one

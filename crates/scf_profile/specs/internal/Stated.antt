@@ -15,10 +15,10 @@ use Rattle.scf_profile.specs.Profile.{Profile}
 use Rattle.scf_profile.specs.Readings.{effective_profile}
 use Rattle.scf_profile.specs.StatedProfile.{Head}
 
--- names, and before them that of an architecture, if there is one
-abbrev pub with_own : Option Architecture → List (List ℕ) → List (List ℕ)
-with_own None names = names
-with_own (Some own) names = (row_of own).name ∷ names
+-- names, and before them that of the machine's architecture, if it is given
+abbrev pub with_machine : Option Architecture → List (List ℕ) → List (List ℕ)
+with_machine None names = names
+with_machine (Some machine) names = (row_of machine).name ∷ names
 
 abbrev pub head_stated : HeadRead → Head
 head_stated head = record {

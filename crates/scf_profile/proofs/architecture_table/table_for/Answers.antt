@@ -4,7 +4,7 @@ use Rattle.scf_profile.proofs.architecture_table.table_for.Goals as goal
 
 pub returns-in-Some : goal.returns-in-Some
 returns-in-Some c =
-    table_found c.args.tables.now c.args.architecture (Some c.in-Some.found.now) (rw (← c.name.ensures) c.in-Some.ensures)
+    table_found c.args.tables.now c.args.architecture (Some c.in-Some.first.now) (rw (← c.name.ensures) c.in-Some.ensures)
 
 pub returns-in-None : goal.returns-in-None
 returns-in-None c =

@@ -13,7 +13,7 @@ loop-later-preserved c =
     let keeps = c.least_with-least.ensures.keeps in
     record {
       one =
-          one_more (λ d. (c.args.known ≡ Some d) ⊎ EntriesConflict c.args.architecture rules d.first d.second d.number)
+          one_more (λ d. (c.args.clash ≡ Some d) ⊎ EntriesConflict c.args.architecture rules d.first d.second d.number)
           (λ d. Any (λ r. IsClashOf c.args.architecture r later d) rules) least more
           (λ d (k, r, lt, at, clash).
           inr (k, r, lt, at, (i, later, c.loop-later-test.true, sym c.later-item.is, clash)))

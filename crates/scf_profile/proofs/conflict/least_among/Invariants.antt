@@ -4,7 +4,7 @@ use Rattle.scf_profile.proofs.conflict.least_among.Given as goal
 -- the least so far of the one that was known and the clashes with the later rules so far
 abbrev pub invariant-loop-later : goal.invariant-loop-later
 invariant-loop-later l = record {
-  one : IfSome l.least (λ c. (l.fn.known ≡ Some c) ⊎ EntriesConflict l.architecture l.rules c.first c.second c.number);
+  one : IfSome l.least (λ c. (l.fn.clash ≡ Some c) ⊎ EntriesConflict l.architecture l.rules c.first c.second c.number);
   bounds : All (λ later. All (IsClashBounded l.architecture l.least later) l.rules) (take l.later-index l.rules);
-  keeps : (c : Clash) → IsBoundedBy l.fn.known c → IsBoundedBy l.least c;
+  keeps : (c : Clash) → IsBoundedBy l.fn.clash c → IsBoundedBy l.least c;
 }

@@ -14,7 +14,7 @@ loop-rule-preserved c =
     let Bounded = IsClashBounded c.args.architecture c.lesser-least.result later in
     record {
       one =
-          one_of_two (λ d. (c.args.known ≡ Some d) ⊎ Any (λ r. IsClashOf c.args.architecture r later d) rules)
+          one_of_two (λ d. (c.args.clash ≡ Some d) ⊎ Any (λ r. IsClashOf c.args.architecture r later d) rules)
           (IsClashOf c.args.architecture c.rule-item.result later) c.loop-rule.least c.clash_of.result c.lesser-least.result
           (λ d is. inr (i, c.rule-item.result, c.loop-rule-test.true, sym c.rule-item.is, is))
           c.loop-rule.invariant.one c.clash_of.ensures.some c.lesser-least.ensures.one;

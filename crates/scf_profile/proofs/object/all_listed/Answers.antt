@@ -1,20 +1,20 @@
-use Rattle.scf_profile.proofs.Common.{◌∙◌, sym, texts_at, with_own}
+use Rattle.scf_profile.proofs.Common.{◌∙◌, sym, texts_at, with_machine}
 use Rattle.scf_profile.proofs.Loops.{listed_end, listed_here, unlisted_here}
 use Rattle.scf_profile.proofs.object.all_listed.Goals as goal
 
-pub returns-then-not-is_own_or_listed : goal.returns-then-not-is_own_or_listed
-returns-then-not-is_own_or_listed c =
-    sym (unlisted_here (with_own c.args.own (texts_at c.args.names.now)) c.args.tables.now c.loop-i.i
-    c.index-tables-i.result c.loop-i-test.true (rw (← c.index-tables-i.is) (sym c.is_own_or_listed.ensures ∙ c.if-not-is_own_or_listed.true)))
+pub returns-then-not-is_machine_or_listed : goal.returns-then-not-is_machine_or_listed
+returns-then-not-is_machine_or_listed c =
+    sym (unlisted_here (with_machine c.args.machine (texts_at c.args.names.now)) c.args.tables.now c.loop-i.i
+    c.index-tables-i.result c.loop-i-test.true (rw (← c.index-tables-i.is) (sym c.is_machine_or_listed.ensures ∙ c.if-not-is_machine_or_listed.true)))
     ∙ c.loop-i.invariant
 
 pub loop-i-preserved : goal.loop-i-preserved
 loop-i-preserved c =
-    sym (listed_here (with_own c.args.own (texts_at c.args.names.now)) c.args.tables.now c.loop-i.i
-    c.index-tables-i.result c.loop-i-test.true (rw (← c.index-tables-i.is) (sym c.is_own_or_listed.ensures ∙ c.if-not-is_own_or_listed.false)))
+    sym (listed_here (with_machine c.args.machine (texts_at c.args.names.now)) c.args.tables.now c.loop-i.i
+    c.index-tables-i.result c.loop-i-test.true (rw (← c.index-tables-i.is) (sym c.is_machine_or_listed.ensures ∙ c.if-not-is_machine_or_listed.false)))
     ∙ c.loop-i.invariant
 
 pub returns : goal.returns
 returns c =
-    sym (listed_end (with_own c.args.own (texts_at c.args.names.now)) c.args.tables.now c.loop-i.i c.loop-i-test.false)
+    sym (listed_end (with_machine c.args.machine (texts_at c.args.names.now)) c.args.tables.now c.loop-i.i c.loop-i-test.false)
     ∙ c.loop-i.invariant

@@ -11,35 +11,35 @@ nothing_left (s ∷ rules) none = absurd (omega arith)
 
 pub effective_profile-requires-clause-rules : goal.effective_profile-requires-clause-rules
 effective_profile-requires-clause-rules c =
-    of_own c.args.reading c.args.default_answer c.args.stated.items c.loop-own.yielded c.in-Some.own (into_iter_items c.next.new.self)
-    (rw (← c.in-Some.ensures.steps.0) c.loop-own.invariant.left ∙ c.into_iter-own-iterator.ensures.into_iter_gives.0)
+    of_own c.args.reading c.args.default_answer c.args.stated.items c.loop-rules.yielded c.in-Some.rules (into_iter_items c.next.new.self)
+    (rw (← c.in-Some.ensures.steps.0) c.loop-rules.invariant.left ∙ c.into_iter-rules-iterator.ensures.into_iter_gives.0)
     (λ s. AreStatedRules s.architecture s.rules.items) c.requires.rules
 
 pub returns-in_err-effective_profile-clause-err : goal.returns-in_err-effective_profile-clause-err
 returns-in_err-effective_profile-clause-err c =
     handed_fault (NamesFirstConflict (map (effective_of c.args.reading c.args.default_answer) c.args.stated.items)) _ _
     c.from_residual.ensures.1
-    (first_conflict c.args.reading c.args.default_answer c.args.stated.items c.loop-own.yielded c.in-Some.own
+    (first_conflict c.args.reading c.args.default_answer c.args.stated.items c.loop-rules.yielded c.in-Some.rules
     (into_iter_items c.next.new.self)
-    (rw (← c.in-Some.ensures.steps.0) c.loop-own.invariant.left ∙ c.into_iter-own-iterator.ensures.into_iter_gives.0)
-    c.loop-own.profiles.items _ c.loop-own.invariant.same c.loop-own.invariant.none
+    (rw (← c.in-Some.ensures.steps.0) c.loop-rules.invariant.left ∙ c.into_iter-rules-iterator.ensures.into_iter_gives.0)
+    c.loop-rules.profiles.items _ c.loop-rules.invariant.same c.loop-rules.invariant.none
     c.in_err-effective_profile.ensures.err)
 
-pub loop-own-preserved : goal.loop-own-preserved
-loop-own-preserved c =
-    let at = c.loop-own in
-    let own = c.in-Some.own in
-    let steps : into_iter_items at.own-iterator ≡ own ∷ into_iter_items c.next.new.self = c.in-Some.ensures.steps.0 in
+pub loop-rules-preserved : goal.loop-rules-preserved
+loop-rules-preserved c =
+    let at = c.loop-rules in
+    let rules = c.in-Some.rules in
+    let steps : into_iter_items at.rules-iterator ≡ rules ∷ into_iter_items c.next.new.self = c.in-Some.ensures.steps.0 in
     let profile = c.in_ok-effective_profile.ensures.ok in
     record {
-      left = append_assoc at.yielded (own ∷ []) _ ∙ rw (← steps) at.invariant.left;
+      left = append_assoc at.yielded (rules ∷ []) _ ∙ rw (← steps) at.invariant.left;
       count =
           let was = at.invariant.count in
           let gone = c.in-Some.ensures.steps.1 in
           let short = ap length steps in
           omega arith;
       same =
-          c.in_ok-push.ensures.items ∙ rw (map-append (effective_of c.args.reading c.args.default_answer) at.yielded (own ∷ []))
+          c.in_ok-push.ensures.items ∙ rw (map-append (effective_of c.args.reading c.args.default_answer) at.yielded (rules ∷ []))
           (rw (at.invariant.same, profile) refl);
       none = rw c.in_ok-push.ensures.items
           (All-push (λ (p : Profile). HaveNoConflict p.architecture p.rules) at.profiles.items _ at.invariant.none
@@ -48,12 +48,12 @@ loop-own-preserved c =
 
 pub from_vec-requires : goal.from_vec-requires
 from_vec-requires c =
-    let at = c.loop-own in
-    let empty : into_iter_items at.own-iterator ≡ [] =
+    let at = c.loop-rules in
+    let empty : into_iter_items at.rules-iterator ≡ [] =
     nothing_left _ (sym at.invariant.count ∙ c.in-None.ensures.steps.0) in
     let whole = sym (append-nil at.yielded) ∙ rw empty at at.invariant.left
-    ∙ c.into_iter-own-iterator.ensures.into_iter_gives.0 in
+    ∙ c.into_iter-rules-iterator.ensures.into_iter_gives.0 in
     subst AreOfApart (sym (at.invariant.same ∙ ap (map (effective_of c.args.reading c.args.default_answer)) whole)) c.requires.apart
 
 pub returns-clause-no_conflict : goal.returns-clause-no_conflict
-returns-clause-no_conflict c = rw c.from_vec.ensures c.loop-own.invariant.none
+returns-clause-no_conflict c = rw c.from_vec.ensures c.loop-rules.invariant.none

@@ -1,8 +1,8 @@
 use Rattle.scf_profile.proofs.Common.{◌≡◌, ◌≤◌, length, fields}
 use Rattle.scf_profile.proofs.table_line.trimmed.Given as goal
 
-abbrev pub invariant-loop-rest : goal.invariant-loop-rest
-invariant-loop-rest l = record { same : fields l.rest ≡ fields l.text; shorter : length l.rest ≤ length l.text }
+abbrev pub invariant-loop-remaining : goal.invariant-loop-remaining
+invariant-loop-remaining l = record { same : fields l.remaining ≡ fields l.text; shorter : length l.remaining ≤ length l.text }
 
-abbrev pub decreases-loop-rest : goal.decreases-loop-rest
-decreases-loop-rest l = length l.rest
+abbrev pub decreases-loop-remaining : goal.decreases-loop-remaining
+decreases-loop-remaining l = length l.remaining

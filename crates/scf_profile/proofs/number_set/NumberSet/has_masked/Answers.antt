@@ -8,8 +8,8 @@ returns-in-Masked c =
     let m = c.in-Masked.own_mask in
     let v = c.in-Masked.own_value in
     let set = rw c.in-Masked.is at c.requires.own in
-    let other = c.requires.masked in
+    let masked = c.requires.masked in
     rw c.in-Masked.is (
-      λ h. two_masks bits m v c.args.mask c.args.value set.1 other.1 set.0 other.0 (eqb-true _ _ h),
+      λ h. two_masks bits m v c.args.mask c.args.value set.1 masked.1 set.0 masked.0 (eqb-true _ _ h),
       λ s. eq-eqb _ _ (two_masks_agree bits m v c.args.mask c.args.value s),
     )

@@ -9,12 +9,12 @@ loop-profile-preserved c =
     All-more (λ (p : Profile). IsOf p.architecture call → ⊥) profiles c.loop-profile.profile-index c.profile-item.result
     c.loop-profile-test.true c.loop-profile.invariant
     (subst (λ (p : Profile). IsOf p.architecture call → ⊥) c.profile-item.is
-    (λ own. both_ways _ c.if-has.false (has.1 own)))
+    (λ of_profile. both_ways _ c.if-has.false (has.1 of_profile)))
 
 pub returns-clause-none : goal.returns-clause-none
-returns-clause-none c = λ p has own.
+returns-clause-none c = λ p has of_profile.
     let profiles = c.as_slice-profiles.result.now in
     let none = λ (p : Profile). IsOf p.architecture c.args.call.now → ⊥ in
     All-contains none profiles p
     (All-same none profiles _ (sym (take_all _ _ c.loop-profile-test.false)) c.loop-profile.invariant)
-    (rw c.as_slice-profiles.ensures.profiles has) own
+    (rw c.as_slice-profiles.ensures.profiles has) of_profile

@@ -31,8 +31,8 @@ has_call line old new text read some = by_entry (entry_in line (fields text)) re
   by_entry (Ok (Some (name, number))) is ok =
       inr (record { line = line; name = name; number = number; states = is })
 
-pub loop-rest-init : goal.loop-rest-init
-loop-rest-init c = record {
+pub loop-remaining-init : goal.loop-remaining-init
+loop-remaining-init c = record {
   so_far = rw c.new-numbers.ensures.empty refl;
   counted = omega arith;
   range = rw c.new-numbers.ensures.empty call_numbers_empty;
@@ -40,18 +40,18 @@ loop-rest-init c = record {
   some = λ some. let none = rw c.new-numbers.ensures.empty at some in absurd (omega (arith, none));
 }
 
-pub loop-rest-preserved : goal.loop-rest-preserved
+pub loop-remaining-preserved : goal.loop-remaining-preserved
 unfolding with_lines
-loop-rest-preserved c =
-    let so_far = rw c.first_line.ensures.lines at c.loop-rest.invariant.so_far in
-    let begins = rw c.first_line.ensures.lines at c.loop-rest.invariant.begins in
+loop-remaining-preserved c =
+    let so_far = rw c.first_line.ensures.lines at c.loop-remaining.invariant.so_far in
+    let begins = rw c.first_line.ensures.lines at c.loop-remaining.invariant.begins in
     record {
       so_far = rw c.in_ok-add_line.ensures.ok at so_far;
       counted = omega arith;
-      range = c.in_ok-add_line.ensures.range c.loop-rest.invariant.range;
+      range = c.in_ok-add_line.ensures.range c.loop-remaining.invariant.range;
       begins = λ behind. begins (begins_before _ _ _ _ _ c.in_ok-add_line.ensures.ok behind);
-      some = λ some. elim (has_call _ c.loop-rest.numbers.entries _ _ c.in_ok-add_line.ensures.ok some) [
-        | inl before ↦ c.loop-rest.invariant.some before
+      some = λ some. elim (has_call _ c.loop-remaining.numbers.entries _ _ c.in_ok-add_line.ensures.ok some) [
+        | inl before ↦ c.loop-remaining.invariant.some before
         | inr call ↦ begins (inl call)
       ];
     }
