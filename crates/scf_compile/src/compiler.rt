@@ -17,10 +17,11 @@ use crate::dispatch::{Search, put_dispatch, put_only_gate};
 use crate::fault::CompileFault;
 use crate::insns::load_word;
 use crate::placing::Position;
-use crate::ranges::{NrRange, NrWeight, cut, equal_weights, fill, range_weights, ranges_of};
+use crate::ranges::{NrRange, cut, fill, ranges_of};
 use crate::rules::constant_rule;
 use crate::search::put_search;
 use crate::size::number_count;
+use crate::weights::{CallCount, range_weights};
 use scf_insn::kernel::BPF_MAXINSNS;
 use scf_insn::{Insn, Memory};
 use scf_machine::{CheckFault, Program, check};
@@ -73,20 +74,20 @@ fn own_ranges<'a>(
     Ok(ranges)
 }
 
-/// Puts the binary search over ranges of a profile's rules, cut by weights of syscall numbers, in front of the code.
+/// Puts the binary search over ranges of a profile's rules, cut by the counts of calls, in front of the code.
 fn put_ranges(
     alloc: Global,
     code: &mut VecDeque<Insn>,
     profile: &Profile,
     ranges: &[NrRange],
-    weights: &[NrWeight],
+    counts: &[CallCount],
 ) -> Result<Position, Memory>
     requires ranges { MayBePut profile.now ranges.now }
     requires few { length code.now.items ≤ 2 ^ 31 }
     ensures { IfOk result (IsSearchPut profile.now.architecture profile.now.default_answer (most_ranges profile.now)
         ranges.now code.old.items code.new.items) }
 {
-    let weights = range_weights(alloc, ranges, weights)?;
+    let weights = range_weights(alloc, profile, ranges, counts)?;
     // Two for each number with rules, its own and the gap in front of it, as many for the stub, and two behind them.
     let most = 2 * number_count(profile) + 2;
     let earlier = Position(code.len());
@@ -110,6 +111,7 @@ fn put_profile(
     code: &mut VecDeque<Insn>,
     searches: &mut VecDeque<Search>,
     profile: &Profile,
+    counts: &[CallCount],
 ) -> Result<(), Memory>
     requires { length code.now.items < 2 ^ 31 }
     ensures put { OnOk result ((ps : List Profile) → AreSearched ps code.old.items searches.old.items
@@ -118,8 +120,7 @@ fn put_profile(
 {
     let stub = constant_rule(alloc, profile.architecture(), STUB_ANSWER);
     let ranges = own_ranges(alloc, profile, std::slice::from_ref(&stub))?;
-    let weights = equal_weights(alloc, profile.numbers())?;
-    let index = put_ranges(alloc, code, profile, &ranges, &weights)?;
+    let index = put_ranges(alloc, code, profile, &ranges, counts)?;
     searches.push_front(Search {
         architecture: profile.architecture(),
         index,
@@ -128,7 +129,11 @@ fn put_profile(
 }
 
 /// The binary searches for the rules of profiles, and where each begins.
-fn searches_of(alloc: Global, profiles: &[Profile]) -> Result<(VecDeque<Insn>, Vec<Search>), Memory>
+fn searches_of(
+    alloc: Global,
+    profiles: &[Profile],
+    counts: &[CallCount],
+) -> Result<(VecDeque<Insn>, Vec<Search>), Memory>
     requires { length profiles.now ≤ bpf_maxinsns }
     ensures put { IfOk result (λ found. AreSearched profiles.now found.0.items found.1.items) }
     ensures small { IfOk result (λ found. length found.0.items ≤ 2 ^ 18 * length profiles.now) }
@@ -136,7 +141,7 @@ fn searches_of(alloc: Global, profiles: &[Profile]) -> Result<(VecDeque<Insn>, V
     let mut code = VecDeque::new(alloc);
     let mut searches = VecDeque::new(alloc);
     for i in (0..profiles.len()).rev() {
-        put_profile(alloc, &mut code, &mut searches, &profiles[i])?;
+        put_profile(alloc, &mut code, &mut searches, &profiles[i], counts)?;
     }
     Ok((code, Vec::from(searches)))
 }
@@ -167,7 +172,7 @@ fn all_ranges<'a>(
 fn filter_of_one(
     alloc: Global,
     profile: &Profile,
-    weights: &[NrWeight],
+    counts: &[CallCount],
 ) -> Result<Vec<Insn>, Memory>
     requires { (row_of profile.now.architecture).first ≡ 0 }
     ensures { IfOk result (λ code. IsFilterOf (profile.now ∷ []) code.items) }
@@ -182,39 +187,47 @@ fn filter_of_one(
         std::slice::from_ref(&foreign),
     )?;
     let mut code = VecDeque::new(alloc);
-    put_ranges(alloc, &mut code, profile, &ranges, weights)?;
+    put_ranges(alloc, &mut code, profile, &ranges, counts)?;
     put_only_gate(&mut code, architecture.audit())?;
     Ok(Vec::from(code))
 }
 
 /// The instructions of the filter of profiles: a search for each, and what leads a record to its search.
-fn filter_of_several(alloc: Global, profiles: &[Profile]) -> Result<Vec<Insn>, Memory>
+fn filter_of_several(
+    alloc: Global,
+    profiles: &[Profile],
+    counts: &[CallCount],
+) -> Result<Vec<Insn>, Memory>
     requires few { length profiles.now ≤ bpf_maxinsns }
     requires apart { AreOfApart profiles.now }
     ensures { IfOk result (λ code. IsFilterOf profiles.now code.items) }
 {
-    let (mut code, searches) = searches_of(alloc, profiles)?;
+    let (mut code, searches) = searches_of(alloc, profiles, counts)?;
     put_dispatch(alloc, &mut code, &searches)?;
     code.push_front(load_word(1))?;
     Ok(Vec::from(code))
 }
 
 /// The instructions of the filter of profiles, however many there are.
-fn filter_of(alloc: Global, profiles: &[Profile]) -> Result<Vec<Insn>, Memory>
+fn filter_of(alloc: Global, profiles: &[Profile], counts: &[CallCount]) -> Result<Vec<Insn>, Memory>
     requires few { length profiles.now ≤ bpf_maxinsns }
     requires apart { AreOfApart profiles.now }
     ensures { IfOk result (λ code. IsFilterOf profiles.now code.items) }
 {
     if profiles.len() == 1 && profiles[0].architecture().first() == 0 {
-        let weights = equal_weights(alloc, profiles[0].numbers())?;
-        return filter_of_one(alloc, &profiles[0], &weights);
+        return filter_of_one(alloc, &profiles[0], counts);
     }
-    filter_of_several(alloc, profiles)
+    filter_of_several(alloc, profiles, counts)
 }
 
-/// The filter of profiles, of which no two are for one record.
+/// Compiles profiles, of which no two are for one record, as `compile_profiles` does. The more often a syscall is called
+/// beside others, the fewer steps its runs take, within the same bounds.
 #[tactic(auto, using(crate::proofs::Valid::answers_same, crate::proofs::Valid::is_plain))]
-fn program_of(alloc: Global, profiles: &[Profile]) -> Result<Program, CompileFault>
+pub fn compile_by_counts(
+    alloc: Global,
+    profiles: &[Profile],
+    counts: &[CallCount],
+) -> Result<Program, CompileFault>
     requires { AreOfApart profiles.now }
     ensures same { IfOk result (λ program. SameAnswersAsEach (RunAnswers program) profiles.now) }
     ensures searched { IfOk result (λ program. AnswersWithin program (search_bound_of_each profiles.now)) }
@@ -227,7 +240,7 @@ fn program_of(alloc: Global, profiles: &[Profile]) -> Result<Program, CompileFau
     if profiles.len() > BPF_MAXINSNS {
         return Err(CompileFault::TooLarge);
     }
-    let code = filter_of(alloc, profiles)?;
+    let code = filter_of(alloc, profiles, counts)?;
     if code.as_slice().len() > BPF_MAXINSNS {
         return Err(CompileFault::TooLarge);
     }
@@ -252,7 +265,7 @@ pub fn compile(alloc: Global, profile: &Profile) -> Result<Program, CompileFault
     ensures sized { IfOk result (λ program. length program ≤ size_bound_of profile.now) }
     ensures large { IfErr result (λ fault. fault ≡ CompileFault.TooLarge → bpf_maxinsns < size_bound_of profile.now) }
 {
-    program_of(alloc, std::slice::from_ref(profile))
+    compile_by_counts(alloc, std::slice::from_ref(profile), &[])
 }
 
 /// Compiles the profiles of several architectures to a filter that answers every call record as the profile of its
@@ -269,5 +282,5 @@ pub fn compile_profiles(alloc: Global, profiles: &Profiles) -> Result<Program, C
     ensures large { IfErr result
         (λ fault. fault ≡ CompileFault.TooLarge → bpf_maxinsns < size_bound_of_each profiles.now) }
 {
-    program_of(alloc, profiles.as_slice())
+    compile_by_counts(alloc, profiles.as_slice(), &[])
 }

@@ -12,7 +12,9 @@ mod rules;
 mod search;
 mod size;
 mod values;
+mod weights;
 
-pub use compiler::{compile, compile_profiles};
+pub use compiler::{compile, compile_by_counts, compile_profiles};
 pub use fault::CompileFault;
 pub use size::{size_bound, size_bound_of_profiles};
+pub use weights::CallCount;

@@ -18,13 +18,6 @@ pub(crate) struct NrRange<'a> {
     pub(crate) rules: &'a [Rule],
 }
 
-/// How often a syscall number is called, beside others.
-#[derive(Clone, Copy)]
-pub(crate) struct NrWeight {
-    pub(crate) nr: u32,
-    pub(crate) weight: u64,
-}
-
 /// Whether two lists of rules answer alike, whatever their syscall numbers: equal conditions and answers, in order.
 fn are_alike(rules: &[Rule], others: &[Rule]) -> bool
     ensures { IsTrue result → (default : Answer) → StandsFor default rules.now others.now }
@@ -111,36 +104,4 @@ pub(crate) fn cut(ranges: &mut Vec<NrRange>, start: u64)
     ensures { ranges.new.items ≡ ranges_below start ranges.old.items }
 {
     ranges.retain(|range| u64::from(range.first) < start);
-}
-
-/// A weight of 1 for each number that has rules.
-pub(crate) fn equal_weights(
-    alloc: Global,
-    numbers: &[NumberRules],
-) -> Result<Vec<NrWeight>, AllocError> {
-    numbers
-        .iter()
-        .map(|own| NrWeight {
-            nr: own.number,
-            weight: 1,
-        })
-        .collect(alloc)
-}
-
-/// For each of the ranges, in rising order, the sum of the weights of its numbers, or `u64::MAX` if that is less.
-pub(crate) fn range_weights(
-    alloc: Global,
-    ranges: &[NrRange],
-    weights: &[NrWeight],
-) -> Result<Vec<u64>, AllocError>
-    ensures { IfOk result (λ sums. length sums.items ≡ length ranges.now) }
-{
-    let mut sums = vec![in alloc; 0u64; ranges.len()]?;
-    for number in weights {
-        let begun = ranges.partition_point(|range| range.first <= number.nr);
-        if begun > 0 {
-            sums[begun - 1] = sums[begun - 1].saturating_add(number.weight);
-        }
-    }
-    Ok(sums)
 }

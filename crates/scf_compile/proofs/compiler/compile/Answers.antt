@@ -6,22 +6,22 @@ use Rattle.scf_compile.proofs.compiler.compile.Goals as goal
 pub returns-clause-same : goal.returns-clause-same
 returns-clause-same c =
     let p = c.args.profile.now in
-    IfOk-weaker c.program_of.result (λ program. SameAnswersAsEach (RunAnswers program) (p ∷ []))
+    IfOk-weaker c.compile_by_counts.result (λ program. SameAnswersAsEach (RunAnswers program) (p ∷ []))
     (λ program. SameAnswers (RunAnswers program) p) (λ program same. one_same p (RunAnswers program) same)
-    (rw c.from_ref.ensures.value at c.program_of.ensures.same)
+    (rw c.from_ref.ensures.value at c.compile_by_counts.ensures.same)
 
 pub returns-clause-searched : goal.returns-clause-searched
 returns-clause-searched c =
     let p = c.args.profile.now in
-    rw one_search_bound at (rw c.from_ref.ensures.value at c.program_of.ensures.searched)
+    rw one_search_bound at (rw c.from_ref.ensures.value at c.compile_by_counts.ensures.searched)
 
 pub returns-clause-plain : goal.returns-clause-plain
 returns-clause-plain c = λ plain.
-    (rw c.from_ref.ensures.value at c.program_of.ensures.plain) (one_plain c.args.profile.now plain)
+    (rw c.from_ref.ensures.value at c.compile_by_counts.ensures.plain) (one_plain c.args.profile.now plain)
 
 pub returns-clause-sized : goal.returns-clause-sized
 returns-clause-sized c =
     let p = c.args.profile.now in
-    IfOk-weaker c.program_of.result (λ program. length program ≤ max 2 (size_bound_of_each (p ∷ [])))
+    IfOk-weaker c.compile_by_counts.result (λ program. length program ≤ max 2 (size_bound_of_each (p ∷ [])))
     (λ program. length program ≤ size_bound_of p) (one_sized p)
-    (rw c.from_ref.ensures.value at c.program_of.ensures.sized)
+    (rw c.from_ref.ensures.value at c.compile_by_counts.ensures.sized)

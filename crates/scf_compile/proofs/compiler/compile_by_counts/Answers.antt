@@ -1,7 +1,7 @@
 use Rattle.scf_compile.proofs.Common.{arith, ap, ◌≤◌, List, length, Insn, bpf_maxinsns}
 use Rattle.scf_compile.proofs.Sizes.{at_least_each}
 use Rattle.scf_compile.proofs.Valid.{answers_within, is_plain, keeps_scratch_rule, sound_is_valid}
-use Rattle.scf_compile.proofs.compiler.program_of.Goals as goal
+use Rattle.scf_compile.proofs.compiler.compile_by_counts.Goals as goal
 
 pub returns-then-profiles-gt-BPF_MAXINSNS-clause-large : goal.returns-then-profiles-gt-BPF_MAXINSNS-clause-large
 returns-then-profiles-gt-BPF_MAXINSNS-clause-large c = λ _. omega (arith, at_least_each c.args.profiles.now)
