@@ -58,7 +58,7 @@ searches_stay before after longer stays (p ∷ ps) (s ∷ ss) each =
         architecture = first.architecture;
         some = first.some;
         stands = omega (arith, first.stands);
-        ends = λ call fits own. rw (stays s.index first.stands) (first.ends call fits own);
+        ends = λ call fits is_of. rw (stays s.index first.stands) (first.ends call fits is_of);
       },
       searches_stay before after longer stays ps ss each.1,
     )
@@ -88,15 +88,15 @@ module _ (p : Profile) (valid : IsProfile p) (s : Rule) (rule : IsRule p.archite
   pub search_of_profile : {before code : List Insn} {index : Position}
       → IsSearchPut p.architecture p.default_answer (most_ranges p) ss before code index
       → IsSearchOf p code (record { architecture = p.architecture; index = index })
-  search_of_profile found = record {
+  search_of_profile search_put = record {
     architecture = refl;
-    some = found.put.some;
-    stands = found.put.near.stands;
-    ends = λ call fits own.
+    some = search_put.put.some;
+    stands = search_put.put.near.stands;
+    ends = λ call fits is_of.
         let few = below_digits count in
-        more (rw (own_first p s always call answers) at (found.ends call (own_wanted p s) (row_of p.architecture).first
-        ((row_of p.architecture).last + 1) (suc (binary_digits count)) fits (own_served p s always laid) own.first
-        (omega (arith, own.last)) (omega (arith, few)))) (omega (arith, own_steps p s always call.nr));
+        more (rw (own_first p s always call answers) at (search_put.ends call (own_wanted p s) (row_of p.architecture).first
+        ((row_of p.architecture).last + 1) (suc (binary_digits count)) fits (own_served p s always laid) is_of.first
+        (omega (arith, is_of.last)) (omega (arith, few)))) (omega (arith, own_steps p s always call.nr));
   }
 
   -- It is put before those of other profiles.
@@ -104,17 +104,17 @@ module _ (p : Profile) (valid : IsProfile p) (s : Rule) (rule : IsRule p.archite
       → AreSearched others before searches
       → IsSearchPut p.architecture p.default_answer (most_ranges p) ss before code index
       → AreSearched (p ∷ others) code (record { architecture = p.architecture; index = index } ∷ searches)
-  searched_more {others} {searches} before found = record {
-    each = (search_of_profile found, searches_stay _ _ found.put.longer found.put.stays others searches before.each);
+  searched_more {others} {searches} before search_put = record {
+    each = (search_of_profile search_put, searches_stay _ _ search_put.put.longer search_put.put.stays others searches before.each);
     small = omega (
       arith,
-      found.small,
+      search_put.small,
       own_bounded p s always laid,
       before.small,
       sum_by-cons size_bound_of p others,
     );
     sound = λ asked is.
-        found.put.sound asked
+        search_put.put.sound asked
         (λ e. own_rules p s always laid IsPlainRule (All-head IsPlainProfile p others (is e)) plain)
         (before.sound asked (λ e. All-tail IsPlainProfile p others (is e)));
   } where

@@ -10,20 +10,20 @@ first_met : (a : Architecture) (default : Answer) (call : CallRecord) (rs : List
     ≡ option_map_or (λ (r : Rule). r.answer.0) (find (λ r. meets a r call) rs) default.0
 first_met a default call [] = refl
 first_met a default call (x ∷ xs) =
-    let rest = first_met a default call xs in
+    let later = first_met a default call xs in
     elim (cases_eq x.number call.nr) [
-      | inr other ↦ rw (ne_eqb x.number call.nr other, ne_eqb call.nr x.number (λ e. other (sym e))) rest
+      | inr differs ↦ rw (ne_eqb x.number call.nr differs, ne_eqb call.nr x.number (λ e. differs (sym e))) later
       | inl same ↦ rw (eq-eqb x.number call.nr same, eq-eqb call.nr x.number (sym same))
-          (elim (cases_Bool (all_hold a call x.conditions)) [ inl met ↦ rw met refl | inr unmet ↦ rw unmet rest ])
+          (elim (cases_Bool (all_hold a call x.conditions)) [ inl met ↦ rw met refl | inr unmet ↦ rw unmet later ])
     ]
 
 -- what a profile answers to a call of its architecture
 pub own_answered : (p : Profile) (call : CallRecord) → IsOf p.architecture call
     → ProfileAnswers p call (own_answer p call)
-own_answered p call own = elim (cases_Bool (is_stubbed p.stub call.nr)) [
-  | inl stubbed ↦ rw stubbed (by_stub own stubbed)
+own_answered p call is_of = elim (cases_Bool (is_stubbed p.stub call.nr)) [
+  | inl stubbed ↦ rw stubbed (by_stub is_of stubbed)
   | inr unstubbed ↦ rw (unstubbed, first_met p.architecture p.default_answer call p.rules)
-      (profile_answers p call own unstubbed _ refl)
+      (profile_answers p call is_of unstubbed _ refl)
 ]
 
 -- ---- the searches of profiles
@@ -34,40 +34,40 @@ all_stand code [] [] each = (tt, refl)
 all_stand code [] (s ∷ ss) each = absurd each
 all_stand code (p ∷ ps) [] each = absurd each
 all_stand code (p ∷ ps) (s ∷ ss) each =
-    let rest = all_stand code ps ss each.1 in
-    (((each.0.some, each.0.stands), rest.0), omega (arith, rest.1))
+    let later = all_stand code ps ss each.1 in
+    (((each.0.some, each.0.stands), later.0), omega (arith, later.1))
 
 module _ (call : CallRecord) (fits : IsRecord call) (code : List Insn) (most : ℕ) (some : 0 < most) where
   -- a call of one profile is of none that is apart from it
   none_apart : (p : Profile) → IsOf p.architecture call → (ps : List Profile) (ss : List Search)
       → AreSearchesOf code ps ss → All (λ q. AreApart p.architecture q.architecture) ps
       → AllByRecursion (λ s. IsOf s.architecture call → ⊥) ss
-  none_apart p own [] [] each apart = tt
-  none_apart p own [] (s ∷ ss) each apart = absurd each
-  none_apart p own (q ∷ qs) [] each apart = absurd each
-  none_apart p own (q ∷ qs) (s ∷ ss) each apart = (
+  none_apart p is_of [] [] each apart = tt
+  none_apart p is_of [] (s ∷ ss) each apart = absurd each
+  none_apart p is_of (q ∷ qs) [] each apart = absurd each
+  none_apart p is_of (q ∷ qs) (s ∷ ss) each apart = (
     λ its.
         let theirs = subst (λ (a : Architecture). IsOf a call) each.0.architecture its in
-        let after = apart 0 q (omega arith) (sym own.arch ∙ theirs.arch) in
-        let last = own.last in
+        let after = apart 0 q (omega arith) (sym is_of.arch ∙ theirs.arch) in
+        let last = is_of.last in
         let first = theirs.first in omega arith,
-    none_apart p own qs ss each.1 (All-tail (λ q. AreApart p.architecture q.architecture) q qs apart),
+    none_apart p is_of qs ss each.1 (All-tail (λ q. AreApart p.architecture q.architecture) q qs apart),
   )
 
   absent : (P : Search → Type 0) (ss : List Search) → AllByRecursion (λ s. IsOf s.architecture call → ⊥) ss
       → AllByRecursion (λ s. IsOf s.architecture call → P s) ss
   absent P [] none = tt
-  absent P (s ∷ ss) none = (λ own. absurd (none.0 own), absent P ss none.1)
+  absent P (s ∷ ss) none = (λ is_of. absurd (none.0 is_of), absent P ss none.1)
 
   -- what no other profile answers
   further : (p : Profile) (ps : List Profile) (answer : ℕ) → (IsOf p.architecture call → ⊥)
       → ProfilesAnswer ps call answer → ProfilesAnswer (p ∷ ps) call answer
-  further p ps _ other (by_profile q has own answer is) =
-      by_profile q (suc has.0, omega (arith, has.1), has.2) own answer is
-  further p ps _ other (by_none none) = by_none (λ q has. of_none q has) where
+  further p ps _ differs (by_profile q has is_of answer is) =
+      by_profile q (suc has.0, omega (arith, has.1), has.2) is_of answer is
+  further p ps _ differs (by_none none) = by_none (λ q has. of_none q has) where
     of_none : (q : Profile) → Contains (p ∷ ps) q → IsOf q.architecture call → ⊥
-    of_none q (zero, lt, e) own = other (subst (λ (r : Profile). IsOf r.architecture call) (sym e) own)
-    of_none q (suc k, lt, e) own = none q (k, omega arith, e) own
+    of_none q (zero, lt, e) is_of = differs (subst (λ (r : Profile). IsOf r.architecture call) (sym e) is_of)
+    of_none q (suc k, lt, e) is_of = none q (k, omega arith, e) is_of
 
   -- Of profiles that are apart one answers the call, and it is the one whose search does, or none is there.
   pub answer_found : (ps : List Profile) (ss : List Search) → AreSearchesOf code ps ss → AreOfApart ps
@@ -76,7 +76,7 @@ module _ (call : CallRecord) (fits : IsRecord call) (code : List Insn) (most : �
   answer_found [] [] each apart few = (
     _,
     record { each = tt; none = λ all. refl; some = some },
-    by_none (λ q has own. absurd (let lt : has.0 < 0 = has.1 in omega arith)),
+    by_none (λ q has is_of. absurd (let lt : has.0 < 0 = has.1 in omega arith)),
   )
   answer_found [] (s ∷ ss) each apart few = absurd each
   answer_found (p ∷ ps) [] each apart few = absurd each
@@ -84,30 +84,30 @@ module _ (call : CallRecord) (fits : IsRecord call) (code : List Insn) (most : �
       let first = each.0 in
       let same = first.architecture in
       elim (own_or_foreign p.architecture call) [
-        | inl own ↦
-            let later = none_apart p own ps ss each.1 (λ k d lt. apart 0 (suc k) d (omega arith) (omega arith)) in (
+        | inl is_of ↦
+            let later = none_apart p is_of ps ss each.1 (λ k d lt. apart 0 (suc k) d (omega arith) (omega arith)) in (
               own_answer p call,
               record {
-                each = (λ its. more (first.ends call fits own) few.0, absent _ ss later);
-                none = λ all. absurd (all.0 (subst (λ (a : Architecture). IsOf a call) (sym same) own));
+                each = (λ its. more (first.ends call fits is_of) few.0, absent _ ss later);
+                none = λ all. absurd (all.0 (subst (λ (a : Architecture). IsOf a call) (sym same) is_of));
                 some = some;
               },
-              by_profile p (0, omega arith, refl) own _ (own_answered p call own),
+              by_profile p (0, omega arith, refl) is_of _ (own_answered p call is_of),
             )
-        | inr other ↦
-            let found = answer_found ps ss each.1
+        | inr differs ↦
+            let later_answer = answer_found ps ss each.1
             (λ i j d lt within. apart (suc i) (suc j) d (omega arith) (omega arith)) few.1 in
-            let is = found.1 in (
-              found.0,
+            let is = later_answer.1 in (
+              later_answer.0,
               record {
                 each = (
-                  λ its. absurd (other (subst (λ (a : Architecture). IsOf a call) same its)),
+                  λ its. absurd (differs (subst (λ (a : Architecture). IsOf a call) same its)),
                   is.each,
                 );
                 none = λ all. is.none all.1;
                 some = some;
               },
-              further p ps found.0 other found.2,
+              further p ps later_answer.0 differs later_answer.2,
             )
       ]
 
@@ -123,26 +123,26 @@ size_of_none (p ∷ ps) none = absurd (omega arith)
 -- ---- the filter
 
 module _ {ps : List Profile} {ss : List Search} {searched dispatched code : List Insn} {index : Position}
-    (apart : AreOfApart ps) (found : AreSearched ps searched ss) (put : IsDispatchPut ss searched dispatched index)
+    (apart : AreOfApart ps) (are_searched : AreSearched ps searched ss) (put : IsDispatchPut ss searched dispatched index)
     (whole : code ≡ load_word 1 ∷ dispatched) where
   -- The code is the profiles' filter.
   pub filter_put : IsFilterOf ps code
   filter_put =
       let len : length code ≡ suc (length dispatched) = ap (λ (l : List Insn). length l) whole in
-      let count = (all_stand searched ps ss found.each).1 in
+      let count = (all_stand searched ps ss are_searched.each).1 in
       let stands = put.put.near.stands in
       record {
         some = omega arith;
         sized = elim (cases_eq (length ps) 0) [
-          | inl none ↦ omega (arith, size_of_none ps none, found.small, put.small)
-          | inr some ↦ omega (arith, found.small, put.small)
+          | inl none ↦ omega (arith, size_of_none ps none, are_searched.small, put.small)
+          | inr some ↦ omega (arith, are_searched.small, put.small)
         ];
         sound = λ asked is.
-            let rest = put.put.sound asked (λ _. tt) (found.sound asked is) in
-            rw whole (load_sound 1 (omega arith) (omega (arith, put.put.some)), rest);
+            let behind = put.put.sound asked (λ _. tt) (are_searched.sound asked is) in
+            rw whole (load_sound 1 (omega arith) (omega (arith, put.put.some)), behind);
         answered = λ call fits.
             let most = 3 + greatest (map rules_steps ps) in
-            let its = answer_found call fits searched most (omega arith) ps ss found.each apart
+            let its = answer_found call fits searched most (omega arith) ps ss are_searched.each apart
             (steps_few ps most (omega arith)) in
             record {
               answer = its.0;

@@ -91,15 +91,15 @@ module _ (test : Test) (constant : ℕ) (hit miss : Position) {before after : Li
 -- where the call isn't of the first search, the others answer it
 others_searched : {s : Search} {ss : List Search} {code : List Insn} {call : CallRecord} {answer most : ℕ}
     → IsSearched (s ∷ ss) code call answer most → (IsOf s.architecture call → ⊥) → IsSearched ss code call answer most
-others_searched is other = record { each = is.each.1; none = λ all. is.none (other, all); some = is.some }
+others_searched is differs = record { each = is.each.1; none = λ all. is.none (differs, all); some = is.some }
 
-pub tests_none : (known : ℕ) {before after : List Insn} {index : Position}
-    → IsPut (return_with kill ∷ []) before after index → AreTestsPut known [] before after index
-tests_none known put = record {
+pub tests_none : (least : ℕ) {before after : List Insn} {index : Position}
+    → IsPut (return_with kill ∷ []) before after index → AreTestsPut least [] before after index
+tests_none least put = record {
   put = kill_put put;
   front = inl refl;
   small = omega (arith, put.few);
-  ends = λ call answer most fits own from is.
+  ends = λ call answer most fits audits from is.
       rw (is.none tt) (more (answers_there kill_answers put call fits call.nr) (omega (arith, is.some)));
 }
 
@@ -109,13 +109,13 @@ first_of s = (row_of s.architecture).first
 abbrev pub last_of : Search → ℕ
 last_of s = (row_of s.architecture).last
 
-module _ (known : ℕ) (s : Search) (ss : List Search) {before : List Insn} (stands : Stands s.index before) where
+module _ (least : ℕ) (s : Search) (ss : List Search) {before : List Insn} (stands : Stands s.index before) where
   -- its numbers end: those above them are for the others
   pub tests_below : {mid after : List Insn} {above index : Position} → last_of s < 2 ^ 32 - 1
       → AreTestsPut (last_of s + 1) ss before mid above
       → IsFirst (branch_code GreaterOrEqual (last_of s + 1) (length mid - above.0) (length mid - s.index.0)) mid after
       index
-      → AreTestsPut known (s ∷ ss) before after index
+      → AreTestsPut least (s ∷ ss) before after index
   tests_below {mid} {after} {above} {index} end others put =
       let from_zero : first_of s ≡ 0 =
       elim (reach s.architecture).an_end [ inl zero ↦ zero | inr all ↦ absurd (omega arith) ] in
@@ -125,60 +125,60 @@ module _ (known : ℕ) (s : Search) (ss : List Search) {before : List Insn} (sta
             (put_stands others.put) (stands.0, omega (arith, stands.1)));
         front = inr put.first;
         small = omega (arith, others.small, put.few);
-        ends = λ call answer most fits own from is.
+        ends = λ call answer most fits audits from is.
             rw (from_first after index put.first) (more (branch_ends GreaterOrEqual (last_of s + 1) above s.index put
             {most = 2 * length ss + most} call.nr 2 put.few
             (λ e. let over : last_of s + 1 ≤ call.nr = grind (arith, nat_tests, e) in
-            others.ends call answer most fits own.1 over (others_searched is (λ o. let l = o.last in omega arith)))
+            others.ends call answer most fits audits.1 over (others_searched is (λ o. let l = o.last in omega arith)))
             (λ e. let under : call.nr < last_of s + 1 = grind (arith, nat_tests, e) in
-            let its : IsOf s.architecture call = record { arch = own.0; first = omega arith; last = omega arith } in
+            let its : IsOf s.architecture call = record { arch = audits.0; first = omega arith; last = omega arith } in
             rw (others.put.stays s.index stands.1) (more (is.each.0 its) (omega arith)))) (omega arith));
       }
 
   -- they don't end, but begin above the numbers that can come: those below them are for the others
   pub tests_above : {mid jumped after : List Insn} {below beside index : Position} → 2 ^ 32 - 1 ≤ last_of s
-      → AreTestsPut known ss before mid below
+      → AreTestsPut least ss before mid below
       → IsFirst (skip_code (length mid - s.index.0)) mid jumped beside
       → IsFirst (branch_code GreaterOrEqual (first_of s) (length jumped - beside.0) (length jumped - below.0)) jumped
       after index
-      → AreTestsPut known (s ∷ ss) before after index
+      → AreTestsPut least (s ∷ ss) before after index
   tests_above {mid} {jumped} {after} {below} {beside} {index} end others jump put =
       let longer = others.put.longer in
       let there : Stands s.index mid = (stands.0, omega (arith, stands.1)) in
       let few = jump_few s.index jump there in
       let jumps_there = jump_put s.index jump there in
       let near = others.put.near in
-      let one = branch_one GreaterOrEqual (first_of s) beside below put (omega (arith, near.near)) in
+      let branch = branch_one GreaterOrEqual (first_of s) beside below put (omega (arith, near.near)) in
       let jumped_longer = jumps_there.longer in
       record {
         put = then_put others.put (then_put jumps_there (branch_put GreaterOrEqual (first_of s) beside below put
             (λ h m. tt) (put_stands jumps_there) (others.put.some, omega (arith, near.stands))));
         front = inr put.first;
         small = omega (arith, others.small);
-        ends = λ call answer most fits own from is.
+        ends = λ call answer most fits audits from is.
             rw (from_first after index put.first) (more (branch_ends GreaterOrEqual (first_of s) beside below put
-            {most = 1 + 2 * length ss + most} call.nr 1 one
+            {most = 1 + 2 * length ss + most} call.nr 1 branch
             (λ e. let over : first_of s ≤ call.nr = grind (arith, nat_tests, e) in
             let nr = fits.nr in
-            let its : IsOf s.architecture call = record { arch = own.0; first = over; last = omega arith } in
+            let its : IsOf s.architecture call = record { arch = audits.0; first = over; last = omega arith } in
             rw (from_first jumped beside jump.first) (more (jump_ends s.index jump there {most = most} call.nr
             (rw (others.put.stays s.index stands.1) (is.each.0 its))) (omega arith)))
             (λ e. let under : call.nr < first_of s = grind (arith, nat_tests, e) in
-            rw (jumps_there.stays below near.stands) (more (others.ends call answer most fits own.1 from
+            rw (jumps_there.stays below near.stands) (more (others.ends call answer most fits audits.1 from
             (others_searched is (λ o. let f = o.first in omega arith))) (omega arith)))) (omega arith));
       }
 
   -- all numbers that can come are its own
-  pub tests_all : {after : List Insn} {index : Position} → 2 ^ 32 - 1 ≤ last_of s → first_of s ≤ known
+  pub tests_all : {after : List Insn} {index : Position} → 2 ^ 32 - 1 ≤ last_of s → first_of s ≤ least
       → IsFirst (skip_code (length before - s.index.0)) before after index
-      → AreTestsPut known (s ∷ ss) before after index
+      → AreTestsPut least (s ∷ ss) before after index
   tests_all {after} {index} end begin jump = record {
     put = jump_put s.index jump stands;
     front = inr jump.first;
     small = omega (arith, jump_few s.index jump stands);
-    ends = λ call answer most fits own from is.
+    ends = λ call answer most fits audits from is.
         let nr = fits.nr in
-        let its : IsOf s.architecture call = record { arch = own.0; first = omega arith; last = omega arith } in
+        let its : IsOf s.architecture call = record { arch = audits.0; first = omega arith; last = omega arith } in
         rw (from_first after index jump.first) (more (jump_ends s.index jump stands {most = most} call.nr (is.each.0 its))
         (omega arith));
   }
@@ -203,9 +203,9 @@ gate_put ss {before} {mid} {after} {index} gate some tests whole here =
       });
       front = here;
       small = omega (arith, tests.small);
-      ends = λ call a answer most fits own is.
+      ends = λ call a answer most fits audits is.
           rw whole (more (loads 0 a (omega arith) refl
-          (rw (from_first mid index front) at (tests.ends call answer most fits own (omega arith) is))) (omega arith));
+          (rw (from_first mid index front) at (tests.ends call answer most fits audits (omega arith) is))) (omega arith));
     }
 
 -- the only code that calls are led to
@@ -232,7 +232,7 @@ gated audit {before} {loaded} {killed} {tested} {after} {beside} gate some load 
             branch.sound asked (λ _. tt) (killed_put.sound asked (λ _. tt)
                 (rw load (load_sound 0 (omega arith) some, s))),
           );
-      own = λ call answer most fits same e.
+      matching = λ call answer most fits same e.
           rw whole (more (loads 1 0 (omega arith) refl (branch_ends Equal audit gate beside put {most = suc most}
           call.arch 1 few
           (λ _. rw (killed_put.stays gate (omega arith), from_first loaded gate here, load)
@@ -267,17 +267,17 @@ passing P p (s ∷ ss) is =
 
 both_parts : (P : Search → Type 0) (p : Search → Bool) (ss : List Search) → AllByRecursion P (filter p ss)
     → AllByRecursion P (filter (λ s. not (p s)) ss) → AllByRecursion P ss
-both_parts P p [] own others = tt
-both_parts P p (s ∷ ss) own others =
+both_parts P p [] matching others = tt
+both_parts P p (s ∷ ss) matching others =
     elim (cases_Bool (p s)) [
       | inl met ↦
-          let mine : P s × AllByRecursion P (filter p ss) = rw met at own in
-          let rest : AllByRecursion P (filter (λ s. not (p s)) ss) = rw met at others in
-          (mine.0, both_parts P p ss mine.1 rest)
+          let mine : P s × AllByRecursion P (filter p ss) = rw met at matching in
+          let later : AllByRecursion P (filter (λ s. not (p s)) ss) = rw met at others in
+          (mine.0, both_parts P p ss mine.1 later)
       | inr unmet ↦
-          let mine : AllByRecursion P (filter p ss) = rw unmet at own in
-          let rest : P s × AllByRecursion P (filter (λ s. not (p s)) ss) = rw unmet at others in
-          (rest.0, both_parts P p ss mine rest.1)
+          let mine : AllByRecursion P (filter p ss) = rw unmet at matching in
+          let later : P s × AllByRecursion P (filter (λ s. not (p s)) ss) = rw unmet at others in
+          (later.0, both_parts P p ss mine later.1)
     ]
 
 pub stand_longer : (before after : List Insn) (ss : List Search) → length before ≤ length after → AllStand ss before
@@ -312,11 +312,11 @@ module _ (audit : ℕ) where
       → AllByRecursion (λ s. IsOf s.architecture call → ⊥) (others_of ss)
   not_others call ss same =
       passing _ (λ s. not (has s)) ss
-      (λ s other own. let arch = own.arch in grind (arith, nat_tests, other, arch, same))
+      (λ s differs is_of. let arch = is_of.arch in grind (arith, nat_tests, differs, arch, same))
 
   not_own : (call : CallRecord) (ss : List Search) → call.arch ≢ audit
       → AllByRecursion (λ s. IsOf s.architecture call → ⊥) (own_of ss)
-  not_own call ss other = passing _ has ss (λ s yes own. other (own.arch ∙ eqb-true (audit_of s) audit yes))
+  not_own call ss differs = passing _ has ss (λ s yes is_of. differs (is_of.arch ∙ eqb-true (audit_of s) audit yes))
 
   module _ {ss : List Search} {code : List Insn} {call : CallRecord} {answer most : ℕ}
       (is : IsSearched ss code call answer most) where
@@ -328,9 +328,9 @@ module _ (audit : ℕ) where
     }
 
     rest_searched : call.arch ≢ audit → IsSearched (others_of ss) code call answer most
-    rest_searched other = record {
+    rest_searched differs = record {
       each = filtered _ (λ s. not (has s)) ss is.each;
-      none = λ all. is.none (both_parts _ has ss (not_own call ss other) all);
+      none = λ all. is.none (both_parts _ has ss (not_own call ss differs) all);
       some = is.some;
     }
 
@@ -346,7 +346,7 @@ searched_stays {before} {after} {index} {call} {answer} {most} ss put stand is =
           → AllByRecursion (λ s. IsOf s.architecture call
           → EndsWithin (words_of call) (code_from s.index after) call.nr answer most) ts
       each [] all ends = tt
-      each (t ∷ ts) all ends = (λ own. rw (put.stays t.index all.0.1) (ends.0 own), each ts all.1 ends.1)
+      each (t ∷ ts) all ends = (λ is_of. rw (put.stays t.index all.0.1) (ends.0 is_of), each ts all.1 ends.1)
 
 -- ---- tests of `arch`
 
@@ -369,29 +369,29 @@ dispatch_none {before} {after} {index} whole here =
     }
 
 -- the first search has its own value of `arch`
-pub own_some : (s : Search) (rest : List Search) → 0 < length (own_of (audit_of s) (s ∷ rest))
-own_some s rest = rw (eq-eqb (audit_of s) (audit_of s) refl) (omega arith)
+pub own_some : (s : Search) (later : List Search) → 0 < length (own_of (audit_of s) (s ∷ later))
+own_some s later = rw (eq-eqb (audit_of s) (audit_of s) refl) (omega arith)
 
-pub others_rest : (s : Search) (rest : List Search)
-    → others_of (audit_of s) (s ∷ rest) ≡ others_of (audit_of s) rest
-others_rest s rest = rw (eq-eqb (audit_of s) (audit_of s) refl) refl
+pub others_rest : (s : Search) (later : List Search)
+    → others_of (audit_of s) (s ∷ later) ≡ others_of (audit_of s) later
+others_rest s later = rw (eq-eqb (audit_of s) (audit_of s) refl) refl
 
-module _ (s : Search) (rest : List Search) where
+module _ (s : Search) (later : List Search) where
   abbrev audit : ℕ
   audit = audit_of s
 
   abbrev all : List Search
-  all = s ∷ rest
+  all = s ∷ later
 
-  abbrev own : List Search
-  own = own_of audit all
+  abbrev matching : List Search
+  matching = own_of audit all
 
   abbrev others : List Search
   others = others_of audit all
 
   -- the value of `arch` is the only one
   pub dispatch_one : {before gated killed after : List Insn} {gate beside index : Position} → length others ≡ 0
-      → IsGatePut own before gated gate → IsPut (return_with kill ∷ []) gated killed beside
+      → IsGatePut matching before gated gate → IsPut (return_with kill ∷ []) gated killed beside
       → IsFirst (branch_code Equal audit (length killed - gate.0) (length killed - beside.0)) killed after index
       → IsDispatchPut all before after index
   dispatch_one {before} {gated} {killed} {after} {gate} {beside} {index} none gates kills put =
@@ -405,14 +405,14 @@ module _ (s : Search) (rest : List Search) where
         put = then_put gates.put (then_put killed_put
             (branch_put Equal audit gate beside put (λ h m. tt) there (put_stands killed_put)));
         front = put.first;
-        small = omega (arith, gates.small, kills.few, parts, own_some s rest);
+        small = omega (arith, gates.small, kills.few, parts, own_some s later);
         ends = λ call answer most fits is.
-            more (branch_ends Equal audit gate beside put {most = 1 + 2 * length own + most} call.arch 1 few
+            more (branch_ends Equal audit gate beside put {most = 1 + 2 * length matching + most} call.arch 1 few
             (λ e. let same : call.arch ≡ audit = eqb-true call.arch audit e in
             rw (killed_put.stays gate (omega (arith, gates.front)), from_first gated gate gates.front)
             (gates.ends call call.arch answer most fits (own_audit audit call all same) (own_searched audit is same)))
-            (λ e. let other : call.arch ≢ audit = eqb-false call.arch audit e in
-            let nothing = rest_searched audit is other in
+            (λ e. let differs : call.arch ≢ audit = eqb-false call.arch audit e in
+            let nothing = rest_searched audit is differs in
             let empty : others ≡ [] = nil_from_length others none in
             rw (nothing.none (rw empty tt)) (more (answers_there kill_answers kills call fits call.arch)
             (omega arith)))) (omega arith);
@@ -421,7 +421,7 @@ module _ (s : Search) (rest : List Search) where
   -- there are others, whose tests follow
   pub dispatch_more : {before mid gated after : List Insn} {next gate index : Position} → AllStand all before
       → 0 < length others
-      → IsDispatchPut others before mid next → IsGatePut own mid gated gate
+      → IsDispatchPut others before mid next → IsGatePut matching mid gated gate
       → IsFirst (branch_code Equal audit (length gated - gate.0) (length gated - next.0)) gated after index
       → IsDispatchPut all before after index
   dispatch_more {before} {mid} {gated} {after} {next} {gate} {index} stand some dispatched gates put =
@@ -432,16 +432,16 @@ module _ (s : Search) (rest : List Search) where
         put = then_put dispatched.put (then_put gates.put
             (branch_put Equal audit gate next put (λ h m. tt) (put_stands gates.put) there));
         front = put.first;
-        small = omega (arith, dispatched.small, gates.small, put.few, parts, own_some s rest);
+        small = omega (arith, dispatched.small, gates.small, put.few, parts, own_some s later);
         ends = λ call answer most fits is.
             more (branch_ends Equal audit gate next put {most = 2 * length all + most} call.arch 2 put.few
             (λ e. let same : call.arch ≡ audit = eqb-true call.arch audit e in
             let stands = (parts_stand audit all before stand).0 in
-            let mine = searched_stays own dispatched.put stands (own_searched audit is same) in
+            let mine = searched_stays matching dispatched.put stands (own_searched audit is same) in
             rw (from_first gated gate gates.front)
             (more (gates.ends call call.arch answer most fits (own_audit audit call all same) mine) (omega arith)))
-            (λ e. let other : call.arch ≢ audit = eqb-false call.arch audit e in
+            (λ e. let differs : call.arch ≢ audit = eqb-false call.arch audit e in
             rw (gates.put.stays next (omega (arith, dispatched.front)), from_first mid next dispatched.front)
-            (more (dispatched.ends call answer most fits (rest_searched audit is other))
-            (omega (arith, parts, own_some s rest))))) (omega arith);
+            (more (dispatched.ends call answer most fits (rest_searched audit is differs))
+            (omega (arith, parts, own_some s later))))) (omega arith);
       }

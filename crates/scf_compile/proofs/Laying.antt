@@ -16,7 +16,7 @@ module _ (default : Answer) (wanted : ℕ → List Rule) where
       → (middle : ℕ) × AreServed default wanted low ss middle × AreServed default wanted middle ts high
   served_parts low high [] ts served = (low, refl, served)
   served_parts low high (s ∷ ss) ts served =
-      let rest = served_parts served.0 high ss ts served.2 in (rest.0, (served.0, served.1, rest.1), rest.2)
+      let later = served_parts served.0 high ss ts served.2 in (later.0, (served.0, served.1, later.1), later.2)
 
   -- they are in rising order
   served_rising : (low high : ℕ) (ss : List NrRange) → AreServed default wanted low ss high → low ≤ high
@@ -57,9 +57,9 @@ module _ {before after : List NrRange} {next : ℕ} {rules : List Rule} where
 
   pub laid_rules : (P : Rule → Type 0) → IsLaid before next rules after → AllRules P before → All P rules
       → AllRules P after
-  laid_rules P (begins s here is put) all own =
-      rw put (All-push (λ (t : NrRange). All P t.rules.now) before s all (rw is own))
-  laid_rules P (continues earlier last is alike same) all own = rw same all
+  laid_rules P (begins s here is put) all of_rules =
+      rw put (All-push (λ (t : NrRange). All P t.rules.now) before s all (rw is of_rules))
+  laid_rules P (continues earlier last is alike same) all of_rules = rw same all
 
   pub laid_served : (default : Answer) (wanted : ℕ → List Rule) (first end : ℕ) → IsLaid before next rules after
       → AreServed default wanted first before next → next < end
@@ -79,9 +79,9 @@ module _ {before after : List NrRange} {next : ℕ} {rules : List Rule} where
           | inl inside ↦ old.stand nr from (omega arith)
           | inr later ↦
               let same = alike default in
-              let rest = stand nr later below in record {
-                answers = λ a call. same.answers a call ∙ rest.answers a call;
-                small = omega (arith, same.small, rest.small);
+              let later = stand nr later below in record {
+                answers = λ a call. same.answers a call ∙ later.answers a call;
+                small = omega (arith, same.small, later.small);
               }
         ];
       })))
@@ -93,7 +93,7 @@ module _ {default : Answer} {rules : List Rule} {first next most bound : ℕ} {b
   pub laid_within : {end m b : ℕ} → next ≡ end → most ≤ m → bound ≤ b → AreRangesUpTo first end m b default before rules
   laid_within same few small = record {
     serve = rw (← same) laid.serve;
-    own = laid.own;
+    from_rules = laid.from_rules;
     few = omega (arith, laid.few);
     small = omega (arith, laid.small);
   }
@@ -103,9 +103,9 @@ module _ {default : Answer} {rules : List Rule} {first next most bound : ℕ} {b
       → All (Contains rules) others
       → ((nr : ℕ) → next ≤ nr → nr < end → StandsFor default others (rules_of nr rules))
       → AreRangesUpTo first end (most + 1) (bound + rules_bound others) default after rules
-  laid_more end put lt own stand = record {
+  laid_more end put lt from_rules stand = record {
     serve = laid_served default (λ nr. rules_of nr rules) first end put laid.serve lt stand;
-    own = laid_rules (Contains rules) put laid.own own;
+    from_rules = laid_rules (Contains rules) put laid.from_rules from_rules;
     few = omega (arith, laid.few, laid_few put);
     small = omega (arith, laid.small, laid_few put);
   }
@@ -134,11 +134,11 @@ goes_on_last before first last rules some is alike =
 -- ---- the numbers one after another
 
 abbrev own_bound : NumberRules → ℕ
-own_bound own = sum_by rule_bound own.rules.items
+own_bound n = sum_by rule_bound n.rules.items
 
-telling_few : {default : Answer} {telling : List Rule} (rules own : List Rule) → 0 < length own
-    → AreEffective default telling own → All (Contains rules) own
-    → (rules_bound telling ≤ 1 + sum_by rule_bound own) × All (Contains rules) telling
+telling_few : {default : Answer} {effective : List Rule} (rules of_number : List Rule) → 0 < length of_number
+    → AreEffective default effective of_number → All (Contains rules) of_number
+    → (rules_bound effective ≤ 1 + sum_by rule_bound of_number) × All (Contains rules) effective
 telling_few rules [] some is all = absurd (omega arith)
 telling_few rules (r ∷ rs) some is all = elim is.some [
   | inl same ↦ rw same (omega arith, all)
@@ -155,9 +155,9 @@ pub record AreLaid (a : Architecture) (default : Answer) (numbers : List NumberR
   pub within : k < length numbers → next ≤ get_or (map number_in numbers) k 0
 
 pub laid_none : (a : Architecture) (default : Answer) (numbers : List NumberRules) (rules : List Rule)
-    → All (λ own. (row_of a).first ≤ own.number) numbers → AreLaid a default numbers rules [] (row_of a).first 0
+    → All (λ n. (row_of a).first ≤ n.number) numbers → AreLaid a default numbers rules [] (row_of a).first 0
 laid_none a default numbers rules from = record {
-  laid = record { serve = refl; own = λ k d lt. absurd (omega arith); few = omega arith; small = omega arith };
+  laid = record { serve = refl; from_rules = λ k d lt. absurd (omega arith); few = omega arith; small = omega arith };
   inside = omega (arith, some_number a);
   above = λ j lt. absurd (omega arith);
   within = λ lt.
@@ -204,21 +204,21 @@ module _ (numbers : List NumberRules) (rules : List Rule) (are : AreNumbersOf nu
         laid_within (laid_gap laid.laid ((row_of a).last + 1) some none laid.inside
         (λ nr from below. none_between nr from (λ lt. absurd (omega arith)))) refl (omega arith) (omega arith)
 
-    pub laid_own : {mid telling after : _} (own : NumberRules) → own ≡ get_or numbers k own → k < length numbers
-        → own.number ≤ (row_of a).last → (next < own.number → IsLaid ss next [] mid) → (own.number ≤ next → mid ≡ ss)
-        → AreEffective default telling own.rules.items → IsLaid mid own.number telling after
-        → AreLaid a default numbers rules after (own.number + 1) (k + 1)
-    laid_own own is lt below some none tells put =
-        let here : get_or ns k 0 ≡ own.number = get_or-map number_in numbers k own 0 lt ∙ ap number_in (sym is) in
-        let its = rw (← is) at (are.own k own lt) in
-        let few_tell = telling_few rules own.rules.items (rw (← is) at (own_some numbers rules are k own lt)) tells (rw its
-        (All-filter (λ r. eqb r.number own.number) (Contains rules) rules (All-contains_itself rules))) in
-        let gap = laid_gap laid.laid own.number some none (omega (arith, laid.within lt))
+    pub laid_own : {mid effective after : _} (n : NumberRules) → n ≡ get_or numbers k n → k < length numbers
+        → n.number ≤ (row_of a).last → (next < n.number → IsLaid ss next [] mid) → (n.number ≤ next → mid ≡ ss)
+        → AreEffective default effective n.rules.items → IsLaid mid n.number effective after
+        → AreLaid a default numbers rules after (n.number + 1) (k + 1)
+    laid_own n is lt below some none tells put =
+        let here : get_or ns k 0 ≡ n.number = get_or-map number_in numbers k n 0 lt ∙ ap number_in (sym is) in
+        let its = rw (← is) at (are.own k n lt) in
+        let few_tell = telling_few rules n.rules.items (rw (← is) at (own_some numbers rules are k n lt)) tells (rw its
+        (All-filter (λ r. eqb r.number n.number) (Contains rules) rules (All-contains_itself rules))) in
+        let gap = laid_gap laid.laid n.number some none (omega (arith, laid.within lt))
         (λ nr from below. none_between nr from (λ lt. omega arith)) in
-        let sums = rw (← is) at (sum_by_more own_bound numbers k own lt) in
+        let sums = rw (← is) at (sum_by_more own_bound numbers k n lt) in
         record {
-          laid = laid_within (laid_more gap (own.number + 1) put (omega arith) few_tell.1
-              (λ nr from below. let same : nr ≡ own.number = omega arith in rw (same, ← its) tells.stand))
+          laid = laid_within (laid_more gap (n.number + 1) put (omega arith) few_tell.1
+              (λ nr from below. let same : nr ≡ n.number = omega arith in rw (same, ← its) tells.stand))
               refl (omega arith) (omega (arith, few_tell.0));
           inside = omega arith;
           above = λ j earlier. elim (cases_eq j k) [

@@ -10,33 +10,33 @@ keeps_more : (operation : Operation) (i : Insn) (behind more : ℕ) → behind �
     → Keeps operation i more
 keeps_more operation i behind more le h = grind arith
 
-sound_before : (asked : Bool) (code rest : List Insn) → AreSound asked code → AreSound asked rest
-    → AreSound asked (code ++ rest)
-sound_before asked [] rest s t = t
-sound_before asked (i ∷ is) rest s t =
-    let own = s.0 in (
+sound_before : (asked : Bool) (code behind : List Insn) → AreSound asked code → AreSound asked behind
+    → AreSound asked (code ++ behind)
+sound_before asked [] behind s t = t
+sound_before asked (i ∷ is) behind s t =
+    let head = s.0 in (
       record {
-        operation = own.operation;
-        known = own.known;
-        keeps = keeps_more own.operation i _ _ (omega (arith, length-append is rest)) own.keeps;
-        is_plain = own.is_plain;
+        operation = head.operation;
+        is_operation = head.is_operation;
+        keeps = keeps_more head.operation i _ _ (omega (arith, length-append is behind)) head.keeps;
+        is_plain = head.is_plain;
       },
-      sound_before asked is rest s.1 t,
+      sound_before asked is behind s.1 t,
     )
 
 -- code that ends is the same with more behind it
-ends_before : {words : List ℕ} {code : List Insn} {a answer most : ℕ} (rest : List Insn)
-    → EndsWithin words code a answer most → EndsWithin words (code ++ rest) a answer most
-ends_before {words} {code} {a} {answer} rest e =
-    let is : IsPart code 0 (code ++ rest) = part_between [] code rest in
+ends_before : {words : List ℕ} {code : List Insn} {a answer most : ℕ} (behind : List Insn)
+    → EndsWithin words code a answer most → EndsWithin words (code ++ behind) a answer most
+ends_before {words} {code} {a} {answer} behind e =
+    let is : IsPart code 0 (code ++ behind) = part_between [] code behind in
     let run = e.run in
     record {
       steps = e.steps;
       run = record {
         last = moved 0 run.last;
         earlier = map (moved 0) run.earlier;
-        chain = chain_of_part (code ++ rest) code 0 words (at 0 a) run.last run.earlier is run.chain;
-        answers = answer_of_part (code ++ rest) code 0 words run.last answer is run.answers;
+        chain = chain_of_part (code ++ behind) code 0 words (at 0 a) run.last run.earlier is run.chain;
+        answers = answer_of_part (code ++ behind) code 0 words run.last answer is run.answers;
         count = let e = run.count in omega (arith, length-map run.earlier (moved 0));
       };
       few = e.few;
@@ -65,18 +65,18 @@ rule_answers a [] answer n most others p plain f fine next parts le =
 rule_answers a (c ∷ cs) answer n most others p plain f fine next parts le =
     let t = conditions_tests a (c ∷ cs) fine in
     let conditions = conditions_code a (c ∷ cs) in
-    let own = return_with answer ∷ [] in
-    let whole = length-append (conditions ++ own) others in
+    let answer_code = return_with answer ∷ [] in
+    let whole = length-append (conditions ++ answer_code) others in
     record {
       some = omega (arith, next.some, whole);
-      len = omega (arith, t.len, next.len, whole, length-append conditions own);
+      len = omega (arith, t.len, next.len, whole, length-append conditions answer_code);
       sound = λ asked is.
-          rw (append_assoc conditions own others)
-          (t.sound asked (own ++ others) (λ e. (parts (is e)).0) (omega arith) (omega (arith, next.some))
+          rw (append_assoc conditions answer_code others)
+          (t.sound asked (answer_code ++ others) (λ e. (parts (is e)).0) (omega arith) (omega (arith, next.some))
           (return_sound answer, next.sound asked (λ e. (parts (is e)).1)));
       ends = λ call fits acc.
-          rw (append_assoc conditions own others)
-          (more (t.ends call fits (own ++ others) _ (1 + n) acc
+          rw (append_assoc conditions answer_code others)
+          (more (t.ends call fits (answer_code ++ others) _ (1 + n) acc
           (λ e b. rw e (more {m = 1} (answers answer b) (omega arith)))
           (λ e b. rw e (more (next.ends call fits b) (omega arith)))) (omega arith));
     }

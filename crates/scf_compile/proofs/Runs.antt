@@ -22,7 +22,7 @@ module _ {words : List ℕ} {behind : List Insn} {answer most : ℕ} where
       let is = behind_is_part i behind count in
       let part = drop count behind in
       let run = e.run in
-      let rest : IsRunFrom (i ∷ behind) words (moved n (at 0 b)) answer e.steps = record {
+      let moved_run : IsRunFrom (i ∷ behind) words (moved n (at 0 b)) answer e.steps = record {
         last = moved n run.last;
         earlier = map (moved n) run.earlier;
         chain = chain_of_part (i ∷ behind) part n words (at 0 b) run.last run.earlier is run.chain;
@@ -33,7 +33,7 @@ module _ {words : List ℕ} {behind : List Insn} {answer most : ℕ} where
       record {
         steps = 1 + e.steps;
         run = run_behind (i ∷ behind) words (at 0 a) (at n b) (at 0 a ∷ []) answer e.steps (goes, refl)
-            (subst (λ (p : ℕ). IsRunFrom (i ∷ behind) words (at p b) answer e.steps) same rest);
+            (subst (λ (p : ℕ). IsRunFrom (i ∷ behind) words (at p b) answer e.steps) same moved_run);
         few = omega (arith, e.few);
       }
 
@@ -73,18 +73,18 @@ answers answer a = record {
 }
 
 -- what stands behind a piece that is passed
-pub past : {words : List ℕ} {answer most : ℕ} (front rest : List Insn) (count a : ℕ)
-    → EndsWithin words (drop count rest) a answer most
-    → EndsWithin words (drop (length front + count) (front ++ rest)) a answer most
-past front rest count a e = rw (drop-append-add front rest count) e
+pub past : {words : List ℕ} {answer most : ℕ} (front behind : List Insn) (count a : ℕ)
+    → EndsWithin words (drop count behind) a answer most
+    → EndsWithin words (drop (length front + count) (front ++ behind)) a answer most
+past front behind count a e = rw (drop-append-add front behind count) e
 
 -- ---- each of them is sound
 
 module _ {plain : Bool} {behind : ℕ} where
   sound_of : (i : Insn) (operation : Operation) → operation_of i.code ≡ Some operation → Keeps operation i behind
       → (IsTrue plain → IsPlainOperation operation i) → IsSound plain i behind
-  sound_of i operation known keeps is =
-      record { operation = operation; known = known; keeps = keeps; is_plain = is }
+  sound_of i operation is_operation keeps is =
+      record { operation = operation; is_operation = is_operation; keeps = keeps; is_plain = is }
 
   pub load_sound : (word : ℕ) → word < 16 → 0 < behind → IsSound plain (load_word word) behind
   load_sound word lt some =

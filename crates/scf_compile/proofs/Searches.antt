@@ -67,9 +67,9 @@ module _ (a : Architecture) (default : Answer) {half most : ℕ} (lower upper : 
       }
 
 pub one_is : (ss : List NrRange) (s : NrRange) → 0 < length ss → length ss ≤ 1 → s ≡ get_or ss 0 s → ss ≡ s ∷ []
-one_is [] s some one is = absurd (omega arith)
-one_is (t ∷ []) s some one is = ap (λ (u : NrRange). u ∷ []) (sym is)
-one_is (t ∷ u ∷ ss) s some one is = absurd (omega arith)
+one_is [] s some single is = absurd (omega arith)
+one_is (t ∷ []) s some single is = ap (λ (u : NrRange). u ∷ []) (sym is)
+one_is (t ∷ u ∷ ss) s some single is = absurd (omega arith)
 
 -- a block that is put where no code was begins the code
 begins_code : {block before after : List Insn} {index : Position} → IsPut block before after index → 0 < length block

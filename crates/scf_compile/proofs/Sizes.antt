@@ -19,7 +19,7 @@ below_six [] i fine h = absurd (cc)
 below_six (c ∷ cs) i fine h =
     elim (cases_eq i c.index) [
       | inl same ↦ let lt = fine.0.index in omega arith
-      | inr other ↦ below_six cs i fine.1 (rw (ne_eqb i c.index other) at h)
+      | inr differs ↦ below_six cs i fine.1 (rw (ne_eqb i c.index differs) at h)
     ]
 
 -- conditions on the six arguments, one on each, are six at most

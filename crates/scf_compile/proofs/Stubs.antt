@@ -60,14 +60,14 @@ module _ (p : Profile) (s : Rule) (always : s.conditions ≡ []) where
     abbrev last : ℕ
     last = (row_of p.architecture).last
 
-    abbrev rest : List NrRange
-    rest = ranges_below laid.start laid.whole
+    abbrev below_stub : List NrRange
+    below_stub = ranges_below laid.start laid.whole
 
-    rest_served : AreServed p.default_answer (own_wanted p s) first rest laid.start
+    rest_served : AreServed p.default_answer (own_wanted p s) first below_stub laid.start
     rest_served =
         let is = laid.is_start in
         let before = laid.laid in
-        served_as p.default_answer (λ nr. rules_of nr p.rules) (own_wanted p s) first laid.start rest
+        served_as p.default_answer (λ nr. rules_of nr p.rules) (own_wanted p s) first laid.start below_stub
         (served_below p.default_answer (λ nr. rules_of nr p.rules) laid.start first (last + 1) laid.whole before.serve
         is.first is.last) (λ nr from below. rw (is.below nr from below) refl)
 
@@ -79,7 +79,7 @@ module _ (p : Profile) (s : Rule) (always : s.conditions ≡ []) where
       | inr past ↦
           let end : laid.start ≡ last + 1 = omega (arith, laid.is_start.last) in
           rw (laid.none past)
-          (subst (λ (n : ℕ). AreServed p.default_answer (own_wanted p s) first rest n) end rest_served)
+          (subst (λ (n : ℕ). AreServed p.default_answer (own_wanted p s) first below_stub n) end rest_served)
     ]
 
     pub own_bounded : (length ranges ≤ 1 + 2 * number_count p)
@@ -101,8 +101,8 @@ module _ (p : Profile) (s : Rule) (always : s.conditions ≡ []) where
     pub own_rules : (P : Rule → Type 0) → All P p.rules → P s → AllRules P ranges
     own_rules P all its =
         let before = laid.laid in
-        let whole : AllRules P laid.whole = λ k d lt j r inside. All-contains P p.rules _ all (before.own k d lt j r inside) in
-        let few : AllRules P rest =
+        let whole : AllRules P laid.whole = λ k d lt j r inside. All-contains P p.rules _ all (before.from_rules k d lt j r inside) in
+        let few : AllRules P below_stub =
         All-filter (λ t. ltb t.first laid.start) (λ (t : NrRange). All P t.rules.now) laid.whole whole in
         elim (cases_lt laid.start (last + 1)) [
           | inl lt ↦ laid_rules P (laid.some lt) few (All-cons P s [] its (λ k d lt. absurd (omega arith)))

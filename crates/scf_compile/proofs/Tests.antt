@@ -27,8 +27,8 @@ under_full n mask lt all = ap (λ (k : ℕ). bit_and n k) all ∙ and_mask n 32 
 under_power : (n k : ℕ) → (bit_and n (2 ^ k) ≡ 0) ⊎ (bit_and n (2 ^ k) ≡ 2 ^ k)
 under_power n k = elim (cases_eq (bit_at n k) 0) [
   | inl none ↦ inl (and_pow n k ∙ ap (λ (b : ℕ). b * 2 ^ k) none ∙ omega arith)
-  | inr some ↦ inr (let one : bit_at n k ≡ 1 = omega (arith, bit_at-lt n k) in
-      and_pow n k ∙ ap (λ (b : ℕ). b * 2 ^ k) one ∙ omega arith)
+  | inr some ↦ inr (let bit : bit_at n k ≡ 1 = omega (arith, bit_at-lt n k) in
+      and_pow n k ∙ ap (λ (b : ℕ). b * 2 ^ k) bit ∙ omega arith)
 ]
 
 -- so where the bit is wanted, a word has it exactly where it isn't nothing
@@ -49,19 +49,19 @@ wanted_of_power n mask wanted (k, e) within some = elim (under_power wanted k) [
 -- behind it where this is met, and else `miss`.
 pub record Tests (code : List Insn) (hit miss most : ℕ) (plain : Type 0) (met : CallRecord → Bool) : Type 0 where
   pub len : length code ≤ most
-  pub sound : (asked : Bool) (rest : List Insn) → (IsTrue asked → plain) → hit < length rest → miss < length rest
-      → AreSound asked rest → AreSound asked (code ++ rest)
-  pub ends : (call : CallRecord) → IsRecord call → (rest : List Insn) (answer left a : ℕ)
-      → (met call ≡ true → (b : ℕ) → EndsWithin (words_of call) (drop hit rest) b answer left)
-      → (met call ≡ false → (b : ℕ) → EndsWithin (words_of call) (drop miss rest) b answer left)
-      → EndsWithin (words_of call) (code ++ rest) a answer (most + left)
+  pub sound : (asked : Bool) (behind : List Insn) → (IsTrue asked → plain) → hit < length behind → miss < length behind
+      → AreSound asked behind → AreSound asked (code ++ behind)
+  pub ends : (call : CallRecord) → IsRecord call → (behind : List Insn) (answer left a : ℕ)
+      → (met call ≡ true → (b : ℕ) → EndsWithin (words_of call) (drop hit behind) b answer left)
+      → (met call ≡ false → (b : ℕ) → EndsWithin (words_of call) (drop miss behind) b answer left)
+      → EndsWithin (words_of call) (code ++ behind) a answer (most + left)
 
 -- no code is a test that is always met
 no_tests : (miss : ℕ) (plain : Type 0) → Tests [] 0 miss 0 plain (λ _. true)
 no_tests miss plain = record {
   len = omega arith;
-  sound = λ asked rest is h m s. s;
-  ends = λ call fits rest answer left a over under. more (over refl a) (omega arith);
+  sound = λ asked behind is h m s. s;
+  ends = λ call fits behind answer left a over under. more (over refl a) (omega arith);
 }
 
 -- the same test, said in other words
@@ -70,10 +70,10 @@ tests_as : {code : List Insn} {hit miss : ℕ} {p : Type 0} {f : CallRecord → 
     → ((call : CallRecord) → IsRecord call → f call ≡ g call) → Tests code hit miss n q g
 tests_as most n q g t le plain same = record {
   len = omega (arith, t.len);
-  sound = λ asked rest is. t.sound asked rest (λ h. plain (is h));
-  ends = λ call fits rest answer left a over under.
+  sound = λ asked behind is. t.sound asked behind (λ h. plain (is h));
+  ends = λ call fits behind answer left a over under.
       let is = same call fits in
-      more (t.ends call fits rest answer left a (λ e. over (sym is ∙ e)) (λ e. under (sym is ∙ e)))
+      more (t.ends call fits behind answer left a (λ e. over (sym is ∙ e)) (λ e. under (sym is ∙ e)))
       (omega arith);
 }
 
@@ -82,9 +82,9 @@ opposite : {code : List Insn} {hit miss most : ℕ} {p : Type 0} {f : CallRecord
     → Tests code hit miss most p f → ((call : CallRecord) → not (f call) ≡ g call) → Tests code miss hit most p g
 opposite g t is = record {
   len = t.len;
-  sound = λ asked rest plain h m. t.sound asked rest plain m h;
-  ends = λ call fits rest answer left a over under.
-      t.ends call fits rest answer left a (λ e. under (sym (is call) ∙ ap not e))
+  sound = λ asked behind plain h m. t.sound asked behind plain m h;
+  ends = λ call fits behind answer left a over under.
+      t.ends call fits behind answer left a (λ e. under (sym (is call) ∙ ap not e))
       (λ e. over (sym (is call) ∙ ap not e));
 }
 
@@ -94,15 +94,15 @@ both : {first second : List Insn} {hit miss m n : ℕ} {p q : Type 0} {f g : Cal
     → Tests (first ++ second) hit miss (m + n) (p × q) (λ call. cond (f call) (g call) false)
 both {first} {second} {hit} {miss} {m} {n} {p} {q} {f} {g} s t = record {
   len = omega (arith, s.len, t.len, length-append first second);
-  sound = λ asked rest plain h w is.
-      let len = length-append second rest in
-      rw (append_assoc first second rest) (s.sound asked (second ++ rest) (λ e. (plain e).0) (omega arith)
-      (omega arith) (t.sound asked rest (λ e. (plain e).1) h w is));
-  ends = λ call fits rest answer left a over under.
-      rw (append_assoc first second rest)
-      (more (s.ends call fits (second ++ rest) answer (n + left) a
-      (λ e b. t.ends call fits rest answer left b (λ d. over (rw e d)) (λ d. under (rw e d)))
-      (λ e b. more (past second rest miss b (under (rw e refl) b)) (omega arith))) (omega arith));
+  sound = λ asked behind plain h w is.
+      let len = length-append second behind in
+      rw (append_assoc first second behind) (s.sound asked (second ++ behind) (λ e. (plain e).0) (omega arith)
+      (omega arith) (t.sound asked behind (λ e. (plain e).1) h w is));
+  ends = λ call fits behind answer left a over under.
+      rw (append_assoc first second behind)
+      (more (s.ends call fits (second ++ behind) answer (n + left) a
+      (λ e b. t.ends call fits behind answer left b (λ d. over (rw e d)) (λ d. under (rw e d)))
+      (λ e b. more (past second behind miss b (under (rw e refl) b)) (omega arith))) (omega arith));
 }
 
 -- a word of the record against a constant
@@ -113,9 +113,9 @@ word_tests : (word : ℕ) (n : CallRecord → ℕ) (test : Test) (constant hit m
     (λ call. test_holds test (n call) constant)
 word_tests word n test constant hit miss lt is = record {
   len = omega arith;
-  sound = λ asked rest plain h m s.
+  sound = λ asked behind plain h m s.
       (load_sound word lt (omega arith), (jump_sound test constant hit miss h m plain, s));
-  ends = λ call fits rest answer left a over under.
+  ends = λ call fits behind answer left a over under.
       more (loads word a lt (is call) (jumps test constant hit miss (n call) (λ e. over e (n call))
       (λ e. under e (n call)))) (omega arith);
 }
@@ -126,50 +126,50 @@ module _ (word : ℕ) (n : CallRecord → ℕ) (lt : word < 16)
     (is : (call : CallRecord) → slice_index (words_of call) word ≡ n call)
     (fits : (call : CallRecord) → IsRecord call → n call < 2 ^ 32) (mask wanted hit miss : ℕ)
     (within : bit_and wanted mask ≡ wanted) where
-  abbrev kept : CallRecord → Bool
-  kept call = eqb (bit_and (n call) mask) wanted
+  abbrev is_wanted : CallRecord → Bool
+  is_wanted call = eqb (bit_and (n call) mask) wanted
 
   bit_tests : (none : Bool) → eqb wanted 0 ≡ none → (wanted ≢ 0 → IsOfKind OneBit mask)
       → Tests (cond none (word_code CommonBit word mask miss hit) (word_code CommonBit word mask hit miss)) hit miss 3
-      (IsSimpleMask mask) kept
+      (IsSimpleMask mask) is_wanted
   bit_tests true none power =
-      tests_as 2 3 (IsSimpleMask mask) kept
-      (opposite kept (word_tests word n CommonBit mask miss hit lt is)
+      tests_as 2 3 (IsSimpleMask mask) is_wanted
+      (opposite is_wanted (word_tests word n CommonBit mask miss hit lt is)
       (λ call. let zero : wanted ≡ 0 = eqb-true wanted 0 none in grind (arith, nat_tests))) (omega arith) (λ s. s)
       (λ call h. refl)
   bit_tests false some power =
       let there = eqb-false wanted 0 some in
-      tests_as 2 3 (IsSimpleMask mask) kept (word_tests word n CommonBit mask hit miss lt is) (omega arith) (λ s. s)
+      tests_as 2 3 (IsSimpleMask mask) is_wanted (word_tests word n CommonBit mask hit miss lt is) (omega arith) (λ s. s)
       (λ call h. wanted_of_power (n call) mask wanted (power there) within there)
 
   -- no bit: there is nothing to be tested, save to pass what stands behind
   none_tests : (next : Bool) → eqb hit 0 ≡ next → IsOfKind Empty mask
-      → Tests (cond next [] (bit_code word mask wanted hit miss)) hit miss 3 (IsSimpleMask mask) kept
+      → Tests (cond next [] (bit_code word mask wanted hit miss)) hit miss 3 (IsSimpleMask mask) is_wanted
   none_tests true next empty =
-      tests_as 0 3 (IsSimpleMask mask) kept (rw (eqb-true hit 0 next) (no_tests miss (IsSimpleMask mask)))
+      tests_as 0 3 (IsSimpleMask mask) is_wanted (rw (eqb-true hit 0 next) (no_tests miss (IsSimpleMask mask)))
       (omega arith) (λ s. s) (λ call h. sym (under_empty (n call) mask wanted empty within))
   none_tests false behind empty =
       bit_tests (eqb wanted 0) refl (λ some. absurd (some (nothing_within mask wanted empty within)))
 
   by_kind : (kind : MaskKind) → IsOfKind kind mask
-      → Tests (half_code_of kind word mask wanted hit miss) hit miss 3 (IsSimpleMask mask) kept
+      → Tests (half_code_of kind word mask wanted hit miss) hit miss 3 (IsSimpleMask mask) is_wanted
   by_kind Empty kind = none_tests (eqb hit 0) refl kind
   by_kind OneBit kind = bit_tests (eqb wanted 0) refl (λ _. kind)
   by_kind Full kind =
-      tests_as 2 3 (IsSimpleMask mask) kept (word_tests word n SameWord wanted hit miss lt is) (omega arith) (λ s. tt)
+      tests_as 2 3 (IsSimpleMask mask) is_wanted (word_tests word n SameWord wanted hit miss lt is) (omega arith) (λ s. tt)
       (λ call h. ap (λ (m : ℕ). eqb m wanted) (sym (under_full (n call) mask (fits call h) kind)))
   by_kind Mixed kind = record {
     len = omega arith;
-    sound = λ asked rest plain h m s. (
+    sound = λ asked behind plain h m s. (
       load_sound word lt (omega arith),
       (mask_sound mask (λ e. kind (plain e)) (omega arith), (jump_sound SameWord wanted hit miss h m (λ _. tt), s)),
     );
-    ends = λ call h rest answer left a over under.
+    ends = λ call h behind answer left a over under.
         more (loads word a lt (is call) (masks mask (n call)
         (jumps SameWord wanted hit miss (bit_and (n call) mask) (λ e. over e _) (λ e. under e _)))) (omega arith);
   }
 
-  half_tests : Tests (half_code word mask wanted hit miss) hit miss 3 (IsSimpleMask mask) kept
+  half_tests : Tests (half_code word mask wanted hit miss) hit miss 3 (IsSimpleMask mask) is_wanted
   unfolding half_code
   half_tests = by_kind (mask_kind mask) (is_of_kind mask)
 
@@ -180,14 +180,14 @@ skip_tests : (hit miss : ℕ) (none : Bool) → eqb miss 0 ≡ none
     → Tests (cond none [] (jump_over miss ∷ [])) hit miss 1 (Unit {0}) (λ _. false)
 skip_tests hit miss true none = record {
   len = omega arith;
-  sound = λ asked rest is h m s. s;
-  ends = λ call fits rest answer left a over under.
+  sound = λ asked behind is h m s. s;
+  ends = λ call fits behind answer left a over under.
       more (rw (eqb-true miss 0 none) at (under refl a)) (omega arith);
 }
 skip_tests hit miss false some = record {
   len = omega arith;
-  sound = λ asked rest is h m s. (pass_sound miss m, s);
-  ends = λ call fits rest answer left a over under. more (passes miss a (under refl a)) (omega arith);
+  sound = λ asked behind is h m s. (pass_sound miss m, s);
+  ends = λ call fits behind answer left a over under. more (passes miss a (under refl a)) (omega arith);
 }
 
 -- ---- a number below 2^32
@@ -254,19 +254,19 @@ module _ (index : ℕ) (lt : index < 6) where
       (λ call. argument_low call index) in
       record {
         len = omega arith;
-        sound = λ asked rest _ h m s.
+        sound = λ asked behind _ h m s.
             let equal = jump_sound SameWord (high value) 1 0 (omega arith) (omega arith) (λ _. tt) in
             let above = jump_sound Above (high value) (2 + hit) (2 + miss) (omega arith) (omega arith) (λ _. tt) in
-            let rest_sound = low_tests.sound asked rest (λ _. plain) h m s in
+            let rest_sound = low_tests.sound asked behind (λ _. plain) h m s in
             (load_sound (word + 1) (omega arith) (omega arith), (equal, (above, rest_sound)));
-        ends = λ call fits rest answer left a over under.
+        ends = λ call fits behind answer left a over under.
             more (loads (word + 1) a (omega arith) (argument_high call index)
             (jumps {most = 4 + left} SameWord (high value) 1 0 (high (n call))
-            (λ x. more (low_tests.ends call fits rest answer left _ (λ z. over (rw (x, z) refl))
+            (λ x. more (low_tests.ends call fits behind answer left _ (λ z. over (rw (x, z) refl))
             (λ z. under (rw (x, z) refl))) (omega arith))
             (λ x. more (jumps {most = left} Above (high value) (2 + hit) (2 + miss) (high (n call))
-            (λ y. past last rest hit _ (over (rw (x, y) refl) _))
-            (λ y. past last rest miss _ (under (rw (x, y) refl) _))) (omega arith)))) (omega arith);
+            (λ y. past last behind hit _ (over (rw (x, y) refl) _))
+            (λ y. past last behind miss _ (under (rw (x, y) refl) _))) (omega arith)))) (omega arith);
       }
 
   masked_tests : (mask wanted hit miss : ℕ) → bit_and wanted mask ≡ wanted

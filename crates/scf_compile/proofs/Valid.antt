@@ -13,14 +13,14 @@ sound_at : {plain : Bool} (is : List Insn) (index : ℕ) (i : Insn) → AreSound
 sound_at [] index i sound here = absurd (cc)
 sound_at (x ∷ xs) zero i sound here = (length xs, omega arith, rw (same_Some x i here) at sound.0)
 sound_at (x ∷ xs) (suc index) i sound here =
-    let rest = sound_at xs index i sound.1 here in (rest.0, omega (arith, rest.1), rest.2)
+    let later = sound_at xs index i sound.1 here in (later.0, omega (arith, later.1), later.2)
 
 -- what its operation keeps there
 kept_at : (is : List Insn) (index : ℕ) (i : Insn) (operation : Operation) → AreSound false is
     → Stands is index i operation → (behind : ℕ) × (index + 1 + behind ≡ length is) × Keeps operation i behind
 kept_at is index i operation sound stands =
     let there = sound_at is index i sound stands.here in
-    (there.0, there.1, rw (same_Some _ _ (sym there.2.known ∙ stands.known)) at there.2.keeps)
+    (there.0, there.1, rw (same_Some _ _ (sym there.2.is_operation ∙ stands.known)) at there.2.keeps)
 
 fine_at : (is : List Insn) (index : ℕ) → AreSound false is → index < length is → IsFineAt is index
 fine_at is index sound lt =
@@ -29,7 +29,7 @@ fine_at is index sound lt =
     record {
       insn = get_or is index (return_with 0);
       operation = there.2.operation;
-      stands = record { here = here; known = there.2.known };
+      stands = record { here = here; known = there.2.is_operation };
       fine = fine_of there.2.operation _ (length is) index there.0 there.1 there.2.keeps;
     }
 
@@ -50,9 +50,9 @@ module _ {ps : List Profile} {code : List Insn} (filter : IsFilterOf ps code) wh
     few = few;
     each = λ index lt. fine_at code index unasked lt;
     last = λ i operation stands.
-        let kept = kept_at code (length code - 1) i operation unasked stands in
-        let last : kept.0 ≡ 0 = omega (arith, kept.1, filter.some) in
-        returns_at_end operation i (rw last at kept.2);
+        let last_insn = kept_at code (length code - 1) i operation unasked stands in
+        let last : last_insn.0 ≡ 0 = omega (arith, last_insn.1, filter.some) in
+        returns_at_end operation i (rw last at last_insn.2);
   }
 
   -- no instruction loads a scratch word
@@ -63,37 +63,41 @@ module _ {ps : List Profile} {code : List Insn} (filter : IsFilterOf ps code) wh
   pub is_plain : All IsPlainProfile ps → IsPlainProgram code
   is_plain plain k d lt =
       let there = (sound_at code k _ (filter.sound true (λ _. plain)) (slice_get-get_or code k d lt)).2 in
-      record { operation = there.operation; known = there.known; plain = there.is_plain refl }
+      record { operation = there.operation; known = there.is_operation; plain = there.is_plain refl }
 
   pub answers_same : SameAnswersAsEach (RunAnswers code) ps
   answers_same call fits =
-      let found = filter.answered call fits in
-      (found.answer, (found.of_words.steps, found.of_words.run), found.of_profiles)
+      let call_answer = filter.answered call fits in
+      (call_answer.answer, (call_answer.of_words.steps, call_answer.of_words.run), call_answer.of_profiles)
 
   pub answers_within : AnswersWithin code (search_bound_of_each ps)
   answers_within call fits answer steps run =
-      let found = filter.answered call fits in
-      let own = found.of_words in
-      omega (arith, own.few, (run_once code (words_of call) found.answer answer own.steps steps own.run run).1)
+      let call_answer = filter.answered call fits in
+      let of_words = call_answer.of_words in
+      omega (
+        arith,
+        of_words.few,
+        (run_once code (words_of call) call_answer.answer answer of_words.steps steps of_words.run run).1,
+      )
 
 -- ---- one profile
 
 of_one : (p : Profile) (call : CallRecord) (answer : ℕ) → ProfilesAnswer (p ∷ []) call answer
     → ProfileAnswers p call answer
-of_one p call answer (by_profile q (zero, lt, e) own _ is) =
+of_one p call answer (by_profile q (zero, lt, e) is_of _ is) =
     subst (λ (r : Profile). ProfileAnswers r call answer) (sym e) is
-of_one p call answer (by_profile q (suc k, lt, e) own _ is) = absurd (omega arith)
+of_one p call answer (by_profile q (suc k, lt, e) is_of _ is) = absurd (omega arith)
 of_one p call _ (by_none none) = foreign (none p (0, omega arith, refl))
 
 module _ (p : Profile) where
   pub one_same : (answers : List ℕ → ℕ → Type 0) → SameAnswersAsEach answers (p ∷ []) → SameAnswers answers p
   one_same answers same call fits =
-      let found = same call fits in
+      let call_answer = same call fits in
       record {
-        filter = found.0;
-        profile = found.0;
-        of_words = found.1;
-        of_profile = of_one p call found.0 found.2;
+        filter = call_answer.0;
+        profile = call_answer.0;
+        of_words = call_answer.1;
+        of_profile = of_one p call call_answer.0 call_answer.2;
         are_related = refl;
       }
 

@@ -6,49 +6,49 @@ use Rattle.scf_compile.proofs.RuleCode.{answers_put, branch_ends, branch_sound, 
 -- ---- the first value that a number is
 
 -- it is among those of which something holds that holds of the number
-kept_answer : (P : ℕ → Bool) (vs : List ArgumentValue) (n other : ℕ) → P n ≡ true
-    → value_answer (filter (λ v. P v.value) vs) n other ≡ value_answer vs n other
-kept_answer P [] n other is = refl
-kept_answer P (v ∷ vs) n other is =
-    let rest = kept_answer P vs n other is in
+kept_answer : (P : ℕ → Bool) (vs : List ArgumentValue) (n fallback : ℕ) → P n ≡ true
+    → value_answer (filter (λ v. P v.value) vs) n fallback ≡ value_answer vs n fallback
+kept_answer P [] n fallback is = refl
+kept_answer P (v ∷ vs) n fallback is =
+    let later = kept_answer P vs n fallback is in
     elim (cases_Bool (P v.value)) [
-      | inl passes ↦ rw (passes, rest) refl
+      | inl passes ↦ rw (passes, later) refl
       | inr fails ↦
           let apart : n ≢ v.value = λ e. absurd (let both = sym is ∙ ap P e ∙ fails in cc) in
-          rw (fails, ne_eqb n v.value apart) rest
+          rw (fails, ne_eqb n v.value apart) later
     ]
 
 -- and not among those of which something holds that doesn't hold of the number
-lost_answer : (P : ℕ → Bool) (vs : List ArgumentValue) (n other : ℕ) → P n ≡ false
-    → value_answer (filter (λ v. P v.value) vs) n other ≡ other
-lost_answer P [] n other is = refl
-lost_answer P (v ∷ vs) n other is =
-    let rest = lost_answer P vs n other is in
+lost_answer : (P : ℕ → Bool) (vs : List ArgumentValue) (n fallback : ℕ) → P n ≡ false
+    → value_answer (filter (λ v. P v.value) vs) n fallback ≡ fallback
+lost_answer P [] n fallback is = refl
+lost_answer P (v ∷ vs) n fallback is =
+    let later = lost_answer P vs n fallback is in
     elim (cases_Bool (P v.value)) [
       | inl passes ↦
           let apart : n ≢ v.value = λ e. absurd (let both = sym is ∙ ap P e ∙ passes in cc) in
-          rw (passes, ne_eqb n v.value apart) rest
-      | inr fails ↦ rw fails rest
+          rw (passes, ne_eqb n v.value apart) later
+      | inr fails ↦ rw fails later
     ]
 
 -- so it can be looked for among those and then among these
-split_answer : (P : ℕ → Bool) (vs : List ArgumentValue) (n other : ℕ)
-    → value_answer (filter (λ v. not (P v.value)) vs) n (value_answer (filter (λ v. P v.value) vs) n other)
-    ≡ value_answer vs n other
-split_answer P vs n other =
+split_answer : (P : ℕ → Bool) (vs : List ArgumentValue) (n fallback : ℕ)
+    → value_answer (filter (λ v. not (P v.value)) vs) n (value_answer (filter (λ v. P v.value) vs) n fallback)
+    ≡ value_answer vs n fallback
+split_answer P vs n fallback =
     let Q : ℕ → Bool = λ k. not (P k) in
     elim (cases_Bool (P n)) [
-      | inl is ↦ lost_answer Q vs n _ (ap not is) ∙ kept_answer P vs n other is
-      | inr is ↦ kept_answer Q vs n _ (ap not is) ∙ ap (value_answer vs n) (lost_answer P vs n other is)
+      | inl is ↦ lost_answer Q vs n _ (ap not is) ∙ kept_answer P vs n fallback is
+      | inr is ↦ kept_answer Q vs n _ (ap not is) ∙ ap (value_answer vs n) (lost_answer P vs n fallback is)
     ]
 
 -- it isn't among those with another high half
-apart_answer : (half : ℕ) (vs : List ArgumentValue) (n other : ℕ) → AllByRecursion (λ v. high v.value ≡ half) vs
-    → high n ≢ half → value_answer vs n other ≡ other
-apart_answer half [] n other all differs = refl
-apart_answer half (v ∷ vs) n other all differs =
+apart_answer : (half : ℕ) (vs : List ArgumentValue) (n fallback : ℕ) → AllByRecursion (λ v. high v.value ≡ half) vs
+    → high n ≢ half → value_answer vs n fallback ≡ fallback
+apart_answer half [] n fallback all differs = refl
+apart_answer half (v ∷ vs) n fallback all differs =
     let apart : n ≢ v.value = λ e. differs (ap high e ∙ all.0) in
-    rw (ne_eqb n v.value apart) (apart_answer half vs n other all.1 differs)
+    rw (ne_eqb n v.value apart) (apart_answer half vs n fallback all.1 differs)
 
 -- ---- the search among values with one high half
 
@@ -61,7 +61,7 @@ same_low : (n k : ℕ) → high k ≡ high n → low n ≡ low k → n ≡ k
 same_low n k halves lows = omega arith
 
 module _ (v : ArgumentValue) (vs : List ArgumentValue) (behind : Position) {before mid put after : List Insn}
-    {next hit index : Position} (rest : IsValueSearchPut vs behind before mid next)
+    {next hit index : Position} (later : IsValueSearchPut vs behind before mid next)
     (answer_put : IsPut (return_with v.answer.0 ∷ []) mid put hit)
     (first : IsFirst (branch_code Equal (low v.value) (length put - hit.0) (length put - next.0)) put after index) where
   abbrev placed : ArePut (Unit {0}) mid put hit
@@ -79,24 +79,24 @@ module _ (v : ArgumentValue) (vs : List ArgumentValue) (behind : Position) {befo
       (more {m = 1} (answers v.answer.0 (low n)) (omega arith)))
       (λ unmet.
       let apart : n ≢ v.value = λ is. eqb-false (low n) (low v.value) unmet (ap low is) in
-      rw (ne_eqb n v.value apart, placed.stays next rest.stands)
-      (rest.ends words n answer most (All-tail (λ v. high v.value ≡ high n) v vs all) pos e))) (omega arith)
+      rw (ne_eqb n v.value apart, placed.stays next later.stands)
+      (later.ends words n answer most (All-tail (λ v. high v.value ≡ high n) v vs all) pos e))) (omega arith)
 
   pub chain_more : IsValueSearchPut (v ∷ vs) behind before after index
   chain_more =
       let branch = branch_stays Equal (low v.value) hit next first in
       record {
-        longer = omega (arith, rest.longer, placed.longer, branch.0);
-        small = omega (arith, rest.small, answer_put.few, first.few);
-        stays = λ p le. branch.1 p (omega (arith, rest.longer, placed.longer)) ∙ placed.stays p (omega (arith, rest.longer))
-            ∙ rest.stays p le;
+        longer = omega (arith, later.longer, placed.longer, branch.0);
+        small = omega (arith, later.small, answer_put.few, first.few);
+        stays = λ p le. branch.1 p (omega (arith, later.longer, placed.longer)) ∙ placed.stays p (omega (arith, later.longer))
+            ∙ later.stays p le;
         some = omega (arith, first.first, placed.some, placed.near.stands, branch.0);
         stands = omega (arith, first.first);
         front = λ _. first.first;
         sound = λ asked s.
             branch_sound Equal (low v.value) hit next first asked (λ h m. tt)
-            (omega (arith, placed.some, placed.near.stands)) (omega (arith, rest.some, rest.stands, placed.longer))
-            (placed.sound asked (λ _. tt) (rest.sound asked s));
+            (omega (arith, placed.some, placed.near.stands)) (omega (arith, later.some, later.stands, placed.longer))
+            (placed.sound asked (λ _. tt) (later.sound asked s));
         ends = λ words n answer most all pos e.
             rw (from_first after index first.first) (chain_ends words n answer most all pos e);
       }
@@ -243,42 +243,42 @@ module _ (half : ℕ) where
   abbrev has_half : ArgumentValue → Bool
   has_half v = eqb (high v.value) half
 
-  abbrev own : List ArgumentValue → List ArgumentValue
-  own vs = filter has_half vs
+  abbrev group : List ArgumentValue → List ArgumentValue
+  group vs = filter has_half vs
 
   abbrev others : List ArgumentValue → List ArgumentValue
   others vs = filter (λ v. not (has_half v)) vs
 
-  pub groups_len : (vs : List ArgumentValue) → length (own vs) + length (others vs) ≡ length vs
+  pub groups_len : (vs : List ArgumentValue) → length (group vs) + length (others vs) ≡ length vs
   groups_len vs = length-filter_both has_half (λ v. not (has_half v)) (λ v. refl) vs
 
-  pub own_halves : (vs : List ArgumentValue) → AllByRecursion (λ v. high v.value ≡ half) (own vs)
+  pub own_halves : (vs : List ArgumentValue) → AllByRecursion (λ v. high v.value ≡ half) (group vs)
   own_halves [] = tt
   own_halves (v ∷ vs) =
       elim (cases_Bool (has_half v)) [
         | inl has ↦ rw has (eqb-true (high v.value) half has, own_halves vs)
-        | inr other ↦ rw other (own_halves vs)
+        | inr differs ↦ rw differs (own_halves vs)
       ]
 
   pub groups_put : (a : Architecture) (vs : List ArgumentValue) {before mid after : List Insn}
-      → AreValuesPut a (own vs) before mid → AreValuesPut a (others vs) mid after → AreValuesPut a vs before after
-  groups_put a vs first rest =
+      → AreValuesPut a (group vs) before mid → AreValuesPut a (others vs) mid after → AreValuesPut a vs before after
+  groups_put a vs first later =
       let len = groups_len vs in
       record {
-        longer = omega (arith, first.longer, rest.longer);
-        small = omega (arith, first.small, rest.small);
-        sound = λ asked s. rest.sound asked (first.sound asked s);
+        longer = omega (arith, first.longer, later.longer);
+        small = omega (arith, first.small, later.small);
+        sound = λ asked s. later.sound asked (first.sound asked s);
         ends = λ call i answer most acc fits all pos e.
             let I : ArgumentValue → Type 0 = λ v. v.index ≡ i in
             let n = argument_in a call i in
             more (rw (split_answer (λ k. eqb (high k) half) vs n answer) at
-            (rest.ends call i _ (8 * length (own vs) + most) acc fits (All-filter (λ v. not (has_half v)) I vs all)
+            (later.ends call i _ (8 * length (group vs) + most) acc fits (All-filter (λ v. not (has_half v)) I vs all)
             (omega arith) (λ b. first.ends call i answer most b fits (All-filter has_half I vs all) pos e)))
             (omega arith);
       }
 
 pub own_some : (vs : List ArgumentValue) (d : ArgumentValue) → 0 < length vs
-    → 0 < length (own (high (get_or vs 0 d).value) vs)
+    → 0 < length (group (high (get_or vs 0 d).value) vs)
 own_some [] d some = absurd (omega arith)
 own_some (v ∷ vs) d some = rw (eq-eqb (high v.value) (high v.value) refl) (omega arith)
 
@@ -299,51 +299,51 @@ fine_of a i (v ∷ vs) [] each = absurd each
 fine_of a i (v ∷ vs) (r ∷ rs) each = (each.0.fine, fine_of a i vs rs each.2)
 
 -- each of the rules has one condition
-own_bound : (a : Architecture) (i : ℕ) (vs : List ArgumentValue) (rs rest : List Rule) → AreValuesOf a i vs rs
-    → sum_by rule_bound (rs ++ rest) ≡ 10 * length vs + sum_by rule_bound rest
-own_bound a i [] [] rest each = omega arith
-own_bound a i [] (r ∷ rs) rest each = absurd each
-own_bound a i (v ∷ vs) [] rest each = absurd each
-own_bound a i (v ∷ vs) (r ∷ rs) rest each =
-    let one = each.0.one in
-    omega (arith, sum_by-cons rule_bound r (rs ++ rest), own_bound a i vs rs rest each.2)
+own_bound : (a : Architecture) (i : ℕ) (vs : List ArgumentValue) (rs rules_behind : List Rule) → AreValuesOf a i vs rs
+    → sum_by rule_bound (rs ++ rules_behind) ≡ 10 * length vs + sum_by rule_bound rules_behind
+own_bound a i [] [] rules_behind each = omega arith
+own_bound a i [] (r ∷ rs) rules_behind each = absurd each
+own_bound a i (v ∷ vs) [] rules_behind each = absurd each
+own_bound a i (v ∷ vs) (r ∷ rs) rules_behind each =
+    let one_condition = each.0.one_condition in
+    omega (arith, sum_by-cons rule_bound r (rs ++ rules_behind), own_bound a i vs rs rules_behind each.2)
 
-some_bound : (a : Architecture) (i : ℕ) (vs : List ArgumentValue) (rs rest : List Rule) → AreValuesOf a i vs rs
-    → 0 < length vs → rules_bound (rs ++ rest) ≡ 1 + 10 * length vs + sum_by rule_bound rest
-some_bound a i [] rs rest each some = absurd (omega arith)
-some_bound a i (v ∷ vs) [] rest each some = absurd each
-some_bound a i (v ∷ vs) (r ∷ rs) rest each some = omega (arith, own_bound a i (v ∷ vs) (r ∷ rs) rest each)
+some_bound : (a : Architecture) (i : ℕ) (vs : List ArgumentValue) (rs rules_behind : List Rule) → AreValuesOf a i vs rs
+    → 0 < length vs → rules_bound (rs ++ rules_behind) ≡ 1 + 10 * length vs + sum_by rule_bound rules_behind
+some_bound a i [] rs rules_behind each some = absurd (omega arith)
+some_bound a i (v ∷ vs) [] rules_behind each some = absurd each
+some_bound a i (v ∷ vs) (r ∷ rs) rules_behind each some = omega (arith, own_bound a i (v ∷ vs) (r ∷ rs) rules_behind each)
 
-plain_rest : (rs rest : List Rule) → AllByRecursion IsPlainRule (rs ++ rest) → AllByRecursion IsPlainRule rest
-plain_rest [] rest all = all
-plain_rest (r ∷ rs) rest all = plain_rest rs rest all.1
+plain_rest : (rs rules_behind : List Rule) → AllByRecursion IsPlainRule (rs ++ rules_behind) → AllByRecursion IsPlainRule rules_behind
+plain_rest [] rules_behind all = all
+plain_rest (r ∷ rs) rules_behind all = plain_rest rs rules_behind all.1
 
 first_of_values : (a : Architecture) (default : Answer) (call : CallRecord) (i : ℕ) (vs : List ArgumentValue)
-    (rs rest : List Rule) → AreValuesOf a i vs rs
-    → value_answer vs (argument_in a call i) (first_answer a call default rest)
-    ≡ first_answer a call default (rs ++ rest)
-first_of_values a default call i [] [] rest each = refl
-first_of_values a default call i [] (r ∷ rs) rest each = absurd each
-first_of_values a default call i (v ∷ vs) [] rest each = absurd each
-first_of_values a default call i (v ∷ vs) (r ∷ rs) rest each =
+    (rs rules_behind : List Rule) → AreValuesOf a i vs rs
+    → value_answer vs (argument_in a call i) (first_answer a call default rules_behind)
+    ≡ first_answer a call default (rs ++ rules_behind)
+first_of_values a default call i [] [] rules_behind each = refl
+first_of_values a default call i [] (r ∷ rs) rules_behind each = absurd each
+first_of_values a default call i (v ∷ vs) [] rules_behind each = absurd each
+first_of_values a default call i (v ∷ vs) (r ∷ rs) rules_behind each =
     let is = each.0 in
-    rw (is.holds call, each.1, is.answer, first_of_values a default call i vs rs rest each.2) refl
+    rw (is.holds call, each.1, is.answer, first_of_values a default call i vs rs rules_behind each.2) refl
 
 -- The search stands for the rules of the values.
-pub values_more : (a : Architecture) (default : Answer) (i : ℕ) (vs : List ArgumentValue) (rs rest : List Rule)
+pub values_more : (a : Architecture) (default : Answer) (i : ℕ) (vs : List ArgumentValue) (rs rules_behind : List Rule)
     {before after : List Insn} → AreValuesOf a i vs rs → 0 < length vs → AreValuesPut a vs before after
-    → AnswersRules a default rest before → AnswersRules a default (rs ++ rest) after
-values_more a default i vs rs rest each some put next =
-    let bound = some_bound a i vs rs rest each some in
-    let behind = rules_bounded rest in
+    → AnswersRules a default rules_behind before → AnswersRules a default (rs ++ rules_behind) after
+values_more a default i vs rs rules_behind each some put next =
+    let bound = some_bound a i vs rs rules_behind each some in
+    let behind = rules_bounded rules_behind in
     record {
       some = omega (arith, next.some, put.longer);
       len = omega (arith, next.len, put.small);
-      sound = λ asked is. put.sound asked (next.sound asked (λ e. plain_rest rs rest (is e)));
+      sound = λ asked is. put.sound asked (next.sound asked (λ e. plain_rest rs rules_behind (is e)));
       ends = λ call fits acc.
           let all = All-from_recursion (λ v. v.index ≡ i) vs (index_of a i vs rs each) in
-          rw (← first_of_values a default call i vs rs rest each)
-          (more (put.ends call i _ (rules_bound rest - 2) acc fits all (omega arith) (λ b. next.ends call fits b))
+          rw (← first_of_values a default call i vs rs rules_behind each)
+          (more (put.ends call i _ (rules_bound rules_behind - 2) acc fits all (omega arith) (λ b. next.ends call fits b))
           (omega arith));
     }
 
@@ -361,19 +361,19 @@ pub before_more : {a : Architecture} {rules : List Rule} {end : ℕ} {vs : List 
     → r ≡ get_or rules (i - 1) r → IsValueOf a v r → (0 < length vs → v.index ≡ (get_or vs 0 v).index)
     → AreValuesBefore a rules end (v ∷ vs)
 before_more {a} {rules} {end} {vs} i v r values count some inside here is same =
-    let each = each_more a values.argument vs values.own v r values.each is same in
+    let each = each_more a values.argument vs values.value_rules v r values.each is same in
     let begin : end - length vs ≡ i = omega arith in
-    let rest : drop i rules ≡ values.own ++ drop end rules = rw begin at values.whole in
+    let at_begin : drop i rules ≡ values.value_rules ++ drop end rules = rw begin at values.whole in
     record {
       argument = each.0;
       few = omega arith;
-      own = r ∷ values.own;
+      value_rules = r ∷ values.value_rules;
       whole =
           let at_r : end - length (v ∷ vs) ≡ i - 1 = omega arith in
           let next : i - 1 + 1 ≡ i = omega arith in
           ap (λ (n : ℕ). drop n rules) at_r ∙ drop_more rules (i - 1) r (omega arith)
           ∙ ap (λ (q : Rule). q ∷ drop (i - 1 + 1) rules) (sym here)
-          ∙ ap (λ (n : ℕ). r ∷ drop n rules) next ∙ ap (λ (qs : List Rule). r ∷ qs) rest;
+          ∙ ap (λ (n : ℕ). r ∷ drop n rules) next ∙ ap (λ (qs : List Rule). r ∷ qs) at_begin;
       each = each.1;
     }
 
@@ -389,7 +389,7 @@ pub values_small : {a : Architecture} {rules : List Rule} {end : ℕ} {vs : List
     → AreValuesBefore a rules end vs → 0 < length vs → length code + 2 ≤ rules_bound (drop end rules)
     → length code + 8 * length vs ≤ rules_bound rules
 values_small {a} {rules} {end} {vs} code values some few =
-    let bound = some_bound a values.argument vs values.own (drop end rules) values.each some in
+    let bound = some_bound a values.argument vs values.value_rules (drop end rules) values.each some in
     let whole = rest_bound rules (end - length vs) in
     let behind = rules_bounded (drop end rules) in
     omega (arith, rw values.whole at whole)

@@ -89,52 +89,52 @@ module _ (p : Profile) (valid : IsProfile p) (from_zero : (row_of p.architecture
   }
 
   module _ {searched code : List Insn} {index : Position}
-      (found : IsSearchPut p.architecture p.default_answer (most_ranges p) whole [] searched index)
+      (search_put : IsSearchPut p.architecture p.default_answer (most_ranges p) whole [] searched index)
       (gated : IsGated (row_of p.architecture).audit searched code) where
     search_ends : (call : CallRecord) → IsRecord call
         → EndsWithin (words_of call) searched call.nr
         (first_answer p.architecture call p.default_answer (wanted call.nr))
         (2 * suc (binary_digits count) + (1 + sum_by rule_bound (wanted call.nr)))
     search_ends call fits =
-        rw (from_first searched index (found.front refl)) at
-        (found.ends call wanted 0 (2 ^ 32) (suc (binary_digits count)) fits whole_served (omega arith) fits.nr
+        rw (from_first searched index (search_put.front refl)) at
+        (search_put.ends call wanted 0 (2 ^ 32) (suc (binary_digits count)) fits whole_served (omega arith) fits.nr
         (omega (arith, below_digits count)))
 
     -- a call that isn't of its architecture
     foreign : (call : CallRecord) → IsRecord call → (IsOf p.architecture call → ⊥)
         → EndsWithin (words_of call) code 0 kill (8 + 2 * binary_digits count)
-    foreign call fits other = elim (cases_eq call.arch (row_of p.architecture).audit) [
+    foreign call fits differs = elim (cases_eq call.arch (row_of p.architecture).audit) [
       | inr differs ↦ more (gated.foreign call fits differs) (omega arith)
       | inl same ↦ elim (cases_lt last call.nr) [
-        | inr within ↦ absurd (other (record { arch = same; first = omega arith; last = within }))
+        | inr within ↦ absurd (differs (record { arch = same; first = omega arith; last = within }))
         | inl past ↦
             let answer : first_answer p.architecture call p.default_answer (r ∷ []) ≡ kill = rw always foreign_rule.answer in
             let bound = sum_by-cons rule_bound r [] in
             let conditions = ap (λ (l : List _). length l) always in
             let ends = rw answer at (rw (behind call.nr past) at (search_ends call fits)) in
-            more (gated.own call kill _ fits same ends) (omega arith)
+            more (gated.matching call kill _ fits same ends) (omega arith)
       ]
     ]
 
     -- no profile is there but it
     of_none : (call : CallRecord) → (IsOf p.architecture call → ⊥) → (q : Profile) → Contains (p ∷ []) q
         → IsOf q.architecture call → ⊥
-    of_none call other q (zero, lt, e) own = other (subst (λ (s : Profile). IsOf s.architecture call) (sym e) own)
-    of_none call other q (suc k, lt, e) own = absurd (omega arith)
+    of_none call differs q (zero, lt, e) is_of = differs (subst (λ (s : Profile). IsOf s.architecture call) (sym e) is_of)
+    of_none call differs q (suc k, lt, e) is_of = absurd (omega arith)
 
     answers : (call : CallRecord) → IsRecord call → AnswersCall (p ∷ []) code call
     answers call fits = elim (own_or_foreign p.architecture call) [
-      | inl own ↦
-          let ends = rw (within call.nr own.last) at (search_ends call fits) in record {
+      | inl is_of ↦
+          let ends = rw (within call.nr is_of.last) at (search_ends call fits) in record {
             answer = own_answer p call;
-            of_words = more (gated.own call _ _ fits own.arch (rw (own_first p s stub.always call stub.answer) at ends))
+            of_words = more (gated.matching call _ _ fits is_of.arch (rw (own_first p s stub.always call stub.answer) at ends))
                 (omega (arith, own_steps p s stub.always call.nr));
-            of_profiles = by_profile p (0, omega arith, refl) own _ (own_answered p call own);
+            of_profiles = by_profile p (0, omega arith, refl) is_of _ (own_answered p call is_of);
           }
-      | inr other ↦ record {
+      | inr differs ↦ record {
         answer = kill;
-        of_words = more (foreign call fits other) (omega arith);
-        of_profiles = by_none (of_none call other);
+        of_words = more (foreign call fits differs) (omega arith);
+        of_profiles = by_none (of_none call differs);
       }
     ]
 
@@ -142,9 +142,9 @@ module _ (p : Profile) (valid : IsProfile p) (from_zero : (row_of p.architecture
     pub whole_filter : IsFilterOf (p ∷ []) code
     whole_filter = record {
       some = gated.some;
-      sized = omega (arith, gated.small, found.small, bounded, sum_by-cons size_bound_of p []);
+      sized = omega (arith, gated.small, search_put.small, bounded, sum_by-cons size_bound_of p []);
       sound = λ asked is. gated.sound asked
-          (found.put.sound asked (λ e. whole_rules IsPlainRule (All-head IsPlainProfile p [] (is e))
+          (search_put.put.sound asked (λ e. whole_rules IsPlainRule (All-head IsPlainProfile p [] (is e))
           (plain s stub.always) (plain r always)) tt);
       answered = answers;
     } where

@@ -135,8 +135,8 @@ fn searches_of(
     counts: &[CallCount],
 ) -> Result<(VecDeque<Insn>, Vec<Search>), Memory>
     requires { length profiles.now ≤ bpf_maxinsns }
-    ensures put { IfOk result (λ found. AreSearched profiles.now found.0.items found.1.items) }
-    ensures small { IfOk result (λ found. length found.0.items ≤ 2 ^ 18 * length profiles.now) }
+    ensures put { IfOk result (λ put. AreSearched profiles.now put.0.items put.1.items) }
+    ensures small { IfOk result (λ put. length put.0.items ≤ 2 ^ 18 * length profiles.now) }
 {
     let mut code = VecDeque::new(alloc);
     let mut searches = VecDeque::new(alloc);
@@ -220,8 +220,8 @@ fn filter_of(alloc: Global, profiles: &[Profile], counts: &[CallCount]) -> Resul
     filter_of_several(alloc, profiles, counts)
 }
 
-/// Compiles profiles, of which no two are for one record, as `compile_profiles` does. The more often a syscall is called
-/// beside others, the fewer steps its runs take, within the same bounds.
+/// Compiles profiles, of which no two are for one record, as `compile_profiles` does. Searches are cut by how often each
+/// syscall is called, so that frequent ones take few steps; what is promised doesn't depend on the counts.
 #[tactic(auto, using(crate::proofs::Valid::answers_same, crate::proofs::Valid::is_plain))]
 pub fn compile_by_counts(
     alloc: Global,

@@ -30,16 +30,16 @@ fn put_foreign(code: &mut VecDeque<Insn>) -> Result<Position, AllocError>
     put_block(code, &[return_with(FOREIGN_ANSWER)])
 }
 
-/// Puts tests of a syscall number, which is at least `known`, in front of the searches for architectures with one value
+/// Puts tests of a syscall number, which is at least `least`, in front of the searches for architectures with one value
 /// of `arch`. An architecture's numbers begin at 0 or go on to the greatest one, so one test tells them from others.
 fn put_tests(
     code: &mut VecDeque<Insn>,
-    known: u32,
+    least: u32,
     searches: &[Search],
 ) -> Result<Position, AllocError>
     requires stand { AllStand searches.now code.now.items }
     requires few { length code.now.items + 2 * length searches.now + 1 < 2 ^ 32 }
-    ensures { IfOk result (AreTestsPut known searches.now code.old.items code.new.items) }
+    ensures { IfOk result (AreTestsPut least searches.now code.old.items code.new.items) }
 {
     let Some((search, others)) = searches.split_first() else {
         return put_foreign(code);
@@ -49,10 +49,10 @@ fn put_tests(
         let above = put_tests(code, last + 1, others)?;
         return put_branch(code, Test::GreaterOrEqual, last + 1, above, search.index);
     }
-    if known < first {
-        let below = put_tests(code, known, others)?;
-        let own = put_jump(code, search.index)?;
-        return put_branch(code, Test::GreaterOrEqual, first, own, below);
+    if least < first {
+        let below = put_tests(code, least, others)?;
+        let jump = put_jump(code, search.index)?;
+        return put_branch(code, Test::GreaterOrEqual, first, jump, below);
     }
     put_jump(code, search.index)
 }
@@ -77,16 +77,16 @@ pub(crate) fn put_only_gate(code: &mut VecDeque<Insn>, audit: u32) -> Result<(),
     ensures { OnOk result (IsGated audit code.old.items code.new.items) }
 {
     code.push_front(load_word(0))?;
-    let own = Position(code.len());
+    let hit = Position(code.len());
     let foreign = put_foreign(code)?;
-    put_branch(code, Test::Equal, audit, own, foreign)?;
+    put_branch(code, Test::Equal, audit, hit, foreign)?;
     code.push_front(load_word(1))?;
     Ok(())
 }
 
 /// The searches for architectures with a value of `arch`.
 fn with_audit(alloc: Global, searches: &[Search], audit: u32) -> Result<Vec<Search>, AllocError>
-    ensures { IfOk result (λ own. own.items ≡ filter (λ s. audit_of s == audit) searches.now) }
+    ensures { IfOk result (λ matching. matching.items ≡ filter (λ s. audit_of s == audit) searches.now) }
 {
     searches
         .iter()
@@ -117,19 +117,19 @@ pub(crate) fn put_dispatch(
     requires few { length code.now.items + 6 * length searches.now + 1 < 2 ^ 32 }
     ensures { IfOk result (IsDispatchPut searches.now code.old.items code.new.items) }
 {
-    let Some((first, rest)) = searches.split_first() else {
+    let Some((first, later)) = searches.split_first() else {
         put_front(code, &[return_with(FOREIGN_ANSWER)])?;
         return Ok(Position(code.len()));
     };
     let audit = first.architecture.audit();
-    let own = with_audit(alloc, searches, audit)?;
-    let others = without_audit(alloc, rest, audit)?;
+    let matching = with_audit(alloc, searches, audit)?;
+    let others = without_audit(alloc, later, audit)?;
     if others.is_empty() {
-        let gate = put_gate(code, &own)?;
+        let gate = put_gate(code, &matching)?;
         let foreign = put_foreign(code)?;
         return put_branch(code, Test::Equal, audit, gate, foreign);
     }
     let next = put_dispatch(alloc, code, &others)?;
-    let gate = put_gate(code, &own)?;
+    let gate = put_gate(code, &matching)?;
     put_branch(code, Test::Equal, audit, gate, next)
 }

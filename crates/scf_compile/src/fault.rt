@@ -21,7 +21,7 @@ impl From<Memory> for CompileFault {
 
     ghost from_gives = { λ _ e. e ≡ faults.Memory };
 
-    fn from(_refused: Memory) -> CompileFault {
+    fn from(_error: Memory) -> CompileFault {
         CompileFault::Memory
     }
 }

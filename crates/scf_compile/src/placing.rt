@@ -58,7 +58,7 @@ fn stands_behind(code: &VecDeque<Insn>, passed: usize, block: &[Insn]) -> bool
         && block
             .iter()
             .zip(code.iter().skip(passed))
-            .all(|(insn, other)| insn == other)
+            .all(|(wanted, insn)| wanted == insn)
 }
 
 /// The nearest position of a block, from `earlier` on, that a conditional jump, put in front of the code, can reach.

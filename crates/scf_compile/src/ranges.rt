@@ -23,19 +23,19 @@ fn are_alike(rules: &[Rule], others: &[Rule]) -> bool
     ensures { IsTrue result → (default : Answer) → StandsFor default rules.now others.now }
 {
     rules.len() == others.len()
-        && rules.iter().zip(others).all(|(rule, other)| {
-            rule.answer == other.answer && rule.conditions.as_slice() == other.conditions.as_slice()
+        && rules.iter().zip(others).all(|(left, right)| {
+            left.answer == right.answer && left.conditions.as_slice() == right.conditions.as_slice()
         })
 }
 
 /// The rules of a syscall number, or none if all of them give the default answer.
-fn effective_rules<'a>(own: &'a NumberRules, default: Answer) -> &'a [Rule]
-    ensures { AreEffective default result.now own.now.rules.items }
+fn effective_rules<'a>(number_rules: &'a NumberRules, default: Answer) -> &'a [Rule]
+    ensures { AreEffective default result.now number_rules.now.rules.items }
 {
-    if own.rules.iter().all(|rule| rule.answer == default) {
-        &own.rules[..0]
+    if number_rules.rules.iter().all(|rule| rule.answer == default) {
+        &number_rules.rules[..0]
     } else {
-        &own.rules
+        &number_rules.rules
     }
 }
 
@@ -82,17 +82,21 @@ pub(crate) fn ranges_of<'a>(
     numbers: &'a [NumberRules],
     default: Answer,
 ) -> Result<Vec<NrRange<'a>>, AllocError>
-    requires first { All (λ own. (row_of architecture).first ≤ own.number) numbers.now }
-    requires last { All (λ own. own.number ≤ (row_of architecture).last) numbers.now }
+    requires first { All (λ n. (row_of architecture).first ≤ n.number) numbers.now }
+    requires last { All (λ n. n.number ≤ (row_of architecture).last) numbers.now }
     ensures { IfOk result (λ ranges. (rules : List Rule) → AreNumbersOf numbers.now rules
         → AreRangesOfRules architecture default ranges.items rules) }
 {
     let mut ranges = Vec::new(alloc);
     let mut next = u64::from(architecture.first());
-    for own in numbers {
-        let number = u64::from(own.number);
+    for number_rules in numbers {
+        let number = u64::from(number_rules.number);
         fill(&mut ranges, next, number, &[])?;
-        add_range(&mut ranges, own.number, effective_rules(own, default))?;
+        add_range(
+            &mut ranges,
+            number_rules.number,
+            effective_rules(number_rules, default),
+        )?;
         next = number + 1;
     }
     fill(&mut ranges, next, u64::from(architecture.last()) + 1, &[])?;

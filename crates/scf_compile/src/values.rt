@@ -203,7 +203,7 @@ fn values_with(
     values: &[ArgumentValue],
     half: u32,
 ) -> Result<Vec<ArgumentValue>, AllocError>
-    ensures { IfOk result (λ own. own.items ≡ filter (λ v. high v.value == half) values.now) }
+    ensures { IfOk result (λ group. group.items ≡ filter (λ v. high v.value == half) values.now) }
 {
     values
         .iter()
@@ -243,8 +243,8 @@ pub(crate) fn put_values(
     let mut remaining = values;
     while !remaining.is_empty() {
         let half = high_half(remaining[0].value);
-        let own = values_with(alloc, &remaining, half)?;
-        put_half_search(alloc, code, architecture, half, &own)?;
+        let group = values_with(alloc, &remaining, half)?;
+        put_half_search(alloc, code, architecture, half, &group)?;
         remaining = values_without(alloc, &remaining, half)?;
     }
     Ok(())

@@ -16,7 +16,7 @@ pub struct CallCount {
     pub count: u64,
 }
 
-/// The weight of one call. Numbers with rules weigh 1 beside it.
+/// The weight of one call; a number with rules weighs 1.
 const CALL_WEIGHT: u64 = 1024;
 
 /// What a syscall number adds to the weight of its range.

@@ -1,5 +1,5 @@
--- The instructions that test one condition. Where it holds the filter goes on behind them, and where it fails it passes
--- `out` more instructions.
+-- The instructions that test one condition. If it holds, the instruction behind them is next; if it fails, `out` more
+-- are skipped.
 use Rattle.std.specs.Prelude.{ℕ, Bool, ◌+◌, ◌*◌, ◌==◌, List, [], ◌∷◌, ◌++◌, length, if◌then◌else◌}
 use Rattle.scf_insn.specs.Architectures.{row_of}
 use Rattle.scf_insn.specs.declared.architecture.Architecture.{Architecture}
@@ -20,7 +20,7 @@ use Rattle.scf_insn.specs.declared.mask.MaskKind.TheVariants.{Empty, OneBit, Ful
 use Rattle.scf_compile.specs.internal.Insns.{load_word, and_with, jump_if}
 use Rattle.scf_compile.specs.internal.Placing.{skip_code}
 
--- tests a word against a constant: `hit` and `miss` are passed behind the two instructions
+-- tests a word against a constant, and skips `hit` or `miss` instructions behind the test
 abbrev pub word_code : Test → ℕ → ℕ → ℕ → ℕ → List Insn
 word_code test word constant hit miss = load_word word ∷ jump_if test constant hit miss ∷ []
 

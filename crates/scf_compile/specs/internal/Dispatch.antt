@@ -29,15 +29,15 @@ pub record IsSearched (searches : List Search) (code : List Insn) (call : CallRe
   pub none : AllByRecursion (λ s. IsOf s.architecture call → ⊥) searches → answer ≡ seccomp_ret_kill_process
   pub some : 0 < most
 
--- From an index on a call, whose number is no less than `known`, is led to the search that its number belongs to. All
+-- From an index on a call, whose number is at least `least`, is led to the search that its number belongs to. All
 -- searches are for the call's value of `arch`. Where there are any, their tests stand first.
-pub record AreTestsPut (known : ℕ) (searches : List Search) (before after : List Insn) (index : Position)
+pub record AreTestsPut (least : ℕ) (searches : List Search) (before after : List Insn) (index : Position)
     : Type 0 where
   pub put : ArePut (Unit {0}) before after index
   pub front : (searches ≡ []) ⊎ (index.0 ≡ length after)
   pub small : length after ≤ length before + 2 * length searches + 1
   pub ends : (call : CallRecord) (answer most : ℕ) → IsRecord call
-      → AllByRecursion (λ s. call.arch ≡ audit_of s) searches → known ≤ call.nr
+      → AllByRecursion (λ s. call.arch ≡ audit_of s) searches → least ≤ call.nr
       → IsSearched searches before call answer most
       → EndsWithin (words_of call) (code_from index after) call.nr answer (2 * length searches + most)
 
@@ -56,7 +56,7 @@ pub record IsGated (audit : ℕ) (before after : List Insn) : Type 0 where
   pub some : 0 < length after
   pub small : length after ≤ length before + 4
   pub sound : (asked : Bool) → AreSound asked before → AreSound asked after
-  pub own : (call : CallRecord) (answer most : ℕ) → IsRecord call → call.arch ≡ audit
+  pub matching : (call : CallRecord) (answer most : ℕ) → IsRecord call → call.arch ≡ audit
       → EndsWithin (words_of call) before call.nr answer most → EndsWithin (words_of call) after 0 answer (3 + most)
   pub foreign : (call : CallRecord) → IsRecord call → call.arch ≢ audit
       → EndsWithin (words_of call) after 0 seccomp_ret_kill_process 3

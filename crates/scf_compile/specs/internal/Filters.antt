@@ -55,8 +55,8 @@ AnswersRules a default rules code =
     Answers code (rules_bound rules - 2) (AllByRecursion IsPlainRule rules)
     (λ call. first_answer a call default rules)
 
--- Some instructions are put before others, which stay at their indices, and sound with them, and plain where this is
--- so.
+-- Instructions are put in front of others, which keep their positions. All are sound if the others are, and plain if
+-- this holds.
 pub record ArePut (plain : Type 0) (before after : List Insn) (index : Position) : Type 0 where
   pub longer : length before ≤ length after
   pub stays : (p : Position) → p.0 ≤ length before → code_from p after ≡ code_from p before
@@ -64,8 +64,9 @@ pub record ArePut (plain : Type 0) (before after : List Insn) (index : Position)
   pub near : IsNear index after
   pub sound : (asked : Bool) → (IsTrue asked → plain) → AreSound asked before → AreSound asked after
 
--- From an index on each call with a number that the ranges serve is answered by the rules wanted of it, after two
--- steps for each halving of so many ranges. Where no code was before, the search begins the code.
+-- From an index on, each call with a number in the ranges is answered by the rules that are wanted of it, within two
+-- steps for each time that so many ranges can be halved, and those of the rules. The search begins the code if there
+-- was none before.
 pub record IsSearchPut (a : Architecture) (default : Answer) (most : ℕ) (ranges : List NrRange)
     (before after : List Insn) (index : Position) : Type 0 where
   pub small : length after + 2 ≤ length before + sum_by range_bound ranges
@@ -86,14 +87,14 @@ own_answer p call =
 abbrev pub most_ranges : Profile → ℕ
 most_ranges p = 2 * number_count p + 2
 
--- Ranges of which the search of a profile may be.
+-- Ranges that the search of a profile may have.
 pub record MayBePut (p : Profile) (ranges : List NrRange) : Type 0 where
   pub some : 0 < length ranges
   pub few : length ranges ≤ most_ranges p
   pub rules : AllRules (IsRule p.architecture) ranges
   pub small : sum_by range_bound ranges < 2 ^ 31
 
--- From its index on each call of the profile's architecture is answered as the profile answers it.
+-- From the search's index on, each call of the profile's architecture is answered as the profile answers it.
 pub record IsSearchOf (p : Profile) (code : List Insn) (s : Search) : Type 0 where
   pub architecture : s.architecture ≡ p.architecture
   pub some : 0 < s.index.0
@@ -113,7 +114,7 @@ pub record AreSearched (ps : List Profile) (code : List Insn) (ss : List Search)
   pub small : length code + 7 * length ps ≤ size_bound_of_each ps
   pub sound : (plain : Bool) → (IsTrue plain → All IsPlainProfile ps) → AreSound plain code
 
--- what the filter and the profiles answer to a call
+-- the filter and the profiles give a call the same answer, within the bound on the steps
 pub record AnswersCall (ps : List Profile) (code : List Insn) (call : CallRecord) : Type 0 where
   pub answer : ℕ
   pub of_words : EndsWithin (words_of call) code 0 answer (search_bound_of_each ps)

@@ -27,10 +27,10 @@ pub record StandsFor (default : Answer) (rules others : List Rule) : Type 0 wher
       → first_answer a call default rules ≡ first_answer a call default others
   pub small : sum_by rule_bound rules ≤ sum_by rule_bound others
 
--- The rules of a number that tell: they stand for all of them, and are all or none.
-pub record AreEffective (default : Answer) (telling own : List Rule) : Type 0 where
-  pub stand : StandsFor default telling own
-  pub some : (telling ≡ own) ⊎ (telling ≡ [])
+-- The effective rules of a number: all of its rules, or none if none of them makes a difference.
+pub record AreEffective (default : Answer) (effective rules : List Rule) : Type 0 where
+  pub stand : StandsFor default effective rules
+  pub some : (effective ≡ rules) ⊎ (effective ≡ [])
 
 -- a count of instructions that a range stays within: with its share of the tests of the call number
 abbrev pub rules_bound : List Rule → ℕ
@@ -69,7 +69,7 @@ pub data IsLaid (before : List NrRange) (first : ℕ) (rules : List Rule) (after
 pub record AreRangesUpTo (first end most bound : ℕ) (default : Answer) (ranges : List NrRange) (rules : List Rule)
     : Type 0 where
   pub serve : AreServed default (λ nr. rules_of nr rules) first ranges end
-  pub own : AllRules (Contains rules) ranges
+  pub from_rules : AllRules (Contains rules) ranges
   pub few : length ranges ≤ most
   pub small : sum_by range_bound ranges ≤ bound
 

@@ -19,7 +19,7 @@ Keeps _ i behind = ⊥
 
 pub record IsSound (plain : Bool) (i : Insn) (behind : ℕ) : Type 0 where
   pub operation : Operation
-  pub known : operation_of i.code ≡ Some operation
+  pub is_operation : operation_of i.code ≡ Some operation
   pub keeps : Keeps operation i behind
   pub is_plain : IsTrue plain → IsPlainOperation operation i
 

@@ -25,7 +25,7 @@ pub record IsValueOf (a : Architecture) (v : ArgumentValue) (r : Rule) : Type 0 
   pub fine : IsArgumentValue a v
   pub holds : (call : CallRecord) → all_hold a call r.conditions ≡ (argument_in a call v.index == v.value)
   pub answer : v.answer ≡ r.answer
-  pub one : length r.conditions ≡ 1
+  pub one_condition : length r.conditions ≡ 1
 
 -- each rule is for the value at its index, of one argument
 abbrev pub AreValuesOf : Architecture → ℕ → List ArgumentValue → List Rule → Type 0
@@ -38,14 +38,14 @@ pub record AreValuesBefore (a : Architecture) (rules : List Rule) (end : ℕ) (v
     : Type 0 where
   pub argument : ℕ
   pub few : length values ≤ end
-  pub own : List Rule
-  pub whole : drop (end - length values) rules ≡ own ++ drop end rules
-  pub each : AreValuesOf a argument values own
+  pub value_rules : List Rule
+  pub whole : drop (end - length values) rules ≡ value_rules ++ drop end rules
+  pub each : AreValuesOf a argument values value_rules
 
 -- the answer of the first value that a number is, else another answer
 abbrev pub value_answer : List ArgumentValue → ℕ → ℕ → ℕ
-value_answer [] n other = other
-value_answer (v ∷ vs) n other = (if n == v.value then v.answer.0 else value_answer vs n other)
+value_answer [] n fallback = fallback
+value_answer (v ∷ vs) n fallback = (if n == v.value then v.answer.0 else value_answer vs n fallback)
 
 -- From an index on, the low half of a number, in the accumulator, is looked for among values that have its high half.
 -- Where it is none of them, the code at `behind` follows.
@@ -62,7 +62,7 @@ pub record IsValueSearchPut (values : List ArgumentValue) (behind : Position) (b
       → ((a : ℕ) → EndsWithin words (code_from behind before) a answer most)
       → EndsWithin words (code_from index after) (low n) (value_answer values n answer) (2 * length values + most)
 
--- An argument is looked for among its values, and where it is none of them, the code that stood follows.
+-- An argument is looked for among its values; if it is none of them, the code that was there before follows.
 pub record AreValuesPut (a : Architecture) (values : List ArgumentValue) (before after : List Insn) : Type 0 where
   pub longer : length before ≤ length after
   pub small : length after ≤ length before + 8 * length values

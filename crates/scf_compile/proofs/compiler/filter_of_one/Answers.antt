@@ -23,8 +23,8 @@ put_only_gate-requires-clause-few c =
     let foreign = constant (rw c.architecture-architecture.ensures at c.constant_rule-foreign.ensures.rule)
     c.constant_rule-foreign.ensures.always c.constant_rule-foreign.ensures.answer in
     let may = whole_may_be_put _ c.in_ok-ranges.ensures.profile c.requires _ _ stub foreign ranges in
-    let found = rw (c.deref.ensures.value, c.new-code.ensures.items) at c.in_ok-put_ranges.ensures in
-    omega (arith, found.small, may.small)
+    let put = rw (c.deref.ensures.value, c.new-code.ensures.items) at c.in_ok-put_ranges.ensures in
+    omega (arith, put.small, may.small)
 
 pub returns : goal.returns
 returns c =
@@ -33,7 +33,7 @@ returns c =
     c.constant_rule-stub.ensures.always c.constant_rule-stub.ensures.answer in
     let foreign = constant (rw c.architecture-architecture.ensures at c.constant_rule-foreign.ensures.rule)
     c.constant_rule-foreign.ensures.always c.constant_rule-foreign.ensures.answer in
-    let found = rw (c.deref.ensures.value, c.new-code.ensures.items) at c.in_ok-put_ranges.ensures in
+    let put = rw (c.deref.ensures.value, c.new-code.ensures.items) at c.in_ok-put_ranges.ensures in
     let gated = rw (c.audit.ensures, c.architecture-architecture.ensures) at c.in_ok-put_only_gate.ensures in
-    rw c.from.ensures.0 (whole_filter _ c.in_ok-ranges.ensures.profile c.requires _ _ stub foreign ranges found
+    rw c.from.ensures.0 (whole_filter _ c.in_ok-ranges.ensures.profile c.requires _ _ stub foreign ranges put
     gated)

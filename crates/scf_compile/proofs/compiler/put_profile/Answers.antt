@@ -17,9 +17,9 @@ returns c =
     let stub = c.constant_rule-stub.ensures in
     let rule = rw c.architecture.ensures at stub.rule in
     let answer = ap (λ (b : Answer). b.0) stub.answer in
-    let found = rw c.deref.ensures.value at c.in_ok-index.ensures in
+    let search_put = rw c.deref.ensures.value at c.in_ok-index.ensures in
     let put = rw c.architecture-2.ensures at c.in_ok-push_front.ensures.items in
     record {
-      put = λ ps before. rw put (searched_more _ valid _ rule stub.always answer _ laid before found);
-      small = omega (arith, found.small, size_small _ valid, own_bounded _ _ stub.always laid);
+      put = λ ps before. rw put (searched_more _ valid _ rule stub.always answer _ laid before search_put);
+      small = omega (arith, search_put.small, size_small _ valid, own_bounded _ _ stub.always laid);
     }

@@ -11,22 +11,22 @@ returns-in_default t c =
 
 pub put_gate-requires-clause-stand : goal.put_gate-requires-clause-stand
 put_gate-requires-clause-stand t c =
-    rw (c.deref.ensures.value, c.in_ok-own.ensures)
+    rw (c.deref.ensures.value, c.in_ok-matching.ensures)
     (parts_stand c.audit-audit.result c.args.searches.now c.args.code.now.items c.requires.stand).0
 
 pub put_gate-requires-clause-few : goal.put_gate-requires-clause-few
 put_gate-requires-clause-few t c =
-    rw (c.deref.ensures.value, c.in_ok-own.ensures)
+    rw (c.deref.ensures.value, c.in_ok-matching.ensures)
     (omega (arith, parts_len c.audit-audit.result c.args.searches.now))
 
 pub put_branch-requires-clause-few : goal.put_branch-requires-clause-few
 put_branch-requires-clause-few t c =
-    let own = c.deref.ensures.value ∙ c.in_ok-own.ensures in
+    let matching = c.deref.ensures.value ∙ c.in_ok-matching.ensures in
     omega (
       arith,
       c.in_ok-gate.ensures.small,
       c.in_ok-foreign.ensures.few,
-      ap (λ (ss : List Search). length ss) own,
+      ap (λ (ss : List Search). length ss) matching,
       parts_len c.audit-audit.result c.args.searches.now,
       c.in-Some.ensures.cases.1,
     )
@@ -34,93 +34,93 @@ put_branch-requires-clause-few t c =
 pub returns-then-is_empty : goal.returns-then-is_empty
 returns-then-is_empty t c =
     let s = c.in-Some.first.now in
-    let rest = c.in-Some.rest.now in
-    let whole : c.args.searches.now ≡ s ∷ rest = search rules in
+    let later = c.in-Some.later.now in
+    let whole : c.args.searches.now ≡ s ∷ later = search rules in
     let audit : c.audit-audit.result ≡ audit_of s = c.audit-audit.ensures in
-    let own : c.deref.result.now ≡ own_of (audit_of s) (s ∷ rest) =
-    c.deref.ensures.value ∙ rw (audit, whole) at c.in_ok-own.ensures in
-    let others : c.in_ok-others.others.items ≡ others_of (audit_of s) rest = rw audit at c.in_ok-others.ensures in
+    let matching : c.deref.result.now ≡ own_of (audit_of s) (s ∷ later) =
+    c.deref.ensures.value ∙ rw (audit, whole) at c.in_ok-matching.ensures in
+    let others : c.in_ok-others.others.items ≡ others_of (audit_of s) later = rw audit at c.in_ok-others.ensures in
     let empty : length c.in_ok-others.others.items ≡ 0 = grind (arith, common_steps) in
-    let none : length (others_of (audit_of s) (s ∷ rest)) ≡ 0 = rw (others_rest s rest, ← others) empty in
-    rw whole (IfOk-weaker c.put_branch.result (IsFirst _ _ _) (IsDispatchPut (s ∷ rest) _ _)
-    (λ index put. dispatch_one s rest none (rw own at c.in_ok-gate.ensures) c.in_ok-foreign.ensures (rw audit at put))
+    let none : length (others_of (audit_of s) (s ∷ later)) ≡ 0 = rw (others_rest s later, ← others) empty in
+    rw whole (IfOk-weaker c.put_branch.result (IsFirst _ _ _) (IsDispatchPut (s ∷ later) _ _)
+    (λ index put. dispatch_one s later none (rw matching at c.in_ok-gate.ensures) c.in_ok-foreign.ensures (rw audit at put))
     c.put_branch.ensures)
 
 pub put_dispatch-requires : goal.put_dispatch-requires
 put_dispatch-requires t c =
-    let rest = c.in-Some.rest.now in
-    let whole : c.args.searches.now ≡ c.in-Some.first.now ∷ rest = search rules in
-    let others : c.deref-2.result.now ≡ others_of c.audit-audit.result rest =
+    let later = c.in-Some.later.now in
+    let whole : c.args.searches.now ≡ c.in-Some.first.now ∷ later = search rules in
+    let others : c.deref-2.result.now ≡ others_of c.audit-audit.result later =
     c.deref-2.ensures.value ∙ c.in_ok-others.ensures in
-    let fewer : length c.deref-2.result.now ≤ length rest =
-    rw others (omega (arith, parts_len c.audit-audit.result rest)) in
+    let fewer : length c.deref-2.result.now ≤ length later =
+    rw others (omega (arith, parts_len c.audit-audit.result later)) in
     let len = c.in-Some.ensures.cases.1 in (
       omega arith,
       (
-        rw others (parts_stand c.audit-audit.result rest c.args.code.now.items (rw whole at c.requires.stand).1).1,
+        rw others (parts_stand c.audit-audit.result later c.args.code.now.items (rw whole at c.requires.stand).1).1,
         omega arith,
       ),
     )
 
 pub put_gate-requires-2-clause-stand : goal.put_gate-requires-2-clause-stand
 put_gate-requires-2-clause-stand t c =
-    rw (c.deref-3.ensures.value, c.in_ok-own.ensures)
+    rw (c.deref-3.ensures.value, c.in_ok-matching.ensures)
     (stand_longer c.args.code.now.items _ _ c.in_ok-next.ensures.put.longer
     (parts_stand c.audit-audit.result c.args.searches.now c.args.code.now.items c.requires.stand).0)
 
 pub put_gate-requires-2-clause-few : goal.put_gate-requires-2-clause-few
 put_gate-requires-2-clause-few t c =
     let s = c.in-Some.first.now in
-    let rest = c.in-Some.rest.now in
-    let whole : c.args.searches.now ≡ s ∷ rest = search rules in
+    let later = c.in-Some.later.now in
+    let whole : c.args.searches.now ≡ s ∷ later = search rules in
     let audit : c.audit-audit.result ≡ audit_of s = c.audit-audit.ensures in
-    let own : c.deref-3.result.now ≡ own_of (audit_of s) (s ∷ rest) =
-    c.deref-3.ensures.value ∙ rw (audit, whole) at c.in_ok-own.ensures in
-    let others : c.deref-2.result.now ≡ others_of (audit_of s) (s ∷ rest) =
-    c.deref-2.ensures.value ∙ rw (others_rest s rest) (rw audit at c.in_ok-others.ensures) in
+    let matching : c.deref-3.result.now ≡ own_of (audit_of s) (s ∷ later) =
+    c.deref-3.ensures.value ∙ rw (audit, whole) at c.in_ok-matching.ensures in
+    let others : c.deref-2.result.now ≡ others_of (audit_of s) (s ∷ later) =
+    c.deref-2.ensures.value ∙ rw (others_rest s later) (rw audit at c.in_ok-others.ensures) in
     omega (
       arith,
       c.in_ok-next.ensures.small,
-      ap (λ (ss : List Search). length ss) own,
+      ap (λ (ss : List Search). length ss) matching,
       ap (λ (ss : List Search). length ss) others,
       ap (λ (ss : List Search). length ss) whole,
-      parts_len (audit_of s) (s ∷ rest),
-      own_some s rest,
+      parts_len (audit_of s) (s ∷ later),
+      own_some s later,
     )
 
 pub put_branch-requires-2-clause-few : goal.put_branch-requires-2-clause-few
 put_branch-requires-2-clause-few t c =
     let s = c.in-Some.first.now in
-    let rest = c.in-Some.rest.now in
-    let whole : c.args.searches.now ≡ s ∷ rest = search rules in
+    let later = c.in-Some.later.now in
+    let whole : c.args.searches.now ≡ s ∷ later = search rules in
     let audit : c.audit-audit.result ≡ audit_of s = c.audit-audit.ensures in
-    let own : c.deref-3.result.now ≡ own_of (audit_of s) (s ∷ rest) =
-    c.deref-3.ensures.value ∙ rw (audit, whole) at c.in_ok-own.ensures in
-    let others : c.deref-2.result.now ≡ others_of (audit_of s) (s ∷ rest) =
-    c.deref-2.ensures.value ∙ rw (others_rest s rest) (rw audit at c.in_ok-others.ensures) in
+    let matching : c.deref-3.result.now ≡ own_of (audit_of s) (s ∷ later) =
+    c.deref-3.ensures.value ∙ rw (audit, whole) at c.in_ok-matching.ensures in
+    let others : c.deref-2.result.now ≡ others_of (audit_of s) (s ∷ later) =
+    c.deref-2.ensures.value ∙ rw (others_rest s later) (rw audit at c.in_ok-others.ensures) in
     omega (
       arith,
       c.in_ok-next.ensures.small,
       c.in_ok-gate-2.ensures.small,
-      ap (λ (ss : List Search). length ss) own,
+      ap (λ (ss : List Search). length ss) matching,
       ap (λ (ss : List Search). length ss) others,
       ap (λ (ss : List Search). length ss) whole,
-      parts_len (audit_of s) (s ∷ rest),
-      own_some s rest,
+      parts_len (audit_of s) (s ∷ later),
+      own_some s later,
     )
 
 pub returns : goal.returns
 returns t c =
     let s = c.in-Some.first.now in
-    let rest = c.in-Some.rest.now in
-    let whole : c.args.searches.now ≡ s ∷ rest = search rules in
+    let later = c.in-Some.later.now in
+    let whole : c.args.searches.now ≡ s ∷ later = search rules in
     let audit : c.audit-audit.result ≡ audit_of s = c.audit-audit.ensures in
-    let own : c.deref-3.result.now ≡ own_of (audit_of s) (s ∷ rest) =
-    c.deref-3.ensures.value ∙ rw (audit, whole) at c.in_ok-own.ensures in
-    let others : c.deref-2.result.now ≡ others_of (audit_of s) (s ∷ rest) =
-    c.deref-2.ensures.value ∙ rw (others_rest s rest) (rw audit at c.in_ok-others.ensures) in
+    let matching : c.deref-3.result.now ≡ own_of (audit_of s) (s ∷ later) =
+    c.deref-3.ensures.value ∙ rw (audit, whole) at c.in_ok-matching.ensures in
+    let others : c.deref-2.result.now ≡ others_of (audit_of s) (s ∷ later) =
+    c.deref-2.ensures.value ∙ rw (others_rest s later) (rw audit at c.in_ok-others.ensures) in
     let here : 0 < length c.in_ok-others.others.items = grind (arith, common_steps) in
-    let some : 0 < length (others_of (audit_of s) (s ∷ rest)) = rw (← others, c.deref-2.ensures.value) here in
-    rw whole (IfOk-weaker c.put_branch-2.result (IsFirst _ _ _) (IsDispatchPut (s ∷ rest) _ _)
-    (λ index put. dispatch_more s rest (rw whole at c.requires.stand) some (rw others at c.in_ok-next.ensures)
-    (rw own at c.in_ok-gate-2.ensures) (rw audit at put)) c.put_branch-2.ensures)
+    let some : 0 < length (others_of (audit_of s) (s ∷ later)) = rw (← others, c.deref-2.ensures.value) here in
+    rw whole (IfOk-weaker c.put_branch-2.result (IsFirst _ _ _) (IsDispatchPut (s ∷ later) _ _)
+    (λ index put. dispatch_more s later (rw whole at c.requires.stand) some (rw others at c.in_ok-next.ensures)
+    (rw matching at c.in_ok-gate-2.ensures) (rw audit at put)) c.put_branch-2.ensures)

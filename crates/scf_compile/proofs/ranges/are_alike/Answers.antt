@@ -15,12 +15,12 @@ alike default [] [] len all = record { answers = λ a call. refl; small = omega 
 alike default [] (o ∷ os) len all = absurd (omega arith)
 alike default (r ∷ rs) [] len all = absurd (omega arith)
 alike default (r ∷ rs) (o ∷ os) len all =
-    let rest = alike default rs os (omega arith) all.1 in
+    let later = alike default rs os (omega arith) all.1 in
     let conditions = same_conditions r.conditions o.conditions all.0.0 in
     record {
-      answers = λ a call. rw (conditions, all.0.1, rest.answers a call) refl;
+      answers = λ a call. rw (conditions, all.0.1, later.answers a call) refl;
       small = rw (sum_by-cons rule_bound r rs, sum_by-cons rule_bound o os, conditions)
-          (let small = rest.small in omega arith);
+          (let small = later.small in omega arith);
     }
 
 pub returns-then-rules-others : goal.returns-then-rules-others

@@ -12,9 +12,9 @@ of_default a default call (r ∷ rs) h =
 
 pub returns-then-all : goal.returns-then-all
 returns-then-all c =
-    let own = c.args.own.now.rules.items in
-    let all = recursion_from_All (λ r. r.answer ≡ c.args.default) own (search rules) in
+    let all_rules = c.args.number_rules.now.rules.items in
+    let all = recursion_from_All (λ r. r.answer ≡ c.args.default) all_rules (search rules) in
     record {
-      stand = record { answers = λ a call. sym (of_default a c.args.default call own all); small = omega arith };
+      stand = record { answers = λ a call. sym (of_default a c.args.default call all_rules all); small = omega arith };
       some = inr refl;
     }

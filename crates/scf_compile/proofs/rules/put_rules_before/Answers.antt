@@ -7,7 +7,7 @@ pub put_values-requires-clause-fine : goal.put_values-requires-clause-fine
 put_values-requires-clause-fine c =
     let values = c.in_ok-values.ensures in
     All-from_recursion (IsArgumentValue c.args.architecture) c.in_ok-values.values.items
-    (fine_of c.args.architecture values.argument c.in_ok-values.values.items values.own values.each)
+    (fine_of c.args.architecture values.argument c.in_ok-values.values.items values.value_rules values.each)
 
 pub put_values-requires-clause-small : goal.put_values-requires-clause-small
 put_values-requires-clause-small c =
@@ -23,7 +23,7 @@ returns-then-not-is_empty-clause-put c = λ default next.
     let len : c.len.result ≡ length vs = search rules in
     let start : c.args.end - length vs ≡ c.args.end - c.len.result = omega arith in
     subst (λ (n : ℕ). AnswersRules a default (drop n c.args.rules.now) c.put_values.new.code.items) start
-    (rw values.whole (values_more a default values.argument vs values.own (drop c.args.end c.args.rules.now)
+    (rw values.whole (values_more a default values.argument vs values.value_rules (drop c.args.end c.args.rules.now)
     values.each some c.in_ok-put_values.ensures next))
 
 pub returns-clause-put : goal.returns-clause-put

@@ -6,8 +6,8 @@ pub put_search-requires : goal.put_search-requires
 put_search-requires t c =
     let halves = c.split_at.ensures in
     let sums = rw sum_by-append at (ap (sum_by range_bound) halves.by_index.0) in
-    let own = all_parts (IsRule c.args.architecture) _ _ (rw halves.by_index.0 at c.requires.rules) in
-    (omega arith, (omega arith, (omega arith, (omega arith, (own.0, omega arith)))))
+    let parts = all_parts (IsRule c.args.architecture) _ _ (rw halves.by_index.0 at c.requires.rules) in
+    (omega arith, (omega arith, (omega arith, (omega arith, (parts.0, omega arith)))))
 
 pub put_search-requires-then-ranges-gt1 : goal.put_search-requires-then-ranges-gt1
 put_search-requires-then-ranges-gt1 t c =
@@ -64,11 +64,11 @@ returns t c =
     let ss = c.args.ranges.now in
     let s = c.index-ranges-0.result in
     let is = one_is ss s c.requires.some (omega arith) c.index-ranges-0.is in
-    let own : AnswersRules c.args.architecture c.args.default s.rules.now c.in_ok-block.block.items =
+    let answers : AnswersRules c.args.architecture c.args.default s.rules.now c.in_ok-block.block.items =
     subst (λ (r : NrRange). AnswersRules c.args.architecture c.args.default r.rules.now c.in_ok-block.block.items)
     (sym c.index-ranges-0.is) c.in_ok-block.ensures in
     let block : AnswersRules c.args.architecture c.args.default s.rules.now c.deref.result.now =
-    rw c.deref.ensures.value own in
+    rw c.deref.ensures.value answers in
     IfOk-weaker c.put_shared.result (IsPut c.deref.result.now c.args.code.now.items c.put_shared.new.code.items)
     (IsSearchPut c.args.architecture c.args.default c.args.most ss _ _)
     (λ index put. rw is (search_one c.args.architecture c.args.default c.args.most s _ _ _ index block put))

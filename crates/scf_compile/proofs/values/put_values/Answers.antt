@@ -6,25 +6,25 @@ pub put_half_search-requires-clause-fine : goal.put_half_search-requires-clause-
 put_half_search-requires-clause-fine c =
     let half = c.high_half-half.result in
     let vs = c.loop-alloc.remaining.items in
-    let own : c.deref-in-loop-alloc.result.now ≡ filter (λ v. eqb (high v.value) half) vs =
-    c.deref-in-loop-alloc.ensures.value ∙ rw c.deref.ensures.value at c.in_ok-own.ensures in
-    rw own (All-filter (λ v. eqb (high v.value) half) (IsArgumentValue c.args.architecture) vs c.loop-alloc.invariant.fine)
+    let group : c.deref-in-loop-alloc.result.now ≡ filter (λ v. eqb (high v.value) half) vs =
+    c.deref-in-loop-alloc.ensures.value ∙ rw c.deref.ensures.value at c.in_ok-group.ensures in
+    rw group (All-filter (λ v. eqb (high v.value) half) (IsArgumentValue c.args.architecture) vs c.loop-alloc.invariant.fine)
 
 pub put_half_search-requires-clause-halves : goal.put_half_search-requires-clause-halves
 put_half_search-requires-clause-halves c =
     let half = c.high_half-half.result in
     let vs = c.loop-alloc.remaining.items in
-    let own : c.deref-in-loop-alloc.result.now ≡ filter (λ v. eqb (high v.value) half) vs =
-    c.deref-in-loop-alloc.ensures.value ∙ rw c.deref.ensures.value at c.in_ok-own.ensures in
-    rw own (All-from_recursion (λ v. high v.value ≡ half) _ (own_halves half vs))
+    let group : c.deref-in-loop-alloc.result.now ≡ filter (λ v. eqb (high v.value) half) vs =
+    c.deref-in-loop-alloc.ensures.value ∙ rw c.deref.ensures.value at c.in_ok-group.ensures in
+    rw group (All-from_recursion (λ v. high v.value ≡ half) _ (own_halves half vs))
 
 pub put_half_search-requires-clause-small : goal.put_half_search-requires-clause-small
 put_half_search-requires-clause-small c =
     let half = c.high_half-half.result in
     let vs = c.loop-alloc.remaining.items in
-    let own : c.deref-in-loop-alloc.result.now ≡ filter (λ v. eqb (high v.value) half) vs =
-    c.deref-in-loop-alloc.ensures.value ∙ rw c.deref.ensures.value at c.in_ok-own.ensures in
-    omega (arith, c.loop-alloc.invariant.small, groups_len half vs, ap (λ (l : List ArgumentValue). length l) own)
+    let group : c.deref-in-loop-alloc.result.now ≡ filter (λ v. eqb (high v.value) half) vs =
+    c.deref-in-loop-alloc.ensures.value ∙ rw c.deref.ensures.value at c.in_ok-group.ensures in
+    omega (arith, c.loop-alloc.invariant.small, groups_len half vs, ap (λ (l : List ArgumentValue). length l) group)
 
 pub loop-alloc-smaller : goal.loop-alloc-smaller
 loop-alloc-smaller c =
@@ -47,18 +47,18 @@ pub loop-alloc-preserved : goal.loop-alloc-preserved
 loop-alloc-preserved c =
     let half = c.high_half-half.result in
     let vs = c.loop-alloc.remaining.items in
-    let own : c.deref-in-loop-alloc.result.now ≡ filter (λ v. eqb (high v.value) half) vs =
-    c.deref-in-loop-alloc.ensures.value ∙ rw c.deref.ensures.value at c.in_ok-own.ensures in
+    let group : c.deref-in-loop-alloc.result.now ≡ filter (λ v. eqb (high v.value) half) vs =
+    c.deref-in-loop-alloc.ensures.value ∙ rw c.deref.ensures.value at c.in_ok-group.ensures in
     let others : c.in_ok-remaining.remaining.items ≡ filter (λ v. not (eqb (high v.value) half)) vs =
     rw c.deref-in-loop-alloc-2.ensures.value at c.in_ok-remaining.ensures in
-    let put = rw own at c.in_ok-put_half_search.ensures in
+    let put = rw group at c.in_ok-put_half_search.ensures in
     let before = c.loop-alloc.invariant in
     let len = groups_len half vs in
     record {
       code = omega (arith, before.code, put.longer);
       fine = rw others (All-filter (λ v. not (eqb (high v.value) half)) (IsArgumentValue c.args.architecture) vs before.fine);
       small = rw others (omega (arith, before.small, put.small));
-      put = λ after rest. before.put after (groups_put half c.args.architecture vs put (rw others at rest));
+      put = λ after later. before.put after (groups_put half c.args.architecture vs put (rw others at later));
     }
 
 pub returns : goal.returns
