@@ -169,7 +169,7 @@ fn filter_of(
     ensures refused { IfErr result (IsCompilationRefused profile.now tables.now reading) }
 {
     let loaded = loaded(alloc, profile, tables, reading)?;
-    match filter_of_each(alloc, &loaded.profiles) {
+    match filter_of_each(alloc, &loaded.profiles, &[]) {
         Ok(bytes) => Ok(Compiled {
             bytes,
             left_out: left_out_of(&loaded),

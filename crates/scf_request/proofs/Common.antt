@@ -28,7 +28,7 @@ pub use Rattle.scf_insn.specs.declared.architecture.Architecture.{Architecture}
 pub use Rattle.scf_insn.specs.declared.architecture.Architecture.TheVariants.{X8664, X86}
 pub use Rattle.scf_insn.specs.declared.number.NumeralFault.{NumeralFault}
 pub use Rattle.scf_profile.proofs.Common.{All-contains, All-more, IfOk-weaker, err_from_is_err_and, false≢true, filter_map-append, map-append, option_map_or, nat_tests}
-pub use Rattle.scf_request.specs.Bundle.{AreNoParts, HasHeader, Held, IsBundlePart, IsHeader, IsPartFault, SpellsParts, architecture_kinds, content_of, contents_by, contents_of, held_of, is_beside, is_beside_profile, is_filter, is_profile, kind_word, split_kinds, stub_architecture, table_architecture}
+pub use Rattle.scf_request.specs.Bundle.{AreNoParts, HasHeader, Held, IsBundlePart, IsHeader, IsPartFault, SpellsParts, architecture_kinds, content_of, contents_by, contents_of, held_of, is_beside, is_beside_profile, is_filter, is_profile, kind_word, split_kinds, counts_architecture, stub_architecture, table_architecture}
 pub use Rattle.scf_request.specs.Options.{NumberOption, choice_in, first_wrong, chosen_of, is_given, number_by, number_in, one_of}
 pub use Rattle.scf_request.specs.Requests.{Command as Asked, command_word}
 pub use Rattle.scf_request.specs.Requests.Command.{Answers, Ask, Asm, Check, Compare, Compile, Decide, Dis, Run}
@@ -37,7 +37,7 @@ pub use Rattle.scf_request.specs.declared.bundle.BundleFault.{BundleFault}
 pub use Rattle.scf_request.specs.declared.bundle.BundleFault.TheVariants.{Header, Memory, Short}
 pub use Rattle.scf_request.specs.declared.bundle.Part.{Part}
 pub use Rattle.scf_request.specs.declared.bundle.PartKind.{PartKind}
-pub use Rattle.scf_request.specs.declared.bundle.PartKind.TheVariants.{Beside, BesideProfile, Filter, Profile, StubOf, Table, TableOf}
+pub use Rattle.scf_request.specs.declared.bundle.PartKind.TheVariants.{Beside, BesideProfile, CountsOf, Filter, Profile, StubOf, Table, TableOf}
 pub use Rattle.scf_request.specs.declared.options.NumberOption.{NumberOption as Kept}
 pub use Rattle.scf_request.specs.Contents.{held_by, rest_of_table}
 pub use Rattle.scf_request.specs.declared.contents.PartReader.{PartReader}

@@ -1,5 +1,5 @@
 -- What the parts of a bundle hold, part by part.
-use Rattle.scf_request.proofs.Common.{◌≡◌, ◌<◌, ◌+◌, ◌++◌, ℕ, List, [], ◌∷◌, length, take, get_or, append-nil, refl, sym, ap, ap₂, ◌∙◌, option_map, if◌then◌else◌, Some, None, take_more, filter_map-append, Part, PartKind, Beside, BesideProfile, Filter, Profile, StubOf, Table, TableOf, Held, content_of, contents_by, contents_of, held_of, is_beside, is_beside_profile, is_filter, is_profile, stub_architecture, table_architecture, with_part, Bool, Option, Architecture}
+use Rattle.scf_request.proofs.Common.{◌≡◌, ◌<◌, ◌+◌, ◌++◌, ℕ, List, [], ◌∷◌, length, take, get_or, append-nil, refl, sym, ap, ap₂, ◌∙◌, option_map, if◌then◌else◌, Some, None, take_more, filter_map-append, Part, PartKind, Beside, BesideProfile, CountsOf, Filter, Profile, StubOf, Table, TableOf, Held, content_of, contents_by, contents_of, held_of, is_beside, is_beside_profile, is_filter, is_profile, counts_architecture, stub_architecture, table_architecture, with_part, Bool, Option, Architecture}
 
 -- one behind the other
 abbrev appended : Held → Held → Held
@@ -10,6 +10,7 @@ appended held more = record {
   beside_profiles = held.beside_profiles ++ more.beside_profiles;
   tables = held.tables ++ more.tables;
   stubs = held.stubs ++ more.stubs;
+  counts = held.counts ++ more.counts;
 }
 
 module _ (bytes : List ℕ) (before : List Part) (part : Part) where
@@ -32,6 +33,7 @@ module _ (bytes : List ℕ) (before : List Part) (part : Part) where
     of_kind_more is_beside_profile,
     by_architecture_more table_architecture,
     by_architecture_more stub_architecture,
+    by_architecture_more counts_architecture,
   ) refl
 
   abbrev h : Held
@@ -44,19 +46,21 @@ module _ (bytes : List ℕ) (before : List Part) (part : Part) where
       by_kind : (kind : PartKind) → part.kind ≡ kind → appended (held_of bytes before) (held_of bytes (part ∷ []))
           ≡ with_part kind (content_of bytes part) (held_of bytes before)
       by_kind Filter same =
-          rw (same, append-nil h.profiles, append-nil h.beside, append-nil h.beside_profiles, append-nil h.tables, append-nil h.stubs) refl
+          rw (same, append-nil h.profiles, append-nil h.beside, append-nil h.beside_profiles, append-nil h.tables, append-nil h.stubs, append-nil h.counts) refl
       by_kind Profile same =
-          rw (same, append-nil h.filters, append-nil h.beside, append-nil h.beside_profiles, append-nil h.tables, append-nil h.stubs) refl
+          rw (same, append-nil h.filters, append-nil h.beside, append-nil h.beside_profiles, append-nil h.tables, append-nil h.stubs, append-nil h.counts) refl
       by_kind Beside same =
-          rw (same, append-nil h.filters, append-nil h.profiles, append-nil h.beside_profiles, append-nil h.tables, append-nil h.stubs) refl
+          rw (same, append-nil h.filters, append-nil h.profiles, append-nil h.beside_profiles, append-nil h.tables, append-nil h.stubs, append-nil h.counts) refl
       by_kind BesideProfile same =
-          rw (same, append-nil h.filters, append-nil h.profiles, append-nil h.beside, append-nil h.tables, append-nil h.stubs) refl
+          rw (same, append-nil h.filters, append-nil h.profiles, append-nil h.beside, append-nil h.tables, append-nil h.stubs, append-nil h.counts) refl
       by_kind Table same =
-          rw (same, append-nil h.filters, append-nil h.profiles, append-nil h.beside, append-nil h.beside_profiles, append-nil h.stubs) refl
+          rw (same, append-nil h.filters, append-nil h.profiles, append-nil h.beside, append-nil h.beside_profiles, append-nil h.stubs, append-nil h.counts) refl
       by_kind (TableOf architecture) same =
-          rw (same, append-nil h.filters, append-nil h.profiles, append-nil h.beside, append-nil h.beside_profiles, append-nil h.stubs) refl
+          rw (same, append-nil h.filters, append-nil h.profiles, append-nil h.beside, append-nil h.beside_profiles, append-nil h.stubs, append-nil h.counts) refl
       by_kind (StubOf architecture) same =
-          rw (same, append-nil h.filters, append-nil h.profiles, append-nil h.beside, append-nil h.beside_profiles, append-nil h.tables) refl
+          rw (same, append-nil h.filters, append-nil h.profiles, append-nil h.beside, append-nil h.beside_profiles, append-nil h.tables, append-nil h.counts) refl
+      by_kind (CountsOf architecture) same =
+          rw (same, append-nil h.filters, append-nil h.profiles, append-nil h.beside, append-nil h.beside_profiles, append-nil h.tables, append-nil h.stubs) refl
 
 -- one more part
 pub held_more : (bytes content : List ℕ) (parts : List Part) (i : ℕ) (d : Part) (old new : Held) → i < length parts

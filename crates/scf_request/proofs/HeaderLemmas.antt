@@ -147,4 +147,10 @@ pub header_by_count : (kind : PartKind) (line digits : List ℕ) (counted : Opti
     → line ≡ kind_word kind ++ (codes " " ++ digits)
     → MatchOption counted ((n : ℕ) → IsCount digits n → ⊥) (IsCount digits)
     → MatchOption counted ((n : ℕ) → IsHeader (line ++ codes "\n") kind n → ⊥) (IsHeader (line ++ codes "\n") kind)
-header_by_count kind line digits counted h1 h2 = grind (arith, append_cancel_right, same_word)
+header_by_count kind line digits None whole none = λ n header.
+    let behind = kind_word kind ++ (codes " " ++ header.digits) in
+    let same : line ≡ behind = append_cancel_right line behind (codes "\n") header.text in
+    let words = same_word kind kind digits header.digits (sym whole ∙ same) in
+    none n (rw words.1 header.is_count)
+header_by_count kind line digits (Some n) whole is =
+    record { digits = digits; is_count = is; text = ap (λ (xs : List ℕ). xs ++ codes "\n") whole }

@@ -6,7 +6,7 @@ use Rattle.scf_insn.specs.Numbers.{numeral}
 use Rattle.scf_insn.specs.declared.architecture.Architecture.{Architecture}
 use Rattle.scf_insn.specs.declared.architecture.Architecture.TheVariants.{X8664}
 use Rattle.scf_request.specs.declared.bundle.PartKind.{PartKind}
-use Rattle.scf_request.specs.declared.bundle.PartKind.TheVariants.{Beside, BesideProfile, Filter, Profile, StubOf, Table, TableOf}
+use Rattle.scf_request.specs.declared.bundle.PartKind.TheVariants.{Beside, BesideProfile, CountsOf, Filter, Profile, StubOf, Table, TableOf}
 use Rattle.scf_request.specs.declared.bundle.BundleForm.{BundleForm}
 use Rattle.scf_request.specs.declared.bundle.BundleForm.TheVariants.{Profile as OfProfile, Architectures as OfArchitectures, Beside as OfBeside}
 use Rattle.scf_request.specs.declared.bundle.Part.{Part}
@@ -23,6 +23,7 @@ word_parts Beside = ([], codes "beside")
 word_parts BesideProfile = ([], codes "beside-profile")
 word_parts (TableOf architecture) = ([], (row_of architecture).part)
 word_parts (StubOf architecture) = (codes "stub-", (row_of architecture).part)
+word_parts (CountsOf architecture) = (codes "counts-", (row_of architecture).part)
 
 abbrev pub kind_word : PartKind → List ℕ
 kind_word kind = (word_parts kind).0 ++ (word_parts kind).1
@@ -31,15 +32,16 @@ kind_word kind = (word_parts kind).0 ++ (word_parts kind).1
 abbrev pub split_kinds : List PartKind
 split_kinds = Filter ∷ Profile ∷ Table ∷ []
 
--- those for several architectures, each of which may have a table and a stub
+-- those for several architectures, each of which may have a table, a stub and counts of calls
 abbrev pub architecture_kinds : List PartKind
 architecture_kinds =
     Filter ∷ Profile ∷ BesideProfile ∷ map (λ architecture. TableOf architecture) architectures
     ++ map (λ architecture. StubOf architecture) architectures
+    ++ map (λ architecture. CountsOf architecture) architectures
 
 -- those by the form of a bundle: beside other filters there is a table call by call
 abbrev pub kinds_of : BundleForm → List PartKind
-kinds_of OfProfile = Filter ∷ Profile ∷ BesideProfile ∷ Table ∷ StubOf X8664 ∷ []
+kinds_of OfProfile = Filter ∷ Profile ∷ BesideProfile ∷ Table ∷ StubOf X8664 ∷ CountsOf X8664 ∷ []
 kinds_of OfArchitectures = architecture_kinds
 kinds_of (OfBeside EachCall) = Filter ∷ Beside ∷ Table ∷ []
 kinds_of (OfBeside over) = Filter ∷ Beside ∷ []
@@ -121,7 +123,7 @@ abbrev pub is_beside_profile : PartKind → Bool
 is_beside_profile BesideProfile = true
 is_beside_profile kind = false
 
--- the architecture of a table, and of a stub
+-- the architecture of a table, of a stub, and of counts of calls
 abbrev pub table_architecture : PartKind → Option Architecture
 table_architecture Table = Some X8664
 table_architecture (TableOf architecture) = Some architecture
@@ -130,6 +132,10 @@ table_architecture kind = None
 abbrev pub stub_architecture : PartKind → Option Architecture
 stub_architecture (StubOf architecture) = Some architecture
 stub_architecture kind = None
+
+abbrev pub counts_architecture : PartKind → Option Architecture
+counts_architecture (CountsOf architecture) = Some architecture
+counts_architecture kind = None
 
 -- what the parts of a kind hold, in their order
 abbrev pub contents_of : (PartKind → Bool) → List ℕ → List Part → List (List ℕ)
@@ -149,6 +155,7 @@ pub record Held : Type 0 where
   pub beside_profiles : List (List ℕ)
   pub tables : List (Architecture × List ℕ)
   pub stubs : List (Architecture × List ℕ)
+  pub counts : List (Architecture × List ℕ)
 
 abbrev pub held_of : List ℕ → List Part → Held
 held_of bytes parts = record {
@@ -158,6 +165,7 @@ held_of bytes parts = record {
   beside_profiles = contents_of is_beside_profile bytes parts;
   tables = contents_by table_architecture bytes parts;
   stubs = contents_by stub_architecture bytes parts;
+  counts = contents_by counts_architecture bytes parts;
 }
 
 -- Bytes are a bundle of a form, whose parts hold this.

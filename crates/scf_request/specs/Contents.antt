@@ -32,6 +32,7 @@ held_by contents = record {
   beside_profiles = map rest_of contents.beside_profiles.items;
   tables = map rest_of_table contents.tables.items;
   stubs = map rest_of_table contents.stubs.items;
+  counts = map rest_of_table contents.counts.items;
 }
 
 -- the parts of the bundle that bytes spell hold this

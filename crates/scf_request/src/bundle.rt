@@ -37,6 +37,8 @@ pub enum PartKind {
     TableOf(Architecture),
     /// The stub of the profile of an architecture.
     StubOf(Architecture),
+    /// How often syscalls of an architecture are called.
+    CountsOf(Architecture),
 }
 
 /// A part of a bundle: its kind, and the range of its contents, in bytes from the beginning.
@@ -50,9 +52,9 @@ pub struct Part {
 /// Which kinds of parts a bundle has.
 #[derive(Clone, Copy)]
 pub enum BundleForm {
-    /// Filters, a profile and another one, x86-64's syscall table and the stub of its calls.
+    /// Filters, a profile and another one, and x86-64's syscall table, stub and counts of calls.
     Profile,
-    /// Filters, a profile and another one, and the syscall tables and stubs of several architectures.
+    /// Filters, a profile and another one, and the syscall tables, stubs and counts of calls of several architectures.
     Architectures,
     /// Filters and others beside them; call by call a syscall table, too.
     Beside(Scopes),
@@ -92,12 +94,14 @@ impl<T: Drop> From<AllocFailed<T>> for BundleFault {
 }
 
 impl PartKind {
-    /// What the kind's name begins with: that of a stub is `stub-` and the name of its table.
+    /// What the kind's name begins with: that of a stub is `stub-` and the name of its table, that of counts `counts-`
+    /// and that name.
     fn prefix(self) -> &'static [u8]
         ensures { result.now ≡ (word_parts self).0 }
     {
         match self {
             PartKind::StubOf(_) => b"stub-",
+            PartKind::CountsOf(_) => b"counts-",
             _ => b"",
         }
     }
@@ -112,9 +116,9 @@ impl PartKind {
             PartKind::Table => b"table",
             PartKind::Beside => b"beside",
             PartKind::BesideProfile => b"beside-profile",
-            PartKind::TableOf(architecture) | PartKind::StubOf(architecture) => {
-                architecture.part().as_bytes()
-            }
+            PartKind::TableOf(architecture)
+            | PartKind::StubOf(architecture)
+            | PartKind::CountsOf(architecture) => architecture.part().as_bytes(),
         }
     }
 }
@@ -242,7 +246,6 @@ pub(crate) fn content_of<'a>(bytes: &'a [u8], part: Part) -> &'a [u8]
 /// A header is `filter`, `profile` or `table`, one space, 1 to 8 decimal digits and LF. The digits are the count of
 /// bytes that follow. `Header` has the first offset behind whole parts where bytes follow that aren't a header, `Short`
 /// the first offset of a header that announces more bytes than follow.
-#[tactic(auto, using(std::proofs::lemmas::Grind::common_steps, crate::proofs::BundleLemmas::one_spelling, crate::proofs::BundleLemmas::split_kinds_told_apart))]
 pub fn split(alloc: Global, bytes: &[u8]) -> Result<Vec<Part>, BundleFault>
     ensures parts { IfOk result (λ parts. SpellsBundle bytes.now parts.items) }
     // The bytes spell no other list of parts.
@@ -260,16 +263,17 @@ pub fn split(alloc: Global, bytes: &[u8]) -> Result<Vec<Part>, BundleFault>
 const SPLIT_KINDS: [PartKind; 3] = [PartKind::Filter, PartKind::Profile, PartKind::Table];
 
 /// The kinds of parts of a bundle with a profile.
-pub(crate) const PROFILE_KINDS: [PartKind; 5] = [
+pub(crate) const PROFILE_KINDS: [PartKind; 6] = [
     PartKind::Filter,
     PartKind::Profile,
     PartKind::BesideProfile,
     PartKind::Table,
     PartKind::StubOf(Architecture::X8664),
+    PartKind::CountsOf(Architecture::X8664),
 ];
 
 /// How many kinds of parts a bundle with a profile of several architectures has.
-const ARCHITECTURE_KINDS: usize = 3 + 2 * ARCHITECTURES;
+const ARCHITECTURE_KINDS: usize = 3 + 3 * ARCHITECTURES;
 
 /// The kinds of parts of a bundle with a profile of several architectures.
 pub(crate) fn architecture_kinds() -> [PartKind; ARCHITECTURE_KINDS]
@@ -282,6 +286,7 @@ pub(crate) fn architecture_kinds() -> [PartKind; ARCHITECTURE_KINDS]
     for i in 0..ARCHITECTURES {
         kinds[3 + i] = PartKind::TableOf(all[i]);
         kinds[3 + ARCHITECTURES + i] = PartKind::StubOf(all[i]);
+        kinds[3 + 2 * ARCHITECTURES + i] = PartKind::CountsOf(all[i]);
     }
     kinds
 }

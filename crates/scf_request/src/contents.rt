@@ -26,6 +26,8 @@ pub struct Contents<'a> {
     pub tables: Vec<TableReader<PartReader<'a>>>,
     /// Readers of the numbers of stubs.
     pub stubs: Vec<TableReader<PartReader<'a>>>,
+    /// Readers of counts of calls.
+    pub counts: Vec<TableReader<PartReader<'a>>>,
 }
 
 impl<'a> Contents<'a> {
@@ -47,6 +49,9 @@ impl<'a> Contents<'a> {
             }
             PartKind::StubOf(architecture) => {
                 self.stubs.push(TableReader::new(architecture, reader))?
+            }
+            PartKind::CountsOf(architecture) => {
+                self.counts.push(TableReader::new(architecture, reader))?
             }
         }
         Ok(())
@@ -104,6 +109,7 @@ impl<'a> Contents<'a> {
             beside_profiles: Vec::new(alloc),
             tables: Vec::new(alloc),
             stubs: Vec::new(alloc),
+            counts: Vec::new(alloc),
         };
         for part in &parts {
             contents.add(part.kind, content_of(bytes, *part))?;
@@ -112,7 +118,7 @@ impl<'a> Contents<'a> {
     }
 }
 
-/// A reader of a syscall table or of the number of a stub, and its architecture.
+/// A reader of a syscall table, of the number of a stub or of counts of calls, and its architecture.
 #[derive(Drop)]
 pub struct TableReader<R> {
     pub architecture: Architecture,

@@ -120,6 +120,17 @@ module _ {R : Type 0} (text : R → List ℕ) (tables : List (TableReader R)) (i
       refused no_memory,
     )
 
+-- lists of which one is no table aren't counts of calls
+pub no_counts : (before : List (Architecture × List ℕ)) (own : Architecture × List ℕ)
+    (behind : List (Architecture × List ℕ)) (fault : TableFault) (counts : Tables)
+    → table_of own.1 ≡ Err fault → AllZip SpellsTable (before ++ own ∷ behind) counts → ⊥
+no_counts [] own behind fault [] refused each = each
+no_counts [] own behind fault (table ∷ tables) refused each =
+    let same : Ok table.1 ≡ Err fault = sym each.0.1 ∙ refused in cc
+no_counts (text ∷ texts) own behind fault [] refused each = each
+no_counts (text ∷ texts) own behind fault (table ∷ tables) refused each =
+    no_counts texts own behind fault tables refused each.1
+
 -- ---- the only table
 
 -- so many are read as there are texts

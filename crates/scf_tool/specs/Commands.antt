@@ -165,6 +165,7 @@ EndsOnStack request filters ending = ⊥
 -- filters are all that a bundle with a profile's parts holds
 abbrev pub AreFilters : Held → Type 0
 AreFilters held = (held.profiles ≡ []) × (held.beside_profiles ≡ []) × (held.tables ≡ []) × (held.stubs ≡ [])
+    × (held.counts ≡ [])
 
 -- `decide`: filters, any number of them
 abbrev pub Decides : Request → Option (List ℕ) → Result Reply Fault → Type 0
@@ -205,10 +206,19 @@ pub record HasKinds (beside : BesideProfile) (only_one : Bool) (held : Held) : T
   pub beside_count : IsProfileCount beside (length held.beside_profiles)
   pub has_tables : HasTables only_one held
 
--- these, and each of the stubs' parts has the number of one
+-- a call table of an architecture, however long its text is
+abbrev pub SpellsTable : Architecture × List ℕ → Architecture × Names → Type 0
+SpellsTable text table = (text.0 ≡ table.0) × (table_of text.1 ≡ Ok table.1)
+
+-- each list of counts of calls, by name, is written as a table is
+abbrev pub AreCounts : List (Architecture × List ℕ) → Type 0
+AreCounts texts = (counts : Tables) × AllZip SpellsTable texts counts
+
+-- these, each of the stubs' parts has the number of one, and those of counts have counts
 pub record AreTaken (beside : BesideProfile) (only_one : Bool) (held : Held) : Type 0 where
   pub has_kinds : HasKinds beside only_one held
   pub are_stubs : length (stubs_of held.stubs) ≡ length held.stubs
+  pub are_counts : AreCounts held.counts
 
 -- A command takes a profile and so many tables. The reading and the stubs are how the profile is read.
 abbrev pub EndsOnProfile : BundleForm → Bool → Reading → Option (List ℕ)
@@ -355,10 +365,6 @@ Compares form reading comparison input =
     EndsOnBundle form input (TakesSides form comparison.scopes) (ComparesHeld form reading comparison)
 
 -- ---- several architectures
-
--- a call table of an architecture, however long its text is
-abbrev pub SpellsTable : Architecture × List ℕ → Architecture × Names → Type 0
-SpellsTable text table = (text.0 ≡ table.0) × (table_of text.1 ≡ Ok table.1)
 
 -- The tables and the profile are read, and state this for each architecture.
 pub record AreStated (by : Interpretation) (profile : List ℕ) (texts : List (Architecture × List ℕ))

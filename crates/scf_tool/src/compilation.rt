@@ -9,27 +9,35 @@ ghost use Rattle.scf_tool.specs.Reports.{left_out_front};
 use crate::buffer::{Buffer, encoding_of};
 use crate::left_out::LeftOut;
 use crate::reporting::add_left_out_front;
-use scf_compile::{CompileFault, compile, compile_profiles};
+use scf_compile::{CallCount, CompileFault, compile_by_counts};
 use scf_profile::{Profile, Profiles};
 use std::alloc::Global;
 
 /// The bytes of the filter that answers as a profile does. The errors are those of `compile`.
-pub fn filter_of(alloc: Global, profile: &Profile) -> Result<Vec<u8>, CompileFault>
+pub fn filter_of(
+    alloc: Global,
+    profile: &Profile,
+    counts: &[CallCount],
+) -> Result<Vec<u8>, CompileFault>
     ensures filter { IfOk result (λ bytes. IsFilterOf profile.now bytes.items) }
     ensures large { IfErr result (λ fault. fault ≡ CompileFault.TooLarge → bpf_maxinsns < size_bound_of profile.now) }
 {
-    let program = compile(alloc, profile)?;
+    let program = compile_by_counts(alloc, std::slice::from_ref(profile), counts)?;
     Ok(encoding_of(alloc, program.insns())?)
 }
 
 /// The bytes of the filter that answers as the profiles of several architectures do. The errors are those of
 /// `compile_profiles`.
-pub fn filter_of_each(alloc: Global, profiles: &Profiles) -> Result<Vec<u8>, CompileFault>
+pub fn filter_of_each(
+    alloc: Global,
+    profiles: &Profiles,
+    counts: &[CallCount],
+) -> Result<Vec<u8>, CompileFault>
     ensures filter { IfOk result (λ bytes. IsFilterOfEach profiles.now bytes.items) }
     ensures large { IfErr result
         (λ fault. fault ≡ CompileFault.TooLarge → bpf_maxinsns < size_bound_of_each profiles.now) }
 {
-    let program = compile_profiles(alloc, profiles)?;
+    let program = compile_by_counts(alloc, profiles.as_slice(), counts)?;
     Ok(encoding_of(alloc, program.insns())?)
 }
 

@@ -5,7 +5,7 @@ use Rattle.scf_request.specs.declared.bundle.BundleFault.{BundleFault}
 use Rattle.scf_request.specs.declared.bundle.BundleFault.TheVariants.{Memory}
 use Rattle.scf_request.specs.declared.bundle.Part.{Part}
 use Rattle.scf_request.specs.declared.bundle.PartKind.{PartKind}
-use Rattle.scf_request.specs.declared.bundle.PartKind.TheVariants.{Beside, BesideProfile, Filter, Profile, StubOf, Table, TableOf}
+use Rattle.scf_request.specs.declared.bundle.PartKind.TheVariants.{Beside, BesideProfile, CountsOf, Filter, Profile, StubOf, Table, TableOf}
 use Rattle.scf_request.specs.declared.contents.Contents.{Contents}
 use Rattle.scf_request.specs.Bundle.{Held, SpellsParts, held_of}
 use Rattle.scf_request.specs.Contents.{held_by}
@@ -19,6 +19,7 @@ with_part BesideProfile bytes held = record held { beside_profiles = held.beside
 with_part Table bytes held = record held { tables = held.tables ++ (X8664, bytes) ∷ [] }
 with_part (TableOf architecture) bytes held = record held { tables = held.tables ++ (architecture, bytes) ∷ [] }
 with_part (StubOf architecture) bytes held = record held { stubs = held.stubs ++ (architecture, bytes) ∷ [] }
+with_part (CountsOf architecture) bytes held = record held { counts = held.counts ++ (architecture, bytes) ∷ [] }
 
 abbrev pub AddsPart : PartKind → List ℕ → Contents → Result (Unit {0}) BundleFault → Contents → Type 0
 AddsPart added bytes old (Ok done) new = held_by new ≡ with_part added bytes (held_by old)

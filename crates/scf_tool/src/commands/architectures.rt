@@ -10,7 +10,8 @@ use crate::commands::whole_input;
 use crate::compilation::{behind_left_out, filter_of_each};
 use crate::fault::Fault;
 use crate::left_out::LeftOut;
-use crate::loading::load_with_tables;
+use crate::loading::{call_counts, load_with_tables, tables_and_profiles};
+use crate::owned_table::OwnedTable;
 use crate::reply::Reply;
 use scf_insn::{CallRecord, Source};
 use scf_profile::Reading;
@@ -24,11 +25,13 @@ fn compiled(
     by: &Interpretation,
     profile: &[u8],
     tables: &[TableReader<PartReader<'_>>],
+    counts: &[OwnedTable],
 ) -> Result<Reply, Fault>
     ensures { CompilesEach has_left_out by.now profile.now (map rest_of_table tables.now) result }
 {
-    let loaded = load_with_tables(alloc, by, profile, tables)?;
-    let filter = filter_of_each(alloc, &loaded.profiles)?;
+    let (tables, loaded) = tables_and_profiles(alloc, by, profile, tables)?;
+    let calls = call_counts(alloc, &tables, counts)?;
+    let filter = filter_of_each(alloc, &loaded.profiles, &calls)?;
     let left_out = LeftOut {
         skipped: loaded.skipped,
         other_architectures: loaded.other_architectures,
@@ -74,6 +77,7 @@ pub(super) fn compile_architectures<R: Source>(
         &parts.by,
         parts.profile.rest(),
         &parts.tables,
+        &parts.counts,
     )
 }
 

@@ -5,6 +5,7 @@ ghost use Rattle.scf_insn.specs.Architectures.{architectures, row_of};
 ghost use Rattle.scf_profile.specs.StatedProfile.{is_named};
 ghost use Rattle.scf_request.specs.Contents.{held_by, rest_of_table, texts_for};
 ghost use Rattle.scf_tool.specs.Commands.{
+  AreCounts,
   AreFilters,
   AreTaken,
   ArePartsOfOne,
@@ -16,8 +17,10 @@ ghost use Rattle.scf_tool.specs.Commands.{
 };
 ghost use Rattle.scf_tool.specs.internal.Parts.{AreParts};
 
+use crate::loading::owned_tables;
+use crate::owned_table::OwnedTable;
 use scf_insn::Architecture;
-use scf_profile::Reading;
+use scf_profile::{Reading, TableFault};
 use scf_request::{BundleFault, BundleForm, Contents, Interpretation, PartReader, TableReader};
 use std::alloc::Global;
 
@@ -41,6 +44,8 @@ pub(super) struct ProfileParts<'a> {
     pub beside: Vec<PartReader<'a>>,
     pub tables: Vec<TableReader<PartReader<'a>>>,
     pub by: Interpretation,
+    /// Counts of calls by name.
+    pub counts: Vec<OwnedTable>,
 }
 
 /// Whether a part is of an architecture.
@@ -136,6 +141,24 @@ pub(super) fn only(mut readers: Vec<PartReader<'_>>) -> Option<PartReader<'_>>
     }
 }
 
+/// Counts of calls by name, which are written as syscall tables are.
+fn counts_of(
+    alloc: Global,
+    parts: &[TableReader<PartReader<'_>>],
+) -> Result<Option<Vec<OwnedTable>>, BundleFault>
+    ensures counts { IfOk result (λ counts. MatchOption counts
+        (AreCounts (map rest_of_table parts.now) → ⊥) (λ counts. AreCounts (map rest_of_table parts.now))) }
+    ensures fault { IfErr result (λ fault. fault ≡ BundleFault.Memory) }
+{
+    match owned_tables(alloc, parts) {
+        Ok(counts) => Ok(Some(counts)),
+        Err(fault) => match fault {
+            TableFault::Memory => Err(BundleFault::Memory),
+            _ => Ok(None),
+        },
+    }
+}
+
 /// The parts of a bundle, where they are what a command takes.
 pub(super) fn profile_parts<'a>(
     alloc: Global,
@@ -157,6 +180,9 @@ pub(super) fn profile_parts<'a>(
     if by.stub_count() != contents.stubs.len() {
         return Ok(None);
     }
+    let Some(counts) = counts_of(alloc, &contents.counts)? else {
+        return Ok(None);
+    };
     let filters = contents.filters;
     let beside = contents.beside_profiles;
     let tables = contents.tables;
@@ -167,6 +193,7 @@ pub(super) fn profile_parts<'a>(
             beside,
             tables,
             by,
+            counts,
         })),
         None => Ok(None),
     }
@@ -180,4 +207,5 @@ pub(super) fn are_filters(contents: &Contents<'_>) -> bool
         && contents.beside_profiles.is_empty()
         && contents.tables.is_empty()
         && contents.stubs.is_empty()
+        && contents.counts.is_empty()
 }

@@ -8,7 +8,8 @@ use crate::commands::whole_input;
 use crate::compilation::{behind_left_out, filter_of};
 use crate::fault::Fault;
 use crate::left_out::LeftOut;
-use crate::loading::load_with_table;
+use crate::loading::{call_counts, load_with_table, table_and_profile};
+use crate::owned_table::OwnedTable;
 use crate::reply::Reply;
 use scf_insn::{CallRecord, Source};
 use scf_profile::Reading;
@@ -22,11 +23,13 @@ fn compiled(
     by: &Interpretation,
     profile: &[u8],
     table: &[u8],
+    counts: &[OwnedTable],
 ) -> Result<Reply, Fault>
     ensures { Compiles has_left_out by.now profile.now table.now result }
 {
-    let loaded = load_with_table(alloc, by, profile, table)?;
-    let filter = filter_of(alloc, &loaded.profile)?;
+    let (table, loaded) = table_and_profile(alloc, by, profile, table)?;
+    let calls = call_counts(alloc, std::slice::from_ref(&table), counts)?;
+    let filter = filter_of(alloc, &loaded.profile, &calls)?;
     let left_out = LeftOut {
         skipped: loaded.skipped,
         other_architectures: loaded.other_architectures,
@@ -67,7 +70,14 @@ pub(super) fn compile_profile<R: Source>(
         return Err(Fault::Parts);
     };
     let table = parts.tables[0].reader.rest();
-    compiled(alloc, has_left_out, &parts.by, parts.profile.rest(), table)
+    compiled(
+        alloc,
+        has_left_out,
+        &parts.by,
+        parts.profile.rest(),
+        table,
+        &parts.counts,
+    )
 }
 
 /// `ask`: what a profile answers to a call, and why.

@@ -5,7 +5,7 @@ use Rattle.scf_tool.proofs.loading.owned_tables.Goals as goal
 pub loop-part-preserved : goal.loop-part-preserved
 loop-part-preserved g c =
     spelled_more g.R.InMemory.text _ _ c.part-item.result c.loop-part-test.true c.part-item.is _ c.loop-part.invariant _
-    c.in_ok-table.table c.in-Ok.ensures.items (rw c.bytes.ensures at c.in_ok-table.ensures.table)
+    c.in_ok-table.table c.in_ok-push.ensures.items (rw c.bytes.ensures at c.in_ok-table.ensures.table)
 
 pub returns-in_err-table-clause-fault : goal.returns-in_err-table-clause-fault
 returns-in_err-table-clause-fault g c =

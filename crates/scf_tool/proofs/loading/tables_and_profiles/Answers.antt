@@ -1,5 +1,5 @@
 use Rattle.scf_tool.proofs.Common.{err_from_is_err_and}
-use Rattle.scf_tool.proofs.loading.load_with_tables.Goals as goal
+use Rattle.scf_tool.proofs.loading.tables_and_profiles.Goals as goal
 
 pub returns-in_err-owned-clause-fault : goal.returns-in_err-owned-clause-fault
 returns-in_err-owned-clause-fault g c =
