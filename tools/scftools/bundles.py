@@ -10,9 +10,11 @@ from .values import Pattern
 TABLES = tuple(architecture.kind for architecture in JUDGED.values())
 # Of a table's architecture the first number that runc's stub answers.
 STUBS = tuple(f"stub-{table}" for table in TABLES)
+# How often syscalls of a table are called: `scf compile` cuts its searches by that.
+COUNTS = tuple(f"counts-{table}" for table in TABLES)
 # The kinds of a filter and of a profile of the other side: `scf compare` reads them, filters with --beside.
 BESIDE, BESIDE_PROFILE = "beside", "beside-profile"
-PART_KINDS = ("filter", "profile", BESIDE, BESIDE_PROFILE, *TABLES, *STUBS)
+PART_KINDS = ("filter", "profile", BESIDE, BESIDE_PROFILE, *TABLES, *STUBS, *COUNTS)
 # The most bytes that scf reads; it refuses a longer bundle.
 LONGEST_BUNDLE = 1 << 24
 # How a bundle begins, and no filter, no text of one and no profile does.
@@ -52,6 +54,6 @@ def of_profiles(left: bytes, right: bytes, tables: Tables) -> bytes:
     return bundle([("profile", left), (BESIDE_PROFILE, right), *tables.parts])
 
 
-def of_compilation(profile: bytes, tables: Tables) -> bytes:
-    """The bundle for `scf compile` and `scf ask`: a profile and tables."""
-    return bundle([("profile", profile), *tables.parts])
+def of_compilation(profile: bytes, tables: Tables, counts: Iterable[tuple[str, bytes]] = ()) -> bytes:
+    """The bundle for `scf compile` and `scf ask`: a profile and tables, and how often syscalls are called."""
+    return bundle([("profile", profile), *tables.parts, *counts])

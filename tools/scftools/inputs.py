@@ -10,9 +10,10 @@ from collections.abc import Iterator
 
 from . import output, program
 
-# The most bytes of what scf reads: a filter of 4096 instructions, a profile, a table, the number of a stub; and of what
-# only the tools read: an engine's profile, a kernel header, a list of syscalls to try.
+# The most bytes of what scf reads: a filter of 4096 instructions, a profile, a table, the number of a stub, counts of
+# syscalls; and of what only the tools read: an engine's profile, a kernel header, a list of syscalls to try.
 LIMITS = {"bundle": 1 << 24, "filter": 1 << 15, "profile": 1 << 22, "table": 1 << 22, "stub": 1 << 10,
+          "counts": 1 << 22,
           "engine's profile": 1 << 22, "header": 1 << 22, "list of syscalls": 1 << 16,
           # an assembler's text; the lines of explain; an object that audit printed
           "text": 1 << 24, "object": 1 << 24,

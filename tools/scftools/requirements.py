@@ -263,7 +263,7 @@ def _arguments(call: Call) -> str:
     return f"args {' '.join(map(hex, call.arguments))}"
 
 
-def _remarks(needs: Needs) -> Iterator[str]:
+def log_remarks(needs: Needs) -> Iterator[str]:
     """Lines on the log's architectures, and on what in it wasn't judged."""
     if needs.taken:
         yield needs.taken
@@ -290,11 +290,20 @@ def lines(needs: Needs) -> Iterator[str]:
     for disposition in (NOT_ALLOWED, DEPENDS, UNDECIDED):
         for judgement in needs.of(disposition):
             yield from _of_judged(judgement, needs.are_several)
-    yield from output.notes(_remarks(needs))
+    yield from output.notes(log_remarks(needs))
     counts = ", ".join(f"{disposition} {len(needs.of(disposition))}"
                        for disposition in (ALLOWED, NOT_ALLOWED, DEPENDS, UNDECIDED)
                        if disposition != UNDECIDED or needs.of(UNDECIDED))
     yield f"# syscalls, each with the arguments that conditions test: {counts}"
+
+
+def count_lines(needs: Needs) -> list[str]:
+    """How often the logs have each syscall, the most frequent first: lines NAME COUNT."""
+    counts: dict[str, int] = {}
+    for judgement in needs.judged:
+        name = judgement.traced.shown_name
+        counts[name] = counts.get(name, 0) + judgement.traced.seen.count
+    return [f"{name} {count}" for name, count in sorted(counts.items(), key=lambda item: (-item[1], item[0]))]
 
 
 def as_json(needs: Needs, table: Table) -> dict[str, object]:
@@ -353,7 +362,7 @@ def least_profile(needs: Needs, judges: Judges) -> tuple[str, list[str]]:
     always = (name for name in ALWAYS_CALLED
               if any(judges.tables[architecture].number_of(name) is not None for architecture in seen))
     profile["syscalls"] = list(_entries(named, always))
-    remarks = list(_remarks(needs))
+    remarks = list(log_remarks(needs))
     remarks += [f"{call.shown_name} has no name, and isn't in the profile" for call in calls if call not in named]
     remarks += [f"{call.shown_name}: the log doesn't show arguments {', '.join(map(str, call.unknown))} as numbers: "
                 "they may be any" for call in named if call.unknown]

@@ -6,7 +6,8 @@ KIND is filter, profile or table, or for scf's `--architectures` table-x86, tabl
 SCMP_ARCH_X86, SCMP_ARCH_AARCH64 ..; for `scf compare` beside, a filter of the other side (with --beside), or
 beside-profile, a profile beside the first. FILE is a file or a pipe, by whatever name (/dev/stdin is standard input,
 `-` a file of that name). A stub-table, stub-table-x86 or the like is a decimal number without a line end: from it on
-runc's stub answers the numbers of that table's architecture with ENOSYS. Each part is a header, `KIND COUNT` and a
+runc's stub answers the numbers of that table's architecture with ENOSYS. A counts-table, counts-table-x86 or the like
+has lines NAME COUNT: `scf compile` has frequent syscalls take fewer steps. Each part is a header, `KIND COUNT` and a
 newline, and then the COUNT bytes of its file. The parts stand in the order of the arguments.
 
 scf compares a bundle over all records, unless --architectures is given; `scf compare` compares files on each
@@ -68,6 +69,6 @@ def main():
     for kind in words[::2]:
         if kind not in bundles.PART_KINDS:
             refuse(f"'{kind}' isn't a KIND (filter, profile, beside, beside-profile, table, table-x86 .., "
-                   "stub-table ..)")
+                   "stub-table .., counts-table ..)")
     output.put(bundles.bundle(list(parts_of(words))))
     return program.SUCCESS

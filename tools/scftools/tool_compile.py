@@ -1,7 +1,7 @@
 """Prints a filter that answers every syscall as a profile says, and says what was left out.
 
     scf compile [--native] [--strict] [--runtime runc|crun|docker|podman|sandbox] [--json]
-                [--table FILE] [--caps LIST] [--machine NAME] PROFILE >FILTER
+                [--hot FILE] [--table FILE] [--caps LIST] [--machine NAME] PROFILE >FILTER
 
 PROFILE is a resolved OCI seccomp profile, or another one as `scf ask` takes it: a file, a pipe, or `-` for standard
 input. The filter answers the syscalls of each architecture that the profile names, as far as scf has a table of it,
@@ -12,31 +12,39 @@ refused. With --runtime the filter answers as the profile that this runtime read
 syscalls whose numbers are above all that the profile names with ENOSYS, as runc's own filter does. Without a PROFILE
 standard input is read: a profile, or a bundle, to whose filter or fault nothing is added.
 
+With --hot the syscalls that FILE counts take fewer steps; the answers, and the bounds on the filter's size and steps,
+stay the same. FILE has lines NAME COUNT, as `scf needs --counts` prints them, and for another architecture than x86-64,
+or than the first that PROFILE lists, ARCH NAME COUNT.
+
 Exit status: 0 success; 1 the table or the profile is refused, or the filter would be too long; 2 usage error; 3 an
 input or the output failed; 125 scf can't be run.
 
 Examples:
 
     scf compile profile.json >filter.bpf
-    scf compile --table x86_64.table profile.json >filter.bpf
+    scf compile --hot counts profile.json >filter.bpf
     scf compile --caps docker --machine arm64 engine.json >arm64.bpf
 """
-from . import bundles, client, explanation, output, profiles, program, refusals, runtimes, tables, verdicts, words
+from . import (bundles, client, counts, explanation, output, profiles, program, refusals, runtimes, tables, verdicts,
+               words)
 from .client import Fault
 
 
 def main():
     parser = words.Parser(__doc__, command="compile")
     parser.add("--native", "--strict", "--json", "--table", "--caps", "--machine")
+    parser.add_argument("--hot", metavar="FILE",
+                        help="how often syscalls are called, as `scf needs --counts` prints it; - is standard input")
     parser.add("--architectures", "--reading", "--left-out", "profile")
     runtimes.add_option(parser, is_sandboxes=True)
     options = parser.parse_args()
-    parser.one_standard_input([options.profile, options.table])
+    parser.one_standard_input([options.profile, options.table, options.hot])
     if not options.json:
         parser.keep_off_terminal()
     profile = runtimes.read(options)
     judged = profile.judged(tables.read(options.table), options.native)
-    done = client.run(["compile", "--left-out", *judged.words], bundles.of_compilation(profile.data, judged))
+    hot = [] if options.hot is None else counts.read(options.hot, judged)
+    done = client.run(["compile", "--left-out", *judged.words], bundles.of_compilation(profile.data, judged, hot))
     fault = None if done.status == program.SUCCESS else Fault.read(done.line)
     if fault:
         sentences = list(refusals.sentences(fault, profile.data, judged, profile.origins))

@@ -1,6 +1,6 @@
 """Says which syscalls of a program a profile wouldn't allow, from logs of its syscalls.
 
-    scf needs [--profile] [--kubernetes NAME] [--runtime runc|crun] [--arch ARCH]
+    scf needs [--profile | --counts] [--kubernetes NAME] [--runtime runc|crun] [--arch ARCH]
               [--limit N] [--splits N] [--table FILE] [--caps LIST] [--json] LOG.. PROFILE
 
 A LOG is what `scf record LOG -- PROGRAM ..` or `strace -f --quiet=none -o LOG PROGRAM ..` wrote, or what strace wrote
@@ -45,6 +45,9 @@ gets PROFILE's default, or SCMP_ACT_ERRNO if that allows. It always allows resta
 exit_group, and with syscalls of i386 or arm sigreturn: a process calls these to continue after a stop or a signal and
 to end, which the log may not show. What isn't in it goes to standard error.
 
+--counts prints how often the logs have each syscall, the most frequent first: lines NAME COUNT, as `scf compile --hot`
+reads them. What isn't counted goes to standard error.
+
 --runtime adds what the container runtime itself calls behind the filter before it executes the program: without these
 no container starts. PROFILE is then read as that runtime reads it (RUNTIMES.md), so that a container's config.json is
 no conflict.
@@ -54,14 +57,15 @@ no conflict.
 
 Exit status: 0 every syscall is allowed; 1 one isn't, or the profile or the table is refused; 2 usage error, such as LOG
 and PROFILE in the wrong order; 3 an input or the output failed; 4 none is denied, but one depends or wasn't judged, or
-the log has none; 125 scf can't be run. With --profile it is 0, or 4 if something in the log wasn't judged or is of an
+the log has none; 125 scf can't be run. With --counts it is 0, or 4 if something in the log wasn't judged; with
+--profile 0, or 4 if something in the log wasn't judged or is of an
 architecture that PROFILE doesn't list.
 
 Examples:
 
     scf needs log profile.json
-    scf needs --profile log profile.json >smaller.json
-    scf needs --profile --runtime runc log profile.json >least.json
+    scf needs --profile --runtime runc log profile.json >smaller.json
+    scf needs --counts log profile.json >counts
 """
 import json
 
@@ -73,6 +77,8 @@ def read_words():
     parser = words.Parser(__doc__)
     parser.add_argument("--profile", dest="least", action="store_true",
                         help="print the smallest profile that allows the syscalls of the log")
+    parser.add_argument("--counts", action="store_true",
+                        help="print how often the log has each syscall, for `scf compile --hot`")
     parser.add("--arch", help=words.ARCH_HELP.format(" of a log that doesn't say it",
                                                      ", or the first that PROFILE lists"))
     parser.add("--kubernetes", "--limit", "--splits")
@@ -89,6 +95,8 @@ def read_words():
         parser.error("--kubernetes goes with --profile")
     if options.least and options.json:
         parser.error("--profile prints JSON already: leave out --json")
+    if options.counts and (options.least or options.json):
+        parser.error("--counts goes neither with --profile nor with --json")
     parser.one_standard_input([*options.logs, options.profile, options.table])
     return options
 
@@ -103,6 +111,11 @@ def tell(options, needs, judges):
         output.flush()
         program.say(*remarks)
         return program.UNKNOWN if needs.isnt_whole or needs.unlisted else program.SUCCESS
+    if options.counts:
+        output.put_lines(requirements.count_lines(needs))
+        output.flush()
+        program.say(*requirements.log_remarks(needs))
+        return program.UNKNOWN if needs.isnt_whole else program.SUCCESS
     if options.json:
         output.put_json(requirements.as_json(needs, judges.tables[architectures.NATIVE]))
     else:

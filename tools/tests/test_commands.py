@@ -252,6 +252,7 @@ class Examples(Confined):
         self.file("strace.log", "prctl(PR_SET_SECCOMP, SECCOMP_MODE_FILTER, {len=1, filter=["
                                 "BPF_STMT(BPF_RET|BPF_K, SECCOMP_RET_ALLOW)]}) = 0\n")
         self.file("unistd_64.h", "#define __NR_read 0\n")
+        self.file("counts", "read 9\n")
         self.file("filter.s", "ld [0]\njeq #41, no, yes\nno: ret #0x50001\nyes: ret #0x7fff0000\n")
         shutil.copy2(TABLE, self.folder)
         os.symlink(SCF, os.path.join(self.folder, "scf"))
