@@ -1,5 +1,5 @@
 -- The distinct numbers of a profile's rules: how many there are, and the bounds that their search keeps.
-use Rattle.scf_compile.proofs.Common.{◌≡◌, ℕ, zero, suc, ◌+◌, ◌*◌, ◌/◌, ◌^◌, ◌<◌, ◌≤◌, List, [], ◌∷◌, length, map, All, ap, arith, inl, inr, sum_by, Contains, cases_eq, eq-eqb, ne_eqb, cases_Bool, max, row_of, refl, sum_by-cons, All-head, All-tail, Rule, IsPlainRule, IsPlainProfile, Profile, IsProfile, IsRule, numbers_of, number_there, rules_of, Answer, NrRange, digits_within, binary_digits, greatest, rule_bound, stub_count, number_count, stub_answer, is_stubbed, AllRules, AreServed, AreRangesOf, AreSearched, AreSearchesOf, IsSearchOf, IsSearchPut, Insn, Position, Search, code_from, MayBePut, most_ranges, size_bound_of}
+use Rattle.scf_compile.proofs.Common.{◌≡◌, ℕ, zero, suc, ◌+◌, ◌*◌, ◌/◌, ◌^◌, ◌<◌, ◌≤◌, List, [], ◌∷◌, length, map, ap, arith, inl, inr, sum_by, Contains, cases_eq, eq-eqb, ne_eqb, cases_Bool, max, row_of, refl, sum_by-cons, All-head, All-tail, Rule, IsPlainRule, IsPlainProfile, Profile, IsProfile, IsRule, numbers_of, number_there, rules_of, Answer, NrRange, digits_within, binary_digits, greatest, rule_bound, stub_count, number_count, stub_answer, is_stubbed, AreServed, AreRangesOf, AreSearched, AreSearchesOf, IsSearchOf, IsSearchPut, Insn, Position, Search, code_from, MayBePut, most_ranges, size_bound_of}
 use Rattle.scf_insn.proofs.Architectures.{some_number}
 use Rattle.scf_compile.proofs.Runs.{more}
 use Rattle.scf_compile.proofs.Sizes.{rules_valid, size_small}

@@ -1,5 +1,5 @@
 -- The code of rules, and what is put before some code.
-use Rattle.scf_compile.proofs.Common.{◌≡◌, ℕ, ◌+◌, ◌-◌, ◌*◌, ◌<◌, ◌≤◌, Bool, true, false, cond, leb, List, [], ◌∷◌, ◌++◌, drop, length, ap, ◌∙◌, arith, inl, inr, length-append, append_assoc, sum_by, length-drop, IsTrue, AllByRecursion, cases_Bool, recursion_from_All, sum_by-cons, drop-append-add, Insn, Answer, Architecture, CallRecord, Test, JumpIf, Constant, words_of, IsRecord, test_holds, IsPlainOperation, Condition, Rule, IsPlainCondition, IsPlainRule, all_hold, IsCondition, IsRule, Position, rule_bound, jump_if, jump_over, return_with, branch_code, code_from, IsFirst, IsPut, conditions_code, behind_rule, rule_code, Answers, AnswersRules, ArePut, Operation, Keeps, IsPart, moved, at, map, length-map, chain_of_part, answer_of_part, part_between, EndsWithin, AreSound, first_answer, rules_bound}
+use Rattle.scf_compile.proofs.Common.{◌≡◌, ℕ, ◌+◌, ◌-◌, ◌*◌, ◌<◌, ◌≤◌, Bool, true, false, cond, leb, List, [], ◌∷◌, ◌++◌, drop, length, ap, ◌∙◌, arith, inl, inr, length-append, append_assoc, sum_by, length-drop, AllByRecursion, cases_Bool, recursion_from_All, sum_by-cons, drop-append-add, Insn, Answer, Architecture, CallRecord, Test, JumpIf, Constant, words_of, IsRecord, test_holds, IsPlainOperation, Condition, Rule, IsPlainCondition, all_hold, IsCondition, IsRule, Position, rule_bound, jump_if, jump_over, return_with, branch_code, code_from, IsFirst, IsPut, conditions_code, behind_rule, rule_code, Answers, AnswersRules, ArePut, Operation, Keeps, IsPart, moved, at, map, length-map, chain_of_part, answer_of_part, part_between, EndsWithin, AreSound, rules_bound}
 use Rattle.scf_compile.proofs.Runs.{more, past, answers, jumps, passes, jump_sound, pass_sound, return_sound}
 use Rattle.scf_compile.proofs.Tests.{conditions_tests}
 

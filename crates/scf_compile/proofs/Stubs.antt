@@ -1,5 +1,5 @@
 -- The ranges of a profile: those of its rules are cut where its stub begins.
-use Rattle.scf_compile.proofs.Common.{◌≡◌, ℕ, ◌+◌, ◌*◌, ◌<◌, ◌≤◌, true, false, cond, filter, ltb, not, List, [], ◌∷◌, Option, Some, None, length, All, All-cons, All-contains, All-filter, refl, ap, subst, arith, inl, inr, cases_Bool, cases_lt, lt-ltb, nat_tests, length-filter_both, sum_by-filter_both, sum_by, sum_by-cons, Answer, CallRecord, row_of, Rule, rules_of, Profile, is_stubbed, stub_answer, NrRange, AllRules, AreServed, AreRangesOf, IsStubStart, ranges_below, first_answer, own_answer, number_count, range_bound, rule_bound, stub_count}
+use Rattle.scf_compile.proofs.Common.{◌≡◌, ℕ, ◌+◌, ◌*◌, ◌≤◌, true, false, cond, ltb, not, List, [], ◌∷◌, Option, Some, None, length, All, All-cons, All-contains, All-filter, refl, ap, subst, arith, inl, inr, cases_Bool, cases_lt, lt-ltb, nat_tests, length-filter_both, sum_by-filter_both, sum_by, sum_by-cons, Answer, CallRecord, row_of, Rule, rules_of, Profile, is_stubbed, stub_answer, NrRange, AllRules, AreServed, AreRangesOf, ranges_below, first_answer, own_answer, number_count, range_bound, rule_bound, stub_count}
 use Rattle.scf_compile.proofs.Laying.{laid_few, laid_rules, laid_served, served_as}
 
 -- ---- the ranges that begin below a number

@@ -1,5 +1,5 @@
 -- The search for an argument among its values.
-use Rattle.scf_compile.proofs.Common.{◌≡◌, ◌≢◌, ℕ, zero, suc, ◌+◌, ◌-◌, ◌*◌, ◌<◌, ◌≤◌, ◌^◌, All, AllByRecursion, Bool, true, false, not, eqb, ltb, filter, List, [], ◌∷◌, ◌++◌, drop, length, get_or, drop_more, refl, sym, ap, ◌∙◌, arith, inl, inr, cases_Bool, cases_eq, eq-eqb, eqb-true, eqb-false, ne_eqb, nat_tests, length-append, length-filter_both, All-filter, All-head, All-tail, slice_index, recursion_from_All, All-from_recursion, sum_by, sum_by-append, sum_by-cons, Insn, CallRecord, IsRecord, words_of, argument, argument_low, argument_high, argument_in, argument_word, low, high, row_of, Architecture, Answer, Bits32, Bits64, Equal, GreaterOrEqual, Rule, IsPlainRule, all_hold, rule_bound, Position, load_word, return_with, branch_code, code_from, IsFirst, IsPut, ArePut, EndsWithin, AreSound, Answers, AnswersRules, first_answer, rules_bound, ArgumentValue, IsArgumentValue, IsValueOf, AreValuesOf, AreValuesBefore, value_answer, IsValueSearchPut, AreValuesPut}
+use Rattle.scf_compile.proofs.Common.{◌≡◌, ◌≢◌, ℕ, zero, suc, ◌+◌, ◌-◌, ◌*◌, ◌<◌, ◌≤◌, All, AllByRecursion, Bool, true, false, not, eqb, ltb, filter, List, [], ◌∷◌, ◌++◌, drop, length, get_or, drop_more, refl, sym, ap, ◌∙◌, arith, inl, inr, cases_Bool, eq-eqb, eqb-true, eqb-false, ne_eqb, nat_tests, length-filter_both, All-filter, All-head, All-tail, slice_index, recursion_from_All, All-from_recursion, sum_by, sum_by-cons, Insn, CallRecord, words_of, argument, argument_low, argument_high, argument_in, argument_word, low, high, row_of, Architecture, Answer, Bits32, Bits64, Equal, GreaterOrEqual, Rule, IsPlainRule, rule_bound, Position, load_word, return_with, branch_code, code_from, IsFirst, IsPut, ArePut, EndsWithin, AreSound, AnswersRules, first_answer, rules_bound, ArgumentValue, IsArgumentValue, IsValueOf, AreValuesOf, AreValuesBefore, value_answer, IsValueSearchPut, AreValuesPut}
 use Rattle.scf_compile.proofs.Runs.{answers, loads, load_sound, more}
 use Rattle.scf_compile.proofs.RuleCode.{answers_put, branch_ends, branch_sound, branch_stays, from_behind, from_first, return_answers, rules_bounded}
 

@@ -1,4 +1,4 @@
-use Rattle.scf_compile.proofs.Common.{◌≡◌, ℕ, [], arith, ap, Answer, Architecture, Rule, IsRule}
+use Rattle.scf_compile.proofs.Common.{◌≡◌, [], arith, ap, Answer, Architecture, Rule, IsRule}
 use Rattle.scf_compile.proofs.Whole.{IsConstant, whole_filter, whole_may_be_put}
 use Rattle.scf_compile.proofs.compiler.filter_of_one.Goals as goal
 

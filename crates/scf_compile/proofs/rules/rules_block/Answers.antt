@@ -1,4 +1,4 @@
-use Rattle.scf_compile.proofs.Common.{auto_rules, ◌≡◌, [], ◌∷◌, ◌≤◌, AllByRecursion, List, Insn, Rule, IsPlainRule, arith, drop, length, length-drop, nil_from_length, return_with}
+use Rattle.scf_compile.proofs.Common.{auto_rules, ◌≡◌, [], ◌∷◌, AllByRecursion, IsPlainRule, arith, drop, length, length-drop, nil_from_length, return_with}
 use Rattle.scf_compile.proofs.RuleCode.{return_answers}
 use Rattle.scf_compile.proofs.rules.rules_block.Goals as goal
 

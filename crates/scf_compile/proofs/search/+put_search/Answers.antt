@@ -1,4 +1,4 @@
-use Rattle.scf_compile.proofs.Common.{rules, All, IsRule, NrRange, [], ◌≡◌, ◌<◌, ◌^◌, sym, subst, rules_bound, ◌++◌, ap, arith, IfOk-weaker, sum_by, sum_by-append, IsFirst, IsPut, IsSearchPut, AnswersRules, range_bound, sum_by-cons}
+use Rattle.scf_compile.proofs.Common.{All, IsRule, NrRange, [], ◌<◌, ◌^◌, sym, subst, rules_bound, ◌++◌, ap, arith, IfOk-weaker, sum_by, sum_by-append, IsFirst, IsPut, IsSearchPut, AnswersRules, range_bound, sum_by-cons}
 use Rattle.scf_compile.proofs.Searches.{all_parts, one_is, search_branch, search_one}
 use Rattle.scf_compile.proofs.search.+put_search.Goals as goal
 

@@ -1,4 +1,4 @@
-use Rattle.scf_compile.proofs.Common.{rules, common_steps, ◌≡◌, ◌+◌, ◌<◌, ◌∙◌, List, ap, arith, length, ArgumentValue, IfOk-weaker, IsFirst, IsValueSearchPut}
+use Rattle.scf_compile.proofs.Common.{common_steps, ◌<◌, ◌∙◌, List, ap, arith, length, ArgumentValue, IfOk-weaker, IsFirst, IsValueSearchPut}
 use Rattle.scf_compile.proofs.ValueSearches.{halves_len, halves_put}
 use Rattle.scf_compile.proofs.values.+put_value_search.Goals as goal
 

@@ -1,4 +1,4 @@
-use Rattle.scf_compile.proofs.Common.{auto_rules, ◌≡◌, ◌+◌, ◌∷◌, ℕ, List, All, sym, ◌∙◌, get_or, length, row_of, Bits32, Bits64, ArgumentValue, load_word, argument_word}
+use Rattle.scf_compile.proofs.Common.{auto_rules, ◌≡◌, ◌+◌, ◌∷◌, ℕ, All, sym, ◌∙◌, get_or, length, row_of, Bits32, Bits64, ArgumentValue, load_word, argument_word}
 use Rattle.scf_compile.proofs.ValueSearches.{narrow_put, wide_put}
 use Rattle.scf_compile.proofs.values.put_half_search.Goals as goal
 

@@ -1,4 +1,4 @@
-use Rattle.scf_compile.proofs.Common.{rules, common_steps, ◌≡◌, ◌+◌, ◌<◌, ℕ, ◌∙◌, All, All-filter, All-from_recursion, List, ap, arith, eqb, filter, get_or, length, nil_from_length, not, high, ArgumentValue, IsArgumentValue}
+use Rattle.scf_compile.proofs.Common.{common_steps, ◌≡◌, ◌<◌, ◌∙◌, All-filter, All-from_recursion, List, ap, arith, eqb, filter, get_or, length, nil_from_length, not, high, ArgumentValue, IsArgumentValue}
 use Rattle.scf_compile.proofs.ValueSearches.{groups_len, groups_put, none_put, own_halves, own_some}
 use Rattle.scf_compile.proofs.values.put_values.Goals as goal
 
