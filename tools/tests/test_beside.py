@@ -5,14 +5,13 @@ import json
 import os
 import random
 
-from support.common import (ALLOW, CORE, EPERM, KILL_PROCESS, X32, X86_64, Case, filter_of, insn, jeq, jge, load,
-                            part, ret)
+from support.common import (ALLOW, CORE, ENOSYS, EPERM, KILL_PROCESS, LOG, TRACE, USER_NOTIF, X32, X86_64, Case,
+                            filter_of, insn, jeq, jge, load, part, ret)
 from support.confined import NEWEST, OLDEST, Confined, here
 from support.stand_in import StandIn
 from scftools import answers, calls
 
 READ, WRITE, SOCKET, CLONE = 0, 1, 41, 56
-ENOSYS, TRACE, LOG = 0x00050026, 0x7FF00000, 0x7FFC0000
 NUMBERS, ARCHITECTURES = (0, 1, 2, 41, 42, 43, X32 - 1, X32, 0xFFFFFFFF), (X86_64, 0x40000003, 0)
 ARGUMENTS = (0, 1, 2, 3, 6, 40, 41, 42, 1 << 32, (1 << 32) + 41, (1 << 64) - 1)
 CORNERS = [calls.Call(number, architecture, 0, (first, second, 0, 0, 0, 0)) for architecture, number, first, second
@@ -35,7 +34,7 @@ SCOPES = {
 
 def degree(answer):
     """How permissive an answer is, by __seccomp_filter of kernel/seccomp.c: 0 denied, 1 delegated, 2 allowed."""
-    return {0x7FC00000: 1, TRACE: 1, LOG: 2, ALLOW: 2}.get(answer & 0xFFFF0000, 0)
+    return {USER_NOTIF: 1, TRACE: 1, LOG: 2, ALLOW: 2}.get(answer & 0xFFFF0000, 0)
 
 
 def decided(filters, call):

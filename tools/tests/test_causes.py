@@ -12,15 +12,15 @@ import types
 import unittest
 import unittest.mock
 
-from support.common import ALLOW, I386, KILL_PROCESS, LOADER, PATIENCE, TOP, X86_64, Case, jeq, module, profile_of, ret
+from support.common import (ALLOW, I386, KILL_PROCESS, KILL_THREAD, LOADER, LOG, PATIENCE, TOP, TRACE, TRAP,
+                            USER_NOTIF, X86_64, Case, jeq, module, profile_of, ret)
 from scftools import audit_records, cores, events, filters, tables
 from scftools.diagnosis import AnsweringStack
 
 TABLE = tables.read(None)
 SOCKET, AF_NETLINK, NETLINK_AUDIT = 41, 16, 9
 # linux/seccomp.h
-KILL_THREAD, TRAP, ERRNO, USER_NOTIF, TRACE, LOG = 0, 0x30000, 0x50000, 0x7FC00000, 0x7FF00000, 0x7FFC0000
-UNNAMED, WITH_LOG = 0x12340000, 2
+ERRNO, UNNAMED, WITH_LOG = 0x50000, 0x12340000, 2
 # A record of Linux 6.18.
 WRITTEN = ('audit: type=1326 audit(1795757700.752:2): auid=4294967295 uid=0 gid=0 ses=4294967295 pid=12551 '
            'comm="python3" exe="/usr/bin/python3.11" sig=31 arch=c000003e syscall=41 compat=0 ip=0x7fc36f3ffdc7 '

@@ -11,7 +11,8 @@ import socket
 import sys
 import unittest
 
-from support.common import ALLOW, EPERM, I386, TABLE, TOP, X86_64, Case, for_developers, insn, jeq, load, ret
+from support.common import (ALLOW, EPERM, I386, LOADER, TABLE, TOP, X86_64, Case, for_developers, insn, jeq, load,
+                            ret)
 from scftools import constants, strace
 
 X32, ALL_ONES = 0x40000000, (1 << 64) - 1
@@ -131,16 +132,9 @@ class Arguments(Case):
 
 # Makes the calls of a list, a line of numbers each, under a filter that refuses each call with a mark in its last
 # register; strace shows what they were to be.
-MAKER = """import ctypes, struct, sys
-libc = ctypes.CDLL(None, use_errno=True)
-libc.prctl(38, 1, 0, 0, 0)
-rows = [(0x20, 0, 0, 56), (0x15, 0, 1, 0x5CF00D), (6, 0, 0, 0x50001), (6, 0, 0, 0x7FFF0000)]
-data = ctypes.create_string_buffer(b"".join(struct.pack("<HBBI", *row) for row in rows))
-class Program(ctypes.Structure):
-    _fields_ = [("length", ctypes.c_ushort), ("filter", ctypes.c_void_p)]
-libc.prctl(22, 2, ctypes.byref(Program(len(rows), ctypes.addressof(data))), 0, 0)
+MAKER = LOADER + f"load({load(56) + jeq(0x5CF00D, 0, 1) + ret(EPERM) + ret(ALLOW)!r})" + """
 def call(numbers):
-    return libc.syscall(*map(ctypes.c_ulong, numbers), ctypes.c_ulong(0x5CF00D))
+    return library.syscall(*map(ctypes.c_ulong, numbers), ctypes.c_ulong(0x5CF00D))
 if call((39, 0, 0, 0, 0, 0)) != -1:
     sys.exit("the filter isn't there")
 for line in open(sys.argv[1]):

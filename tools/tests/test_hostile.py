@@ -11,17 +11,14 @@ import subprocess
 import sys
 import tempfile
 
-from support.common import ALLOW, CORE, GATE, KILL_PROCESS, X86_64, Case, insn, jeq, jge, limited, load, part, ret
+from support.common import (ALLOW, CORE, GATE, KILL_PROCESS, X86_64, Case, insn, jeq, jge, jset, limited, load, part,
+                            ret)
 
 LIMIT_OF_FILTER, LIMIT_OF_TEXT, LIMIT_OF_INPUT = 32768, 4194304, 16777216
 # Seconds of a processor: 3 are measured of a text of many labels in no order, and 0.9 of a million steps.
 SECONDS, MEGABYTES = 30, 640
 ALLOWS = b'{"defaultAction":"SCMP_ACT_ALLOW"}'
 ALLOWS_COMPILED = GATE + ret(ALLOW)
-
-
-def jset(mask, jt, jf):
-    return insn(0x45, mask, jt, jf)
 
 
 def with_table(profile, table=b"read 0\n"):

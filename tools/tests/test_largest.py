@@ -7,13 +7,13 @@ import re
 import struct
 import subprocess
 
-from support.common import ALLOW, CORE, EPERM, GATE, Case, insn, jge, load, part, ret
+from support.common import ALLOW, CORE, EPERM, GATE, TRAP, Case, insn, jge, load, part, ret
 
 MOST = 4096
 # MAX_INSNS_PER_PATH (kernel/seccomp.c), and what each older filter of a stack costs more.
 MOST_OF_STACK, MORE_OF_OLDER = 32768, 4
 ALLOWS = b'{"defaultAction": "SCMP_ACT_ALLOW"}'
-TRAP, ERRNO = 0x00030000, 0x00050000
+ERRNO = 0x00050000
 
 # The listing of each code, with its fields K (as a constant), N (as a place or an offset), T and F.
 LISTED = {

@@ -8,7 +8,7 @@ import subprocess
 import sys
 
 from support import seccomp_library
-from support.common import TABLE, TOP, Case, comes, part, profile_of, taken
+from support.common import LOADER, TABLE, TOP, Case, comes, part, profile_of, taken
 from support.stand_in import StandIn
 from test_output import HOSTILE
 from test_runtimes import MOBY, PODMAN
@@ -373,12 +373,7 @@ class Dangerous(Linted):
 
 
 # Runs each syscall of a list in a child of its own, behind a raw filter: a child whose syscall ends tells its errno.
-CHILDREN = """
-import ctypes, json, os, struct, sys
-libc = ctypes.CDLL(None, use_errno=True)
-raw = bytes.fromhex(sys.argv[1])
-held = ctypes.create_string_buffer(raw, len(raw))
-program = ctypes.create_string_buffer(struct.pack("HxxxxxxQ", len(raw) // 8, ctypes.addressof(held)), 16)
+CHILDREN = LOADER + """
 kept = []
 def value(it):
     if not isinstance(it, str):
@@ -391,11 +386,10 @@ for number, *args in json.loads(sys.argv[2]):
         print(pid, flush=True)
         continue
     args = [value(it) for it in args]
-    libc.prctl(38, 1, 0, 0, 0)
-    if libc.prctl(22, 2, program, 0, 0):
+    if load(bytes.fromhex(sys.argv[1])):
         os._exit(255)
     ctypes.set_errno(0)
-    found = libc.syscall(ctypes.c_long(number), *args)
+    found = library.syscall(ctypes.c_long(number), *args)
     # an errno is told by a file, an exit's status has but 8 bits
     with open(f"{sys.argv[3]}/{os.getpid()}.new", "w") as file:
         file.write(f"{found} {ctypes.get_errno()}")
@@ -536,14 +530,7 @@ class Partners(Running):
 
     def run_python(self, given, code):
         """How a Python ends that runs this code behind the filter of a profile."""
-        text = f"raw = bytes.fromhex({self.compiled(given).hex()!r})\n" + """
-import ctypes, struct, threading, signal, os
-libc = ctypes.CDLL(None)
-held = ctypes.create_string_buffer(raw, len(raw))
-program = ctypes.create_string_buffer(struct.pack("HxxxxxxQ", len(raw) // 8, ctypes.addressof(held)), 16)
-libc.prctl(38, 1, 0, 0, 0)
-assert libc.prctl(22, 2, program, 0, 0) == 0
-""" + code
+        text = f"{LOADER}import signal\nassert load({self.compiled(given)!r}) == 0\n{code}"
         return subprocess.run([sys.executable, "-IS", "-c", text], stdout=subprocess.PIPE, stderr=subprocess.DEVNULL,
                               stdin=subprocess.DEVNULL, check=False)
 

@@ -6,7 +6,7 @@ import time
 import unittest
 from unittest import mock
 
-from support.common import ALLOW, TOP, comes, filter_of, ret
+from support.common import ALLOW, LOADER, TOP, comes, filter_of, ret
 from support.confined import processes
 from support.own_machine import ROOT, OwnMachine
 from scftools import machine_pass
@@ -29,15 +29,9 @@ print(json.dumps({
 """
 # Starts processes that wait in execve(2) for ever, so many, each with a filter of one instruction: the kernel waits for
 # all other threads to end, and one of them is traced by this process, which never waits for it. Prints their numbers.
-EXECUTES = r"""
-import ctypes, json, os, sys, threading, time
-class Program(ctypes.Structure):
-    _fields_ = [("len", ctypes.c_ushort), ("filter", ctypes.c_char_p)]
-library = ctypes.CDLL(None, use_errno=True)
-allow = b"\x06\0\0\0\0\0\xff\x7f"
+EXECUTES = LOADER + r"""
 def be(end):
-    library.prctl(38, 1, 0, 0, 0)
-    library.prctl(22, 2, ctypes.byref(Program(1, allow)), 0, 0)
+    load(b"\x06\0\0\0\0\0\xff\x7f")
     def sleeps():
         os.write(end, b"%10d" % threading.get_native_id())
         time.sleep(1000)

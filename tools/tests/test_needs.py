@@ -9,7 +9,7 @@ import subprocess
 import sys
 import unittest
 
-from support.common import Case, limited, profile_of, taken, tool
+from support.common import CONFINED, LOADER, Case, limited, profile_of, taken, tool
 from support.oci import ALLOW, ERRNO
 from scftools import strace, tables
 from scftools.architectures import AARCH64, ARM, I386, JUDGED, NATIVE, X32
@@ -857,23 +857,12 @@ class Real(Judgement):
         kinds = ("dangerous-call", "high-half", "no-fallback", "no-restart")
         self.assertEqual(self.run_tool("lint", "--strict", *(f"--except={kind}" for kind in kinds), least)[0], 0)
 
-    # Puts itself under a filter and becomes another program, whose first call is execve.
-    CONFINED = """
-import ctypes, os, sys
-class Program(ctypes.Structure):
-    _fields_ = [("len", ctypes.c_ushort), ("filter", ctypes.c_char_p)]
-data, library = open(sys.argv[1], "rb").read(), ctypes.CDLL(None)
-if library.prctl(38, 1, 0, 0, 0) or library.prctl(22, 2, ctypes.byref(Program(len(data) // 8, data)), 0, 0):
-    os._exit(99)
-os.execv(sys.argv[2], sys.argv[2:])
-"""
-
     def ended(self, profile, *words):
         """How a program ends under a profile's filter, and what it prints."""
         filters = os.path.join(self.folder, "f.bpf")
         with open(filters, "wb") as out:
             subprocess.run([tool("compile"), profile], stdout=out, check=True)
-        done = subprocess.run([sys.executable, "-IS", "-c", self.CONFINED, filters, shutil.which(words[0]), *words[1:]],
+        done = subprocess.run([sys.executable, "-IS", "-c", CONFINED, filters, shutil.which(words[0]), *words[1:]],
                               stdout=subprocess.PIPE, stderr=subprocess.PIPE, check=False)
         if done.returncode == 99:
             self.skipTest("no filter can be installed here")
@@ -911,16 +900,10 @@ os.execv(sys.argv[2], sys.argv[2:])
         self.assertEqual((bool(status), b"real.log" in out), (True, False))
 
     # Makes calls, under a filter where one is given, and prints for each whether it failed with errno 77.
-    CALLS = """
-import ctypes, sys
-class Program(ctypes.Structure):
-    _fields_ = [("len", ctypes.c_ushort), ("filter", ctypes.c_char_p)]
-library = ctypes.CDLL(None, use_errno=True)
+    CALLS = LOADER + """
 library.syscall.restype = ctypes.c_long
-if len(sys.argv) > 2:
-    data = open(sys.argv[2], "rb").read()
-    if library.prctl(38, 1, 0, 0, 0) or library.prctl(22, 2, ctypes.byref(Program(len(data) // 8, data)), 0, 0):
-        sys.exit(99)
+if len(sys.argv) > 2 and load(open(sys.argv[2], "rb").read()) < 0:
+    sys.exit(99)
 for number, *arguments in eval(sys.argv[1]):
     failed = library.syscall(*map(ctypes.c_long, (number, *arguments))) == -1 and ctypes.get_errno() == 77
     print(int(failed))

@@ -6,8 +6,8 @@ import subprocess
 from unittest import mock
 
 from support import several
-from support.common import (ALLOW, EPERM, KILL_PROCESS, KILL_THREAD, TOP, X32, X86_64, Case, gate, insn, jeq, jge, load,
-                            ret, tool)
+from support.common import (ALLOW, EPERM, KILL_PROCESS, KILL_THREAD, LOG, TOP, TRACE, TRAP, USER_NOTIF, X32, X86_64,
+                            Case, gate, insn, jeq, jge, jgt, jset, load, ret, tool)
 from support.seccomp_library import NEEDED, Library
 from support.stand_in import StandIn, unpacked
 from scftools import answers
@@ -15,19 +15,10 @@ from scftools.calls import Call
 from scftools.profile_of import TRAP_DATA_TEXT
 
 MOST = (1 << 64) - 1
-TRAP, USER_NOTIF, TRACE, LOG = 0x00030000, 0x7FC00000, 0x7FF00000, 0x7FFC0000
 NAMES = {"read": 0, "write": 1, "ioctl": 16, "socket": 41, "personality": 135}
 OWN = "".join(f"{name} {number}\n" for name, number in NAMES.items())
 SAID, SANDBOX = f"profile-of: {TRAP_DATA_TEXT}\n", ("--runtime", "sandbox")
 HOLDS = {f"SCMP_CMP_{name}": holds for name, holds in several.OPERATORS.items()}
-
-
-def jgt(k, jt, jf):
-    return insn(0x25, k, jt, jf)
-
-
-def jset(k, jt, jf):
-    return insn(0x45, k, jt, jf)
 
 
 def of_numbers(codes, default):

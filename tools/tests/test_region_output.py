@@ -7,8 +7,8 @@ import shutil
 import subprocess
 import unittest
 
-from support.common import (ALLOW, EPERM, I386, TABLE, UNKNOWN_ZERO, X86_64, Case, filter_of, insn, jeq, jge, load,
-                            part, ret)
+from support.common import (ALLOW, ENOSYS, EPERM, I386, LOG, TABLE, TRACE, UNKNOWN_ZERO, X86_64, Case, filter_of, insn,
+                            jeq, jge, load, part, ret)
 from support.stand_in import StandIn
 from test_surface import gate, of_number
 from scftools import architectures, client, flow_graph, regions, tables
@@ -16,7 +16,6 @@ from scftools.calls import Call
 from scftools.program import ToolError
 from scftools.regions import TooManyRanges, Word
 
-ENOSYS, LOG, TRACE = 0x00050026, 0x7FFC0000, 0x7FF00000
 WORD = (1 << 32) - 1
 # A filter, and the lines that people expect of it.
 LINES = (

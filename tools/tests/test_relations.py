@@ -5,8 +5,8 @@ import json
 import re
 from unittest import mock
 
-from support.common import (ALLOW, CORE, EPERM, I386, KILL_PROCESS, KILL_THREAD, X32, X86_64, Case, filter_of,
-                            gate, insn, jeq, jge, load, needs, part, ret)
+from support.common import (ALLOW, CORE, ENOSYS, EPERM, I386, KILL_PROCESS, KILL_THREAD, LOG, TRACE, TRAP, USER_NOTIF,
+                            X32, X86_64, Case, filter_of, gate, insn, jeq, jge, load, needs, part, ret)
 from support.confined import Confined, here
 from support.stand_in import StandIn
 import kernel_profiles
@@ -14,7 +14,6 @@ from scftools import answers, architectures, calls, client, compare, other_abis,
 from scftools.filters import Filter
 
 READ, WRITE, SOCKET, GETPID, EXIT_GROUP = 0, 1, 41, 39, 231
-ENOSYS, TRAP, USER_NOTIF, TRACE, LOG = 0x00050026, 0x00030000, 0x7FC00000, 0x7FF00000, 0x7FFC0000
 # Numbers on both sides of all that the filters and profiles here test, of x86-64 and of other architectures.
 NUMBERS = (0, 1, 2, 39, 40, 41, 42, 43, 231, 449, 450, X32 - 1, X32, X32 + 1, 0xFFFFFFFF)
 ARCHITECTURES = (X86_64, I386, 0xC00000B7, 0)

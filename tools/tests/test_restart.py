@@ -10,13 +10,12 @@ import time
 import unittest
 from unittest import mock
 
-from support.common import (ALLOW, EPERM, I386, KILL_PROCESS, KILL_THREAD, PATIENCE, X86_64, Case, comes, jeq, load,
-                            profile_of, ret)
+from support.common import (ALLOW, EPERM, I386, KILL_PROCESS, KILL_THREAD, LOG, PATIENCE, TRACE, TRAP, X86_64, Case,
+                            comes, jeq, load, profile_of, ret)
 from support.confined import USER_NOTIF, Confined, here, processes, ptrace
 from scftools import client, hold, program, restart
 from scftools.calls import Call
 
-TRAP, TRACE, LOG = 0x00030000, 0x7FF00000, 0x7FFC0000
 DENIALS = (KILL_PROCESS, KILL_THREAD, EPERM, TRAP, USER_NOTIF, TRACE)
 # asm/unistd_64.h, asm/unistd_32.h
 NANOSLEEP, POLL, PAUSE, MKDIR, FUTEX, RESTART = 35, 7, 34, 83, 202, 219

@@ -15,8 +15,8 @@ import termios
 import unittest
 from unittest import mock
 
-from support.common import (ALLOW, EPERM, I386, KILL_PROCESS, KILL_THREAD, TABLE, TOP, UNKNOWN_ZERO, X32,
-                            X86_64, Case, filter_of, gate, insn, jeq, jge, load, ret, tool)
+from support.common import (ALLOW, EPERM, I386, KILL_PROCESS, KILL_THREAD, LOG, TABLE, TOP, TRACE, TRAP, UNKNOWN_ZERO,
+                            USER_NOTIF, X32, X86_64, Case, filter_of, gate, insn, jeq, jge, jgt, load, ret, tool)
 from support.confined import NEWEST, OLDEST, Confined, here
 from support.stand_in import StandIn
 from test_why import random_filter
@@ -29,14 +29,9 @@ NAMES = {"read": READ, "write": WRITE, "getpid": GETPID, "socket": SOCKET, "exit
 OWN = "".join(f"{name} {number}\n" for name, number in NAMES.items()).encode()
 NUMBERS = sorted(set(NAMES.values()))
 OTHERS = X32 - len(NUMBERS)
-TRAP, USER_NOTIF, TRACE, LOG = 0x00030000, 0x7FC00000, 0x7FF00000, 0x7FFC0000
 # Answers that seccomp(2) doesn't name, with ranks between those of ERRNO and USER_NOTIF, and of LOG and ALLOW.
 BETWEEN, NEARLY = 0x00060000, 0x7FFD0000
 HIGH = 1 << 32
-
-
-def jgt(k, jt, jf):
-    return insn(0x25, k, jt, jf)
 
 
 def of_number(number, answer, default):

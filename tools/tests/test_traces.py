@@ -11,7 +11,7 @@ import sys
 import tempfile
 import unittest
 
-from support.common import TOP, Case, profile_of
+from support.common import CONFINED, TOP, Case, profile_of
 from support.oci import ALLOW, ERRNO
 from test_runtimes import ALONE, BUSYBOX, config
 from scftools import architectures, requirements, tables, traces
@@ -137,20 +137,6 @@ class Records(Case):
             expected = calls_of(file.read())[0]
         self.assertEqual({it["name"]: it["count"] for it in found["calls"]}, expected)
         self.assertEqual(found["not_judged"], {"names": {}, "foreign": 0, "cut": 0, "more": 0, "lines": 0, "lost": 0})
-
-
-# Puts itself under a filter and becomes another program.
-CONFINED = """
-import ctypes, os, sys
-class Program(ctypes.Structure):
-    _fields_ = [("len", ctypes.c_ushort), ("filter", ctypes.c_char_p)]
-data, library = open(sys.argv[1], "rb").read(), ctypes.CDLL(None)
-words, environment, path = [sys.argv[2]], dict(os.environ), sys.argv[2]
-library.prctl(38, 1, 0, 0, 0)
-program = Program(len(data) // 8, data)
-library.prctl(22, 2, ctypes.byref(program), 0, 0)
-os.execve(path, words, environment)
-"""
 
 
 class Lines(unittest.TestCase):

@@ -25,7 +25,9 @@ TABLE = os.path.join(TOP, "tables", "x86_64.table")
 X86_64, I386 = 0xC000003E, 0x40000003
 # The bit of x32 syscall numbers.
 X32 = 0x40000000
-ALLOW, EPERM, KILL_PROCESS, KILL_THREAD = 0x7FFF0000, 0x00050001, 0x80000000, 0
+# linux/seccomp.h
+ALLOW, EPERM, ENOSYS, KILL_PROCESS, KILL_THREAD = 0x7FFF0000, 0x00050001, 0x00050026, 0x80000000, 0
+TRAP, USER_NOTIF, TRACE, LOG = 0x00030000, 0x7FC00000, 0x7FF00000, 0x7FFC0000
 # How long anything is waited for, in seconds, before it counts as something that hangs. It measures nothing: on a slow
 # machine that does much else, what takes a minute elsewhere takes a quarter of an hour.
 PATIENCE = 900
@@ -66,6 +68,14 @@ def jge(k, jt, jf):
     return insn(0x35, k, jt, jf)
 
 
+def jgt(k, jt, jf):
+    return insn(0x25, k, jt, jf)
+
+
+def jset(k, jt, jf):
+    return insn(0x45, k, jt, jf)
+
+
 def ret(k):
     return insn(0x06, k)
 
@@ -90,8 +100,8 @@ def filter_of(allowed, default=EPERM, foreign=KILL_PROCESS):
     return gate(tests + ret(default) + ret(ALLOW), foreign)
 
 
-def stub(number, answer=0x00050026):
-    """What runc puts before a filter: numbers from this one on are answered so, ENOSYS."""
+def stub(number, answer=ENOSYS):
+    """What runc puts before a filter: numbers from this one on are answered so."""
     return load(0) + jge(number, 0, 1) + ret(answer)
 
 
@@ -105,6 +115,12 @@ class Program(ctypes.Structure):
 def load(data, flags=0):
     library.prctl(38, 1, 0, 0, 0)
     return library.syscall(317, 1, flags, ctypes.byref(Program(len(data) // 8, data)))
+"""
+# Puts itself under the filter in a file, and becomes the program of its other words; status 99: no filter is taken here.
+CONFINED = LOADER + """
+if load(open(sys.argv[1], "rb").read()) < 0:
+    os._exit(99)
+os.execv(sys.argv[2], sys.argv[2:])
 """
 
 

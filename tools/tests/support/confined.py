@@ -11,7 +11,7 @@ import sys
 import time
 import unittest
 
-from .common import ALLOW, EPERM, LOADER, PATIENCE, Case, comes, jeq, load, ret
+from .common import ALLOW, EPERM, LOADER, PATIENCE, USER_NOTIF, Case, comes, jeq, load, ret
 from kernel_child import SECCOMP_IOCTL_NOTIF_RECV, SECCOMP_IOCTL_NOTIF_SEND
 from scftools import processes, ptrace
 
@@ -40,7 +40,6 @@ print(*numbers, flush=True)
 for line in sys.stdin:
     exec(line)
 """
-USER_NOTIF = 0x7FC00000
 OLDEST = ret(ALLOW)
 NEWEST = load(0) + jeq(0x0FFFFFFF, 0, 1) + ret(EPERM) + ret(ALLOW)
 # As long as NEWEST, and another one.
