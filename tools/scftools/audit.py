@@ -18,7 +18,7 @@ from collections.abc import Callable, Iterable, Sequence
 from . import (bundles, child, client, compare_output, container_files, engines, hold, lxc_policies, machine, output,
                program, sandbox_programs, sandbox_rules, unit_profiles, units, verdicts, verify)
 from .architectures import I386
-from .compare import Comparison
+from .compare import Comparison, left_out
 from .container_files import ContainerDescription
 from .filters import Filter
 from .machine import Process, Snapshot
@@ -285,8 +285,7 @@ class StackJudge:
         """The verdict; syscalls of other ABIs don't count if nothing is configured."""
         comparison = asked.comparison(stack.named, relation)
         try:
-            report = comparison.run()[1]
-            judgement = self._of_report(comparison, report)
+            judgement = self._of_comparison(comparison)
         except program.InternalError as why:
             return StackJudgement(NOT_KNOWN, str(why))
         if is_of_nothing:
@@ -294,22 +293,24 @@ class StackJudge:
             return replace(judgement, shown=None)
         if judgement.verdict in (WEAKER, NOT_KNOWN):
             return judgement
-        return self._with_foreign(judgement, comparison, [*report.architectures, *asked.unknown], asked.elsewhere)
+        names = left_out(comparison.profile, comparison.tables).architectures
+        return self._with_foreign(judgement, comparison, [*names, *asked.unknown], asked.elsewhere)
 
-    def _of_report(self, comparison: Comparison, report: verdicts.Report) -> StackJudgement:
+    def _of_comparison(self, comparison: Comparison) -> StackJudgement:
         """The verdict on what is judged: if some syscalls differ, whether any is more permissive, or any stricter."""
-        verdict = report.verdict
+        verdict = comparison.verdict(comparison.scope, comparison.relation)
         if verdict is None:
-            return StackJudgement(NOT_KNOWN, f"scf says: {report.lines[0] if report.lines else 'nothing'}")
+            lines = comparison.run()[1].lines
+            return StackJudgement(NOT_KNOWN, f"scf says: {lines[0] if lines else 'nothing'}")
         if verdict.holds:
             return StackJudgement(AS_CONFIGURED)
         if not verdict.fails:
             return _undecided(verdict)
-        no_more = verdict if comparison.relation == NO_MORE else comparison.run(None, NO_MORE)[1].verdict
+        no_more = verdict if comparison.relation == NO_MORE else comparison.verdict(comparison.scope, NO_MORE)
         if no_more is None or not no_more.holds:
             return _undecided(no_more) if no_more is None or not no_more.fails else \
                 StackJudgement(WEAKER, shown=no_more, comparison=comparison)
-        no_less = comparison.run(None, NO_LESS)[1].verdict
+        no_less = comparison.verdict(comparison.scope, NO_LESS)
         if no_less is None or not (no_less.holds or no_less.fails):
             return _undecided(no_less)
         return StackJudgement(OTHERWISE if no_less.holds else STRICTER, shown=verdict if no_less.holds else no_less,

@@ -7,7 +7,7 @@ from __future__ import annotations
 
 import functools
 import itertools
-from collections.abc import Collection, Iterable, Iterator, Sequence
+from collections.abc import Callable, Collection, Iterable, Iterator, Sequence
 
 from . import architectures, bundles, client, program, regions, verdicts
 from .answers import DISPOSITIONS
@@ -50,12 +50,12 @@ def beyond(names: Collection[str]) -> Iterator[Span]:
 def _record_in(region: Region, span: Span) -> Call | None:
     """A record of a region in a span, None if there is none: scf's example, or one with the least numbers. Raises
     TooManyRanges."""
-    shown = region.call
+    architecture = region.words.get(ARCHITECTURE, FREE).within(*span[0])
+    shown = region.call if architecture else None
     if shown and all(low <= value <= high for value, (low, high) in zip((shown.architecture, shown.number), span)):
         return shown
-    architecture, number = (region.words.get(word, FREE).within(*bounds)
-                            for word, bounds in zip((ARCHITECTURE, NUMBER), span))
-    if not architecture or not number:
+    number = region.words.get(NUMBER, FREE).within(*span[1]) if architecture else None
+    if not number:
         return None
     # (the record of an open region isn't shown, and that it has one is all that counts)
     return region.call_of(number[0][0], architecture[0][0]) or Call(number[0][0], architecture[0][0])
@@ -69,15 +69,15 @@ def holds(relation: str, region: Region) -> bool:
     return relation != SAME and (left == right or relation == (NO_MORE if left < right else NO_LESS))
 
 
-def _verdict(relation: str, records: Iterable[tuple[Region, Call | None]]) -> Verdict | None:
-    """The verdict on regions, each with a record of it, or None if none of its records counts; None if the regions
-    don't tell."""
+def _verdict(relation: str, listed: Iterable[Region], record_in: Callable[[Region], Call | None]) -> Verdict | None:
+    """The verdict on those records of regions that count: `record_in` gives one of a region, or None if there is none.
+    None if the regions don't tell."""
     is_known = True
-    for region, call in records:
-        if call is not None and not holds(relation, region):
-            if region.is_decided:
-                return Verdict(FAILING_WORDS[relation], call, region.answer, region.beside.answer)
-            is_known = False
+    for region in listed:
+        call = None if holds(relation, region) else record_in(region)
+        if call is not None and region.is_decided:
+            return Verdict(FAILING_WORDS[relation], call, region.answer, region.beside.answer)
+        is_known = is_known and call is None
     return Verdict(relation) if is_known else None
 
 
@@ -100,8 +100,8 @@ class Differences(Lookup):
         """The verdict on the records of some spans; None if the regions don't tell."""
         spans = list(spans)
         try:
-            return None if self.regions is None else _verdict(relation, (
-                (region, _record_in(region, span)) for region in self.regions for span in spans))
+            return None if self.regions is None else _verdict(relation, self.regions, lambda region: next(
+                filter(None, (_record_in(region, span) for span in spans)), None))
         except TooManyRanges:
             return None
 
@@ -111,8 +111,8 @@ class Differences(Lookup):
         architecture, failing = JUDGED[name], []
         for number in sorted(table.numbers()) if self.regions is not None else ():
             call = Call(architecture.first + number, architecture.number)
-            verdict = _verdict(relation, ((region, region.call_of(call.number, call.architecture) or call)
-                                          for region in self.of_number(call)))
+            verdict = _verdict(relation, self.of_number(call),
+                               lambda region: region.call_of(call.number, call.architecture) or call)
             if verdict is None:
                 return None
             if verdict.call is not None:

@@ -32,9 +32,9 @@ ARGUMENT_REGISTERS = {X86_64: ("rdi", "rsi", "rdx", "r10", "r8", "r9"),
 # linux/filter.h: BPF_RET | BPF_A, whose answer is computed; linux/seccomp.h: SECCOMP_RET_USER_NOTIF's high half.
 RETURN_COMPUTED, USER_NOTIF = 0x16, 0x7FC0
 # How often scf is asked about the threads of a process, which are stopped meanwhile; calls beyond begin anew. The steps
-# in which it follows their filters: the 28 of a unit of systemd take 230000, and some 30 ms. And of how many stacks the
-# regions are kept.
-MOST_ASKED, LOOKUP_STEPS, MOST_KEPT = 200, "300000", 50
+# in which it follows their filters: the 28 of a unit of systemd take 230000, and some 30 ms. Of how many stacks the regions
+# are kept; and how many calls of a stack are asked one by one before all of them.
+MOST_ASKED, LOOKUP_STEPS, MOST_KEPT, FEW_CALLS = 200, "300000", 50, 2
 
 
 def restart_of(call: Call) -> Call:
@@ -90,14 +90,17 @@ class Restarts:
         self.kernel = kernel
         self.calls: dict[int, InterruptedSyscall] = {}
         self.lookups: dict[tuple[bytes, ...], Lookup] = {}
+        # the answers that were asked for one by one
+        self.answers: dict[tuple[bytes, ...], dict[Call, Answer | None]] = {}
         # how often scf may still be asked
         self.remaining_runs = MOST_ASKED
 
     def begin(self) -> None:
         """Before the threads of another process are stopped."""
         self.remaining_runs = MOST_ASKED
-        if len(self.lookups) > MOST_KEPT:
+        if len(self.answers) > MOST_KEPT:
             self.lookups.clear()
+            self.answers.clear()
 
     def at_stop(self, thread: int) -> None:
         """A thread has stopped. Until it is known what its filters allow, its call begins anew, so that it does even if
@@ -145,15 +148,19 @@ class Restarts:
         return None if answer is None else answer.disposition
 
     def answer(self, filters: tuple[bytes, ...], call: Call) -> Answer | None:
-        """The answer of filters to a syscall, None if scf can't tell or was asked too often: by their regions, which it
-        prints once for all syscalls."""
-        if filters not in self.lookups and self.remaining_runs > 0:
+        """The answer of filters to a syscall, None if scf can't tell or was asked too often: after a few syscalls by
+        their regions, which it prints once for all."""
+        known = self.answers.setdefault(filters, {})
+        if call in known:
+            return known[call]
+        if filters not in self.lookups and len(known) >= FEW_CALLS and self.remaining_runs > 0:
             printed = self.run(["answers", "--examples", f"--limit={LOOKUP_STEPS}"], filters)
             self.lookups[filters] = Lookup(regions.read(printed))
         region = self.lookups[filters].of(call) if filters in self.lookups else None
         if region is not None or self.remaining_runs <= 0:
             return None if region is None else region.answer
-        return verdicts.decision(self.run(["decide", *call.words()], filters)).answer
+        known[call] = verdicts.decision(self.run(["decide", *call.words()], filters)).answer
+        return known[call]
 
     def run(self, words: Sequence[str], filters: Sequence[bytes]) -> str:
         """The text that scf prints of filters; empty if it isn't built, since building it takes long, or can't be
