@@ -283,9 +283,9 @@ class StackJudge:
 
     def _judged(self, stack: Stack, asked: Request, relation: str, is_of_nothing: bool) -> StackJudgement:
         """The verdict; syscalls of other ABIs don't count if nothing is configured."""
-        comparison = asked.comparison(stack.named, relation)
         try:
-            judgement = self._of_comparison(comparison)
+            comparison = asked.comparison(stack.named, relation).without_absent_stub()
+            judgement = self._of_comparison(comparison, not is_of_nothing)
         except program.InternalError as why:
             return StackJudgement(NOT_KNOWN, str(why))
         if is_of_nothing:
@@ -296,11 +296,14 @@ class StackJudge:
         names = left_out(comparison.profile, comparison.tables).architectures
         return self._with_foreign(judgement, comparison, [*names, *asked.unknown], asked.elsewhere)
 
-    def _of_comparison(self, comparison: Comparison) -> StackJudgement:
-        """The verdict on what is judged: if some syscalls differ, whether any is more permissive, or any stricter."""
-        verdict = comparison.verdict(comparison.scope, comparison.relation)
+    def _of_comparison(self, comparison: Comparison, is_shown: bool) -> StackJudgement:
+        """The verdict on what is judged: if some syscalls differ, whether any is more permissive, or any stricter. One
+        that is shown is answered by the filters again."""
+        verdict = None if is_shown else comparison.known_verdict(comparison.scope, comparison.relation)
         if verdict is None:
-            lines = comparison.run()[1].lines
+            report = comparison.run()[1]
+            verdict, lines = report.verdict, report.lines
+        if verdict is None:
             return StackJudgement(NOT_KNOWN, f"scf says: {lines[0] if lines else 'nothing'}")
         if verdict.holds:
             return StackJudgement(AS_CONFIGURED)

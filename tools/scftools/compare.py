@@ -64,24 +64,18 @@ class Comparison(Sides):
     def run(self, scope: str | None = None, relation: str | None = None) -> tuple[int, Report]:
         """scf's exit status and report, for this relation or the comparison's own, by default over all architectures
         that are judged. Over all records the verdict is `undetermined` if the syscall that decides is of an
-        architecture that the profile names, and scf has no table of it. With a stub the profile counts with it, or
-        without it where that holds."""
-        return self.run_with_stub(scope, relation)[:2]
-
-    def run_with_stub(self, scope: str | None = None, relation: str | None = None) -> tuple[int, Report, bool]:
-        """scf's status and report, and whether filters begin with runc's stub: whether they are the same as the profile
-        with it."""
-        status, report = self.run_as_it_is(scope, relation)
-        has_stub = bool(self.stub) and report.verdict is not None and report.verdict.word == SAME
-        if self.stub and report.verdict is not None and not report.verdict.holds:
-            without_status, without = replace(self, stub={}).run_as_it_is(scope, relation)
-            if without.verdict is None or not without.verdict.fails:
-                return without_status, without, False
+        architecture that the profile names, and scf has no table of it."""
+        status, report = self.run_unchecked(scope, relation)
         self.check(report)
-        return status, report, has_stub
+        return status, report
 
-    def run_as_it_is(self, scope: str | None = None, relation: str | None = None) -> tuple[int, Report]:
-        """scf's status and report for the profile with its stub."""
+    def without_absent_stub(self) -> Comparison:
+        """The comparison without runc's stub if the filters answer its first number on no architecture as it does."""
+        has_stub = any(self.of_numbers(name, first, first).holds for name, first in self.stub.items())
+        return self if has_stub else replace(self, stub={})
+
+    def run_unchecked(self, scope: str | None = None, relation: str | None = None) -> tuple[int, Report]:
+        """The same without a second look at the record that is shown."""
         scope, relation = scope or self.scope, relation or self.relation
         status, report = self.by_call(relation) if scope == CALLS else self.asked(SCOPES[scope], relation)
         if report.verdict is None:
@@ -109,12 +103,6 @@ class Comparison(Sides):
         known = super().known_verdict(scope, relation)
         abi = known and known.call and known.call.abi
         return None if scope == ALL and abi in left_out(self.profile, self.tables).architectures else known
-
-    def verdict(self, scope: str, relation: str) -> Verdict | None:
-        """The verdict over a scope, with the stub, or without it where that holds."""
-        verdict = super().verdict(scope, relation)
-        without = replace(self, stub={}).verdict(scope, relation) if self.stub and verdict and verdict.fails else None
-        return verdict if without is None or without.fails else without
 
     def reason_of(self, call: Call) -> Reason:
         """The profile's reason for its answer to a syscall."""

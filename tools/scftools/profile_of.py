@@ -318,7 +318,7 @@ class ProfileRequest:
         Raises Refusal if scf refuses the filters, the table or the limit.
         """
         comparison = self.comparison(profile, relation)
-        status, report = comparison.run_as_it_is()
+        status, report = comparison.run_unchecked()
         if report.fault is not None and report.fault.source != "profile":
             raise Refusal(report.fault.line, status)
         return report, comparison.stub

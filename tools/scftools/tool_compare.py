@@ -34,7 +34,8 @@ allow the same, whatever the errno or other data. Without any, if they differ bu
 added line says so.
 
 With --runtime the profile is read as that runtime reads it (RUNTIMES.md). runc's filters also fail syscalls whose
-numbers are above all that the profile names with ENOSYS, which no profile says: these may do so, or not.
+numbers are above all that the profile names with ENOSYS, which no profile says: if these do so at the first of them,
+all are expected to.
 
 With --beside the filters are compared with other filters, a stack too, over each possible record unless --native: an
 old release beside a new one, a filter made by hand beside a generated one. The added lines show the tests of both.
@@ -108,7 +109,7 @@ def main():
     profile = runtimes.read(options)
     comparison = compare.Comparison(stack, profile.data, tables.read(options.table), options.relation, profile.origins,
                                     profile.stub, is_native=options.scope == verdicts.NATIVE_SCOPE)
-    scope = options.scope or comparison.scope
+    comparison, scope = comparison.without_absent_stub(), options.scope or comparison.scope
     status, report = comparison.run(scope)
     report = verdicts.most_telling(report, comparison.table, comparison.of_calls)
     if options.html is not None:

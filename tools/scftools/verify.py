@@ -101,9 +101,10 @@ class Request:
         return fault is None or fault.kind in ("Conflict", "RepeatedIndex")
 
     def judge(self, stack: Stack) -> Block:
-        comparison = self.comparison(stack.named)
+        comparison = self.comparison(stack.named).without_absent_stub()
         scope = self.scope or comparison.scope
-        status, report, has_stub = comparison.run_with_stub(scope)
+        status, report = comparison.run(scope)
+        has_stub = report.verdict is not None and report.verdict.word == verdicts.SAME
         return Block(stack, status, comparison, report, comparison.stub if has_stub else {}, scope)
 
     def comparison(self, stack: Sequence[Filter], relation: str | None = None) -> Comparison:

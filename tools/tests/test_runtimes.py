@@ -102,6 +102,12 @@ def of_ipc(*more):
             "syscalls": [entry(*names, "semget", "shmat", "msgrcv", *more)]}
 
 
+def beside(filters, applied):
+    """The comparison of filters with a profile as a runtime applies it."""
+    return Comparison([Filter("it", data) for data in filters], applied.data, tables.read(None),
+                      stub=applied.stub).without_absent_stub()
+
+
 class Runtimes(Case):
     def compared(self, runtime, seccomp, applied=None, filters=None):
         """The verdict of a container's own filter beside what the tools say that the runtime makes of the profile, and
@@ -110,10 +116,8 @@ class Runtimes(Case):
         if filters is None:
             filters, why = filters_of(applied_profile.runtime.program, seccomp)
             self.assertIsNotNone(filters, why)
-        comparison = Comparison([Filter("it", data) for data in filters], applied_profile.data, tables.read(None),
-                                stub=applied_profile.stub)
-        _, report, has_stub = comparison.run_with_stub()
-        return report.printed[0], has_stub, applied_profile
+        comparison = beside(filters, applied_profile)
+        return comparison.run()[1].printed[0], bool(comparison.stub), applied_profile
 
     def same(self, runtime, *entries, **members):
         given = profile(*entries, **members)
@@ -252,10 +256,10 @@ class Runtimes(Case):
             applied = runtimes.applied(given, "runc")
             self.assertEqual(applied.stub, {X86_64: 95})
             data = stub(first) + insn(0, 0) + compiled(applied)
-            comparison = Comparison([Filter("it", data)], applied.data, tables.read(None), stub=applied.stub)
-            status, report, has_stub = comparison.run_with_stub(verdicts.NATIVE_SCOPE)
-            self.assertEqual((status, report.printed[0], has_stub, report.verdict.call.number),
-                             (1, "differs", False, min(first, 95)))
+            comparison = beside([data], applied)
+            status, report = comparison.run(verdicts.NATIVE_SCOPE)
+            self.assertEqual((status, report.printed[0], bool(comparison.stub), report.verdict.call.number),
+                             (1, "differs", first == 94, first))
 
     def test_i386_syscalls_that_ipc_makes_too(self):
         """libseccomp tells runc no number of theirs, so its ENOSYS may stand before what the profile says of those that
@@ -272,8 +276,7 @@ class Runtimes(Case):
                 self.assertEqual((verdict, has_stub), ("same", runtime == "runc"), more)
         filters, why = filters_of("runc", given)
         self.assertIsNotNone(filters, why)
-        comparison = Comparison([Filter("it", data) for data in filters], applied.data, tables.read(None),
-                                stub=applied.stub)
+        comparison = beside(filters, applied)
         for relation in verdicts.SAME, verdicts.NO_MORE, verdicts.NO_LESS:
             for scope in (verdicts.LISTED, verdicts.CALLS):
                 status, report = comparison.run(scope, relation)
@@ -323,17 +326,16 @@ class Runtimes(Case):
             self.assertEqual((verdict, has_stub), ("same", name == "docker"), name)
 
     def test_a_call_above_the_stub_that_is_allowed(self):
-        """It is the call that is shown, and not one of those that runc answers by ENOSYS."""
+        """It is the call that is shown, and not one of those that runc answers by ENOSYS. A filter that allows the first of
+        them has no stub."""
         applied = runtimes.applied({"defaultAction": ERRNO, "architectures": [X86_64],
                                   "syscalls": [entry("read", "lchown")]}, "runc")
         stubbed = stub(applied.stub[X86_64]) + insn(0, 0) + compiled(applied)
         for number in (95, 460, 0x3FFFFFFF):
             hole = load(0) + jeq(number, 0, 1) + ret(ALLOWED) + insn(0, 0) + stubbed
-            comparison = Comparison([Filter("it", hole)], applied.data, tables.read(None), stub=applied.stub)
-            status, report, has_stub = comparison.run_with_stub(verdicts.NATIVE_SCOPE)
-            self.assertEqual((status, report.printed[0], has_stub, report.verdict.call.number),
-                             (1, "differs", False, number))
-            self.assertEqual((report.printed[2:4]), ["filter ALLOW 0", "profile ERRNO 38"])
+            status, report = beside([hole], applied).run(verdicts.NATIVE_SCOPE)
+            self.assertEqual((status, report.printed[0], report.verdict.call.number), (1, "differs", number))
+            self.assertEqual((report.printed[2:4]), ["filter ALLOW 0", f"profile ERRNO {1 if number == 95 else 38}"])
 
     def test_without_the_library(self):
         library = libseccomp.installed()
@@ -386,16 +388,14 @@ class Drawn(Case):
             applied = runtimes.applied(given, runtime)
         except engines.Refused:
             return "both refuse" if filters is None else "the tools refuse"
-        data = filters or [ret(ALLOWED)]
-        comparison = Comparison([Filter("it", code) for code in data], applied.data, tables.read(None),
-                                stub=applied.stub)
-        _, report, has_stub = comparison.run_with_stub()
+        comparison = beside(filters or [ret(ALLOWED)], applied)
+        report = comparison.run()[1]
         if report.fault is not None:
             return f"{'both refuse' if filters is None else 'only scf refuses'}: {report.fault.kind}"
         if filters is None:
             self.assertRegex(why, "(?i)file exists")
             return "only the runtime refuses"
-        return f"{report.verdict.word}{', without its stub' * (bool(applied.stub) and not has_stub)}"
+        return f"{report.verdict.word}{', without its stub' * (comparison.stub != applied.stub)}"
 
     def test_drawn_profiles(self):
         for runtime in ("runc", "crun"):
@@ -465,9 +465,7 @@ class Drawn(Case):
                 filters, why = filters_of(runtime, given)
                 self.assertIsNotNone(filters, why)
                 applied = runtimes.applied(given, runtime)
-                comparison = Comparison([Filter("it", data) for data in filters], applied.data, tables.read(None),
-                                        stub=applied.stub)
-                verdict = comparison.run_with_stub()[1].verdict
+                verdict = beside(filters, applied).run()[1].verdict
                 self.assertEqual((named(verdict.call), verdict.call.arguments[0], str(verdict.filters),
                                   str(verdict.profile)), (architecture, first, of_filter, of_profile))
 

@@ -666,7 +666,7 @@ class OtherSettings(Audited, OwnUnits):
                                                    **dict.fromkeys(FREE, "unconfined though configured")})
         self.assertEqual({self.verdicts("--native")[item] for item in NAMES}, {"as configured"})
         # what is stated is changed: a setting is missing, or less of it is there; one is more; one answers otherwise
-        changes = {"ProtectClock": ("ProtectClock=yes\nPrivateDevices=yes", "weaker", "iopl"),
+        changes = {"ProtectClock": ("ProtectClock=yes\nPrivateDevices=yes", "weaker", "ioperm"),
                    "namespaces": ("RestrictNamespaces=net", "weaker", "clone"),
                    "LockPersonality": ("SystemCallFilter=~mount", "weaker", "mount"),
                    "MemoryDenyWriteExecute": ("MemoryDenyWriteExecute=yes\nSystemCallFilter=~mmap2:EPERM", "weaker",
