@@ -26,7 +26,7 @@ ENOTSUP = Answer("ERRNO", 95)
 SETTINGS = ("seccomp", "seccomp.drop", "seccomp.keep", "seccomp.block-secondary", "seccomp-error-action", "protocol",
             "memory-deny-write-execute", "restrict-namespaces")
 SIGN = Pattern(rb"(?m)^(?:--)?(?:seccomp(?:\.(?:32\.)?(?:drop|keep)|\.32|\.block-secondary)?|protocol|"
-               rb"memory-deny-write-execute|restrict-namespaces)(?:[ =][^\n]*)?$")
+               rb"memory-deny-write-execute|restrict-namespaces)(?:[ =][^\n]*)?$|^include [^\n /]+\.(?:inc|local|profile)$")
 # Where firejail keeps the files that profiles include and its configuration, and its compiler of filters.
 PROFILES, CONFIGURATION = "/etc/firejail", "firejail.config"
 COMPILERS = tuple(f"/usr/{folder}/firejail/fseccomp" for folder in (

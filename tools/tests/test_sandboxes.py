@@ -256,11 +256,14 @@ class Profiles(Lists):
 
     def test_files_that_are_included(self):
         kept, firejail_lists.PROFILES = firejail_lists.PROFILES, self.folder
-        self.addCleanup(setattr, firejail_lists, "FOLDER", kept)
+        self.addCleanup(setattr, firejail_lists, "PROFILES", kept)
         self.file("a.inc", "seccomp.drop mkdir\ninclude a.local\ninclude gone.inc\n")
         rules, policy = self.rules("# x\ninclude a.inc\n")
         self.assertEqual(rules, {("mkdir", "ERRNO 1"): 2})
         self.assertIn(f"line 2: {self.folder} has no gone.inc", policy.remarks)
+        for text, is_one in ((b"# x\ninclude a.inc\n", True), (b"include firefox-common.profile\n", True),
+                             (b'#include "a.inc"\n', False), (b"include a b.inc\n", False)):
+            self.assertEqual(bool(firejail_lists.SIGN.search(text)), is_one, text)
         self.file("b.inc", "include b.inc\n")
         for text in ("include b.inc\nseccomp\n", "include ../x\n", "include /etc/passwd\n"):
             with self.assertRaises(sandbox_rules.ListError, msg=text):
@@ -268,7 +271,7 @@ class Profiles(Lists):
 
     def test_the_configuration_of_firejail(self):
         kept, firejail_lists.PROFILES = firejail_lists.PROFILES, self.folder
-        self.addCleanup(setattr, firejail_lists, "FOLDER", kept)
+        self.addCleanup(setattr, firejail_lists, "PROFILES", kept)
         self.file("firejail.config", "# seccomp no\nseccomp-error-action ENOSYS\nseccomp yes\n")
         self.assertEqual(self.rules("seccomp.drop mkdir\n")[0], {("mkdir", "ERRNO 38"): 1})
         self.assertEqual(self.rules("seccomp.drop mkdir\nseccomp-error-action kill\n")[0],
