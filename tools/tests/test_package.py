@@ -1,6 +1,7 @@
 """dev/package: the Debian packages and the archive, which run where they are unpacked; RPM packages, and an image."""
 import filecmp
 import fnmatch
+import glob
 import os
 import re
 import shlex
@@ -8,6 +9,7 @@ import shutil
 import subprocess
 import sys
 import tarfile
+import tempfile
 import unittest
 
 from support.common import ALLOW, TOP, Case, for_developers, profile_of, ret
@@ -20,6 +22,15 @@ PAGES = {f"{name}.3" for name in ("libscf", *sorted(CALLS))}
 
 
 class Package(Case):
+    @classmethod
+    def setUpClass(cls):
+        cls.once = tempfile.mkdtemp()
+        cls.addClassCleanup(shutil.rmtree, cls.once)
+
+    def debian_packages(self):
+        """Those of this tree, which are made once."""
+        return sorted(glob.glob(f"{self.once}/*.deb"), key=lambda path: "/scf_" not in path) or self.made("deb", self.once)
+
     def made(self, what, folder="made", top=TOP):
         """The files that dev/package writes."""
         env = {**os.environ, "SOURCE_DATE_EPOCH": "1700000000"}
@@ -59,7 +70,7 @@ class Package(Case):
 
     @unittest.skipUnless(shutil.which("dpkg-deb"), "there is no dpkg-deb here")
     def test_the_debian_package(self):
-        made, *library = self.made("deb")
+        made, *library = self.debian_packages()
         again = self.made("deb", "again", self.copy_of_tree())
         names = [os.path.basename(item) for item in again]
         self.assertEqual(filecmp.cmpfiles(os.path.dirname(made), os.path.dirname(again[0]), names, shallow=False),
@@ -95,7 +106,7 @@ class Package(Case):
     @unittest.skipUnless(shutil.which("lintian"), "there is no lintian here")
     def test_lintian_finds_nothing(self):
         """No error and no warning; the maintainer's address is a placeholder, but well formed."""
-        made = self.made("deb")
+        made = self.debian_packages()
         done = self.run_words(["lintian", "--allow-root", "--fail-on", "error,warning", *made])
         self.assertEqual(done[:2], (0, ""), done)
 
