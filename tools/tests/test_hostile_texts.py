@@ -1,7 +1,7 @@
 """Texts made to hurt the tools' own readers: each ends soon and in little memory, whatever it says of them.
 
-Each text has about a mebibyte, or as many bytes as its reader takes: brackets that never close, comments without an
-end, blanks and digits without number, what a pattern could be tried on at each of its letters. What grows with the
+Each text has a quarter of a mebibyte, or as many bytes as its reader takes: brackets that never close, comments without
+an end, blanks and digits without number, what a pattern could be tried on at each of its letters. What grows with the
 square of such a length takes minutes.
 """
 import os
@@ -14,7 +14,7 @@ from support.common import ALLOW, CORE, PATIENCE, TOP, Case, limited, profile_of
 PROGRAM = "crates/scf/out/scf"
 # Seconds of a processor and megabytes that a tool and all that it runs may take.
 SECONDS, MEGABYTES = 10, 300
-MEBIBYTE, LONGEST_LINE, LONGEST_PROFILE = 1 << 20, 1 << 16, 1 << 22
+LENGTH, LONGEST_LINE, LONGEST_PROFILE = 1 << 18, 1 << 16, 1 << 22
 # How many logs are one, so that not each takes the start of a tool.
 LOGS_AT_ONCE = 4
 # Runs words, and says what they took. It is small, since a process counts what the one had that began it.
@@ -31,7 +31,7 @@ ASKS = b"".join((b'{"defaultAction":"SCMP_ACT_ERRNO","syscalls":[{"names":["sock
                  b'"args":[{"index":0,"value":1,"op":"SCMP_CMP_EQ"}]}]}'))
 
 
-def repeated(piece, length=MEBIBYTE, before=b"", behind=b""):
+def repeated(piece, length=LENGTH, before=b"", behind=b""):
     """A piece again and again, up to a length, between two others."""
     count = max(length - len(before) - len(behind), 0) // len(piece)
     return before + piece * count + behind
@@ -39,7 +39,7 @@ def repeated(piece, length=MEBIBYTE, before=b"", behind=b""):
 
 def lines(piece, before=b"", behind=b""):
     """Lines as long as is read of them, each of a piece again and again between two others."""
-    return b"\n".join([repeated(piece, LONGEST_LINE, before, behind)] * (MEBIBYTE // LONGEST_LINE)) + b"\n"
+    return b"\n".join([repeated(piece, LONGEST_LINE, before, behind)] * (LENGTH // LONGEST_LINE)) + b"\n"
 
 
 FILTERS = {
@@ -80,46 +80,46 @@ FILTERS = {
     "a word": repeated(b"_"),
     "a listing": repeated(b" ", behind=b"0  ld"),
     "JSON that isn't": repeated(b" ", before=b"{"),
-    "more than a text may have": repeated(b"1 ", 3 * MEBIBYTE),
+    "more than a text may have": repeated(b"1 ", 3 << 20),
 }
 PROFILES = {
     "objects": repeated(b'{"":0},', LONGEST_PROFILE, b'{"defaultAction":"SCMP_ACT_ALLOW","x":[', b"0]}"),
     "lists": repeated(b"[],", LONGEST_PROFILE, b'{"defaultAction":"SCMP_ACT_ALLOW","x":[', b"0]}"),
-    "members": repeated(b'"a":1,', MEBIBYTE, b'{"defaultAction":"SCMP_ACT_ALLOW",', b'"x":1}'),
-    "numbers that end nowhere": repeated(b"0,", MEBIBYTE, b"["),
-    "strings": repeated(b'"\\u0041",', MEBIBYTE, b"[", b'"\\ud800"]'),
-    "a string of escapes": repeated(b"\\n", MEBIBYTE, b'["', b'", NaN]'),
-    "a string of quotes": repeated(b'\\"', MEBIBYTE, b'["', b'",]'),
-    "lines before a surrogate": repeated(b"0,\n", MEBIBYTE, b"[", b'"\\ud800"]'),
-    "values below a long name": repeated(b"0,", MEBIBYTE, b'{"' + b"a" * (MEBIBYTE // 2) + b'":['),
-    "values before NaN": repeated(b"0,", MEBIBYTE, b"[", b"NaN]"),
-    "brackets": repeated(b"[", MEBIBYTE),
-    "values in brackets": repeated(b"0,", MEBIBYTE, b"[" * 126),
-    "digits": repeated(b"1", MEBIBYTE, b'{"defaultAction":"SCMP_ACT_ALLOW","x":', b"}"),
-    "comments": repeated(b"/*", MEBIBYTE, b"["),
+    "members": repeated(b'"a":1,', LENGTH, b'{"defaultAction":"SCMP_ACT_ALLOW",', b'"x":1}'),
+    "numbers that end nowhere": repeated(b"0,", LENGTH, b"["),
+    "strings": repeated(b'"\\u0041",', LENGTH, b"[", b'"\\ud800"]'),
+    "a string of escapes": repeated(b"\\n", LENGTH, b'["', b'", NaN]'),
+    "a string of quotes": repeated(b'\\"', LENGTH, b'["', b'",]'),
+    "lines before a surrogate": repeated(b"0,\n", LENGTH, b"[", b'"\\ud800"]'),
+    "values below a long name": repeated(b"0,", LENGTH, b'{"' + b"a" * (LENGTH // 2) + b'":['),
+    "values before NaN": repeated(b"0,", LENGTH, b"[", b"NaN]"),
+    "brackets": repeated(b"[", LENGTH),
+    "values in brackets": repeated(b"0,", LENGTH, b"[" * 126),
+    "digits": repeated(b"1", LENGTH, b'{"defaultAction":"SCMP_ACT_ALLOW","x":', b"}"),
+    "comments": repeated(b"/*", LENGTH, b"["),
     "members that nothing reads": ALLOWS % b"".join((b'{"names":["read"],"action":"SCMP_ACT_LOG",', b",".join(
         b'"a%06x":1' % at for at in range(100000)), b"}")),
-    "blanks": repeated(b" ", MEBIBYTE, b"{"),
-    "a YAML of a list": repeated(b"a,", 1 << 18, b"apiVersion: a\nkind: SeccompProfile\nspec:\n  a: [", b"]"),
-    "a YAML of objects": repeated(b"{a: b},", 1 << 18, b"apiVersion: a\nkind: SeccompProfile\nspec:\n  a: [", b"]"),
+    "blanks": repeated(b" ", LENGTH, b"{"),
+    "a YAML of a list": repeated(b"a,", LENGTH, b"apiVersion: a\nkind: SeccompProfile\nspec:\n  a: [", b"]"),
+    "a YAML of objects": repeated(b"{a: b},", LENGTH, b"apiVersion: a\nkind: SeccompProfile\nspec:\n  a: [", b"]"),
     "a YAML that is too long": repeated(b"a: b\n", LONGEST_PROFILE, b"apiVersion: a\nkind: SeccompProfile\n"),
     "an object of Kubernetes": repeated(b'{"":0},', LONGEST_PROFILE,
                                         b'{"apiVersion":"a","kind":"SeccompProfile","spec":{"x":[', b"0]}}"),
-    "an LXC policy of one line": repeated(b"[", MEBIBYTE, b"2\ndenylist\n"),
-    "rules of LXC": repeated(b"mknod errno 1\n", MEBIBYTE, b"2\ndenylist\n"),
+    "an LXC policy of one line": repeated(b"[", LENGTH, b"2\ndenylist\n"),
+    "rules of LXC": repeated(b"mknod errno 1\n", LENGTH, b"2\ndenylist\n"),
     "sections of LXC": repeated(b"[arm]\n", 90000, b"2\ndenylist\n"),
     "conditions of LXC": repeated(b"[0,1,==]", 30000, b"2\ndenylist\nread errno 1 "),
     "numbers of LXC": repeated(b"0\n", 1 << 15, b"1\nallowlist\n"),
-    "NULs behind a policy": repeated(b"\0", MEBIBYTE, b"2\ndenylist\n"),
-    "comments before a snap's directive": repeated(b"#\n\n", MEBIBYTE, b"", b"@complain"),
-    "blank lines": repeated(b"\n", MEBIBYTE, b"", b"#"),
-    "syscalls of a snap": repeated(b"read 1\n", MEBIBYTE, b"@complain\n"),
-    "arguments of a snap": repeated(b" -", MEBIBYTE, b"@complain\nread"),
-    "a firejail list of one line": repeated(b"a,", MEBIBYTE, b"seccomp.drop "),
+    "NULs behind a policy": repeated(b"\0", LENGTH, b"2\ndenylist\n"),
+    "comments before a snap's directive": repeated(b"#\n\n", LENGTH, b"", b"@complain"),
+    "blank lines": repeated(b"\n", LENGTH, b"", b"#"),
+    "syscalls of a snap": repeated(b"read 1\n", LENGTH, b"@complain\n"),
+    "arguments of a snap": repeated(b" -", LENGTH, b"@complain\nread"),
+    "a firejail list of one line": repeated(b"a,", LENGTH, b"seccomp.drop "),
     "a firejail list": repeated(b"read,", 30000, b"seccomp.drop "),
-    "lines that firejail ignores": repeated(b"ignore a b c\nseccomp a b\n", MEBIBYTE // 4),
-    "files that firejail includes": repeated(b"include disable-common.inc\n", MEBIBYTE // 4, b"seccomp\n"),
-    "what docker inspect prints": repeated(b'"Id":  ', MEBIBYTE, b'[{"HostConfig"', b"}]"),
+    "lines that firejail ignores": repeated(b"ignore a b c\nseccomp a b\n", LENGTH),
+    "files that firejail includes": repeated(b"include disable-common.inc\n", LENGTH, b"seccomp\n"),
+    "what docker inspect prints": repeated(b'"Id":  ', LENGTH, b'[{"HostConfig"', b"}]"),
 }
 AUDIT = b"type=SECCOMP msg=audit(1.000:1): "
 SYSCALL = b"type=SYSCALL msg=audit(1.000:1): "
@@ -182,7 +182,7 @@ def core(count):
     return header + segment * count + notes
 
 
-CORES = {"many headers": core(60000), "no note": core(1), "zeros": b"\x7fELF" + bytes(MEBIBYTE)}
+CORES = {"many headers": core(60000), "no note": core(1), "zeros": b"\x7fELF" + bytes(LENGTH)}
 
 
 class Texts(Case):
@@ -216,12 +216,11 @@ class Texts(Case):
 
     def test_every_reader_of_profiles(self):
         allows, second = self.file("f.bpf", ret(ALLOW)), self.file("other.json", profile_of("read"))
-        for what in ("objects", "members that nothing reads"):
-            name = self.file("p.json", PROFILES[what])
-            for words in (("compile",), ("lint",), ("compare", allows), ("compare-profiles", second),
-                          ("resolve-profile", "--caps=none"), ("why", "type=1326 audit(1.000:1): x"),
-                          ("needs", self.file("log", b"read() = 0\n"))):
-                self.ends(what, tool(words[0]), *words[1:], name)
+        name = self.file("p.json", PROFILES["objects"])
+        for words in (("compile",), ("lint",), ("compare", allows), ("compare-profiles", second),
+                      ("resolve-profile", "--caps=none"), ("why", "type=1326 audit(1.000:1): x"),
+                      ("needs", self.file("log", b"read() = 0\n"))):
+            self.ends("objects", tool(words[0]), *words[1:], name)
 
     def test_a_bundle_for_the_program(self):
         """What takes more memory than the launcher gives is a fault, and the program by itself answers it, as the page

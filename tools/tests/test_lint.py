@@ -157,7 +157,7 @@ class Usage(Linted):
             self.assertEqual((status, err), (1, ""))
 
     def test_a_filter_that_would_be_too_large(self):
-        entries = [entry("socket", args=[(0, "GT", it), (1, "GT", it)]) for it in range(2**40, 2**40 + 4000)]
+        entries = [entry("socket", args=[(0, "GT", it), (1, "GT", it)]) for it in range(2**40, 2**40 + 1000)]
         status, out, _ = self.run_lint(profile(entry("reed"), *entries))
         self.assertEqual((status, out.split("\n")[0]), (1, "fault compile TooLarge"))
         self.assertIn("\nunknown-name: entry 0: no known syscall is named reed; the nearest name in the "
@@ -882,7 +882,7 @@ class Beside(Linted):
 
     def test_random_profiles(self):
         random_of, told = random.Random(7), 0
-        for _ in range(30):
+        for _ in range(20):
             entries = self.random_profile(random_of)
             text = json.dumps(profile(*entries)).encode()
             data = client.run(["compile"], part("profile", text) + part("table", TABLE_TEXT)).out
@@ -1211,7 +1211,7 @@ class BesideSeveral(Linted):
 
     def test_random_profiles(self):
         random_of, told, kept = random.Random(13), 0, 0
-        for _ in range(24):
+        for _ in range(12):
             entries = self.random_profile(random_of)
             architectures = random_of.choice((ENGINES, [NATIVE, I386], [I386], [AARCH64], [I386, AARCH64]))
             found = self.found(profile(*entries, architectures=architectures), kinds=("covered", "without-effect"))
@@ -1224,7 +1224,7 @@ class BesideSeveral(Linted):
                     left = self.answers(without(entries, gone | {at}), architectures)
                     self.assertNotEqual(left, expected, (entries, architectures, at))
             told += len(gone)
-        self.assertGreater(min(told, kept), 20)
+        self.assertGreater(min(told, kept), 10)
 
 
 class Hostile(Linted):
@@ -1409,7 +1409,7 @@ class Runtimes(Linted):
             filters = [library.filter_of({**resolved, "syscalls": entries}) for entries in (resolved["syscalls"], kept)]
             for number, architecture in [(number, 0xC000003E) for number in range(460)] + \
                     [(number, 0x40000003) for number in range(460)]:
-                for arguments in ((0,) * 6, (16, 0, 9, 0, 0, 0), (2, 1, 9, 0, 0, 0), (8, 7, 6, 5, 4, 3)):
+                for arguments in ((0,) * 6, (16, 0, 9, 0, 0, 0)):
                     call = Call(number, architecture, 0, arguments)
                     self.assertEqual(*(machine.run(data, call) for data in filters), call)
 
