@@ -217,7 +217,7 @@ class OfProgram(Regions):
 
     def printed(self, bundle, **words):
         flags = [f"--{name}" if value is True else f"--{name}={value}" for name, value in words.items()]
-        done = subprocess.run([*CORE, "answers", "--examples", f"--limit={100 * STEPS}", *flags], input=bundle,
+        done = subprocess.run([*CORE, "answers", "--examples", f"--limit={10 * STEPS}", *flags], input=bundle,
                               stdout=subprocess.PIPE, check=False)
         if done.returncode == 4:
             self.assertEqual(done.stdout, b"unfinished\n")

@@ -377,7 +377,7 @@ class Drawn(Case):
     """Profiles drawn at random, as the runtimes load them: refused by both sides, or `same` over all records of each
     architecture, with the stub. scf refuses more, as conflicts."""
 
-    COUNT = 400
+    DRAWN = range(140, 340)
     # those that libseccomp refuses (EEXIST), and scf takes
     REFUSED = {280, 335}
 
@@ -400,21 +400,21 @@ class Drawn(Case):
     def test_drawn_profiles(self):
         for runtime in ("runc", "crun"):
             outcomes = {}
-            for index in range(self.COUNT):
+            for index in self.DRAWN:
                 outcomes.setdefault(self.outcome(runtime, drawn_profile(index)), []).append(index)
             self.assertEqual(set(outcomes.pop("only the runtime refuses")), self.REFUSED)
             alike = [outcomes.pop(outcome, []) for outcome in ("same", "both refuse", "both refuse: Conflict")]
             conflicts = outcomes.pop("only scf refuses: Conflict")
             self.assertEqual(outcomes, {}, runtime)
-            self.assertGreaterEqual(sum(map(len, alike)), 300)
-            self.assertGreater(len(alike[0]), self.COUNT // 2)
+            self.assertGreaterEqual(sum(map(len, alike)), 150)
+            self.assertGreater(len(alike[0]), len(self.DRAWN) // 2)
             print(f"\n{runtime}: {sum(map(len, alike))} profiles alike, of these {len(alike[0])} loaded; libseccomp "
                   f"takes {len(conflicts)} that scf refuses as conflicts", file=sys.stderr)
 
     def test_a_second_reading(self):
         """What scf makes of a profile as a runtime reads it is what it makes of one that says so by its words."""
         counts = {"same": 0, "refused": 0}
-        for index in range(0, self.COUNT, 2):
+        for index in self.DRAWN[::2]:
             for runtime in ("runc", "crun"):
                 try:
                     applied = runtimes.applied(drawn_profile(index), runtime)
@@ -424,7 +424,7 @@ class Drawn(Case):
                 for name in judged.of:
                     words = by_words(json.loads(applied.data), runtime, name, JUDGED[name].bits)
                     counts[self.compared_readings(applied, judged.only(name), json.dumps(words).encode())] += 1
-        self.assertGreater(min(counts.values()), 50)
+        self.assertGreater(min(counts.values()), 25)
 
     def compared_readings(self, applied, judged, words):
         by_its_words = replace(judged, reading="strict")
