@@ -658,8 +658,9 @@ class OtherArchitectures(Case):
     @mock.patch.object(several, "NAMES", sorted({name for row in WITH_TABLES.values() for name in row[5]}))
     def test_drawn_for_several(self):
         """A filter that one profile answers as is read back in each architecture of that, beside the second reading."""
-        seen = 0
-        for seed in range(400):
+        seen, seed = 0, 0
+        while seen < 6:
+            seed += 1
             source = random.Random(f"several of {seed}")
             reading = several.draw(source)
             judged = list(reading.rules)
@@ -671,7 +672,6 @@ class OtherArchitectures(Case):
             for name in judged:
                 self.is_judged(data, profile, judged, reading.records(name, source, 10))
             seen += 1
-        self.assertGreater(seen, 5)
 
     @NEEDED
     def test_libseccomp(self):
