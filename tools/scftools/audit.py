@@ -283,9 +283,15 @@ class StackJudge:
 
     def _judged(self, stack: Stack, asked: Request, relation: str, is_of_nothing: bool) -> StackJudgement:
         """The verdict; syscalls of other ABIs don't count if nothing is configured."""
+        comparison = asked.comparison(stack.named, relation)
         try:
-            comparison = asked.comparison(stack.named, relation).without_absent_stub()
-            judgement = self._of_comparison(comparison, not is_of_nothing)
+            # (one of which nothing is shown needs no second look)
+            verdict = comparison.known_verdict(comparison.scope, relation) if is_of_nothing else None
+            if verdict is None:
+                comparison, _, report = comparison.run_by_stub()
+                verdict = report.verdict
+            judgement = self._of_verdict(comparison, verdict) if verdict is not None else \
+                StackJudgement(NOT_KNOWN, f"scf says: {report.lines[0] if report.lines else 'nothing'}")
         except program.InternalError as why:
             return StackJudgement(NOT_KNOWN, str(why))
         if is_of_nothing:
@@ -296,15 +302,8 @@ class StackJudge:
         names = left_out(comparison.profile, comparison.tables).architectures
         return self._with_foreign(judgement, comparison, [*names, *asked.unknown], asked.elsewhere)
 
-    def _of_comparison(self, comparison: Comparison, is_shown: bool) -> StackJudgement:
-        """The verdict on what is judged: if some syscalls differ, whether any is more permissive, or any stricter. One
-        that is shown is answered by the filters again."""
-        verdict = None if is_shown else comparison.known_verdict(comparison.scope, comparison.relation)
-        if verdict is None:
-            report = comparison.run()[1]
-            verdict, lines = report.verdict, report.lines
-        if verdict is None:
-            return StackJudgement(NOT_KNOWN, f"scf says: {lines[0] if lines else 'nothing'}")
+    def _of_verdict(self, comparison: Comparison, verdict: Verdict) -> StackJudgement:
+        """The verdict on what is judged: if some syscalls differ, whether any is more permissive, or any stricter."""
         if verdict.holds:
             return StackJudgement(AS_CONFIGURED)
         if not verdict.fails:

@@ -69,10 +69,16 @@ class Comparison(Sides):
         self.check(report)
         return status, report
 
-    def without_absent_stub(self) -> Comparison:
-        """The comparison without runc's stub if the filters answer its first number on no architecture as it does."""
-        has_stub = any(self.of_numbers(name, first, first).holds for name, first in self.stub.items())
-        return self if has_stub else replace(self, stub={})
+    def run_by_stub(self, scope: str | None = None) -> tuple[Comparison, int, Report]:
+        """The comparison, and scf's status and report: without runc's stub if that differs and the filters answer its
+        first number on no architecture as it does."""
+        comparison, (status, report) = self, self.run_unchecked(scope)
+        if self.stub and report.verdict is not None and not report.verdict.holds and \
+                not any(self.of_numbers(name, first, first).holds for name, first in self.stub.items()):
+            comparison = replace(self, stub={})
+            status, report = comparison.run_unchecked(scope)
+        comparison.check(report)
+        return comparison, status, report
 
     def run_unchecked(self, scope: str | None = None, relation: str | None = None) -> tuple[int, Report]:
         """The same without a second look at the record that is shown."""

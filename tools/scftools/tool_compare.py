@@ -109,8 +109,8 @@ def main():
     profile = runtimes.read(options)
     comparison = compare.Comparison(stack, profile.data, tables.read(options.table), options.relation, profile.origins,
                                     profile.stub, is_native=options.scope == verdicts.NATIVE_SCOPE)
-    comparison, scope = comparison.without_absent_stub(), options.scope or comparison.scope
-    status, report = comparison.run(scope)
+    scope = options.scope or comparison.scope
+    comparison, status, report = comparison.run_by_stub(scope)
     report = verdicts.most_telling(report, comparison.table, comparison.of_calls)
     if options.html is not None:
         write_page(options, comparison, report, scope)

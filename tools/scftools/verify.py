@@ -101,9 +101,9 @@ class Request:
         return fault is None or fault.kind in ("Conflict", "RepeatedIndex")
 
     def judge(self, stack: Stack) -> Block:
-        comparison = self.comparison(stack.named).without_absent_stub()
+        comparison = self.comparison(stack.named)
         scope = self.scope or comparison.scope
-        status, report = comparison.run(scope)
+        comparison, status, report = comparison.run_by_stub(scope)
         has_stub = report.verdict is not None and report.verdict.word == verdicts.SAME
         return Block(stack, status, comparison, report, comparison.stub if has_stub else {}, scope)
 

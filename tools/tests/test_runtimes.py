@@ -105,7 +105,7 @@ def of_ipc(*more):
 def beside(filters, applied):
     """The comparison of filters with a profile as a runtime applies it."""
     return Comparison([Filter("it", data) for data in filters], applied.data, tables.read(None),
-                      stub=applied.stub).without_absent_stub()
+                      stub=applied.stub).run_by_stub()[0]
 
 
 class Runtimes(Case):

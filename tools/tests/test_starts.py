@@ -123,7 +123,7 @@ class Starts(Counting):
         self.assertEqual(self.starts("compare", self.file("f.bpf", filter_of(numbers)), given), 2)
 
     def test_compare_by_runtime(self):
-        """With runc's stub as without a runtime; once more where the filter has none, which is told by the first number
+        """With runc's stub as without a runtime; twice more where the filter has none, which is told by the first number
         of it."""
         profile = {"defaultAction": "SCMP_ACT_ERRNO", "architectures": ["SCMP_ARCH_X86_64"],
                    "syscalls": [{"names": ["read", "openat2"], "action": "SCMP_ACT_ALLOW"}]}
@@ -131,7 +131,7 @@ class Starts(Counting):
             "compare: not in the profile: runc answers the numbers from 438 on, above all that the profile names, with "
             "ENOSYS\n")
         for data, status, starts in ((stub(438) + filter_of([0, 437]), 0, 2), (stub(438) + filter_of([0]), 1, 3),
-                                     (filter_of([0, 437]), 0, 3), (filter_of([0]), 1, 4)):
+                                     (filter_of([0, 437]), 0, 4), (filter_of([0]), 1, 5)):
             name = self.file("f.bpf", data)
             self.assertEqual(self.starts("compare", "--runtime", "runc", name, given, status=status, said=says), starts)
 
