@@ -30,7 +30,7 @@ number_fits a number below = let within = number_within a number below in let sm
 -- each is apart from those behind it
 abbrev pub EachApart : List Architecture → Type 0
 EachApart [] = Unit {0}
-EachApart (a ∷ rest) = AllByRecursion (AreApart a) rest × EachApart rest
+EachApart (a ∷ later) = AllByRecursion (AreApart a) later × EachApart later
 
 pub each_apart : EachApart architectures
 each_apart = grind arith

@@ -56,15 +56,15 @@ asks_for CopyToIndex = refl
 asks_for CopyToAccumulator = refl
 
 in_rows : (code : ℕ) (operation : Operation) (rows : List Operation)
-    → lookup (λ known. eqb known code) (map (λ o. (code_of o, o)) rows) ≡ Some operation
+    → lookup (λ listed. eqb listed code) (map (λ o. (code_of o, o)) rows) ≡ Some operation
     → code_of operation ≡ code
 in_rows code operation [] e = absurd cc
 in_rows code operation (first ∷ rows) e = elim (cases_eq (code_of first) code) [
   | inl is ↦
       let same : Some first ≡ Some operation = rw (eq-eqb (code_of first) code is) at e in
-      let one : first ≡ operation = cc in
-      ap code_of (sym one) ∙ is
-  | inr other ↦ in_rows code operation rows (rw (ne_eqb (code_of first) code other) at e)
+      let same : first ≡ operation = cc in
+      ap code_of (sym same) ∙ is
+  | inr differs ↦ in_rows code operation rows (rw (ne_eqb (code_of first) code differs) at e)
 ]
 
 -- only the code of an operation asks for it

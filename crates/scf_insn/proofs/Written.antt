@@ -44,21 +44,21 @@ takes_nothing old m = record { taken = Appends-nil old; quiet = refl }
 -- ---- a write of a part after another
 
 -- Of these bytes all but the rest were taken so far.
-pub record TakesUpTo (old : Option (List ℕ)) (bytes rest : List ℕ) (new : Option (List ℕ))
+pub record TakesUpTo (old : Option (List ℕ)) (bytes remaining : List ℕ) (new : Option (List ℕ))
     (failures failures_after : ℕ) : Type 0 where
   pub front : List ℕ
-  pub whole : bytes ≡ front ++ rest
+  pub whole : bytes ≡ front ++ remaining
   pub taken : TakesAll old front new failures failures_after
 
-pub takes_more : (old mid new : Option (List ℕ)) (bytes rest : List ℕ) (m k n count : ℕ)
-    → TakesUpTo old bytes rest mid m k → Appends mid new (take count rest) → n ≡ k
-    → TakesUpTo old bytes (take (length rest - count) (drop count rest)) new m n
-takes_more old mid new bytes rest m k n count so_far more same = record {
-  front = so_far.front ++ take count rest;
-  whole = so_far.whole ∙ ap (λ ws. so_far.front ++ ws) (sym (take-append-drop count rest))
-      ∙ sym (append_assoc so_far.front (take count rest) (drop count rest))
-      ∙ ap (λ ws. (so_far.front ++ take count rest) ++ ws)
-      (sym (take_all (length rest - count) (drop count rest) (omega (arith, length-drop count rest))));
+pub takes_more : (old mid new : Option (List ℕ)) (bytes remaining : List ℕ) (m k n count : ℕ)
+    → TakesUpTo old bytes remaining mid m k → Appends mid new (take count remaining) → n ≡ k
+    → TakesUpTo old bytes (take (length remaining - count) (drop count remaining)) new m n
+takes_more old mid new bytes remaining m k n count so_far more same = record {
+  front = so_far.front ++ take count remaining;
+  whole = so_far.whole ∙ ap (λ ws. so_far.front ++ ws) (sym (take-append-drop count remaining))
+      ∙ sym (append_assoc so_far.front (take count remaining) (drop count remaining))
+      ∙ ap (λ ws. (so_far.front ++ take count remaining) ++ ws)
+      (sym (take_all (length remaining - count) (drop count remaining) (omega (arith, length-drop count remaining))));
   taken = takes_then so_far.taken (record { taken = more; quiet = same });
 }
 

@@ -54,7 +54,7 @@ pub record IsOf (architecture : Architecture) (call : CallRecord) : Type 0 where
 -- Two architectures have no call record in common: where `arch` is one value, the numbers of the second follow those of
 -- the first.
 abbrev pub AreApart : Architecture → Architecture → Type 0
-AreApart one later = (row_of one).audit ≡ (row_of later).audit → (row_of one).last < (row_of later).first
+AreApart first later = (row_of first).audit ≡ (row_of later).audit → (row_of first).last < (row_of later).first
 
 -- the greatest argument
 abbrev pub greatest_argument : ArgumentBits → ℕ

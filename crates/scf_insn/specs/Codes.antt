@@ -83,4 +83,4 @@ code_table = map (λ operation. (code_of operation, operation)) operations
 
 -- the operation of a code, None where it isn't one of the 41
 unfoldable pub operation_of : ℕ → Option Operation
-operation_of code = lookup (λ known. known == code) code_table
+operation_of code = lookup (λ listed. listed == code) code_table

@@ -43,7 +43,7 @@ pub enum Action {
     Other(u16),
 }
 
-/// What becomes of a syscall, the least permissive first.
+/// Whether a syscall is executed, the least permissive first.
 #[derive(Clone, Copy, PartialEq, Eq)]
 pub enum Disposition {
     /// It isn't executed: the process or the thread ends, the thread gets SIGSYS, or the syscall fails.
@@ -100,7 +100,7 @@ impl Answer {
             TRACE => Action::Trace,
             LOG => Action::Log,
             ALLOW => Action::Allow,
-            other => Action::Other(other),
+            half => Action::Other(half),
         }
     }
 
@@ -119,7 +119,7 @@ impl Answer {
         self.high_half().cast_signed()
     }
 
-    /// What becomes of a syscall that is answered so, by the action alone: an action without a name kills the process
+    /// The disposition of a syscall with this answer, by the action alone: an action without a name kills the process
     /// (seccomp(2)), whatever its rank.
     pub fn disposition(&self) -> Disposition
         ensures { result ≡ disposition_of self.now.0 }
@@ -137,7 +137,7 @@ impl Answer {
     {
         match (self.disposition(), other.disposition()) {
             (Disposition::Denied, _) | (_, Disposition::Allowed) => true,
-            (Disposition::Delegated, other) => other == Disposition::Delegated,
+            (Disposition::Delegated, disposition) => disposition == Disposition::Delegated,
             (Disposition::Allowed, _) => false,
         }
     }

@@ -56,7 +56,7 @@ pub enum Architecture {
     Loongarch64,
 }
 
-/// What is known of an architecture.
+/// The parameters of an architecture.
 #[derive(Clone, Copy)]
 struct Row {
     audit: u32,
@@ -182,7 +182,7 @@ impl Architecture {
         self.row().audit
     }
 
-    /// Its first syscall number.
+    /// The first syscall number.
     pub fn first(self) -> u32
         ensures { result ≡ (row_of self).first }
     {
@@ -203,7 +203,7 @@ impl Architecture {
         self.row().bits
     }
 
-    /// Its name in a profile.
+    /// The name in a profile.
     pub fn name(self) -> &'static str
         ensures { result.now ≡ (row_of self).name }
     {

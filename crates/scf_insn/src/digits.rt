@@ -38,11 +38,11 @@ impl Digits {
         let mut bytes = [0; MAX_DIGITS];
         let mut start = MAX_DIGITS - 1;
         bytes[start] = digit_byte((number % radix) as u32);
-        let mut left = number / radix;
-        while left > 0 {
+        let mut quotient = number / radix;
+        while quotient > 0 {
             start -= 1;
-            bytes[start] = digit_byte((left % radix) as u32);
-            left /= radix;
+            bytes[start] = digit_byte((quotient % radix) as u32);
+            quotient /= radix;
         }
         Digits { bytes, start }
     }

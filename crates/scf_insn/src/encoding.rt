@@ -34,7 +34,7 @@ impl From<AllocError> for ReadFault {
 
     ghost from_gives = { λ _ e. e ≡ Memory };
 
-    fn from(_e: AllocError) -> ReadFault {
+    fn from(_: AllocError) -> ReadFault {
         ReadFault::Memory
     }
 }
@@ -62,12 +62,12 @@ fn decode(alloc: Global, bytes: &[u8]) -> Result<Vec<Insn>, AllocError>
     ensures wanted { OnErr result (bytes.now ≢ []) }
 {
     let mut insns = Vec::new(alloc);
-    let mut rest = bytes;
-    while let [b0, b1, b2, b3, b4, b5, b6, b7, after @ ..] = rest {
+    let mut remaining = bytes;
+    while let [b0, b1, b2, b3, b4, b5, b6, b7, behind @ ..] = remaining {
         let insn = Insn::from_bytes([*b0, *b1, *b2, *b3, *b4, *b5, *b6, *b7]);
         insn.within_widths();
         insns.push(insn)?;
-        rest = after;
+        remaining = behind;
     }
     Ok(insns)
 }

@@ -31,29 +31,29 @@ impl Failing {
     {
         match self {
             Failing::Never => usize::MAX,
-            Failing::After(left) | Failing::OnceAfter(left) => left,
+            Failing::After(count) | Failing::OnceAfter(count) => count,
         }
     }
 
-    /// What remains of it after this much was read or accepted.
+    /// The failing of a reader or writer once this much was read or accepted.
     fn less(self, count: usize) -> Failing
         requires { count ≤ room self }
         ensures { result ≡ left_after self count }
     {
         match self {
             Failing::Never => Failing::Never,
-            Failing::After(left) => Failing::After(left - count),
-            Failing::OnceAfter(left) => Failing::OnceAfter(left - count),
+            Failing::After(room) => Failing::After(room - count),
+            Failing::OnceAfter(room) => Failing::OnceAfter(room - count),
         }
     }
 
-    /// What remains of it after a failure.
+    /// The failing of a reader or writer after a failure.
     fn failed(self) -> Failing
         ensures { result ≡ after_failure self }
     {
         match self {
             Failing::OnceAfter(_) => Failing::Never,
-            other => other,
+            failing => failing,
         }
     }
 }

@@ -26,7 +26,7 @@ impl From<AllocError> for InputFault {
 
     ghost from_gives = { λ _ e. e ≡ Memory };
 
-    fn from(_e: AllocError) -> InputFault {
+    fn from(_: AllocError) -> InputFault {
         InputFault::Memory
     }
 }
@@ -37,7 +37,7 @@ impl From<Failed> for InputFault {
 
     ghost from_gives = { λ _ e. e ≡ Read };
 
-    fn from(_e: Failed) -> InputFault {
+    fn from(_: Failed) -> InputFault {
         InputFault::Read
     }
 }

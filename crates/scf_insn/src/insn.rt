@@ -16,7 +16,7 @@ pub struct Insn {
     pub k: u32,
 }
 
-fn known(_code: u16, _jt: u8, _jf: u8, _k: u32)
+fn recall_widths(_code: u16, _jt: u8, _jf: u8, _k: u32)
     ensures code { _code < 2 ^ 16 }
     ensures jt { _jt < 2 ^ 8 }
     ensures jf { _jf < 2 ^ 8 }
@@ -28,7 +28,7 @@ impl Insn {
     pub fn within_widths(&self)
         ensures { IsInsn self.now }
     {
-        known(self.code, self.jt, self.jf, self.k);
+        recall_widths(self.code, self.jt, self.jf, self.k);
     }
 
     /// Decodes 8 bytes, numbers little-endian.

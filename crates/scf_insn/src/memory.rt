@@ -9,13 +9,13 @@ use thiserror::Error;
 pub struct Memory;
 
 impl From<AllocError> for Memory {
-    fn from(_e: AllocError) -> Memory {
+    fn from(_: AllocError) -> Memory {
         Memory
     }
 }
 
 impl<T: Drop> From<AllocFailed<T>> for Memory {
-    fn from(_e: AllocFailed<T>) -> Memory {
+    fn from(_: AllocFailed<T>) -> Memory {
         Memory
     }
 }

@@ -6,7 +6,7 @@ ghost use Rattle.scf_insn.specs.Words.{low, high, words_of, record_bytes, call_o
 
 use crate::kernel::{SECCOMP_DATA_ARGS, SECCOMP_DATA_LEN};
 
-/// What a filter sees of a syscall, 64 bytes: the syscall number `nr`, the audit architecture `arch`, the instruction
+/// A syscall as a filter sees it, 64 bytes: the syscall number `nr`, the audit architecture `arch`, the instruction
 /// pointer `ip`, and six 64-bit arguments `args`. The sixteen 32-bit words that a filter loads are `nr`, `arch`, and
 /// the halves of the others, low half first.
 #[derive(Clone, Copy, Debug, PartialEq, Eq)]
@@ -54,17 +54,17 @@ fn number_at(bytes: &[u8], at: usize) -> u64
     joined(word_at(bytes, at), word_at(bytes, at + 4))
 }
 
-fn known(_nr: u32, _arch: u32, _ip: u64)
+fn recall_widths(_nr: u32, _arch: u32, _ip: u64)
     ensures nr { _nr < 2 ^ 32 }
     ensures arch { _arch < 2 ^ 32 }
     ensures ip { _ip < 2 ^ 64 }
 {}
 
-fn known_arguments(args: &[u64])
+fn recall_arguments(args: &[u64])
     ensures { (i : ℕ) → slice_index args.now i < 2 ^ 64 }
 {}
 
-fn known_words(words: &[u32])
+fn recall_words(words: &[u32])
     ensures { (i : ℕ) → slice_index words.now i < 2 ^ 32 }
 {}
 
@@ -73,11 +73,11 @@ impl CallRecord {
     pub fn within_widths(&self)
         ensures { IsRecord self.now }
     {
-        known(self.nr, self.arch, self.ip);
-        known_arguments(&self.args);
+        recall_widths(self.nr, self.arch, self.ip);
+        recall_arguments(&self.args);
     }
 
-    /// Its sixteen words: the low half of a 64-bit number, then the high one.
+    /// The sixteen words: the low half of a 64-bit number, then the high one.
     ///
     /// May be inlined, so that a run doesn't begin with a call.
     #[inline]
@@ -119,7 +119,7 @@ impl CallRecord {
         ensures call { result ≡ call_of words.now }
         ensures words { words_of result ≡ words.now }
     {
-        known_words(words);
+        recall_words(words);
         CallRecord {
             nr: words[0],
             arch: words[1],
@@ -135,7 +135,7 @@ impl CallRecord {
         }
     }
 
-    /// Its 64 bytes: the words in order, little-endian.
+    /// The 64 bytes: the words in order, little-endian.
     pub fn to_bytes(&self) -> [u8; 64]
         ensures { result ≡ record_bytes self.now }
     {

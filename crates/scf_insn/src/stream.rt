@@ -57,10 +57,10 @@ pub enum WriteFault {
 pub fn write_whole<S: Sink>(sink: &mut S, bytes: &[u8]) -> Result<(), WriteFault>
     ensures { Writes S.contents S.failures sink.old bytes.now result sink.new }
 {
-    let mut rest = bytes;
-    while !rest.is_empty() {
-        match sink.write(rest) {
-            Ok(count) => rest = &rest[count..],
+    let mut remaining = bytes;
+    while !remaining.is_empty() {
+        match sink.write(remaining) {
+            Ok(count) => remaining = &remaining[count..],
             Err(_) => return Err(WriteFault::Write),
         }
     }

@@ -13,4 +13,4 @@ returns-clause-words c =
       c.joined-6.ensures,
       c.joined-7.ensures,
     )
-    (words_of-call_of c.args.words.now (words_by_index c.args.words.now (search rules) c.known_words.ensures))
+    (words_of-call_of c.args.words.now (words_by_index c.args.words.now (search rules) c.recall_words.ensures))
