@@ -117,7 +117,7 @@ answer_at_end : (filters : List (List Insn)) (filter : List Insn) (words : List 
     → slice_get filters i ≡ Some filter → EndsAt filter words index answer
     → AnswersAt filters words i other → other ≡ answer
 answer_at_end filters filter words i index answer other here ends (f, is, run) =
-    let own : IsRun f words other run.0 = run.1 in
+    let filter_run : IsRun f words other run.0 = run.1 in
     let steps : IsRun filter words answer (length ends.earlier + 1) = record {
       last = ends.last;
       earlier = ends.earlier;
@@ -230,11 +230,11 @@ answer_among : (filters : List (List Insn)) (words answers : List ℕ) (filter :
 answer_among [] words answers filter answer are (i, inside, is) run = absurd (omega (arith, inside))
 answer_among (f ∷ filters) words [] filter answer are has run = absurd are
 answer_among (f ∷ filters) words (x ∷ answers) filter answer are (zero, inside, is) run =
-    let own : RunAnswers filter words x = subst (λ (g : List Insn). RunAnswers g words x) is are.0 in
-    (0, ap Some (run_once filter words x answer own.0 run.0 own.1 run.1).0)
+    let filter_runs : RunAnswers filter words x = subst (λ (g : List Insn). RunAnswers g words x) is are.0 in
+    (0, ap Some (run_once filter words x answer filter_runs.0 run.0 filter_runs.1 run.1).0)
 answer_among (f ∷ filters) words (x ∷ answers) filter answer are (suc i, inside, is) run =
-    let rest = answer_among filters words answers filter answer are.1 (i, omega (arith, inside), is) run in
-    (suc rest.0, rest.1)
+    let later = answer_among filters words answers filter answer are.1 (i, omega (arith, inside), is) run in
+    (suc later.0, later.1)
 
 has_reverse : (filters : List (List Insn)) (filter : List Insn) → Contains filters filter
     → Contains (reverse filters) filter

@@ -52,7 +52,7 @@ impl From<AllocError> for CheckFault {
 
     ghost from_gives = { λ _ e. e ≡ Memory };
 
-    fn from(_e: AllocError) -> CheckFault {
+    fn from(_: AllocError) -> CheckFault {
         CheckFault::Memory
     }
 }

@@ -25,7 +25,7 @@ pub enum PushFault {
     Memory,
 }
 
-/// What a filter counts beside its instructions, once a newer one is attached (kernel/seccomp.c,
+/// The count that a filter adds to its instructions once a newer one is attached (kernel/seccomp.c,
 /// seccomp_attach_filter).
 const FILTER_COST: usize = 4;
 
@@ -70,13 +70,13 @@ pub fn with_newest(older: Answer, newest: Answer) -> Answer
 /// The instruction that gives a stack its answer.
 #[derive(Clone, Copy)]
 pub struct DecidingInsn {
-    /// The index of its filter, 0 being the oldest.
+    /// The index of the filter, 0 being the oldest.
     pub filter: usize,
-    /// Its index in the filter.
+    /// The index of the instruction in the filter.
     pub index: usize,
 }
 
-/// What a stack answers to a record, and the instruction that gives the answer; `None` for a stack without filters.
+/// The answer of a stack to a record, and the instruction that gives it; `None` for a stack without filters.
 #[derive(Clone, Copy)]
 pub struct Decision {
     pub answer: Answer,
@@ -103,8 +103,8 @@ impl Decision {
     }
 }
 
-/// What filters, the oldest first, answer to a record, and which instruction of which filter gives the answer: all run,
-/// and the newest answer of least rank takes precedence (seccomp(2)). ALLOW 0 for no filter.
+/// The answer of filters, the oldest first, to a record, and the instruction that gives it: all run, and the newest
+/// answer of least rank takes precedence (seccomp(2)). ALLOW 0 for no filter.
 pub fn decision_of(filters: &[Program], call: &CallRecord) -> Decision
     ensures by { IsDecidedBy filters.now (words_of call.now) result.by result.answer.0 }
     ensures answer { StackAnswers filters.now (words_of call.now) result.answer.0 }
@@ -188,7 +188,7 @@ impl FilterStack {
         &self.filters
     }
 
-    /// What the stack answers to a record, and the instruction that gives the answer, as by `decision_of`.
+    /// The answer of the stack to a record, and the instruction that gives it, as by `decision_of`.
     pub fn decision(&self, call: &CallRecord) -> Decision
         ensures by { IsDecidedBy self.now (words_of call.now) result.by result.answer.0 }
         ensures answer { StackAnswers self.now (words_of call.now) result.answer.0 }
