@@ -80,6 +80,6 @@ module _ (i : Insn) where
 
 module _ (number : List ℕ → Option ℕ) (t : List ℕ) (ts : List (List ℕ)) where
   -- no form so far has read the tokens; it is known whether one had the mnemonic
-  pub record IsUnread (fs rest : List spec.Encoding) (is_known : Bool) : Type 0 where
-    pub known : list_any (has_mnemonic t) fs ≡ (is_known || list_any (has_mnemonic t) rest)
-    pub read : read_by number fs t ts ≡ read_by number rest t ts
+  pub record IsUnread (fs remaining : List spec.Encoding) (is_known : Bool) : Type 0 where
+    pub known : list_any (has_mnemonic t) fs ≡ (is_known || list_any (has_mnemonic t) remaining)
+    pub read : read_by number fs t ts ≡ read_by number remaining t ts

@@ -27,13 +27,13 @@ rest_whole text part behind start n whole le =
     sym (drop-drop n start text) ∙ ap (drop n) whole ∙ drop-append-le n part behind le
 
 -- what follows in the part
-pub rest_is_part : (text part rest : List ℕ) (line start n : ℕ) → IsLinePart text line start part → n ≤ length part
-    → rest ≡ drop n part → IsLinePart text line (start + n) rest
-rest_is_part text part rest line start n p le e =
+pub rest_is_part : (text part remaining : List ℕ) (line start n : ℕ) → IsLinePart text line start part → n ≤ length part
+    → remaining ≡ drop n part → IsLinePart text line (start + n) remaining
+rest_is_part text part remaining line start n p le e =
     let both = count_append (take n part) (drop n part) in
     let all = ap count_ends (take-append-drop n part) in
     let front : take n (drop start text) ≡ take n part = ap (take n) p.whole ∙ take-append-le n part p.behind le in
-    let short : length rest ≡ length part - n = ap length e ∙ length-drop n part in
+    let short : length remaining ≡ length part - n = ap length e ∙ length-drop n part in
     record {
       behind = p.behind;
       whole = rest_whole text part p.behind start n p.whole le ∙ ap (λ (bs : List ℕ). bs ++ p.behind) (sym e);
@@ -57,7 +57,7 @@ word_ends (x ∷ xs) ys h =
     elim (cases_Bool (is_word_byte x)) [
       | inl word ↦ rw (prefix_more is_word_byte x (xs ++ ys) word, prefix_more is_word_byte x xs word)
           (ap (λ (bs : List ℕ). x ∷ bs) (word_ends xs ys h))
-      | inr other ↦ rw other refl
+      | inr differs ↦ rw differs refl
     ]
 
 -- a name of the part is the one at its index in the text
@@ -67,10 +67,10 @@ name_of_part text part line start n p le =
     ap (take_while is_word_byte) (rest_whole text part p.behind start n p.whole le)
     ∙ word_ends (drop n part) p.behind p.ends
 
-behind_line : (comment rest : List ℕ) → begins_in_word comment ≡ false → begins_in_word rest ≡ false
-    → begins_in_word (comment ++ rest) ≡ false
-behind_line [] rest h k = k
-behind_line (c ∷ cs) rest h k = h
+behind_line : (comment remaining : List ℕ) → begins_in_word comment ≡ false → begins_in_word remaining ≡ false
+    → begins_in_word (comment ++ remaining) ≡ false
+behind_line [] remaining h k = k
+behind_line (c ∷ cs) remaining h k = h
 
 shown_is_part : (text line bytes after : List ℕ) (number start : ℕ) → drop start text ≡ line ++ after
     → start + (length line + length after) ≤ length text → begins_in_word after ≡ false
@@ -91,22 +91,22 @@ shown_is_part text line bytes after number start whole within ends numbered unbr
     }
 
 -- a line without its comment
-pub line_is_part : (text rest line bytes : List ℕ) (number start : ℕ) (after : Option (Bor (List ℕ)))
-    → rest ≡ drop start text → start + length rest ≤ length text → line_at text start ≡ number
-    → MatchOption after (rest ≡ line) (λ next. rest ≡ line ++ 10 ∷ next.now) → count_ends line ≡ 0
+pub line_is_part : (text remaining line bytes : List ℕ) (number start : ℕ) (after : Option (Bor (List ℕ)))
+    → remaining ≡ drop start text → start + length remaining ≤ length text → line_at text start ≡ number
+    → MatchOption after (remaining ≡ line) (λ next. remaining ≡ line ++ 10 ∷ next.now) → count_ends line ≡ 0
     → bytes ≡ before_comment line → IsLinePart text number start bytes
-line_is_part text rest line bytes number start None e within numbered whole unbroken shown =
+line_is_part text remaining line bytes number start None e within numbered whole unbroken shown =
     shown_is_part text line bytes [] number start (sym e ∙ whole ∙ sym (append-nil line))
     (omega (arith, ap length whole)) refl numbered unbroken shown
-line_is_part text rest line bytes number start (Some next) e within numbered whole unbroken shown =
+line_is_part text remaining line bytes number start (Some next) e within numbered whole unbroken shown =
     shown_is_part text line bytes (10 ∷ next.now) number start (sym e ∙ whole)
     (omega (arith, ap length whole, length-append line (10 ∷ next.now))) refl numbered unbroken shown
 
 -- what follows a line
-pub line_behind : (text rest line next : List ℕ) (number start : ℕ) → rest ≡ drop start text
-    → line_at text start ≡ number → rest ≡ line ++ 10 ∷ next → count_ends line ≡ 0
+pub line_behind : (text remaining line next : List ℕ) (number start : ℕ) → remaining ≡ drop start text
+    → line_at text start ≡ number → remaining ≡ line ++ 10 ∷ next → count_ends line ≡ 0
     → (next ≡ drop (start + (length line + 1)) text) × (line_at text (start + (length line + 1)) ≡ number + 1)
-line_behind text rest line next number start e numbered whole unbroken =
+line_behind text remaining line next number start e numbered whole unbroken =
     let front : take (length line + 1) (drop start text) ≡ line ++ 10 ∷ [] =
     ap (take (length line + 1)) (sym e ∙ whole) ∙ take-append-add line (10 ∷ next) 1 in (
       sym (sym (drop-drop (length line + 1) start text) ∙ ap (drop (length line + 1)) (sym e ∙ whole)
@@ -121,10 +121,10 @@ pub token_behind : (part : List ℕ) (index start len : ℕ) → index ≤ start
 token_behind part index start len le some within =
     record { start = start + len; later = omega arith; within = within; is = take_rest part (start + len) }
 
-rest_len : {part rest : List ℕ} {index : ℕ} (b : IsBehind part index rest) → length rest ≡ length part - b.start
+rest_len : {part remaining : List ℕ} {index : ℕ} (b : IsBehind part index remaining) → length remaining ≡ length part - b.start
 rest_len {part} b = ap length b.is ∙ length-drop b.start part
 
-behind_behind : {part rest end : List ℕ} {index : ℕ} → IsBehind part index rest → IsBehind rest 0 end
+behind_behind : {part remaining end : List ℕ} {index : ℕ} → IsBehind part index remaining → IsBehind remaining 0 end
     → IsBehind part index end
 behind_behind {part} b d =
     let len = rest_len b in
@@ -135,12 +135,12 @@ behind_behind {part} b d =
       is = d.is ∙ ap (drop d.start) b.is ∙ drop-drop d.start b.start part;
     }
 
-pub follows_behind : {part rest : List ℕ} {index : ℕ} (after : Option (Bor (List ℕ))) → IsBehind part index rest
-    → FollowsBehind rest 0 after → FollowsBehind part index after
+pub follows_behind : {part remaining : List ℕ} {index : ℕ} (after : Option (Bor (List ℕ))) → IsBehind part index remaining
+    → FollowsBehind remaining 0 after → FollowsBehind part index after
 follows_behind None b d = omega arith
 follows_behind (Some end) b d = behind_behind b d
 
-pub lies_behind : {part rest : List ℕ} {index : ℕ} (next : Next) → IsBehind part index rest → LiesBehind rest 0 next
+pub lies_behind : {part remaining : List ℕ} {index : ℕ} (next : Next) → IsBehind part index remaining → LiesBehind remaining 0 next
     → LiesBehind part index next
 lies_behind (next.Token t end) b d = behind_behind b d
 lies_behind (next.End after) b d = follows_behind after b d
@@ -149,25 +149,25 @@ lies_behind (next.End after) b d = follows_behind after b d
 after_index : (part : List ℕ) (start index : ℕ) (after : Option (Bor (List ℕ))) → FollowsBehind part index after
     → start + index + 1 ≤ index_after start part after
 after_index part start index None h = omega arith
-after_index part start index (Some rest) h = let len = rest_len h in omega arith
+after_index part start index (Some remaining) h = let len = rest_len h in omega arith
 
 pub index_within : (part : List ℕ) (index : ℕ) (next : Next) → LiesBehind part index next → index ≤ length part
-index_within part index (next.Token t rest) h = omega arith
+index_within part index (next.Token t remaining) h = omega arith
 index_within part index (next.End None) h = h
-index_within part index (next.End (Some rest)) h = omega arith
+index_within part index (next.End (Some remaining)) h = omega arith
 
 -- what follows a statement is a part again
-pub behind_is_part : (text part rest : List ℕ) (line start : ℕ) → IsLinePart text line start part → IsBehind part 0 rest
-    → IsLinePart text line (start + (length part - length rest)) rest × (length rest ≤ length part)
-behind_is_part text part rest line start p b =
+pub behind_is_part : (text part remaining : List ℕ) (line start : ℕ) → IsLinePart text line start part → IsBehind part 0 remaining
+    → IsLinePart text line (start + (length part - length remaining)) remaining × (length remaining ≤ length part)
+behind_is_part text part remaining line start p b =
     let len = rest_len b in
-    let n : b.start ≡ length part - length rest = omega arith in
-    (rw (← n) (rest_is_part text part rest line start b.start p b.within b.is), omega arith)
+    let n : b.start ≡ length part - length remaining = omega arith in
+    (rw (← n) (rest_is_part text part remaining line start b.start p b.within b.is), omega arith)
 
 follows_part : (part : List ℕ) (index : ℕ) (after : Option (Bor (List ℕ))) → FollowsBehind part index after
     → FollowsBehind part 0 after
 follows_part part index None h = omega arith
-follows_part part index (Some rest) h =
+follows_part part index (Some remaining) h =
     record { start = h.start; later = omega arith; within = h.within; is = h.is }
 
 pub instruction_behind : {E : Type 0} (r : Result (Option (Bor (List ℕ))) E) (bytes : List ℕ) (start index : ℕ)

@@ -62,8 +62,8 @@ besides_more earlier l [] h = (tt, tt)
 besides_more earlier l (m ∷ ls) h =
     let pushed = sym (lookup_push (bytes_eq m.0) earlier l) ∙ h.0 in
     let here = other_name (bytes_eq m.0 l.0) (index_of earlier m.0) l.1 pushed in
-    let rest = besides_more earlier l ls h.1 in
-    ((here.0, rest.0), (bytes_eq_sym l.0 m.0 ∙ here.1, rest.1))
+    let remaining = besides_more earlier l ls h.1 in
+    ((here.0, remaining.0), (bytes_eq_sym l.0 m.0 ∙ here.1, remaining.1))
 
 besides_less : (earlier : Labels) (l : List ℕ × ℕ) (ls : Labels) → AreBesides earlier ls → AreOthers l.0 ls
     → AreBesides (earlier ++ l ∷ []) ls
@@ -75,9 +75,9 @@ new_distinct : (earlier ls : Labels) → AreNew earlier ls → AreBesides earlie
 unfolding IsDistinct
 new_distinct earlier [] h = (tt, tt)
 new_distinct earlier (l ∷ ls) h =
-    let rest = new_distinct (earlier ++ l ∷ []) ls h.1 in
-    let more = besides_more earlier l ls rest.0 in
-    ((h.0, more.0), (more.1, rest.1))
+    let remaining = new_distinct (earlier ++ l ∷ []) ls h.1 in
+    let more = besides_more earlier l ls remaining.0 in
+    ((h.0, more.0), (more.1, remaining.1))
 
 distinct_new : (earlier ls : Labels) → AreBesides earlier ls → IsDistinct bytes_eq (names ls) → AreNew earlier ls
 unfolding IsDistinct
@@ -126,13 +126,13 @@ statements_from_none (s ∷ ss) before le h =
     let parts =
     both_none (label_fault (symbols_in before) s.line (label_in s.tokens)) (instruction_fault at s.line body) one.0 in
     let read = instruction_from at s.line body le parts.1 in
-    let rest =
+    let remaining =
     rw (labels_more, zero-add, count_more) at
     (statements_from_none ss (before ++ s ∷ []) (rw count_more read.1) one.1) in (
       new_from (labels_from 0 before) at s.line (label_in s.tokens) (labels_from (at + length (parsed_insns_in s)) ss)
-          parts.0 rest.0,
-      (read.0, rest.1),
-      omega (arith, length-append (parsed_insns_by s.line body) (flat_map parsed_insns_in ss), rest.2),
+          parts.0 remaining.0,
+      (read.0, remaining.1),
+      omega (arith, length-append (parsed_insns_by s.line body) (flat_map parsed_insns_in ss), remaining.2),
     )
 
 -- and back
@@ -155,7 +155,7 @@ InRange ds = AllByRecursion (λ (d : ℕ × ParsedInsn). is_in_range d.1 ≡ tru
 
 front_in_range : (ds es : List (ℕ × ParsedInsn)) → InRange (ds ++ es) → InRange ds × InRange es
 front_in_range [] es h = (tt, h)
-front_in_range (d ∷ ds) es h = let rest = front_in_range ds es h.1 in ((h.0, rest.0), rest.1)
+front_in_range (d ∷ ds) es h = let remaining = front_in_range ds es h.1 in ((h.0, remaining.0), remaining.1)
 
 read_some : (line : ℕ) (o : Option ParsedInsn) → (numbered line o ≡ [] → ⊥) → IsSome o
 read_some line None read = absurd (read refl)
@@ -214,22 +214,22 @@ says_each symbols at [] (i ∷ is) s fits = absurd s
 says_each symbols at (d ∷ ds) [] s fits = absurd s
 says_each symbols at (d ∷ ds) (i ∷ is) s fits =
     let one = says_insn symbols at d.0 d.1 i s.0 fits.0 in
-    let rest = says_each symbols (at + 1) ds is s.1 fits.1 in (
-      (one.0, rest.0),
-      none_both one.1 rest.1,
-      ap suc rest.2,
+    let remaining = says_each symbols (at + 1) ds is s.1 fits.1 in (
+      (one.0, remaining.0),
+      none_both one.1 remaining.1,
+      ap suc remaining.2,
     )
 
 -- a text that spells a list has no fault
 pub no_fault : (text : List ℕ) (is : List Insn) → Spells text is → fault_of text ≡ None
 unfolding fault_of
 no_fault text is s =
-    let said = says_each (symbols_in (statements_of text)) 0 (parsed_insns_of text) is s.each s.fields in
+    let spelled = says_each (symbols_in (statements_of text)) 0 (parsed_insns_of text) is s.each s.fields in
     let labels = labels_from 0 (statements_of text) in
     let new = distinct_new [] labels (besides_none labels) s.distinct in
-    let read = statements_to_none (statements_of text) [] new s.read said.0
-    (omega (arith, said.2, s.few)) in
-    none_both (ascii_to text 1 s.ascii) (none_both read said.1)
+    let read = statements_to_none (statements_of text) [] new s.read spelled.0
+    (omega (arith, spelled.2, s.few)) in
+    none_both (ascii_to text 1 s.ascii) (none_both read spelled.1)
 
 -- a text with no fault spells what its instructions say
 pub spelled : (text : List ℕ) (is : List Insn) → fault_of text ≡ None
@@ -245,11 +245,11 @@ spelled text is none says fits =
     (targets_fault (symbols_in (statements_of text)) 0 (parsed_insns_of text)) outer.1 in
     let read =
     statements_from_none (statements_of text) [] (omega arith) inner.0 in
-    let said = says_each (symbols_in (statements_of text)) 0 (parsed_insns_of text) is says fits in
+    let spelled = says_each (symbols_in (statements_of text)) 0 (parsed_insns_of text) is says fits in
     record {
       ascii = ascii_from text 1 outer.0;
       distinct = (new_distinct [] (labels_from 0 (statements_of text)) read.0).1;
-      few = omega (arith, said.2, read.2);
+      few = omega (arith, spelled.2, read.2);
       fields =
           fits;
       read = read.1;

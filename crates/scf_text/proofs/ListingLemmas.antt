@@ -72,11 +72,11 @@ pub record IsWordy (t : List ℕ) : Type 0 where
   pub some : 0 < length t
   pub each : list_all is_word_byte t ≡ true
 
-words_wordy : (t rest : List ℕ) → IsWordy t → begins_in_word rest ≡ false
-    → words_of_part (t ++ rest) ≡ t ∷ words_of_part rest
-words_wordy [] rest w h = absurd (omega (arith, w.some))
-words_wordy (b ∷ t) rest w h = let both = and_parts (is_word_byte b) (list_all is_word_byte t) w.each in
-    words_word b t rest both.0 both.1 h
+words_wordy : (t remaining : List ℕ) → IsWordy t → begins_in_word remaining ≡ false
+    → words_of_part (t ++ remaining) ≡ t ∷ words_of_part remaining
+words_wordy [] remaining w h = absurd (omega (arith, w.some))
+words_wordy (b ∷ t) remaining w h = let both = and_parts (is_word_byte b) (list_all is_word_byte t) w.each in
+    words_word b t remaining both.0 both.1 h
 
 -- digits
 
@@ -120,10 +120,10 @@ piece_words i p.Index = codes "x" ∷ []
 piece_words i (p.Number f style) = number_text style (field_of i f) ∷ []
 piece_words i (p.Target f) = decimal (field_of i f) ∷ []
 
-words_number : (i : Insn) (f : Field) (style : Style) (rest : List ℕ) → IsInsn i → begins_in_word rest ≡ false
-    → words_of_part (number_text style (field_of i f) ++ rest) ≡ number_text style (field_of i f) ∷ words_of_part rest
-words_number i f style rest h k =
-    words_wordy (number_text style (field_of i f)) rest (piece_wordy i f style h) k
+words_number : (i : Insn) (f : Field) (style : Style) (remaining : List ℕ) → IsInsn i → begins_in_word remaining ≡ false
+    → words_of_part (number_text style (field_of i f) ++ remaining) ≡ number_text style (field_of i f) ∷ words_of_part remaining
+words_number i f style remaining h k =
+    words_wordy (number_text style (field_of i f)) remaining (piece_wordy i f style h) k
 
 pub each_same : {A B : Type 0} (f g : A → B) (xs : List A) → map f xs ≡ map g xs → AllByRecursion (λ x. f x ≡ g x) xs
 each_same f g [] e = tt
@@ -238,7 +238,7 @@ piece_listed i (p.Mark b) fits h =
     let both = and_parts (is_line_byte b) (is_plain (b ∷ [])) h in (
       elim (cases_Bool (eqb b 44)) [
         | inl comma ↦ rw comma refl
-        | inr other ↦ rw (other, both.0) refl
+        | inr differs ↦ rw (differs, both.0) refl
       ],
       rw both.1 refl,
     )
@@ -252,10 +252,10 @@ pieces_listed : (i : Insn) (ps : List Piece) → IsInsn i → list_all is_apart 
 pieces_listed i [] fits h = (refl, refl)
 pieces_listed i (q ∷ ps) fits h =
     let both = and_parts (is_apart q) (list_all is_apart ps) h in
-    let one = piece_listed i q fits both.0 in
-    let rest = pieces_listed i ps fits both.1 in (
-      rw (list_all-append is_line_byte (piece_text i q) (flat_map (piece_text i) ps), one.0, rest.0) refl,
-      rw (list_all-append is_plain (piece_words i q) (flat_map (piece_words i) ps), one.1, rest.1) refl,
+    let first = piece_listed i q fits both.0 in
+    let tail = pieces_listed i ps fits both.1 in (
+      rw (list_all-append is_line_byte (piece_text i q) (flat_map (piece_text i) ps), first.0, tail.0) refl,
+      rw (list_all-append is_plain (piece_words i q) (flat_map (piece_words i) ps), first.1, tail.1) refl,
     )
 
 all_apart : map (λ (f : Encoding). list_all is_apart f.pieces) encodings ≡ map (λ f. true) encodings

@@ -184,9 +184,9 @@ index_kept {text} {end} index new k le moved =
 
 -- No two labels begin at one index.
 pub apart : {text : List ℕ} {end : ℕ} {given : Labels} {all : List Statement} {later : Option TextFault}
-    {begins kept : List ℕ} → AreKept text end given all later begins kept → IsDistinct nat_eq kept
-apart {kept = kept} k =
-    IsDistinct-IsPermutation nat_eq nat_eq_equiv.symm k.labels kept k.moved
+    {begins stored : List ℕ} → AreKept text end given all later begins stored → IsDistinct nat_eq stored
+apart {stored = stored} k =
+    IsDistinct-IsPermutation nat_eq nat_eq_equiv.symm k.labels stored k.moved
     (IsDistinct-from_apart nat_eq k.labels
     (λ i j d lt within. let less = k.rising i j d lt within in grind (arith, nat_tests)))
 
@@ -211,8 +211,8 @@ label_step {text} {bytes} {start} {line} {name} {given} {all} {begins} {old} {ne
     (omega arith) (line_of_part text bytes line start l part le) moved)
 
 -- a statement of a part, its label and where it begins
-module _ {text bytes : List ℕ} {start : ℕ} {all rest : List Statement} {old : List ℕ} {ds : List NumberedInsn}
-    (s : Statement) (label : Option ℕ) (new : List ℕ) (left : IsLeft text start all (s ∷ rest) old ds)
+module _ {text bytes : List ℕ} {start : ℕ} {all remaining : List Statement} {old : List ℕ} {ds : List NumberedInsn}
+    (s : Statement) (label : Option ℕ) (new : List ℕ) (left : IsLeft text start all (s ∷ remaining) old ds)
     (part : IsLinePart text s.line start bytes) (named : option_map (name_at bytes) label ≡ label_in s.tokens)
     (within : unwrap_or label 0 ≤ length bytes) where
   -- where the statement begins, with its label if it has one
@@ -223,7 +223,7 @@ module _ {text bytes : List ℕ} {start : ℕ} {all rest : List Statement} {old 
   own_fault = instruction_fault (length ds) s.line (instruction_in s.tokens)
 
   abbrev later_fault : Option TextFault
-  later_fault = statements_fault (left.before ++ s ∷ []) rest
+  later_fault = statements_fault (left.before ++ s ∷ []) remaining
 
   abbrev given : Labels
   given = labels_from 0 (left.before ++ s ∷ [])
@@ -249,15 +249,15 @@ module _ {text bytes : List ℕ} {start : ℕ} {all rest : List Statement} {old 
   have_tokens some =
       rw (left.whole, flat_map-append)
       (some_between (flat_map (λ (t : Statement). t.tokens) left.before) s.tokens
-      (flat_map (λ (t : Statement). t.tokens) rest) some)
+      (flat_map (λ (t : Statement). t.tokens) remaining) some)
 
   pub statement_leaves : {T : Type 0} (r : Result T TextFault) (end : T → ℕ) (es : List NumberedInsn)
       → IsPermutation (old ++ option_to_list (option_map (λ _. index) label)) new
       → AddsInstruction ds index s.line (instruction_in s.tokens) r es → IfOk r (λ x. index + 1 ≤ end x)
-      → OnErr r (s.tokens ≢ []) → Leaves text r all rest end new es
+      → OnErr r (s.tokens ≢ []) → Leaves text r all remaining end new es
   statement_leaves (Ok x) end es moved h behind some = record {
     before = left.before ++ s ∷ [];
-    whole = left.whole ∙ sym (append_assoc left.before (s ∷ []) rest);
+    whole = left.whole ∙ sym (append_assoc left.before (s ∷ []) remaining);
     parsed_insns = h.1 ∙ rw (left.parsed_insns, flat_map-append, append-nil) refl;
     labels =
         let k = statement_label moved in
@@ -294,7 +294,7 @@ module _ {text bytes : List ℕ} {start : ℕ} {all rest : List Statement} {old 
         | inl none ↦ record {
           end = start;
           given = labels_from 0 left.before;
-          later = statements_fault left.before (s ∷ rest);
+          later = statements_fault left.before (s ∷ remaining);
           begins = begins_of ds;
           labels = rw none.0 left.labels;
           fault = λ first. rw none.1 tt;
@@ -314,9 +314,9 @@ module _ {text bytes : List ℕ} {start : ℕ} {all rest : List Statement} {old 
             }
       ]
 
-pub index_left : {text : List ℕ} {end : ℕ} {all rest : List Statement} {labels : List ℕ} {ds : List NumberedInsn}
-    (index : ℕ) (sorted : List ℕ) → IsLeft text end all rest labels ds → end ≤ index → IsPermutation labels sorted
-    → IsLeft text index all rest sorted ds
+pub index_left : {text : List ℕ} {end : ℕ} {all remaining : List Statement} {labels : List ℕ} {ds : List NumberedInsn}
+    (index : ℕ) (sorted : List ℕ) → IsLeft text end all remaining labels ds → end ≤ index → IsPermutation labels sorted
+    → IsLeft text index all remaining sorted ds
 index_left index sorted left le moved = record {
   before = left.before;
   whole = left.whole;

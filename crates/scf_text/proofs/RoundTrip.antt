@@ -62,13 +62,13 @@ says_back symbols at i =
 
 line_tokens : (i : Insn) → IsInsn i → slice_split is_semicolon (words_of_line (body i)) ≡ (name_of i ∷ operands i) ∷ []
 line_tokens i fits =
-    let found : map (λ (l : Lexeme). l.text) (lexemes_from 0 (before_comment (body i))) ≡ name_of i ∷ operands i =
+    let words : map (λ (l : Lexeme). l.text) (lexemes_from 0 (before_comment (body i))) ≡ name_of i ∷ operands i =
     ap words_of_part (no_comment (body i) (body_line i fits))
     ∙ line_words i fits in
     let plain =
     and_from (is_plain (name_of i)) (list_all is_plain (operands i))
     (wordy_plain (name_of i) (mnemonic_wordy i)) (operands_plain i fits) in
-    ap (slice_split is_semicolon) found
+    ap (slice_split is_semicolon) words
     ∙ slice_split_none is_semicolon (name_of i ∷ operands i)
     (All-from_recursion (λ t. is_semicolon t ≡ false) (name_of i ∷ operands i)
     (no_semicolon (name_of i ∷ operands i) plain))
@@ -78,16 +78,16 @@ abbrev listing : ℕ → List Insn → List Statement
 listing n [] = record { line = n; tokens = [] } ∷ []
 listing n (i ∷ is) = record { line = n; tokens = name_of i ∷ operands i } ∷ listing (n + 1) is
 
-line_ended : (i : Insn) (rest : List ℕ) → line_of i ++ rest ≡ body i ++ 10 ∷ rest
-line_ended i rest =
+line_ended : (i : Insn) (remaining : List ℕ) → line_of i ++ remaining ≡ body i ++ 10 ∷ remaining
+line_ended i remaining =
     let ops = operands_text i (encoding_for i).pieces in
-    append_assoc (name_of i) (ops ++ 10 ∷ []) rest
-    ∙ ap (λ (t : List ℕ). name_of i ++ t) (append_assoc ops (10 ∷ []) rest)
-    ∙ sym (append_assoc (name_of i) ops (10 ∷ rest))
+    append_assoc (name_of i) (ops ++ 10 ∷ []) remaining
+    ∙ ap (λ (t : List ℕ). name_of i ++ t) (append_assoc ops (10 ∷ []) remaining)
+    ∙ sym (append_assoc (name_of i) ops (10 ∷ remaining))
 
-lines_are : (i : Insn) (rest : List ℕ) → IsInsn i → lines_of (line_of i ++ rest) ≡ body i ∷ lines_of rest
-lines_are i rest fits = ap lines_of (line_ended i rest)
-    ∙ slice_split_at (λ b. eqb b 10) (body i) 10 rest
+lines_are : (i : Insn) (remaining : List ℕ) → IsInsn i → lines_of (line_of i ++ remaining) ≡ body i ∷ lines_of remaining
+lines_are i remaining fits = ap lines_of (line_ended i remaining)
+    ∙ slice_split_at (λ b. eqb b 10) (body i) 10 remaining
     (All-from_recursion (λ b. eqb b 10 ≡ false) (body i) (no_end (body i) (body_line i fits))) refl
 
 statements_are : (n : ℕ) (is : List Insn) → AllByRecursion IsInsn is
@@ -107,8 +107,8 @@ listed : (symbols : SymbolTable) (at n : ℕ) (is : List Insn) → AllByRecursio
     × SaysEach symbols at (flat_map parsed_insns_in (listing n is)) is
 listed symbols at n [] fits = (refl, (λ none. refl, tt), tt)
 listed symbols at n (i ∷ is) fits =
-    let rest = listed symbols (at + 1) (n + 1) is fits.1 in
-    rw (unlabeled i fits.0, reads_back i fits.0) (rest.0, (λ none. absurd cc, rest.1), (says_back symbols at i, rest.2))
+    let remaining = listed symbols (at + 1) (n + 1) is fits.1 in
+    rw (unlabeled i fits.0, reads_back i fits.0) (remaining.0, (λ none. absurd cc, remaining.1), (says_back symbols at i, remaining.2))
 
 ascii : (is : List Insn) → AllByRecursion IsInsn is → AllByRecursion (λ b. b < 128) (text_of is)
 ascii [] fits = tt
@@ -121,12 +121,12 @@ pub round_trip : (is : List Insn) → AllByRecursion IsInsn is → length is ≤
 unfolding IsDistinct
 round_trip is fits few =
     let statements = statements_are 1 is fits in
-    let told = listed (index_of []) 0 1 is fits in
+    let round = listed (index_of []) 0 1 is fits in
     record {
       ascii = ascii is fits;
-      distinct = rw (statements, told.0) tt;
+      distinct = rw (statements, round.0) tt;
       few = few;
       fields = fits;
-      read = rw statements told.1;
-      each = rw (statements, told.0) told.2;
+      read = rw statements round.1;
+      each = rw (statements, round.0) round.2;
     }

@@ -45,12 +45,12 @@ nothing_read text all none empty =
 
 -- behind the last statement
 
-all_read : {text : List ℕ} {end : ℕ} {all : List Statement} {kept : List ℕ} {ds : List NumberedInsn}
-    (left : IsLeft text end all [] kept ds) → left.before ≡ all
+all_read : {text : List ℕ} {end : ℕ} {all : List Statement} {stored : List ℕ} {ds : List NumberedInsn}
+    (left : IsLeft text end all [] stored ds) → left.before ≡ all
 all_read left = sym (left.whole ∙ append-nil left.before)
 
-pub drafts_read : {text : List ℕ} {end : ℕ} {all : List Statement} {kept : List ℕ} {ds : List NumberedInsn}
-    → IsLeft text end all [] kept ds → parsed_insns_view ds ≡ flat_map parsed_insns_in all
+pub drafts_read : {text : List ℕ} {end : ℕ} {all : List Statement} {stored : List ℕ} {ds : List NumberedInsn}
+    → IsLeft text end all [] stored ds → parsed_insns_view ds ≡ flat_map parsed_insns_in all
 drafts_read left = left.parsed_insns ∙ ap (flat_map parsed_insns_in) (all_read left)
 
 none_first : (text xs ys : List ℕ) → IsPermutation xs ys → IsFirstRepeat text ys None → IsFirstRepeat text xs None
@@ -58,16 +58,16 @@ none_first text xs ys p none = λ b repeat. none b (moved p repeat)
 
 -- the labels are sorted
 pub sorted_leaves : {T : Type 0} (r : Result T TextFault) (text : List ℕ) (end : ℕ) (all : List Statement)
-    (kept sorted : List ℕ) (ds : List NumberedInsn) → Leaves text r all [] (λ _. end) kept ds
-    → IsPermutation kept sorted → Leaves text r all [] (λ _. end) sorted ds
-sorted_leaves (Ok x) text end all kept sorted ds left p = index_left end sorted left (omega arith) p
-sorted_leaves (Err e) text end all kept sorted ds ended p = record {
+    (stored sorted : List ℕ) (ds : List NumberedInsn) → Leaves text r all [] (λ _. end) stored ds
+    → IsPermutation stored sorted → Leaves text r all [] (λ _. end) sorted ds
+sorted_leaves (Ok x) text end all stored sorted ds left p = index_left end sorted left (omega arith) p
+sorted_leaves (Err e) text end all stored sorted ds ended p = record {
   end = ended.end;
   given = ended.given;
   later = ended.later;
   begins = ended.begins;
   labels = index_kept ended.end sorted ended.labels (omega arith) p;
-  fault = λ none. ended.fault (none_first text kept sorted p none);
+  fault = λ none. ended.fault (none_first text stored sorted p none);
   some = ended.some;
 }
 
@@ -83,16 +83,16 @@ module _ {text : List ℕ} {all : List Statement} {sorted : List ℕ} where
   told_fault : {end : ℕ} {given : Labels} {later : Option TextFault} {begins : List ℕ} (e : TextFault)
       → AreKept text end given all later begins sorted → TellsRepeat {T = Unit {0}} text sorted (Err e)
       → IsFault e (statements_fault [] all)
-  told_fault e k told = is_fault e (statements_fault [] all) (first_fault (Some told.0) k told.1 ∙ ap Some (sym told.2))
+  told_fault e k repeat = is_fault e (statements_fault [] all) (first_fault (Some repeat.0) k repeat.1 ∙ ap Some (sym repeat.2))
 
   -- a repeated label is a token
   told_tokens : {end : ℕ} {later : Option TextFault} {begins : List ℕ} (e : TextFault)
       → AreKept text end (labels_from 0 all) all later begins sorted
       → TellsRepeat {T = Unit {0}} text sorted (Err e) → HaveTokens all
-  told_tokens e k told = λ none.
+  told_tokens e k repeat = λ none.
       let nothing : k.labels ≡ [] = none_mapped _ k.labels (k.named ∙ no_labels 0 all none) in
-      let given = subst (λ (ls : List ℕ). Contains ls told.0) nothing
-      (Contains-permutation sorted k.labels told.0 (IsPermutation-sym k.labels sorted k.moved) told.1.0.given) in
+      let given = subst (λ (ls : List ℕ). Contains ls repeat.0) nothing
+      (Contains-permutation sorted k.labels repeat.0 (IsPermutation-sym k.labels sorted k.moved) repeat.1.0.given) in
       let lt : given.0 < 0 = given.1 in
       omega arith
 
@@ -165,5 +165,5 @@ is_spelled text (Err e) h = tt
 pub is_not_spelled : (text : List ℕ) (r : Result (Vec Insn) TextFault) → TellsText (fault_of text) text r
     → IfErr r (λ e. e ≢ fault.Memory → (insns : List Insn) → Spells text insns → ⊥)
 is_not_spelled text (Ok v) h = tt
-is_not_spelled text (Err fault.Memory) h = λ other is s. other refl
+is_not_spelled text (Err fault.Memory) h = λ insns is s. insns refl
 is_not_spelled text (Err e) h = λ other is s. let none = no_fault text is s in cc

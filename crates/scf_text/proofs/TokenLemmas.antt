@@ -38,8 +38,8 @@ word_in_front at b (c ∷ cs) h =
           omega arith in
           more_in_front at b (c ∷ cs) h word ∙ ap (joined at b) (word_in_front (at + 1) c cs word)
           ∙ rw (prefix_more is_word_byte c cs word, step) refl
-      | inr other ↦ one_in_front at b (c ∷ cs) (word_not_blank b h)
-          (and_right (is_word_byte b) (is_word_byte c) other) ∙ rw other refl
+      | inr differs ↦ one_in_front at b (c ∷ cs) (word_not_blank b h)
+          (and_right (is_word_byte b) (is_word_byte c) differs) ∙ rw differs refl
     ]
 
 token_in_front : (at n b : ℕ) (bs : List ℕ) → is_blank b ≡ false → n ≡ max (prefix_len is_word_byte (b ∷ bs)) 1
@@ -50,10 +50,10 @@ token_in_front at n b bs h e =
       | inl word ↦
           let m : n ≡ suc (prefix_len is_word_byte bs) = omega (arith, prefix_more is_word_byte b bs word) in
           rw m (word_in_front at b bs word)
-      | inr other ↦
-          let none : prefix_len is_word_byte (b ∷ bs) ≡ 0 = rw other refl in
-          let one : n ≡ 1 = omega arith in
-          rw one (one_in_front at b bs h (and_left (is_word_byte b) (begins_in_word bs) other))
+      | inr differs ↦
+          let none : prefix_len is_word_byte (b ∷ bs) ≡ 0 = rw differs refl in
+          let single : n ≡ 1 = omega arith in
+          rw single (one_in_front at b bs h (and_left (is_word_byte b) (begins_in_word bs) differs))
     ]
 
 -- the comment, step by step
@@ -71,7 +71,7 @@ index_of_end [] = refl
 index_of_end (b ∷ bs) =
     elim (cases_Bool (eqb b 10)) [
       | inl here ↦ rw here refl
-      | inr other ↦ rw other (omega (arith, index_of_end bs))
+      | inr differs ↦ rw differs (omega (arith, index_of_end bs))
     ]
 
 -- a line that ends
@@ -87,7 +87,7 @@ last_line [] le = refl
 last_line (b ∷ bs) le =
     elim (cases_Bool (eqb b 10)) [
       | inl here ↦ let none = rw here at le in absurd (omega arith)
-      | inr other ↦ let more = rw other at le in rw (other, last_line bs (omega arith)) refl
+      | inr differs ↦ let more = rw differs at le in rw (differs, last_line bs (omega arith)) refl
     ]
 
 -- the last line
@@ -101,7 +101,7 @@ unbroken [] = refl
 unbroken (b ∷ bs) =
     elim (cases_Bool (eqb b 10)) [
       | inl here ↦ rw here refl
-      | inr other ↦ rw (prefix_more (λ c. not (eqb c 10)) b bs (rw other refl), other) (unbroken bs)
+      | inr differs ↦ rw (prefix_more (λ c. not (eqb c 10)) b bs (rw differs refl), differs) (unbroken bs)
     ]
 
 pub line_unbroken : (text : List ℕ) (n : ℕ) → n ≡ prefix_len (λ b. not (eqb b 10)) text → count_ends (take n text) ≡ 0
@@ -155,8 +155,8 @@ skip at (b ∷ bs) =
       | inl blank ↦
           let index : (at + 1) + prefix_len is_blank bs ≡ at + suc (prefix_len is_blank bs) = omega arith in
           blank_in_front at b bs blank ∙ skip (at + 1) bs ∙ rw (prefix_more is_blank b bs blank, index) refl
-      | inr other ↦
-          let none : prefix_len is_blank (b ∷ bs) ≡ 0 = rw other refl in
+      | inr differs ↦
+          let none : prefix_len is_blank (b ∷ bs) ≡ 0 = rw differs refl in
           let index : at + 0 ≡ at = omega arith in
           rw (none, index) refl
     ]
@@ -195,14 +195,14 @@ pub words_at : (a b : ℕ) (bs : List ℕ) → words_from a bs ≡ words_from b 
 unfolding lexemes_from
 words_at a b [] = refl
 words_at a b (c ∷ cs) =
-    let rest = words_at (a + 1) (b + 1) cs in
+    let remaining = words_at (a + 1) (b + 1) cs in
     elim (cases_Bool (is_blank c)) [
-      | inl blank ↦ rw blank rest
-      | inr other ↦
+      | inl blank ↦ rw blank remaining
+      | inr differs ↦
           elim (cases_Bool (is_word_byte c && begins_in_word cs)) [
-            | inl more ↦ rw (other, more) (joined_words a c (lexemes_from (a + 1) cs) ∙ ap (onto_word c) rest
+            | inl more ↦ rw (differs, more) (joined_words a c (lexemes_from (a + 1) cs) ∙ ap (onto_word c) remaining
                 ∙ sym (joined_words b c (lexemes_from (b + 1) cs)))
-            | inr end ↦ rw (other, end) (ap (λ (ws : List (List ℕ)). (c ∷ []) ∷ ws) rest)
+            | inr end ↦ rw (differs, end) (ap (λ (ws : List (List ℕ)). (c ∷ []) ∷ ws) remaining)
           ]
     ]
 
@@ -225,14 +225,14 @@ words_more b c bs h k = ap (map (λ (l : Lexeme). l.text)) (more_in_front 0 b (c
     ∙ joined_words 0 b (lexemes_from 1 (c ∷ bs)) ∙ ap (onto_word b) (words_at 1 0 (c ∷ bs))
 
 -- a word in front of something else
-pub words_word : (b : ℕ) (w rest : List ℕ) → is_word_byte b ≡ true → list_all is_word_byte w ≡ true
-    → begins_in_word rest ≡ false → words_of_part (b ∷ (w ++ rest)) ≡ (b ∷ w) ∷ words_of_part rest
+pub words_word : (b : ℕ) (w remaining : List ℕ) → is_word_byte b ≡ true → list_all is_word_byte w ≡ true
+    → begins_in_word remaining ≡ false → words_of_part (b ∷ (w ++ remaining)) ≡ (b ∷ w) ∷ words_of_part remaining
 unfolding onto_word
-words_word b [] rest h all k =
-    words_one b rest (word_not_blank b h) (and_right (is_word_byte b) (begins_in_word rest) k)
-words_word b (c ∷ w) rest h all k =
+words_word b [] remaining h all k =
+    words_one b remaining (word_not_blank b h) (and_right (is_word_byte b) (begins_in_word remaining) k)
+words_word b (c ∷ w) remaining h all k =
     let both = and_parts (is_word_byte c) (list_all is_word_byte w) all in
-    words_more b c (w ++ rest) h both.0 ∙ ap (onto_word b) (words_word c w rest both.0 both.1 k)
+    words_more b c (w ++ remaining) h both.0 ∙ ap (onto_word b) (words_word c w remaining both.0 both.1 k)
 
 pub words_nil : words_of_part [] ≡ []
 unfolding lexemes_from
@@ -263,11 +263,11 @@ slices_from (suc most) text at bs lt slice =
           let fits : n + m ≤ length bs =
           omega (arith, prefix_len-le-length is_word_byte (drop n bs), length-drop n bs) in
           let len : length (take m (drop n bs)) ≡ m = length-take-le m (drop n bs) (omega (arith, length-drop n bs)) in
-          let rest : length (drop (n + m) bs) ≡ length bs - (n + m) = length-drop (n + m) bs in
+          let remaining : length (drop (n + m) bs) ≡ length bs - (n + m) = length-drop (n + m) bs in
           rw (token_is at n m bs refl some refl) (
             slice_in text bs (take m (drop n bs)) at n slice (rw len refl) (omega arith),
             slices_from most text (at + (n + m)) (drop (n + m) bs) (omega arith)
-                (slice_in text bs (drop (n + m) bs) at (n + m) slice (rw (rest, take_rest) refl) (omega arith)),
+                (slice_in text bs (drop (n + m) bs) at (n + m) slice (rw (remaining, take_rest) refl) (omega arith)),
           )
       | inr none ↦ rw (none_is at n bs refl none) tt
     ]
@@ -279,7 +279,7 @@ comment_of [] = ([], refl, refl)
 comment_of (b ∷ bs) =
     elim (cases_Bool (begins_comment (b ∷ bs))) [
       | inl here ↦ (b ∷ bs, rw here refl, grind (arith, nat_tests))
-      | inr other ↦ let rest = comment_of bs in (rest.0, rw other (ap (λ (cs : List ℕ). b ∷ cs) rest.1), rest.2)
+      | inr differs ↦ let remaining = comment_of bs in (remaining.0, rw differs (ap (λ (cs : List ℕ). b ∷ cs) remaining.1), remaining.2)
     ]
 
 pub all_append : {A : Type 0} (P : A → Type 0) (xs ys : List A) → AllByRecursion P xs → AllByRecursion P ys
@@ -290,21 +290,21 @@ all_append P (x ∷ xs) ys h k = (h.0, all_append P xs ys h.1 k)
 abbrev both_slices : (text : List ℕ) (ts us : List Lexeme) → Slices text ts → Slices text us → Slices text (ts ++ us)
 both_slices text = all_append (λ (t : Lexeme). IsSliceOf text t.start t.text)
 
-line_slices : (text : List ℕ) (at : ℕ) (line rest : List ℕ) → drop at text ≡ line ++ rest
+line_slices : (text : List ℕ) (at : ℕ) (line remaining : List ℕ) → drop at text ≡ line ++ remaining
     → Slices text (lexemes_from at (before_comment line))
-line_slices text at line rest h =
+line_slices text at line remaining h =
     let comment = comment_of line in
-    let front : drop at text ≡ before_comment line ++ (comment.0 ++ rest) =
-    h ∙ ap (λ (cs : List ℕ). cs ++ rest) comment.1 ∙ append_assoc (before_comment line) comment.0 rest in
+    let front : drop at text ≡ before_comment line ++ (comment.0 ++ remaining) =
+    h ∙ ap (λ (cs : List ℕ). cs ++ remaining) comment.1 ∙ append_assoc (before_comment line) comment.0 remaining in
     slices_from (suc (length (before_comment line))) text at (before_comment line) (omega arith)
-    (rw front (sym (take-append_seam (before_comment line) (comment.0 ++ rest))))
+    (rw front (sym (take-append_seam (before_comment line) (comment.0 ++ remaining))))
 
-after_line : (text : List ℕ) (at : ℕ) (line rest : List ℕ) → drop at text ≡ line ++ 10 ∷ rest
-    → drop (at + length line + 1) text ≡ rest
-after_line text at line rest h =
+after_line : (text : List ℕ) (at : ℕ) (line remaining : List ℕ) → drop at text ≡ line ++ 10 ∷ remaining
+    → drop (at + length line + 1) text ≡ remaining
+after_line text at line remaining h =
     let index : at + length line + 1 ≡ at + (length line + 1) = omega arith in
     rw index (sym (drop-drop (length line + 1) at text) ∙ ap (drop (length line + 1)) h
-    ∙ drop-append-add line (10 ∷ rest) 1)
+    ∙ drop-append-add line (10 ∷ remaining) 1)
 
 lines_slices : (text : List ℕ) (at : ℕ) (lines : List (List ℕ)) → drop at text ≡ join_with_byte 10 lines
     → Slices text (lexemes_of_lines at lines)
@@ -322,26 +322,26 @@ token_slices : (text : List ℕ) → Slices text (tokens_of text)
 unfolding tokens_of
 token_slices text = lines_slices text 0 (lines_of text) (sym (join_with_byte-slice_split 10 text))
 
-found_recursively : (text : List ℕ) (found : List Token) → Slices text (lexemes found)
-    → AllByRecursion (λ (t : Token). IsSliceOf text t.start t.text.now) found
+found_recursively : (text : List ℕ) (tokens : List Token) → Slices text (lexemes tokens)
+    → AllByRecursion (λ (t : Token). IsSliceOf text t.start t.text.now) tokens
 found_recursively text [] h = tt
-found_recursively text (t ∷ found) h = (h.0, found_recursively text found h.1)
+found_recursively text (t ∷ tokens) h = (h.0, found_recursively text tokens h.1)
 
-pub found_slices : (text : List ℕ) (found : List Token) → lexemes found ≡ tokens_of text
-    → All (λ (t : Token). IsSliceOf text t.start t.text.now) found
-found_slices text found e =
-    All-from_recursion (λ (t : Token). IsSliceOf text t.start t.text.now) found
-    (found_recursively text found (subst (Slices text) (sym e) (token_slices text)))
+pub found_slices : (text : List ℕ) (tokens : List Token) → lexemes tokens ≡ tokens_of text
+    → All (λ (t : Token). IsSliceOf text t.start t.text.now) tokens
+found_slices text tokens e =
+    All-from_recursion (λ (t : Token). IsSliceOf text t.start t.text.now) tokens
+    (found_recursively text tokens (subst (Slices text) (sym e) (token_slices text)))
 
 -- the tokens of one more line were found
-pub next_tokens : (text rest line : List ℕ) (others : List (List ℕ)) (start : ℕ) (found more : List Token)
-    → lexemes found ++ lexemes_of_lines start (lines_of rest) ≡ tokens_of text → lines_of rest ≡ line ∷ others
-    → lexemes more ≡ lexemes found ++ lexemes_from start (before_comment line)
+pub next_tokens : (text remaining line : List ℕ) (others : List (List ℕ)) (start : ℕ) (tokens more : List Token)
+    → lexemes tokens ++ lexemes_of_lines start (lines_of remaining) ≡ tokens_of text → lines_of remaining ≡ line ∷ others
+    → lexemes more ≡ lexemes tokens ++ lexemes_from start (before_comment line)
     → lexemes more ++ lexemes_of_lines (start + (length line + 1)) others ≡ tokens_of text
-next_tokens text rest line others start found more so_far line_more added =
+next_tokens text remaining line others start tokens more so_far line_more added =
     let index : start + (length line + 1) ≡ start + length line + 1 = omega arith in
     rw (index, added, append_assoc)
-    (ap (λ lines. lexemes found ++ lexemes_of_lines start lines) (sym line_more) ∙ so_far)
+    (ap (λ lines. lexemes tokens ++ lexemes_of_lines start lines) (sym line_more) ∙ so_far)
 
 -- the words of the lines, in order, are the tokens
 words_of_lines : (at : ℕ) (lines : List (List ℕ))
@@ -360,11 +360,11 @@ unfolding tokens_of
 words_are_tokens text = words_of_lines 0 (lines_of text)
 
 -- the first token of a part, and its words
-pub words_front : (part rest t : List ℕ) (s n : ℕ)
-    → ((at : ℕ) → lexemes_from at part ≡ (record { start = at + s; text = t }) ∷ lexemes_from (at + n) rest)
-    → words_of_part part ≡ t ∷ words_of_part rest
-words_front part rest t s n h =
-    ap (map (λ (l : Lexeme). l.text)) (h 0) ∙ ap (λ (ws : List (List ℕ)). t ∷ ws) (words_at (0 + n) 0 rest)
+pub words_front : (part remaining t : List ℕ) (s n : ℕ)
+    → ((at : ℕ) → lexemes_from at part ≡ (record { start = at + s; text = t }) ∷ lexemes_from (at + n) remaining)
+    → words_of_part part ≡ t ∷ words_of_part remaining
+words_front part remaining t s n h =
+    ap (map (λ (l : Lexeme). l.text)) (h 0) ∙ ap (λ (ws : List (List ℕ)). t ∷ ws) (words_at (0 + n) 0 remaining)
 
 some_statement : (ss : List (List (List ℕ))) → 0 < length ss → ss ≡ first_statement ss ∷ drop 1 ss
 some_statement [] some = absurd (omega arith)
@@ -379,12 +379,12 @@ pub no_token : (part : List ℕ) → ((at : ℕ) → lexemes_from at part ≡ []
 unfolding words_in others_in
 no_token part h = rw (h 0) (refl, refl)
 
-pub statement_ends : (t part rest : List ℕ) → is_semicolon t ≡ true → words_of_part part ≡ t ∷ words_of_part rest
-    → (words_in part ≡ []) × (others_in part ≡ words_in rest ∷ others_in rest)
+pub statement_ends : (t part remaining : List ℕ) → is_semicolon t ≡ true → words_of_part part ≡ t ∷ words_of_part remaining
+    → (words_in part ≡ []) × (others_in part ≡ words_in remaining ∷ others_in remaining)
 unfolding words_in others_in
-statement_ends t part rest end e = rw (e, end) (refl, statements_are rest)
+statement_ends t part remaining end e = rw (e, end) (refl, statements_are remaining)
 
-pub token_next : (t part rest : List ℕ) → is_semicolon t ≡ false → words_of_part part ≡ t ∷ words_of_part rest
-    → (words_in part ≡ t ∷ words_in rest) × (others_in part ≡ others_in rest)
+pub token_next : (t part remaining : List ℕ) → is_semicolon t ≡ false → words_of_part part ≡ t ∷ words_of_part remaining
+    → (words_in part ≡ t ∷ words_in remaining) × (others_in part ≡ others_in remaining)
 unfolding words_in others_in
-token_next t part rest other e = rw (e, other, statements_are rest) (refl, refl)
+token_next t part remaining differs e = rw (e, differs, statements_are remaining) (refl, refl)

@@ -20,11 +20,11 @@ no_labels at (s ∷ ss) none =
     rw both.0 (no_labels (at + 0) ss both.1)
 
 -- some instruction was read where one of them is refused
-pub drafts_words : {T E : Type 0} (ss : List Statement) (kept : List NumberedInsn) (r : Result T E)
-    → parsed_insns_view kept ≡ flat_map parsed_insns_in ss → OnErr r (0 < length kept) → OnErr r (HaveTokens ss)
-drafts_words ss kept (Ok v) read some = tt
-drafts_words ss kept (Err e) read some = λ none.
-    let no_lines = none_mapped _ kept (read ∙ no_drafts ss none) in
+pub drafts_words : {T E : Type 0} (ss : List Statement) (insns : List NumberedInsn) (r : Result T E)
+    → parsed_insns_view insns ≡ flat_map parsed_insns_in ss → OnErr r (0 < length insns) → OnErr r (HaveTokens ss)
+drafts_words ss insns (Ok v) read some = tt
+drafts_words ss insns (Err e) read some = λ none.
+    let no_lines = none_mapped _ insns (read ∙ no_drafts ss none) in
     omega (arith, ap length no_lines, some)
 
 no_tokens : (n : ℕ) (lines : List (List ℕ)) → flat_map words_of_line lines ≡ []

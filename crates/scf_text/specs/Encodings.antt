@@ -78,7 +78,7 @@ word_and_pieces CopyToAccumulator = (codes "txa", [])
 
 abbrev pub encoding_of : Operation → Encoding
 encoding_of operation =
-    let said = word_and_pieces operation in record { code = code_of operation; mnemonic = said.0; pieces = said.1 }
+    let form = word_and_pieces operation in record { code = code_of operation; mnemonic = form.0; pieces = form.1 }
 
 -- the forms of the 41 codes
 unfoldable pub known_encodings : List Encoding
@@ -87,8 +87,8 @@ known_encodings = map encoding_of operations
 -- The form that every instruction has. Its code stands among its operands, so the 0 here is always written over.
 abbrev pub raw : Encoding
 raw =
-    let rest = Number Jt Decimal ∷ Mark (code ",") ∷ Number Jf Decimal ∷ Mark (code ",") ∷ Number K Hexadecimal ∷ [] in
-    record { code = 0; mnemonic = codes "raw"; pieces = Number Code FourDigits ∷ Mark (code ",") ∷ rest }
+    let fields = Number Jt Decimal ∷ Mark (code ",") ∷ Number Jf Decimal ∷ Mark (code ",") ∷ Number K Hexadecimal ∷ [] in
+    record { code = 0; mnemonic = codes "raw"; pieces = Number Code FourDigits ∷ Mark (code ",") ∷ fields }
 
 abbrev pub encodings : List Encoding
 encodings = raw ∷ known_encodings

@@ -66,9 +66,9 @@ module _ (number : List ℕ → Option ℕ) where
   -- What a mnemonic and the tokens behind it say in the first of the forms that they have: fields not named are 0.
   abbrev pub read_by : List Encoding → List ℕ → List (List ℕ) → Option ParsedInsn
   read_by [] t ts = None
-  read_by (encoding ∷ rest) t ts =
+  read_by (encoding ∷ remaining) t ts =
       let blank : ParsedInsn = record { code = encoding.code; jt = Number 0; jf = Number 0; k = Number 0 } in
-      option_or (if has_mnemonic t encoding then fill_by encoding.pieces ts blank else None) (read_by rest t ts)
+      option_or (if has_mnemonic t encoding then fill_by encoding.pieces ts blank else None) (read_by remaining t ts)
 
 -- what a mnemonic and the tokens behind it say
 unfoldable pub parsed_of : List ℕ → List (List ℕ) → Option ParsedInsn

@@ -49,20 +49,20 @@ fn read_text<'a>(
         → IsLeft text.now 0 all (statements_of text.now) labels.old.items parsed_insns.old.items
         → (end : ℕ) × Leaves text.now result all [] (λ _. end) labels.new.items parsed_insns.new.items }
 {
-    let mut rest = text;
+    let mut remaining = text;
     let mut number = 1;
     'lines: loop {
-        let (line, after) = first_line(rest);
+        let (line, behind) = first_line(remaining);
         let part = LinePart {
             line: number,
-            start: text.len() - rest.len(),
+            start: text.len() - remaining.len(),
             bytes: without_comment(line),
         };
         add_line(text, labels, parsed_insns, part)?;
-        match after {
+        match behind {
             None => return Ok(()),
             Some(next) => {
-                rest = next;
+                remaining = next;
                 number += 1;
             }
         }

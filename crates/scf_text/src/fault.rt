@@ -37,7 +37,7 @@ pub enum TextFault {
 impl From<AllocError> for TextFault {
     ghost from_gives = { λ _ e. e ≡ Memory };
 
-    fn from(_e: AllocError) -> TextFault {
+    fn from(_: AllocError) -> TextFault {
         TextFault::Memory
     }
 }
@@ -45,7 +45,7 @@ impl From<AllocError> for TextFault {
 impl<T: Drop> From<AllocFailed<T>> for TextFault {
     ghost from_gives = { λ _ e. e ≡ Memory };
 
-    fn from(_e: AllocFailed<T>) -> TextFault {
+    fn from(_: AllocFailed<T>) -> TextFault {
         TextFault::Memory
     }
 }

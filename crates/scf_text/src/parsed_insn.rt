@@ -147,30 +147,30 @@ fn put<'a>(parsed: &mut ParsedInsn<'a>, piece: Piece, token: &'a [u8]) -> bool
     }
 }
 
-/// Matches the tokens of a statement with pieces, and returns the rest behind the statement.
+/// Matches the tokens of a statement with pieces, and returns the text behind the statement.
 fn fill<'a>(
     parsed: &mut ParsedInsn<'a>,
     pieces: &[Piece],
     part: &'a [u8],
 ) -> Option<Option<&'a [u8]>>
-    ensures said { fill_by number_of pieces.now (words_in part.now) (parsed_view parsed.old)
+    ensures fills { fill_by number_of pieces.now (words_in part.now) (parsed_view parsed.old)
         ≡ option_map (λ _. parsed_view parsed.new) result }
     ensures stops { IfSome result (λ after. others_in part.now ≡ statements_after after) }
     ensures behind { IfSome result (λ after. FollowsBehind part.now 0 after) }
 {
-    let mut rest = part;
+    let mut remaining = part;
     for piece in pieces {
-        match front(rest) {
+        match front(remaining) {
             Next::End(_) => return None,
             Next::Token(token, behind) => {
                 if !put(parsed, *piece, token.text) {
                     return None;
                 }
-                rest = behind;
+                remaining = behind;
             }
         }
     }
-    match front(rest) {
+    match front(remaining) {
         Next::End(after) => Some(after),
         Next::Token(..) => None,
     }
@@ -183,7 +183,7 @@ pub(crate) enum Reading<'a> {
     Unknown,
     /// The operands have none of the mnemonic's formats.
     Unfit,
-    /// The parsed instruction, and the rest behind the statement.
+    /// The parsed instruction, and the text behind the statement.
     Said(Option<&'a [u8]>),
 }
 

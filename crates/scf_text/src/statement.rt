@@ -16,7 +16,7 @@ use crate::parsed_insn::{ParsedInsn, Reading, is_token_name, read};
 use crate::part::{LinePart, Next, front};
 use scf_insn::kernel::BPF_MAXINSNS;
 
-/// Parses an instruction from its mnemonic on, and returns the rest behind its statement.
+/// Parses an instruction from its mnemonic on, and returns the text behind its statement.
 #[tactic(auto, unfolding(crate::specs::ParsedInsns::parsed_of))]
 fn read_instruction<'a>(
     parsed: &mut ParsedInsn<'a>,
@@ -43,7 +43,7 @@ fn read_instruction<'a>(
     }
 }
 
-/// Splits off the label of a statement, if it has one: its offset in the part, and what follows.
+/// Splits off the label of a statement, if it has one: its offset in the part, and the beginning of what follows.
 fn split_label(part: &[u8]) -> (Option<usize>, Next<'_>)
     ensures label { option_map (name_at part.now) result.0 ≡ label_in (words_in part.now) }
     ensures rest { words_at result.1 ≡ instruction_in (words_in part.now) }
@@ -51,23 +51,23 @@ fn split_label(part: &[u8]) -> (Option<usize>, Next<'_>)
     ensures behind { LiesBehind part.now (unwrap_or result.0 0) result.1 }
 {
     let first = front(part);
-    if let Next::Token(name, rest) = first {
-        if let Next::Token(mark, rest) = front(rest) {
+    if let Next::Token(name, behind_name) = first {
+        if let Next::Token(mark, behind_mark) = front(behind_name) {
             if is_token_name(name.text) && mark.text == b":".as_slice() {
-                return (Some(name.start), front(rest));
+                return (Some(name.start), front(behind_mark));
             }
         }
     }
     (None, first)
 }
 
-/// How many labels are kept before repeats are looked for once; at the end they are looked for among all.
+/// How many labels are stored before the search for repeats that comes early; at the end all are searched.
 const CHECKED_FIRST: usize = 1 << 12;
 
-/// Keeps the label at this offset, if there is one.
+/// Stores the label at this offset, if there is one.
 ///
-/// A text that repeats a few labels over and over is refused early. That isn't looked for again before the end: an
-/// input holds some five million labels at most, and to sort them at each doubling takes twice the time.
+/// A text that repeats a few labels over and over is refused early. There is one such search before the end: an input
+/// holds some five million labels at most, and sorting them at each doubling takes twice the time.
 fn add_label(text: &[u8], labels: &mut Vec<usize>, label: Option<usize>) -> Result<(), TextFault>
     ensures adds { AddsLabel text.now labels.old.items label result labels.new.items }
     ensures some { OnErr result (IsSome label) }
@@ -82,7 +82,7 @@ fn add_label(text: &[u8], labels: &mut Vec<usize>, label: Option<usize>) -> Resu
     Ok(())
 }
 
-/// Adds the instruction of a statement that begins at this offset, if it has one, and returns the rest.
+/// Adds the instruction of a statement that begins at this offset, if it has one, and returns the text behind it.
 #[tactic(auto, using(crate::proofs::IndexLemmas::follows_behind))]
 fn add_instruction<'a>(
     parsed_insns: &mut Vec<NumberedInsn<'a>>,
@@ -118,7 +118,7 @@ fn add_instruction<'a>(
     }
 }
 
-/// Adds the label and the instruction of a statement, and returns the rest.
+/// Adds the label and the instruction of a statement, and returns the text behind it.
 fn add_statement<'a>(
     text: &[u8],
     labels: &mut Vec<usize>,
@@ -126,11 +126,11 @@ fn add_statement<'a>(
     part: LinePart<'a>,
 ) -> Result<Option<&'a [u8]>, TextFault>
     requires { IsLinePart text.now part.line part.start part.bytes.now }
-    ensures leaves { (all rest : List Statement)
+    ensures leaves { (all remaining : List Statement)
         → IsLeft text.now part.entry.start all
-        ((record { line = part.entry.line; tokens = words_in part.entry.bytes.now }) ∷ rest) labels.old.items
+        ((record { line = part.entry.line; tokens = words_in part.entry.bytes.now }) ∷ remaining) labels.old.items
         parsed_insns.old.items
-        → Leaves text.now result all rest (λ after. index_after part.entry.start part.entry.bytes.now after)
+        → Leaves text.now result all remaining (λ after. index_after part.entry.start part.entry.bytes.now after)
         labels.new.items parsed_insns.new.items }
     ensures stops { IfOk result (λ after. others_in part.entry.bytes.now ≡ statements_after after) }
     ensures behind { IfOk result (λ after. FollowsBehind part.entry.bytes.now 0 after) }
@@ -149,19 +149,19 @@ pub(crate) fn add_line<'a>(
     line: LinePart<'a>,
 ) -> Result<(), TextFault>
     requires { IsLinePart text.now line.line line.start line.bytes.now }
-    ensures { (all rest : List Statement)
-        → IsLeft text.now line.entry.start all (part_statements line.entry.line line.entry.bytes.now ++ rest)
+    ensures { (all remaining : List Statement)
+        → IsLeft text.now line.entry.start all (part_statements line.entry.line line.entry.bytes.now ++ remaining)
         labels.old.items parsed_insns.old.items
-        → Leaves text.now result all rest (λ _. line.entry.start + length line.entry.bytes.now + 1) labels.new.items
+        → Leaves text.now result all remaining (λ _. line.entry.start + length line.entry.bytes.now + 1) labels.new.items
         parsed_insns.new.items }
 {
     let mut part = line;
     'statements: loop {
         match add_statement(text, labels, parsed_insns, part)? {
             None => return Ok(()),
-            Some(rest) => {
-                part.start += part.bytes.len() - rest.len();
-                part.bytes = rest;
+            Some(behind) => {
+                part.start += part.bytes.len() - behind.len();
+                part.bytes = behind;
             }
         }
     }

@@ -38,13 +38,13 @@ fn line_len(text: &[u8]) -> usize
     text.iter().take_while(|byte| **byte != b'\n').count()
 }
 
-/// The first line, and the rest behind its end.
+/// The first line, and the text behind its end.
 #[tactic(auto, using(crate::proofs::TokenLemmas::lines_in_front))]
 pub(crate) fn first_line(text: &[u8]) -> (&[u8], Option<&[u8]>)
     ensures lines { lines_of text.now ≡ result.0.now ∷ lines_after result.1 }
     ensures len { MatchOption result.1 (result.0.now ≡ text.now)
-        (λ rest. length text.now ≡ length result.0.now + 1 + length rest.now) }
-    ensures whole { MatchOption result.1 (text.now ≡ result.0.now) (λ rest. text.now ≡ result.0.now ++ 10 ∷ rest.now) }
+        (λ behind. length text.now ≡ length result.0.now + 1 + length behind.now) }
+    ensures whole { MatchOption result.1 (text.now ≡ result.0.now) (λ behind. text.now ≡ result.0.now ++ 10 ∷ behind.now) }
     ensures unbroken { count_ends result.0.now ≡ 0 }
 {
     let len = line_len(text);
@@ -112,34 +112,34 @@ pub(crate) fn first_token(part: &[u8]) -> Option<Token<'_>>
     if start == part.len() {
         return None;
     }
-    let rest = &part[start..];
-    let len = word_len(rest).max(1);
+    let text = &part[start..];
+    let len = word_len(text).max(1);
     Some(Token {
         start,
-        text: &rest[..len],
+        text: &text[..len],
     })
 }
 
 /// Adds the tokens of a part of a line that begins at this offset.
 pub(crate) fn push_tokens<'a>(
-    found: &mut Vec<Token<'a>>,
+    tokens: &mut Vec<Token<'a>>,
     start: usize,
     part: &'a [u8],
 ) -> Result<(), AllocError>
     requires { start + length part.now < 2 ^ 64 }
-    ensures found { OnOk result (lexemes found.new.items ≡ lexemes found.old.items ++ lexemes_from start part.now) }
+    ensures tokens { OnOk result (lexemes tokens.new.items ≡ lexemes tokens.old.items ++ lexemes_from start part.now) }
     ensures refused { OnErr result (lexemes_from start part.now ≢ []) }
 {
     let mut at = start;
-    let mut rest = part;
-    while let Some(token) = first_token(rest) {
+    let mut remaining = part;
+    while let Some(token) = first_token(remaining) {
         let len = token.start + token.text.len();
-        found.push(Token {
+        tokens.push(Token {
             start: at + token.start,
             text: token.text,
         })?;
         at += len;
-        rest = &rest[len..];
+        remaining = &remaining[len..];
     }
     Ok(())
 }
@@ -147,28 +147,27 @@ pub(crate) fn push_tokens<'a>(
 /// The tokens of a text, in order: the words, the numbers and the other single bytes that stand outside blanks, line
 /// ends and comments. `;` is one of them, and so is a byte that isn't ASCII.
 ///
-/// Each borrows its slice of the text. `Memory` comes where memory was refused, and not where there is no token.
+/// Each borrows its slice of the text. `Memory` comes if an allocation failed; never for a text without tokens.
 ///
-/// These are the pieces that `assemble` works on. It looks for a byte that isn't ASCII first, and then takes them one
-/// by one from the text, and keeps none of them but the names that jumps go to and numbers past 2^64-1. Of a label it
-/// keeps where it begins.
+/// `assemble` works on the same tokens: it looks for a byte that isn't ASCII first, then takes the tokens one by one from
+/// the text, and stores the names of jump targets, numbers past 2^64-1, and the offset of each label.
 #[tactic(auto, unfolding(crate::specs::Tokens::tokens_of))]
 pub fn tokens(alloc: Global, text: &[u8]) -> Result<Vec<Token<'_>>, Memory>
-    ensures pieces { IfOk result (λ found. lexemes found.items ≡ tokens_of text.now) }
-    ensures slices { IfOk result (λ found. All (λ t. IsSliceOf text.now t.start t.text.now) found.items) }
+    ensures pieces { IfOk result (λ tokens. lexemes tokens.items ≡ tokens_of text.now) }
+    ensures slices { IfOk result (λ tokens. All (λ t. IsSliceOf text.now t.start t.text.now) tokens.items) }
     ensures refused { OnErr result (tokens_of text.now ≢ []) }
 {
-    let mut found = Vec::new(alloc);
+    let mut tokens = Vec::new(alloc);
     let mut start = 0;
-    let mut rest = text;
+    let mut remaining = text;
     'lines: loop {
-        let (line, after) = first_line(rest);
-        push_tokens(&mut found, start, without_comment(line))?;
-        match after {
-            None => return Ok(found),
+        let (line, behind) = first_line(remaining);
+        push_tokens(&mut tokens, start, without_comment(line))?;
+        match behind {
+            None => return Ok(tokens),
             Some(next) => {
                 start += line.len() + 1;
-                rest = next;
+                remaining = next;
             }
         }
     }

@@ -43,19 +43,19 @@ others_in part = drop 1 (statements_in part)
 -- the tokens of the statements of what follows a statement
 abbrev pub statements_after : Option (Bor (List ℕ)) → List (List (List ℕ))
 statements_after None = []
-statements_after (Some rest) = words_in rest.now ∷ others_in rest.now
+statements_after (Some remaining) = words_in remaining.now ∷ others_in remaining.now
 
 -- the tokens of a statement, of which this stands in front
 abbrev pub words_at : Next → List (List ℕ)
-words_at (Token t rest) = t.text.now ∷ words_in rest.now
-words_at (End rest) = []
+words_at (Token t remaining) = t.text.now ∷ words_in remaining.now
+words_at (End remaining) = []
 
 -- the tokens of the statements behind it
 abbrev pub others_at : Next → List (List (List ℕ))
-others_at (Token t rest) = others_in rest.now
-others_at (End rest) = statements_after rest
+others_at (Token t remaining) = others_in remaining.now
+others_at (End remaining) = statements_after remaining
 
 -- the lines behind the first
 abbrev pub lines_after : Option (Bor (List ℕ)) → List (List ℕ)
 lines_after None = []
-lines_after (Some rest) = lines_of rest.now
+lines_after (Some remaining) = lines_of remaining.now

@@ -1,4 +1,4 @@
--- What the code keeps of the statements that it has read.
+-- The labels and instructions of the statements that were read.
 use Rattle.std.specs.Prelude.{◌≡◌, ◌≢◌, ℕ, ◌<◌, List, [], ◌∷◌, ◌++◌, map, Option, None, Result, Ok, Err}
 use Rattle.std.specs.List.{All, AllPairs, IsDistinct, flat_map, enumerate_from}
 use Rattle.std.specs.List.Sorted.{IsNonDecreasing, IsPermutation, IsSortedBy}
@@ -26,10 +26,10 @@ label_at at label = map (λ name. (name, at)) (option_to_list label)
 
 -- where instructions begin
 abbrev pub begins_of : List NumberedInsn → List ℕ
-begins_of kept = map (λ d. d.start) kept
+begins_of insns = map (λ d. d.start) insns
 
 abbrev pub parsed_insns_view : List NumberedInsn → List (ℕ × parsed_insns.ParsedInsn)
-parsed_insns_view kept = map (λ l. (l.line, parsed_view l.parsed)) kept
+parsed_insns_view insns = map (λ l. (l.line, parsed_view l.parsed)) insns
 
 -- the statements of lines, the first of which has this number
 abbrev pub statements_from : ℕ → List (List ℕ) → List Statement
@@ -44,12 +44,13 @@ part_statements line part =
 abbrev pub HaveTokens : List Statement → Type 0
 HaveTokens ss = flat_map (λ (s : Statement). s.tokens) ss ≢ []
 
--- Labels that were given are kept by where they begin, all before this index, as instructions are, which follow one
--- another. The first fault of all these statements is the first repeat among the labels, or else a later one.
+-- Labels are stored by the offsets at which they begin, in any order, and so are instructions, in the order of the text;
+-- all offsets are before this index. The first fault of the statements is the first repeat among the labels, or else a
+-- later one.
 pub record AreKept (text : List ℕ) (end : ℕ) (given : Labels) (all : List Statement) (later : Option TextFault)
-    (begins kept : List ℕ) : Type 0 where
+    (begins stored : List ℕ) : Type 0 where
   pub labels : List ℕ
-  pub moved : IsPermutation labels kept
+  pub moved : IsPermutation labels stored
   pub named : labels_at text begins labels ≡ given
   pub rising : AllPairs (λ a b. a < b) labels
   pub before : All (λ s. s < end) labels
@@ -59,33 +60,33 @@ pub record AreKept (text : List ℕ) (end : ℕ) (given : Labels) (all : List St
   pub first : IsFirstRepeat text labels repeat
   pub fault : statements_fault [] all ≡ option_or (option_map (repeat_fault text) repeat) later
 
--- Of all these statements those before the rest are read, up to this index, and what they give is kept.
-pub record IsLeft (text : List ℕ) (end : ℕ) (all rest : List Statement) (kept : List ℕ)
-    (kept_insns : List NumberedInsn) : Type 0 where
+-- The statements before the remaining ones were read, up to this index: their labels and instructions are stored.
+pub record IsLeft (text : List ℕ) (end : ℕ) (all remaining : List Statement) (stored : List ℕ)
+    (insns : List NumberedInsn) : Type 0 where
   pub before : List Statement
-  pub whole : all ≡ before ++ rest
-  pub parsed_insns : parsed_insns_view kept_insns ≡ flat_map parsed_insns_in before
-  pub labels : AreKept text end (labels_from 0 before) all (statements_fault before rest) (begins_of kept_insns) kept
+  pub whole : all ≡ before ++ remaining
+  pub parsed_insns : parsed_insns_view insns ≡ flat_map parsed_insns_in before
+  pub labels : AreKept text end (labels_from 0 before) all (statements_fault before remaining) (begins_of insns) stored
 
--- The reading ended at a statement with this fault, or where memory was refused. Labels are kept up to there, and if
--- none of them is a repeat, the fault is the first.
-pub record IsEnded (text : List ℕ) (all : List Statement) (kept : List ℕ) (e : TextFault) : Type 0 where
+-- Reading ended at a statement with this fault, or an allocation failed. The labels up to there are stored, and if none
+-- of them is a repeat, the fault is the first.
+pub record IsEnded (text : List ℕ) (all : List Statement) (stored : List ℕ) (e : TextFault) : Type 0 where
   pub end : ℕ
   pub given : Labels
   pub later : Option TextFault
   pub begins : List ℕ
-  pub labels : AreKept text end given all later begins kept
-  pub fault : IsFirstRepeat text kept None → IsFault e later
+  pub labels : AreKept text end given all later begins stored
+  pub fault : IsFirstRepeat text stored None → IsFault e later
   pub some : HaveTokens all
 
--- All statements but the rest were read, up to an index, or the reading ended among them.
+-- The statements before the remaining ones were read, up to an index, or reading ended among them.
 abbrev pub Leaves : {T : Type 0} → List ℕ → Result T TextFault → List Statement → List Statement → (T → ℕ) → List ℕ
     → List NumberedInsn → Type 0
-Leaves text (Ok x) all rest end kept kept_insns = IsLeft text (end x) all rest kept kept_insns
-Leaves text (Err e) all rest end kept kept_insns = IsEnded text all kept e
+Leaves text (Ok x) all remaining end stored insns = IsLeft text (end x) all remaining stored insns
+Leaves text (Err e) all remaining end stored insns = IsEnded text all stored e
 
--- All statements were read, and none has a fault: the labels are sorted, no two of one name, and stand for the indices
--- that the text gives to them.
+-- All statements were read, and none has a fault: the labels are sorted, no two have one name, and each stands for the
+-- instruction index that the text gives it.
 pub record IsRead (text labels : List ℕ) (parsed_insns : List NumberedInsn) : Type 0 where
   pub sorted : IsSortedBy (is_before text) labels
   pub distinct : IsDistinct bytes_eq (map (name_at text) labels)

@@ -83,13 +83,13 @@ AddsInstruction old start line tokens (Ok _) new =
     × (begins_of new ≡ begins_of old ++ map (λ _. start) (parsed_insns_by line tokens))
 AddsInstruction old start line tokens (Err e) new = IsFault e (instruction_fault (length old) line tokens)
 
--- A mnemonic is known or not, and it says this draft with the tokens of the part behind it, or nothing.
+-- Whether a mnemonic is known, and the instruction that it spells with the operands in the part behind it, if they fit.
 abbrev pub Reads : Bool → Option parsed_insns.ParsedInsn → List ℕ → parsed_insns.ParsedInsn → Reading → Type 0
-Reads known said part parsed Unknown = known ≡ false
-Reads known said part parsed Unfit = (known ≡ true) × (said ≡ None)
-Reads known said part parsed (Said after) =
-    (known ≡ true) × (said ≡ Some parsed) × (others_in part ≡ statements_after after) × FollowsBehind part 0 after
+Reads is_known outcome part parsed Unknown = is_known ≡ false
+Reads is_known outcome part parsed Unfit = (is_known ≡ true) × (outcome ≡ None)
+Reads is_known outcome part parsed (Said after) =
+    (is_known ≡ true) × (outcome ≡ Some parsed) × (others_in part ≡ statements_after after) × FollowsBehind part 0 after
 
 -- the indices that labels stand for
 abbrev pub indices_view : Kept → SymbolTable
-indices_view kept = index_of (labels_at kept.text.now (begins_of kept.parsed_insns.now) kept.labels.now)
+indices_view table = index_of (labels_at table.text.now (begins_of table.parsed_insns.now) table.labels.now)

@@ -30,29 +30,29 @@ pub record IsLinePart (text : List ℕ) (line start : ℕ) (part : List ℕ) : T
   pub within : start + length part ≤ length text
 
 -- The rest of a part begins behind this index of it.
-pub record IsBehind (part : List ℕ) (index : ℕ) (rest : List ℕ) : Type 0 where
+pub record IsBehind (part : List ℕ) (index : ℕ) (remaining : List ℕ) : Type 0 where
   pub start : ℕ
   pub later : index < start
   pub within : start ≤ length part
-  pub is : rest ≡ drop start part
+  pub is : remaining ≡ drop start part
 
 -- so does what follows a statement, if something does
 abbrev pub FollowsBehind : List ℕ → ℕ → Option (Bor (List ℕ)) → Type 0
 FollowsBehind part index None = index ≤ length part
-FollowsBehind part index (Some rest) = IsBehind part index rest.now
+FollowsBehind part index (Some remaining) = IsBehind part index remaining.now
 
 -- so does what follows the token in front
 abbrev pub LiesBehind : List ℕ → ℕ → Next → Type 0
-LiesBehind part index (Token t rest) = IsBehind part index rest.now
-LiesBehind part index (End rest) = FollowsBehind part index rest
+LiesBehind part index (Token t remaining) = IsBehind part index remaining.now
+LiesBehind part index (End remaining) = FollowsBehind part index remaining
 
 -- The token begins at its start. If it is a name, it is the word there.
 abbrev pub BeginsAt : List ℕ → Next → Type 0
-BeginsAt part (Token t rest) =
-    (is_name t.text.now ≡ true → name_at part t.start ≡ t.text.now) × IsBehind part t.start rest.now
-BeginsAt part (End rest) = Unit {0}
+BeginsAt part (Token t remaining) =
+    (is_name t.text.now ≡ true → name_at part t.start ≡ t.text.now) × IsBehind part t.start remaining.now
+BeginsAt part (End remaining) = Unit {0}
 
 -- where what follows a statement begins, or an index behind the part if nothing does
 abbrev pub index_after : ℕ → List ℕ → Option (Bor (List ℕ)) → ℕ
 index_after start part None = start + length part + 1
-index_after start part (Some rest) = start + (length part - length rest.now)
+index_after start part (Some remaining) = start + (length part - length remaining.now)

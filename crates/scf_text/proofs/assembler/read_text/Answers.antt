@@ -9,15 +9,15 @@ lines-init c =
     record {
       small = omega arith;
       within = omega arith;
-      rest = rw zero refl;
+      remaining = rw zero refl;
       line = rw zero refl;
       left = λ all left. rw zero left;
     }
 
 pub add_line-requires : goal.add_line-requires
 add_line-requires c =
-    line_is_part c.args.text.now c.lines.rest.now c.first_line.result.0.now c.without_comment.result.now c.lines.number
-    (length c.args.text.now - length c.lines.rest.now) c.first_line.result.1 c.lines.invariant.rest
+    line_is_part c.args.text.now c.lines.remaining.now c.first_line.result.0.now c.without_comment.result.now c.lines.number
+    (length c.args.text.now - length c.lines.remaining.now) c.first_line.result.1 c.lines.invariant.remaining
     (omega (arith, c.lines.invariant.within)) c.lines.invariant.line c.first_line.ensures.whole
     c.first_line.ensures.unbroken c.without_comment.ensures.value
 
@@ -25,7 +25,7 @@ pub returns-in_err-add_line : goal.returns-in_err-add_line
 returns-in_err-add_line c = λ all left.
     let p = err_from_is_err_and c.from_residual.result c.from_residual.ensures.1 in
     let others = lines_after c.first_line.result.1 in
-    let next = next_line c.lines.number c.lines.rest.now c.first_line.result.0.now c.without_comment.result.now others
+    let next = next_line c.lines.number c.lines.remaining.now c.first_line.result.0.now c.without_comment.result.now others
     c.first_line.ensures.lines c.without_comment.ensures.value in (
       0,
       rw (p.1, p.2)
@@ -36,9 +36,9 @@ returns-in_err-add_line c = λ all left.
 pub returns-in-None : goal.returns-in-None
 returns-in-None c = λ all left.
     let lines = rw c.in-None.is at c.first_line.ensures.lines in
-    let next = next_line c.lines.number c.lines.rest.now c.first_line.result.0.now c.without_comment.result.now [] lines
+    let next = next_line c.lines.number c.lines.remaining.now c.first_line.result.0.now c.without_comment.result.now [] lines
     c.without_comment.ensures.value in (
-      length c.args.text.now - length c.lines.rest.now + length c.without_comment.result.now + 1,
+      length c.args.text.now - length c.lines.remaining.now + length c.without_comment.result.now + 1,
       c.in_ok-add_line.ensures all [] (rw next at c.lines.invariant.left all left),
     )
 
@@ -50,17 +50,17 @@ lines-preserved c =
     let lines = rw c.in-Some.is at c.first_line.ensures.lines in
     let len = rw c.in-Some.is at c.first_line.ensures.len in
     let whole = rw c.in-Some.is at c.first_line.ensures.whole in
-    let start = length text - length c.lines.rest.now in
+    let start = length text - length c.lines.remaining.now in
     let end : start + (length line + 1) ≡ length text - length c.in-Some.next.now =
     omega (arith, len, c.lines.invariant.within) in
     let others = lines_of c.in-Some.next.now in
-    let next = next_line c.lines.number c.lines.rest.now line bytes others lines c.without_comment.ensures.value in
-    let behind = line_behind text c.lines.rest.now line c.in-Some.next.now c.lines.number start c.lines.invariant.rest
+    let next = next_line c.lines.number c.lines.remaining.now line bytes others lines c.without_comment.ensures.value in
+    let behind = line_behind text c.lines.remaining.now line c.in-Some.next.now c.lines.number start c.lines.invariant.remaining
     c.lines.invariant.line whole c.first_line.ensures.unbroken in
     record {
       small = omega (arith, len);
       within = omega (arith, len, c.lines.invariant.within);
-      rest = rw (← end) behind.0;
+      remaining = rw (← end) behind.0;
       line = rw (← end) behind.1;
       left = λ all left. rw (← end)
           (index_left (start + (length line + 1)) c.add_line.new.labels.items

@@ -3,14 +3,14 @@ use Rattle.std.proofs.lemmas.Grind.{common_steps}
 use Rattle.scf_text.proofs.IndexLemmas.{follows_behind}
 use Rattle.scf_text.proofs.parsed_insn.fill.Goals as goal
 
-pub returns-in-End-clause-said : goal.returns-in-End-clause-said
-returns-in-End-clause-said c =
+pub returns-in-End-clause-fills : goal.returns-in-End-clause-fills
+returns-in-End-clause-fills c =
     let more = drop_more c.args.pieces.now c.loop-piece.piece-index Len c.loop-piece-test.true in
-    sym c.loop-piece.invariant.said ∙ rw (more, c.in-End.ensures.words.0) refl
+    sym c.loop-piece.invariant.fills ∙ rw (more, c.in-End.ensures.words.0) refl
 
 pub loop-piece-preserved : goal.loop-piece-preserved
 loop-piece-preserved c = record {
-  said = grind (arith, common_steps);
+  fills = grind (arith, common_steps);
   others = search rules;
   behind = λ after h. c.loop-piece.invariant.behind after
       (follows_behind after c.in-Token.ensures.behind h);

@@ -3,8 +3,8 @@ use Rattle.scf_text.proofs.parsed_insn.fill.Given as goal
 
 abbrev pub invariant-loop-piece : goal.invariant-loop-piece
 invariant-loop-piece l = record {
-  said : fill_by number_of (drop l.piece-index l.pieces) (words_in l.rest) (parsed_view l.parsed)
+  fills : fill_by number_of (drop l.piece-index l.pieces) (words_in l.remaining) (parsed_view l.parsed)
       ≡ fill_by number_of l.pieces (words_in l.part) (parsed_view l.fn.parsed);
-  others : others_in l.rest ≡ others_in l.part;
-  behind : (after : Option (Bor (List ℕ))) → FollowsBehind l.rest 0 after → FollowsBehind l.part 0 after;
+  others : others_in l.remaining ≡ others_in l.part;
+  behind : (after : Option (Bor (List ℕ))) → FollowsBehind l.remaining 0 after → FollowsBehind l.part 0 after;
 }

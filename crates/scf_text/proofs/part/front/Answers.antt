@@ -12,5 +12,5 @@ returns-then-eq-clause-words c =
 
 pub returns-else-eq-clause-words : goal.returns-else-eq-clause-words
 returns-else-eq-clause-words c =
-    let other : is_semicolon c.in-Some.token.text.now ≡ false = cc in
-    rw take_rest (token_next _ c.args.part.now _ other (words_front _ _ _ _ _ c.in-Some.ensures.token))
+    let differs : is_semicolon c.in-Some.token.text.now ≡ false = cc in
+    rw take_rest (token_next _ c.args.part.now _ differs (words_front _ _ _ _ _ c.in-Some.ensures.token))

@@ -4,7 +4,7 @@ use Rattle.scf_text.proofs.ReadLemmas.{label_mapped, label_refused, some_refused
 use Rattle.scf_text.proofs.statement.add_statement.Goals as goal
 
 pub returns-clause-leaves : goal.returns-clause-leaves
-returns-clause-leaves c = λ all rest left.
+returns-clause-leaves c = λ all remaining left.
     let label = c.split_label-label.result.0 in
     let next = c.split_label-label.result.1 in
     let bytes = c.args.part.bytes.now in
@@ -29,7 +29,7 @@ returns-clause-behind c =
     c.add_instruction.ensures.behind).1
 
 pub returns-in_err-add_label-clause-leaves : goal.returns-in_err-add_label-clause-leaves
-returns-in_err-add_label-clause-leaves c = λ all rest left.
+returns-in_err-add_label-clause-leaves c = λ all remaining left.
     let p = err_from_is_err_and c.from_residual.result c.from_residual.ensures.1 in
     let label = c.split_label-label.result.0 in
     let bytes = c.args.part.bytes.now in

@@ -3,9 +3,9 @@ use Rattle.scf_text.proofs.token.tokens.Given as goal
 
 abbrev pub invariant-lines : goal.invariant-lines
 invariant-lines l = record {
-  index : l.start + length l.rest ≡ length l.text;
-  told : lexemes l.found.items ++ lexemes_of_lines l.start (lines_of l.rest) ≡ tokens_of l.text;
+  index : l.start + length l.remaining ≡ length l.text;
+  so_far : lexemes l.tokens.items ++ lexemes_of_lines l.start (lines_of l.remaining) ≡ tokens_of l.text;
 }
 
 abbrev pub decreases-lines : goal.decreases-lines
-decreases-lines l = length l.rest
+decreases-lines l = length l.remaining
