@@ -148,13 +148,17 @@ impl TableEntry {
         })
     }
 
-    /// The name.
-    pub(crate) fn name(&self) -> Name<'_>
-        ensures { result ≡ self.now.0 }
+    /// Compares a name with this one.
+    #[tactic(auto, using(crate::proofs::Prefixes::ordered_by_prefix, crate::proofs::Prefixes::ordered_after))]
+    pub(crate) fn order_of(&self, name: &Name) -> Ordering
+        ensures { result ≡ slice_cmp nat_cmp name.now self.now.0 }
     {
-        Name {
-            prefix: self.prefix,
-            text: self.text.as_slice(),
+        if name.prefix < self.prefix {
+            Ordering::Less
+        } else if name.prefix > self.prefix {
+            Ordering::Greater
+        } else {
+            name.text.cmp(&self.text.as_slice())
         }
     }
 

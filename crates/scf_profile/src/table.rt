@@ -101,7 +101,7 @@ fn number_in(entries: &[TableEntry], name: Name) -> Option<u32>
     while low < high {
         let middle = low + (high - low) / 2;
         let entry = &entries[middle];
-        match name.cmp(&entry.name()) {
+        match entry.order_of(&name) {
             Ordering::Less => high = middle,
             Ordering::Greater => low = middle + 1,
             Ordering::Equal => return Some(entry.number()),

@@ -77,7 +77,7 @@ fn first_field(text: &[u8]) -> (&[u8], &[u8])
 fn is_in_name(byte: u8) -> bool
     ensures { result ≡ in_name byte }
 {
-    byte.is_ascii_alphabetic() || byte == b'_' || byte.is_ascii_digit()
+    byte.is_ascii_alphanumeric() || byte == b'_'
 }
 
 fn are_in_name(text: &[u8]) -> bool

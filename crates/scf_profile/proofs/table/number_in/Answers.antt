@@ -9,7 +9,7 @@ loop-low-preserved-in-Less c =
     let invariant = c.loop-low.invariant in
     let middle = c.index-entries-middle.result in
     let less : slice_cmp nat_cmp c.args.name middle.0 ≡ Less =
-    ap (slice_cmp nat_cmp c.args.name) (sym c.name.ensures) ∙ sym c.in-Less.ensures in
+    sym c.order_of.ensures ∙ c.in-Less.is in
     record {
       inside = omega (arith, invariant.inside);
       below = invariant.below;
@@ -22,7 +22,7 @@ loop-low-preserved c =
     let invariant = c.loop-low.invariant in
     let middle = c.index-entries-middle.result in
     let more : slice_cmp nat_cmp c.args.name middle.0 ≡ Greater =
-    ap (slice_cmp nat_cmp c.args.name) (sym c.name.ensures) ∙ sym c.in-Greater.ensures in
+    sym c.order_of.ensures ∙ c.in-Greater.is in
     let below = below_to c.args.entries.now c.requires c.args.name _ middle (omega (arith, invariant.inside))
     c.index-entries-middle.is more in
     record {
@@ -35,7 +35,7 @@ pub returns-in-Equal : goal.returns-in-Equal
 returns-in-Equal c =
     let middle = c.index-entries-middle.result in
     let equal : slice_cmp nat_cmp c.args.name middle.0 ≡ Equal =
-    ap (slice_cmp nat_cmp c.args.name) (sym c.name.ensures) ∙ sym c.in-Equal.ensures in
+    sym c.order_of.ensures ∙ c.in-Equal.is in
     ap (λ (n : ℕ). Some n) c.number.ensures
     ∙ sym (found c.args.entries.now c.requires c.args.name _ middle (omega (arith, c.loop-low.invariant.inside))
     c.index-entries-middle.is equal)
