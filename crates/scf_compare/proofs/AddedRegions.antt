@@ -67,6 +67,7 @@ module _ {F K N : Type 0} (store : Store F) (compared : Compared) (tree : K → 
       exact = λ exact.
           let given = is.exact exact in (
             given.1,
+            given.2,
             λ words inside. rw is.same_leaf (tells given.0 words ((is.words words).0 inside)),
           );
     }

@@ -11,6 +11,8 @@ use Rattle.scf_compare.proofs.BitSlices.{number_fits}
 use Rattle.scf_compare.proofs.Bits.{each_bit, whole_word}
 use Rattle.scf_compare.proofs.KnownBits.{quotient_grows}
 use Rattle.scf_facts.specs.HighMask.{IsHighMask}
+use Rattle.scf_facts.specs.Terms.{term_value}
+use Rattle.scf_facts.specs.declared.term.Term.{Term}
 use Rattle.scf_compare.specs.internal.AffineTerms.{is_within}
 
 -- ---- XOR
@@ -230,6 +232,19 @@ by_parts x f o c parts =
 
 pub by_power : (x f o c s : ℕ) → f ≡ o * 2 ^ c → o ≡ 1 → x * 2 ^ c % 2 ^ 32 ≡ s → x * f % 2 ^ 32 ≡ s
 by_power x f o c s parts one shifted = by_parts x f o c parts ∙ rw (one, shifted) (omega (arith, shifted))
+
+-- what is multiplied may be shifted first, and then multiplied by an odd number
+pub by_odd : (x f o c s a d : ℕ) → f ≡ o * 2 ^ c → x * 2 ^ c % 2 ^ 32 ≡ s
+    → (x * f % 2 ^ 32 + a) % 2 ^ 32 / d ≡ (s * o % 2 ^ 32 + a) % 2 ^ 32 / d
+by_odd x f o c s a d parts shifted =
+    ap (λ n. (n + a) % 2 ^ 32 / d) (by_parts x f o c parts ∙ ap (λ n. n * o % 2 ^ 32) shifted)
+
+-- the value of a term whose left shift loses no bit
+pub term_of : (term : Term) (n : ℕ) → term.mask / 2 ^ term.right * 2 ^ term.left < 2 ^ 32 → term_value term n
+    ≡ (bit_xor (bit_and n term.mask / 2 ^ term.right * 2 ^ term.left) term.xor_mask * term.factor % 2 ^ 32
+    + term.addend) % 2 ^ 32 / term.divisor
+unfolding term_value
+term_of term n fits = rw (mod-eq_of_lt (number_fits n term.mask term.right term.left fits)) refl
 
 -- a number times another and its inverse
 there_and_back : (n o i : ℕ) → n < 2 ^ 32 → o * i % 2 ^ 32 ≡ 1 → n * o % 2 ^ 32 * i % 2 ^ 32 ≡ n

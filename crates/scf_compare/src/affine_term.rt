@@ -4,17 +4,18 @@ ghost use Rattle.std.specs.Prelude.{◌≡◌, ◌-◌, ◌*◌, ◌/◌, ◌%�
 ghost use Rattle.std.specs.Prelude.{◌==◌, bit_and, bit_or, bit_xor, slice_index};
 ghost use Rattle.scf_insn.specs.Words.{IsWords};
 ghost use Rattle.scf_facts.specs.Bits.{HasBits};
+ghost use Rattle.scf_facts.specs.Terms.{term_value};
 ghost use Rattle.scf_machine.specs.Machine.{holds, value_computed};
 ghost use Rattle.scf_compare.specs.internal.AffineTerms.{IsAffineTerm, affine_value, is_within, product_value};
 ghost use Rattle.scf_compare.specs.internal.AffineTerms.{sum_value, xored_value};
 ghost use Rattle.scf_compare.specs.internal.BitSlices.{IsBitSlice, bit_slice_value};
-ghost use Rattle.scf_compare.specs.internal.Values.{Decides, IsComputedNumber, IsTestDecision};
+ghost use Rattle.scf_compare.specs.internal.Values.{Decides, IsComputedNumber, IsPlainDecision, IsTestDecision};
 
 use crate::bit_slice::BitSlice;
 use crate::computed::Computed;
 use crate::sources::OpenTest;
 use crate::value::{Decision, Value};
-use scf_facts::{Bits, is_high_mask};
+use scf_facts::{Atom, Bits, Term, inverse_of, is_high_mask};
 use scf_insn::{Arithmetic, Test};
 
 /// `((bit_slice ^ xor_mask) * factor + addend) / divisor`, where the product and the sum are modulo 2^32.
@@ -284,6 +285,65 @@ impl AffineTerm {
         }
     }
 
+    /// The test of `self` against `v`, as an atom about the term.
+    pub(crate) fn ask(self, test: Test, v: u32) -> Decision
+        requires { IsAffineTerm self }
+        ensures asks { IsTestDecision result }
+        ensures decides { (words : List ℕ) → IsWords words
+            → Decides result words (holds test (affine_value self words) v) }
+        ensures open { (masks : ℕ) → IsPlainDecision masks result → ⊥ }
+    {
+        let term = self.with_odd_factor().term();
+        let (low, high, holds) = match test {
+            Test::Equal => (v, v, true),
+            Test::Greater => (0, v, false),
+            Test::GreaterOrEqual => (v, u32::MAX, true),
+            Test::CommonBit => {
+                let atom = Atom::TermEq {
+                    term,
+                    mask: v,
+                    value: 0,
+                };
+                return Decision::AsksTerm(atom, false, OpenTest::NONE);
+            }
+        };
+        Decision::AsksTerm(Atom::TermIn { term, low, high }, holds, OpenTest::NONE)
+    }
+
+    /// As a number that is computed from its word.
+    #[tactic(auto, using(crate::proofs::AffineTerms::term_of))]
+    fn term(self) -> Term
+        requires { IsAffineTerm self }
+        ensures word { result.word ≡ self.bit_slice.word }
+        ensures value { (words : List ℕ) → IsWords words
+            → term_value result (slice_index words self.bit_slice.word) ≡ affine_value self words }
+    {
+        Term {
+            word: self.bit_slice.word,
+            right: self.bit_slice.right as u8,
+            left: self.bit_slice.left as u8,
+            mask: self.bit_slice.mask,
+            xor_mask: self.xor_mask,
+            factor: self.factor,
+            addend: self.addend,
+            divisor: self.divisor,
+        }
+    }
+
+    /// The same number with an odd factor, where bits of the slice remain: so `w * 2 * 3` and `w * 6` are one term.
+    #[tactic(auto, using(crate::proofs::AffineTerms::by_odd))]
+    fn with_odd_factor(self) -> AffineTerm
+        requires { IsAffineTerm self }
+        ensures term { IsAffineTerm result }
+        ensures number { (words : List ℕ) → affine_value self words ≡ affine_value result words }
+    {
+        let (factor, count) = odd_part(self.factor);
+        match self.shifted_left(count) {
+            Some(shifted) => AffineTerm { factor, ..shifted },
+            None => self,
+        }
+    }
+
     /// The test `low <= self <= high`.
     #[tactic(auto, using(crate::proofs::AffineTerms::quotient_laws))]
     fn is_within(self, low: u32, high: u32) -> Decision
@@ -362,6 +422,7 @@ impl AffineTerm {
         ensures term { IfSome result IsAffineTerm }
         ensures number { IfSome result (λ term. (words : List ℕ)
             → xored_value self words * 2 ^ count % 2 ^ 32 ≡ xored_value term words) }
+        ensures rest { IfSome result (λ term. (term.addend ≡ self.addend) × (term.divisor ≡ self.divisor)) }
     {
         let Value::Slice(bit_slice) = self.bit_slice.shifted_left(count) else {
             return None;
@@ -409,16 +470,4 @@ fn odd_part(number: u32) -> (u32, u32)
     }
     let count = number.trailing_zeros();
     (number >> count, count)
-}
-
-/// The inverse of an odd number modulo 2^32. An even number has none.
-fn inverse_of(number: u32) -> Option<u32>
-    ensures { IfSome result (λ inverse. number * inverse % 2 ^ 32 ≡ 1) }
-{
-    let mut inverse = number;
-    for _step in 0..4 {
-        let error = number.wrapping_mul(inverse).wrapping_sub(1);
-        inverse = inverse.wrapping_mul(1u32.wrapping_sub(error));
-    }
-    (number.wrapping_mul(inverse) == 1).then_some(inverse)
 }

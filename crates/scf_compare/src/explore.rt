@@ -90,12 +90,25 @@ pub(crate) fn judge<C: Comparison, F: WordFacts>(
     if is_related(comparison, leaf) || facts.is_empty() {
         return Judged::Related;
     }
-    let Some(words) = facts.pick() else {
-        return Judged::Open;
+    let found = match facts.pick() {
+        Some(words) => difference_by(comparison, CallRecord::from_words(&words)),
+        None => guessed_difference(comparison, facts.guess()),
     };
-    match difference_by(comparison, CallRecord::from_words(&words)) {
+    match found {
         Some(finding) => Judged::Fails(finding),
         None => Judged::Open,
+    }
+}
+
+/// The difference that guessed words show, if they are in the scope and show one.
+fn guessed_difference<C: Comparison>(comparison: &C, words: Option<[u32; 16]>) -> Option<Finding>
+    ensures { IfSome result (IsFound (C.compared comparison.now)) }
+{
+    let call = CallRecord::from_words(&words?);
+    if comparison.is_in_scope(&call) {
+        difference_by(comparison, call)
+    } else {
+        None
     }
 }
 

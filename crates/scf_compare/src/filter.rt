@@ -137,8 +137,12 @@ fn step_by(
     match decision {
         Decision::Known(true) => Step::Next(if_true),
         Decision::Known(false) => Step::Next(if_false),
-        Decision::Asks(atom, true) => Step::Branch(Some(atom), if_true, if_false),
-        Decision::Asks(atom, false) => Step::Branch(Some(atom), if_false, if_true),
+        Decision::Asks(atom, true) | Decision::AsksTerm(atom, true, _) => {
+            Step::Branch(Some(atom), if_true, if_false)
+        }
+        Decision::Asks(atom, false) | Decision::AsksTerm(atom, false, _) => {
+            Step::Branch(Some(atom), if_false, if_true)
+        }
         Decision::Open(_) => Step::Branch(None, if_true, if_false),
     }
 }

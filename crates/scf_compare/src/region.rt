@@ -17,8 +17,9 @@ pub struct Region {
     pub example: Option<CallRecord>,
     /// What both sides answer them.
     pub leaf: PairLeaf,
-    /// Whether every record with such words comes to the leaf, and there is one. Otherwise a test on the path wasn't
-    /// decided: such a record may come to another leaf.
+    /// Whether every record with such words comes to the leaf, and there is one; nothing is known of terms then, so what
+    /// is known of each word says it all. Otherwise a test on the path wasn't decided by words: such a record may come to
+    /// another leaf.
     pub is_exact: bool,
 }
 
@@ -42,10 +43,12 @@ pub(crate) fn region_of<F: Snapshots>(
         None if facts.is_empty() => return Ok(None),
         None => None,
     };
+    let words = facts.snapshot()?;
+    let is_exact = is_whole && example.is_some() && words.is_of_words();
     Ok(Some(Region {
-        words: facts.snapshot()?,
+        words,
         example,
         leaf,
-        is_exact: is_whole && example.is_some(),
+        is_exact,
     }))
 }

@@ -156,11 +156,11 @@ fn advance_again<C: Comparison, F: WordFacts>(
 {
     match settling.step(&frontier.facts, known, &node) {
         Step::Next(next) => Ok(Some(Stage::At(next))),
-        Step::Branch(Some(atom), if_true, if_false) => {
+        Step::Branch(Some(atom), if_true, if_false) if !atom.is_of_term() => {
             let next = ask(settling, frontier, known, Some(atom), if_true, if_false)?;
             Ok(Some(Stage::At(next)))
         }
-        Step::Branch(None, _, _) => split(settling, frontier, known, node, budget),
+        Step::Branch(_, _, _) => split(settling, frontier, known, node, budget),
         Step::Leaf(leaf) => match judge(settling, &frontier.facts, leaf) {
             Judged::Related => Ok(Some(take_branch(settling, frontier, known)?)),
             Judged::Fails(finding) => Ok(Some(Stage::Found(finding))),

@@ -36,6 +36,8 @@ pub(crate) enum Decision {
     Known(bool),
     /// It holds exactly if the atom has this answer.
     Asks(Atom, bool),
+    /// So it does, and the atom is about a term: an open test, unless its answer was learned.
+    AsksTerm(Atom, bool, OpenTest),
     /// Neither an atom nor the known bits decide it.
     Open(OpenTest),
 }
@@ -184,6 +186,10 @@ impl Value {
     {
         match self.decide_by_atoms(test, other) {
             Decision::Open(_) => self.decide_by_bits(facts, test, other),
+            Decision::AsksTerm(atom, holds, _) => match self.decide_by_bits(facts, test, other) {
+                Decision::Open(open_test) => Decision::AsksTerm(atom, holds, open_test),
+                decision => decision,
+            },
             decision => decision,
         }
     }
@@ -245,8 +251,14 @@ impl Value {
     {
         match self {
             Value::Known(a) => Decision::Known(holds_of(test, a, v)),
-            Value::Slice(bit_slice) => decide_bit_slice(bit_slice, test, v),
-            Value::Affine(term) => term.decide(test, v),
+            Value::Slice(bit_slice) => match decide_bit_slice(bit_slice, test, v) {
+                Decision::Open(_) => AffineTerm::of(bit_slice).ask(test, v),
+                decision => decision,
+            },
+            Value::Affine(term) => match term.decide(test, v) {
+                Decision::Open(_) => term.ask(test, v),
+                decision => decision,
+            },
             Value::Computed(_) => Decision::Open(OpenTest::NONE),
         }
     }
@@ -264,6 +276,7 @@ impl Decision {
         match self {
             Decision::Known(outcome) => Decision::Known(!outcome),
             Decision::Asks(atom, holds) => Decision::Asks(atom, !holds),
+            Decision::AsksTerm(atom, holds, test) => Decision::AsksTerm(atom, !holds, test),
             Decision::Open(test) => Decision::Open(test),
         }
     }

@@ -9,3 +9,4 @@ pub mod LowestBit
 pub mod MaskLaws
 pub mod Ones
 pub mod StoreLaws
+pub mod TermLaws

@@ -1,7 +1,8 @@
 -- What atoms ask of the words of a call record.
 use Rattle.std.specs.Prelude.{◌==◌, ◌&&◌, ℕ, List, Bool, slice_index, bit_and, nat_lt, nat_le}
 use Rattle.scf_facts.specs.declared.atom.Atom.{Atom}
-use Rattle.scf_facts.specs.declared.atom.Atom.TheVariants.{Eq, Gt, Ge, In}
+use Rattle.scf_facts.specs.declared.atom.Atom.TheVariants.{Eq, Gt, Ge, In, TermEq, TermIn}
+use Rattle.scf_facts.specs.Terms.{term_value}
 
 -- the number of the word that an atom asks of
 abbrev pub word_of : Atom → ℕ
@@ -9,6 +10,8 @@ word_of (Eq word mask value) = word
 word_of (Gt word value) = word
 word_of (Ge word value) = word
 word_of (In word low high) = word
+word_of (TermEq term mask value) = term.word
+word_of (TermIn term low high) = term.word
 
 -- what an atom answers where its word is a number; the order is unsigned
 abbrev pub answer_at : Atom → ℕ → Bool
@@ -16,6 +19,17 @@ answer_at (Eq word mask value) number = bit_and number mask == value
 answer_at (Gt word value) number = nat_lt value number
 answer_at (Ge word value) number = nat_le value number
 answer_at (In word low high) number = nat_le low number && nat_le number high
+answer_at (TermEq term mask value) number = bit_and (term_value term number) mask == value
+answer_at (TermIn term low high) number = nat_le low (term_value term number) && nat_le (term_value term number) high
+
+-- an atom asks of its word itself, and not of a term of it
+abbrev pub IsOfWord : Atom → Type 0
+IsOfWord (Eq word mask value) = Unit {0}
+IsOfWord (Gt word value) = Unit {0}
+IsOfWord (Ge word value) = Unit {0}
+IsOfWord (In word low high) = Unit {0}
+IsOfWord (TermEq term mask value) = ⊥
+IsOfWord (TermIn term low high) = ⊥
 
 -- what an atom answers of a list of words
 abbrev pub atom_answer : Atom → List ℕ → Bool

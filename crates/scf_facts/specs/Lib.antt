@@ -5,5 +5,6 @@ pub mod HighMask
 pub mod Intervals
 pub mod Levels
 pub mod Masks
+pub mod Terms
 pub mod WordSets
 pub mod internal

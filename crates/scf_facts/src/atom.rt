@@ -1,10 +1,13 @@
 //! Questions about one word of a call record, and what a store knows of the answer.
 
-ghost use Rattle.std.specs.Prelude.{◌≡◌, if◌then◌else◌};
-ghost use Rattle.scf_facts.specs.Atoms.{answer_at, word_of};
+ghost use Rattle.std.specs.Prelude.{◌≡◌, ℕ, if◌then◌else◌, IfNone, IfSome};
+ghost use Rattle.scf_facts.specs.Atoms.{IsOfWord, answer_at, word_of};
+ghost use Rattle.scf_facts.specs.Terms.{term_value};
 
-/// A question about one of the sixteen 32-bit words of a call record. `word` is the word's index, 0 to 15 (the caller's
-/// condition); comparisons are unsigned. The answer is true or false.
+use crate::term::Term;
+
+/// A question about one of the sixteen 32-bit words of a call record, or about a term of one. `word` is the word's index,
+/// 0 to 15 (the caller's condition); comparisons are unsigned. The answer is true or false.
 #[derive(Clone, Copy, Debug, PartialEq, Eq)]
 pub enum Atom {
     /// `word & mask == value`.
@@ -15,6 +18,10 @@ pub enum Atom {
     Ge { word: u8, value: u32 },
     /// `low <= word && word <= high`.
     In { word: u8, low: u32, high: u32 },
+    /// `term & mask == value`.
+    TermEq { term: Term, mask: u32, value: u32 },
+    /// `low <= term && term <= high`.
+    TermIn { term: Term, low: u32, high: u32 },
 }
 
 impl Atom {
@@ -27,6 +34,7 @@ impl Atom {
             | Atom::Gt { word, .. }
             | Atom::Ge { word, .. }
             | Atom::In { word, .. } => word,
+            Atom::TermEq { term, .. } | Atom::TermIn { term, .. } => term.word,
         }
     }
 
@@ -39,7 +47,38 @@ impl Atom {
             Atom::Gt { value, .. } => number > value,
             Atom::Ge { value, .. } => number >= value,
             Atom::In { low, high, .. } => low <= number && number <= high,
+            Atom::TermEq { term, mask, value } => term.value(number) & mask == value,
+            Atom::TermIn { term, low, high } => {
+                low <= term.value(number) && term.value(number) <= high
+            }
         }
+    }
+
+    /// If it asks of a term: the term, and the question about a word that it asks of the term's value.
+    pub(crate) fn of_term(self) -> Option<(Term, Atom)>
+        ensures word { IfSome result (λ asked. word_of self ≡ asked.0.word) }
+        ensures question { IfSome result (λ asked. IsOfWord asked.1) }
+        ensures some { IfSome result (λ _. IsOfWord self → ⊥) }
+        ensures answer { IfSome result (λ asked. (x : ℕ)
+            → answer_at self x ≡ answer_at asked.1 (term_value asked.0 x)) }
+        ensures none { IfNone result (IsOfWord self) }
+    {
+        match self {
+            Atom::Eq { .. } | Atom::Gt { .. } | Atom::Ge { .. } | Atom::In { .. } => None,
+            Atom::TermEq { term, mask, value } => {
+                let word = term.word;
+                Some((term, Atom::Eq { word, mask, value }))
+            }
+            Atom::TermIn { term, low, high } => {
+                let word = term.word;
+                Some((term, Atom::In { word, low, high }))
+            }
+        }
+    }
+
+    /// Whether it asks of a term.
+    pub fn is_of_term(self) -> bool {
+        matches!(self, Atom::TermEq { .. } | Atom::TermIn { .. })
     }
 }
 

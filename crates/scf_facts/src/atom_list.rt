@@ -111,6 +111,10 @@ impl WordFacts for AtomList {
         }
         all_agree(&self.learned, &words).then_some(words)
     }
+
+    fn guess(&self) -> Option<[u32; 16]> {
+        None
+    }
 }
 
 /// Whether the words give each learned answer.

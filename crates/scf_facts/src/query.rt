@@ -1,6 +1,7 @@
 //! An atom's question about the value of its word, as an interval or as bits.
 
 ghost use Rattle.std.specs.Prelude.{◌≡◌, ℕ};
+ghost use Rattle.scf_facts.specs.Atoms.{IsOfWord};
 ghost use Rattle.scf_facts.specs.internal.Query.{Asks, AsksAmong, AsksSimply};
 
 use crate::atom::Atom;
@@ -22,6 +23,7 @@ impl Query {
     /// range.
     #[tactic(auto, using(crate::proofs::HighMasks::asked))]
     pub(crate) fn of(atom: Atom) -> Query
+        requires { IsOfWord atom }
         ensures asks { Asks atom result }
         ensures simple { AsksSimply atom result }
         ensures among { (masks : ℕ) → AsksAmong masks atom result }
@@ -43,6 +45,7 @@ impl Query {
                 true,
             ),
             Atom::Eq { mask, value, .. } => Query::Masked(Bits { mask, value }),
+            Atom::TermEq { .. } | Atom::TermIn { .. } => Query::within(0, u32::MAX, true),
         }
     }
 

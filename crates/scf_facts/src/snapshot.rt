@@ -1,46 +1,270 @@
-//! What a store knows at a moment.
+//! What is known at a moment.
 
-ghost use Rattle.std.specs.Prelude.{◌≡◌, ◌<◌, ◌↔◌, ℕ, List, IfOk, length, slice_get};
-ghost use Rattle.scf_facts.specs.WordSets.{AllowsWords};
+ghost use Rattle.std.specs.Prelude.{◌≡◌, ◌<◌, ◌≤◌, ◌↔◌, [], ℕ, List, All, IsTrue, IfOk, OnOk, OnErr, IfSome, IsSome};
+ghost use Rattle.std.specs.Prelude.{length, slice_get, slice_index, true, false, bit_and};
+ghost use Rattle.std.specs.List.{list_all};
+ghost use Rattle.scf_insn.specs.Words.{IsWords};
+ghost use Rattle.scf_facts.specs.Atoms.{IsOfWord, answer_at, atom_answer, word_of};
+ghost use Rattle.scf_facts.specs.Bits.{HasBits};
+ghost use Rattle.scf_facts.specs.Exactness.{KeepsExact};
+ghost use Rattle.scf_facts.specs.Masks.{AreFew, EachRefutesAmong, KeepsAmong, RefuteAmong};
+ghost use Rattle.scf_facts.specs.Terms.{term_value};
+ghost use Rattle.scf_facts.specs.WordSets.{AllowsEach, AllowsTerm, AllowsWords};
+ghost use Rattle.scf_facts.specs.internal.WordSets.{are_exact_facts, is_exact_set};
 
+use crate::atom::{Atom, Tell};
+use crate::bits::Bits;
 use crate::shared_set::SharedSet;
+use crate::term_set::{TermSet, learn_term, tell_by_term};
 use crate::word_facts::WordFacts;
 use crate::word_set::WordSet;
 use scf_insn::Memory;
+use std::alloc::{AllocError, Global};
 use std::marker::Model;
 
-/// What a store knew of each of the sixteen words of a call record at a moment, whatever it learned or undid since.
-/// It shares its sets with the store, and copies none.
+/// What a store knows at a moment of each of the sixteen words of a call record, and of terms of them.
+///
+/// Cloning it copies no set: to learn replaces a set, and changes none.
 #[derive(Drop)]
 pub struct Snapshot {
-    pub(crate) sets: Vec<SharedSet>,
+    sets: Vec<SharedSet>,
+    /// What is known of terms: each is listed once. Mostly there are none.
+    terms: Vec<TermSet>,
     ghost sixteen: { length sets.items ≡ 16 },
 }
 
 impl Model for Snapshot {
-    ghost use Rattle.std.specs.Prelude.{List};
-    ghost use Rattle.scf_facts.specs.WordSets.{NumberFacts};
+    ghost use Rattle.scf_facts.specs.WordSets.{RecordFacts};
 
-    ghost Value = { List NumberFacts };
+    ghost Value = { RecordFacts };
 
-    ghost view = { λ snapshot. snapshot.sets.items };
+    ghost view = { λ s. record { sets = s.sets.items; terms = s.terms.items } };
+}
+
+impl Clone for Snapshot {
+    ghost is_clone = { λ s copy. copy ≡ s };
+
+    fn clone(&self) -> Result<Snapshot, AllocError> {
+        let sets = self.sets.clone()?;
+        let terms = self.terms.clone()?;
+        Ok(Snapshot { sets, terms })
+    }
 }
 
 impl Snapshot {
+    /// Nothing is known.
+    pub(crate) fn new(alloc: Global) -> Result<Snapshot, Memory>
+        ensures all { IfOk result (λ facts. (words : List ℕ) → AllowsWords facts words ↔ IsWords words) }
+        ensures exact { IfOk result (λ facts. are_exact_facts facts ≡ true) }
+        ensures among { IfOk result (λ facts. (masks : ℕ) → RefuteAmong masks facts) }
+    {
+        let set = SharedSet::new(alloc, WordSet::new(alloc)?)?;
+        Ok(Snapshot {
+            sets: Vec::from_elem(alloc, set, 16)?,
+            terms: Vec::new(alloc),
+        })
+    }
+
     /// The values that the word with this index, 0 to 15, may have.
     pub fn word(&self, index: u8) -> &WordSet
         requires { index < 16 }
-        ensures sixteen { length self.now ≡ 16 }
-        ensures word { slice_get self.now index ≡ Some result.now }
+        ensures sixteen { length self.now.sets ≡ 16 }
+        ensures word { slice_get self.now.sets index ≡ Some result.now }
     {
         self.sets[index as usize].as_set()
     }
+
+    /// Whether nothing is known of terms.
+    pub fn is_of_words(&self) -> bool
+        ensures { IsTrue result ↔ self.now.terms ≡ [] }
+    {
+        self.terms.is_empty()
+    }
+
+    /// Keeps the allowed lists that give the atom this answer. If allocation fails, nothing changes.
+    #[tactic(auto, using(crate::proofs::TermLaws::exact_of_word, crate::proofs::TermLaws::among_of_word))]
+    pub(crate) fn learn(&mut self, alloc: Global, atom: Atom, holds: bool) -> Result<(), Memory>
+        requires word { word_of atom < 16 }
+        ensures learned { OnOk result ((words : List ℕ) → AllowsWords self.new words
+            ↔ (AllowsWords self.old words × (atom_answer atom words ≡ holds))) }
+        ensures exact { OnOk result (KeepsExact atom holds
+            → IsTrue (are_exact_facts self.old) → IsTrue (are_exact_facts self.new)) }
+        ensures among { OnOk result ((masks : ℕ) → KeepsAmong masks atom holds
+            → RefuteAmong masks self.old → RefuteAmong masks self.new) }
+        ensures refused { OnErr result (self.new ≡ self.old) }
+    {
+        match atom.of_term() {
+            None => learn_word(&mut self.sets, alloc, atom, holds)?,
+            Some((term, question)) => learn_term(&mut self.terms, alloc, term, question, holds)?,
+        }
+        Ok(())
+    }
+
+    /// The atom's answer for every allowed list, if it is known.
+    pub(crate) fn tell(&self, atom: Atom) -> Tell
+        requires word { word_of atom < 16 }
+        ensures always { result ≡ Tell.Always
+            → (words : List ℕ) → AllowsWords self.now words → atom_answer atom words ≡ true }
+        ensures never { result ≡ Tell.Never
+            → (words : List ℕ) → AllowsWords self.now words → atom_answer atom words ≡ false }
+        ensures both { IsOfWord atom → result ≡ Tell.Maybe → IsTrue (are_exact_facts self.now)
+            → (some : List ℕ) → AllowsWords self.now some
+            → ((words : List ℕ) × AllowsWords self.now words × (atom_answer atom words ≡ true))
+            × ((words : List ℕ) × AllowsWords self.now words × (atom_answer atom words ≡ false)) }
+    {
+        match atom.of_term() {
+            None => tell_by_word(&self.sets, atom),
+            Some((term, question)) => {
+                let set = self.sets[term.word as usize].as_set();
+                match set.value_under(term.mask) {
+                    Some(only) => Tell::of(question.answer(term.value(only))),
+                    None => tell_by_term(&self.terms, term, question),
+                }
+            }
+        }
+    }
+
+    /// Bits that the word with this index has in every allowed list.
+    #[tactic(auto, using(crate::proofs::StoreLaws::each_word))]
+    pub(crate) fn known_bits(&self, word: u8) -> Bits
+        requires word { word < 16 }
+        ensures within { bit_and result.value result.mask ≡ result.value }
+        ensures known { (words : List ℕ) → AllowsWords self.now words → HasBits result (slice_index words word) }
+    {
+        self.sets[word as usize].as_set().known_bits()
+    }
+
+    /// Whether some word is known to have no value.
+    pub(crate) fn is_empty(&self) -> bool
+        ensures empty { IsTrue result → (words : List ℕ) → AllowsWords self.now words → ⊥ }
+        ensures seen { IsTrue (are_exact_facts self.now)
+            → ((words : List ℕ) → AllowsWords self.now words → ⊥) → IsTrue result }
+        ensures seen_among { (masks : ℕ) → AreFew masks → RefuteAmong masks self.now
+            → ((words : List ℕ) → AllowsWords self.now words → ⊥) → IsTrue result }
+    {
+        self.sets.iter().any(|set| set.as_set().is_empty())
+    }
+
+    /// A list that each word's values allow, if one is found.
+    #[tactic(auto, using(crate::proofs::StoreLaws::word_laws))]
+    pub(crate) fn guess(&self) -> Option<[u32; 16]>
+        ensures allowed { IfSome result (AllowsEach self.now.sets) }
+        ensures found { IsTrue (list_all is_exact_set self.now.sets)
+            → (words : List ℕ) → AllowsEach self.now.sets words → IsSome result }
+        ensures found_among { (masks : ℕ) → AreFew masks → EachRefutesAmong masks self.now.sets
+            → (words : List ℕ) → AllowsEach self.now.sets words → IsSome result }
+    {
+        let mut words = [0; 16];
+        for (index, set) in self.sets.iter().enumerate() {
+            words[index] = set.as_set().pick()?;
+        }
+        Some(words)
+    }
+
+    /// An allowed list, if one is found.
+    pub(crate) fn pick(&self) -> Option<[u32; 16]>
+        ensures allowed { IfSome result (AllowsWords self.now) }
+        ensures found { IsTrue (are_exact_facts self.now)
+            → (words : List ℕ) → AllowsWords self.now words → IsSome result }
+        ensures found_among { (masks : ℕ) → AreFew masks → RefuteAmong masks self.now
+            → (words : List ℕ) → AllowsWords self.now words → IsSome result }
+    {
+        let words = self.guess()?;
+        if self.terms.is_empty() {
+            return Some(words);
+        }
+        self.pick_beside(words)
+    }
+
+    /// An allowed list, if tries find one: words that the terms' values allow are put for those that they don't.
+    fn pick_beside(&self, guessed: [u32; 16]) -> Option<[u32; 16]>
+        requires { AllowsEach self.now.sets guessed }
+        ensures { IfSome result (AllowsWords self.now) }
+    {
+        let mut words = guessed;
+        for known in &self.terms {
+            self.fit(known, &mut words);
+        }
+        self.terms
+            .iter()
+            .all(|known| known.allows(&words))
+            .then_some(words)
+    }
+
+    /// Changes the word of a term whose value isn't allowed, if a number is found for which it is.
+    #[tactic(auto, using(crate::proofs::StoreLaws::allows_other))]
+    fn fit(&self, known: &TermSet, words: &mut [u32; 16])
+        requires { AllowsEach self.now.sets words.old }
+        ensures { AllowsEach self.now.sets words.new }
+    {
+        let index = known.word() as usize;
+        if known.allows(words) || index >= 16 {
+            return;
+        }
+        if let Some(number) = known.number_in(self.sets[index].as_set(), words[index]) {
+            words[index] = number;
+        }
+    }
+
+    /// The bits of a word that refuted masks have.
+    pub(crate) fn refuted_bits(&self, word: u8) -> u32
+        requires { word < 16 }
+    {
+        self.sets[word as usize].as_set().refuted_bits()
+    }
+}
+
+/// Keeps of a word the values that give an atom about it this answer.
+#[tactic(auto, using(crate::proofs::StoreLaws::set_laws))]
+fn learn_word(
+    sets: &mut Vec<SharedSet>,
+    alloc: Global,
+    atom: Atom,
+    holds: bool,
+) -> Result<(), Memory>
+    requires sixteen { length sets.old.items ≡ 16 }
+    requires word { word_of atom < 16 }
+    requires own { IsOfWord atom }
+    ensures sixteen { length sets.new.items ≡ 16 }
+    ensures learned { OnOk result ((words : List ℕ) → AllowsEach sets.new.items words
+        ↔ (AllowsEach sets.old.items words × (atom_answer atom words ≡ holds))) }
+    ensures exact { OnOk result (KeepsExact atom holds
+        → IsTrue (list_all is_exact_set sets.old.items) → IsTrue (list_all is_exact_set sets.new.items)) }
+    ensures among { OnOk result ((masks : ℕ) → KeepsAmong masks atom holds
+        → EachRefutesAmong masks sets.old.items → EachRefutesAmong masks sets.new.items) }
+    ensures refused { OnErr result (sets.new.items ≡ sets.old.items) }
+{
+    let word = atom.word() as usize;
+    let set = sets[word].as_set().learn(alloc, atom, holds)?;
+    sets[word] = SharedSet::new(alloc, set)?;
+    Ok(())
+}
+
+/// The answer of an atom about a word for every allowed list, if the values of its word show it.
+#[tactic(auto, using(crate::proofs::StoreLaws::each_word))]
+fn tell_by_word(sets: &[SharedSet], atom: Atom) -> Tell
+    requires sixteen { length sets.now ≡ 16 }
+    requires word { word_of atom < 16 }
+    requires own { IsOfWord atom }
+    ensures always { result ≡ Tell.Always
+        → (words : List ℕ) → AllowsEach sets.now words → atom_answer atom words ≡ true }
+    ensures never { result ≡ Tell.Never
+        → (words : List ℕ) → AllowsEach sets.now words → atom_answer atom words ≡ false }
+    ensures both { result ≡ Tell.Maybe
+        → IsTrue (list_all is_exact_set sets.now) → (some : List ℕ) → AllowsEach sets.now some
+        → ((words : List ℕ) × AllowsEach sets.now words × (atom_answer atom words ≡ true))
+        × ((words : List ℕ) × AllowsEach sets.now words × (atom_answer atom words ≡ false)) }
+{
+    sets[atom.word() as usize].as_set().tell(atom)
 }
 
 /// A store that hands out what it knows.
 pub trait Snapshots: WordFacts {
-    /// What is known now: the snapshot allows the lists of words that the store allows.
+    /// What is known now: the snapshot allows the lists of words that the store allows, and knows of terms only where
+    /// the store doesn't refute under bits alone.
     fn snapshot(&self) -> Result<Snapshot, Memory>
-        ensures { IfOk result (λ snapshot. (words : List ℕ)
-            → AllowsWords snapshot words ↔ Self.allows self.now (Self.level self.now) words) };
+        ensures allows { IfOk result (λ snapshot. (words : List ℕ)
+            → AllowsWords snapshot words ↔ Self.allows self.now (Self.level self.now) words) }
+        ensures terms { IfOk result (λ snapshot. (masks : ℕ)
+            → Self.refutes_among self.now (Self.level self.now) masks → snapshot.terms ≡ []) };
 }

@@ -1,79 +1,69 @@
-//! A store that keeps a set of values for each word.
+//! A store that keeps a set of values for each word, and for terms of words.
 
-ghost use Rattle.std.specs.Prelude.{◌≡◌, ◌<◌, ℕ, List, All, IsTrue, length, slice_index_or, true, false};
-ghost use Rattle.std.specs.List.{list_all};
-ghost use Rattle.scf_facts.specs.Atoms.{atom_answer, word_of};
-ghost use Rattle.scf_facts.specs.Masks.{EachRefutesAmong};
+ghost use Rattle.std.specs.Prelude.{◌≡◌, ◌<◌, ℕ, List, length, slice_index_or, true, false};
+ghost use Rattle.scf_facts.specs.Masks.{RefuteAmong};
 ghost use Rattle.scf_facts.specs.WordSets.{AllowsWords};
-ghost use Rattle.scf_facts.specs.internal.WordSets.{is_exact_set};
+ghost use Rattle.scf_facts.specs.internal.WordSets.{are_exact_facts};
 
 use crate::atom::{Atom, Tell};
 use crate::bits::Bits;
-use crate::shared_set::SharedSet;
 use crate::snapshot::{Snapshot, Snapshots};
 use crate::word_facts::WordFacts;
-use crate::word_set::WordSet;
 use scf_insn::Memory;
 use std::alloc::Global;
 
-/// For each word its possible values, as sorted intervals, known bits and refuted bits under masks.
+/// For each word its possible values, as sorted intervals, known bits and refuted bits under masks; and so for each term
+/// of which something was learned.
 ///
-/// Everything learned becomes intervals or known bits, except an `Eq` that is false under a mask of several bits.
-/// Without such an answer the store is exact. With one, `tell` still knows what was itself learned, and an `Eq` under
-/// known bits. `known_bits` gives a word's known bits and those that the ends of its intervals have in common. `pick`
-/// tries the least value, the ends of the intervals, the known value and that value with one further bit; if all are
-/// refuted, it searches bit by bit until a value is found, there is none, or the tries run out.
+/// Everything learned becomes intervals or known bits, except an `Eq` that is false under a mask of several bits, and
+/// what is learned of terms. Without such an answer the store is exact. With one, `tell` still knows what was itself
+/// learned, and an `Eq` under known bits. `known_bits` gives a word's known bits and those that the ends of its intervals
+/// have in common. `pick` tries the least value, the ends of the intervals, the known value and that value with one
+/// further bit; if all are refuted, it searches bit by bit until a value is found, there is none, or the tries run out.
+/// Where a term's value isn't allowed then, it tries words for some of the values that are.
 ///
-/// A mark saves the sixteen sets. Levels share a set that they know alike: `learn` replaces the set of its word, and
-/// changes none.
+/// A mark saves what is known. Levels share a set that they know alike.
 #[derive(Drop)]
 pub struct WordSets {
     alloc: Global,
-    sets: Vec<SharedSet>,
-    saved: Vec<Vec<SharedSet>>,
-    ghost sixteen: { length sets.items ≡ 16 },
-    ghost saved_sixteen: { All (λ level. length level.items ≡ 16) saved.items },
+    known: Snapshot,
+    saved: Vec<Snapshot>,
 }
 
 impl WordFacts for WordSets {
     ghost level = { λ facts. length facts.saved.items };
 
-    ghost allows = { λ facts level. AllowsWords (slice_index_or facts.saved.items level facts.sets).items };
+    ghost allows = { λ facts level. AllowsWords (slice_index_or facts.saved.items level facts.known) };
 
-    ghost is_exact = { λ facts level. list_all is_exact_set
-        (slice_index_or facts.saved.items level facts.sets).items };
+    ghost is_exact = { λ facts level. are_exact_facts (slice_index_or facts.saved.items level facts.known) };
 
     ghost refutes_among = { λ facts level masks.
-        EachRefutesAmong masks (slice_index_or facts.saved.items level facts.sets).items };
+        RefuteAmong masks (slice_index_or facts.saved.items level facts.known) };
 
     ghost starts_exact = { true };
 
     fn all(alloc: Global) -> Result<Self, Memory> {
-        let set = SharedSet::new(alloc, WordSet::new(alloc)?)?;
         Ok(WordSets {
             alloc,
-            sets: Vec::from_elem(alloc, set, 16)?,
+            known: Snapshot::new(alloc)?,
             saved: Vec::new(alloc),
         })
     }
 
-    #[tactic(auto, using(crate::proofs::Levels::now, crate::proofs::StoreLaws::set_laws))]
+    #[tactic(auto, using(crate::proofs::Levels::now))]
     fn learn(&mut self, atom: Atom, holds: bool) -> Result<(), Memory> {
-        let word = atom.word() as usize;
-        let set = self.sets[word].as_set().learn(self.alloc, atom, holds)?;
-        self.sets[word] = SharedSet::new(self.alloc, set)?;
-        Ok(())
+        self.known.learn(self.alloc, atom, holds)
     }
 
     fn mark(&mut self) -> Result<(), Memory> {
-        let sets = self.sets.clone()?;
-        self.saved.push(sets)?;
+        let known = self.known.clone()?;
+        self.saved.push(known)?;
         Ok(())
     }
 
     fn undo(&mut self) {
-        if let Some(sets) = self.saved.pop() {
-            self.sets = sets;
+        if let Some(known) = self.saved.pop() {
+            self.known = known;
         }
     }
 
@@ -81,54 +71,39 @@ impl WordFacts for WordSets {
         self.saved.len()
     }
 
+    #[tactic(auto, using(crate::proofs::Levels::now))]
     fn tell(&self, atom: Atom) -> Tell {
-        tell_by_word(&self.sets, atom)
+        self.known.tell(atom)
     }
 
-    #[tactic(auto, using(crate::proofs::StoreLaws::each_word))]
+    #[tactic(auto, using(crate::proofs::Levels::now))]
     fn known_bits(&self, word: u8) -> Bits {
-        self.sets[word as usize].as_set().known_bits()
+        self.known.known_bits(word)
     }
 
     fn refuted_bits(&self, word: u8) -> u32 {
-        self.sets[word as usize].as_set().refuted_bits()
+        self.known.refuted_bits(word)
     }
 
+    #[tactic(auto, using(crate::proofs::Levels::now))]
     fn is_empty(&self) -> bool {
-        self.sets.iter().any(|set| set.as_set().is_empty())
+        self.known.is_empty()
     }
 
-    #[tactic(auto, using(crate::proofs::StoreLaws::word_laws))]
+    #[tactic(auto, using(crate::proofs::Levels::now))]
     fn pick(&self) -> Option<[u32; 16]> {
-        let mut words = [0; 16];
-        for (index, set) in self.sets.iter().enumerate() {
-            words[index] = set.as_set().pick()?;
-        }
-        Some(words)
+        self.known.pick()
+    }
+
+    fn guess(&self) -> Option<[u32; 16]> {
+        self.known.guess()
     }
 }
 
 impl Snapshots for WordSets {
     #[tactic(auto, using(crate::proofs::Levels::now))]
     fn snapshot(&self) -> Result<Snapshot, Memory> {
-        let sets = self.sets.clone()?;
-        Ok(Snapshot { sets })
+        let known = self.known.clone()?;
+        Ok(known)
     }
-}
-
-/// The atom's answer for every allowed list, if the values of its word show it.
-#[tactic(auto, using(crate::proofs::StoreLaws::each_word))]
-fn tell_by_word(sets: &[SharedSet], atom: Atom) -> Tell
-    requires sixteen { length sets.now ≡ 16 }
-    requires word { word_of atom < 16 }
-    ensures always { result ≡ Tell.Always
-        → (words : List ℕ) → AllowsWords sets.now words → atom_answer atom words ≡ true }
-    ensures never { result ≡ Tell.Never
-        → (words : List ℕ) → AllowsWords sets.now words → atom_answer atom words ≡ false }
-    ensures both { result ≡ Tell.Maybe
-        → IsTrue (list_all is_exact_set sets.now) → (some : List ℕ) → AllowsWords sets.now some
-        → ((words : List ℕ) × AllowsWords sets.now words × (atom_answer atom words ≡ true))
-        × ((words : List ℕ) × AllowsWords sets.now words × (atom_answer atom words ≡ false)) }
-{
-    sets[atom.word() as usize].as_set().tell(atom)
 }

@@ -8,7 +8,7 @@ use Rattle.scf_compare.specs.declared.value.Value.{Value}
 use Rattle.scf_compare.specs.declared.value.Value.TheVariants.{Known, Slice, Affine, Computed}
 use Rattle.scf_compare.specs.declared.computed.Computed.{Computed as ComputedBits}
 use Rattle.scf_compare.specs.declared.value.Decision.{Decision}
-use Rattle.scf_compare.specs.declared.value.Decision.TheVariants.{Known as Decided, Asks, Open}
+use Rattle.scf_compare.specs.declared.value.Decision.TheVariants.{Known as Decided, Asks, AsksTerm, Open}
 use Rattle.scf_compare.specs.declared.registers.KnownRegisters.{KnownRegisters}
 use Rattle.scf_compare.specs.internal.Asking.{KeepsEither}
 use Rattle.scf_compare.specs.internal.BitSlices.{IsBitSlice, IsMaskedSlice, IsWhole, bit_slice_value}
@@ -36,12 +36,14 @@ Abstracts (Computed computed) words x = IsComputedNumber computed x
 abbrev pub IsTestDecision : Decision → Type 0
 IsTestDecision (Decided outcome) = Unit {0}
 IsTestDecision (Asks atom holds) = word_of atom < 16
+IsTestDecision (AsksTerm atom holds open_test) = word_of atom < 16
 IsTestDecision (Open open_test) = Unit {0}
 
 -- over the words a decision tells the outcome of a test
 abbrev pub Decides : Decision → List ℕ → Bool → Type 0
 Decides (Decided outcome) words test = test ≡ outcome
 Decides (Asks atom holds) words test = (test ≡ true) ↔ (atom_answer atom words ≡ holds)
+Decides (AsksTerm atom holds open_test) words test = (test ≡ true) ↔ (atom_answer atom words ≡ holds)
 Decides (Open open_test) words test = Unit {0}
 
 -- a known number, a whole word of the record, or where it may be under a mask a word under one
@@ -55,6 +57,7 @@ IsMaskedValue masks under (Computed computed) = ⊥
 abbrev pub IsPlainDecision : ℕ → Decision → Type 0
 IsPlainDecision masks (Decided outcome) = Unit {0}
 IsPlainDecision masks (Asks atom holds) = KeepsEither masks atom
+IsPlainDecision masks (AsksTerm atom holds open_test) = ⊥
 IsPlainDecision masks (Open open_test) = ⊥
 
 pub record AreValues (registers : KnownRegisters) : Type 0 where

@@ -1,20 +1,19 @@
 use Rattle.scf_insn.proofs.CallWords.{word_below}
 use Rattle.scf_facts.proofs.Common.{◌≡◌, ◌<◌, AllowsNumber, arith, common_steps, get_or, length, recursion_from_All, slice_index, subst, sym}
 use Rattle.scf_facts.proofs.StoreLaws.{among_word}
-use Rattle.scf_facts.proofs.Levels.{now}
-use Rattle.scf_facts.proofs.word_sets.WordSetsWordFacts.pick.Goals as goal
+use Rattle.scf_facts.proofs.snapshot.Snapshot.guess.Goals as goal
 
-pub returns-clause-law_pick : goal.returns-clause-law_pick
-returns-clause-law_pick c =
+pub returns-clause-allowed : goal.returns-clause-allowed
+returns-clause-allowed c =
     let found = c.loop-index.invariant in
-    simp now (record {
+    record {
       sixteen = record { count = found.count; each = recursion_from_All _ _ found.fits };
-      each = λ k d lt. found.each k d (omega arith);
-    })
+      each = λ k d lt. found.each k d (grind arith);
+    }
 
 pub returns-in_err-words-clause-found_among : goal.returns-in_err-words-clause-found_among
-returns-in_err-words-clause-found_among c = simp now (λ masks few among words allowed.
-    let sets = c.args.self.now.sets.items in
+returns-in_err-words-clause-found_among c = λ masks few among words allowed.
+    let sets = c.args.self.now.sets in
     let here = c.loop-index.index in
     let within : here < length sets = grind arith in
     let read : c.as_set.result.now ≡ get_or sets here c.as_set.result.now = grind (arith, common_steps) in
@@ -23,4 +22,4 @@ returns-in_err-words-clause-found_among c = simp now (λ masks few among words a
     subst (λ s. AllowsNumber s number) (sym read) (allowed.each here c.as_set.result.now within) in
     let some = c.pick.ensures.found_among masks few (among_word sets here c.as_set.result.now within read masks among)
     number (word_below words allowed.sixteen here) allows in
-    absurd (let none = rw c.in_err-words.was at some in cc))
+    absurd (let none = rw c.in_err-words.was at some in cc)

@@ -1,6 +1,6 @@
 use Rattle.scf_facts.proofs.Common.{◌<◌, arith, length, true, false}
 use Rattle.scf_facts.proofs.StoreLaws.{exact_word, other_answer}
-use Rattle.scf_facts.proofs.word_sets.tell_by_word.Goals as goal
+use Rattle.scf_facts.proofs.snapshot.tell_by_word.Goals as goal
 
 pub returns-clause-both : goal.returns-clause-both
 returns-clause-both c = λ maybe exact some h.

@@ -1,0 +1,82 @@
+-- Values of terms.
+use Rattle.std.proofs.Math.Nat.{div-le_self, mul_assoc}
+use Rattle.std.proofs.Math.Pow.{pow-add}
+use Rattle.scf_facts.proofs.Common.{◌≡◌, ◌<◌, ◌≤◌, ◌^◌, ◌+◌, ◌-◌, ◌*◌, ◌/◌, ◌%◌, ℕ, arith, refl, bit_and, and_assoc, div-eq_of_lt, pow_mono, same_from_bits, bit_at_and, Term, TermFacts, AllowsTerm, List, [], ◌∷◌, ◌++◌, ◌↔◌, Some, All, All-push, All-pop, All-set, Atom, Bool, IsOfWord, get_or, get_or-set_same, get_or_read, length, length-set, slice_set, sym, subst, common_steps, cases_eq}
+use Rattle.scf_facts.specs.Exactness.{KeepsExact}
+use Rattle.scf_facts.specs.Masks.{KeepsAmong}
+use Rattle.scf_facts.specs.declared.atom.Atom.TheVariants.{Eq, Gt, Ge, In, TermEq, TermIn}
+use Rattle.scf_facts.specs.Terms.{term_value}
+
+-- bits under a mask, where they are known
+pub under_known : (x known value mask : ℕ) → bit_and x known ≡ value → bit_and known mask ≡ mask
+    → bit_and x mask ≡ bit_and value mask
+under_known x known value mask has among = rw (← has, and_assoc, among) refl
+
+pub right_past : (x count : ℕ) → x < 2 ^ 32 → 32 ≤ count → x / 2 ^ count ≡ 0
+right_past x count fits far = grind (arith, div-eq_of_lt, pow_mono far)
+
+pub left_past : (x count : ℕ) → 32 ≤ count → x * 2 ^ count % 2 ^ 32 ≡ 0
+left_past x count far =
+    let whole : count - 32 + 32 ≡ count = omega arith in
+    rw (← whole, pow-add, ← mul_assoc) (omega arith)
+
+pub value_fits : (term : Term) (x : ℕ) → term_value term x < 2 ^ 32
+unfolding term_value
+value_fits term x = omega (arith, div-le_self)
+
+mask_twice : (x mask : ℕ) → bit_and (bit_and x mask) mask ≡ bit_and x mask
+mask_twice x mask = same_from_bits _ _ (λ i. grind (arith, bit_at_and))
+
+-- the value depends on the bits under the mask alone
+pub value_under : (term : Term) (x : ℕ) → term_value term (bit_and x term.mask) ≡ term_value term x
+unfolding term_value
+value_under term x = rw (mask_twice x term.mask) refl
+
+-- ---- what is known of terms
+
+-- so is each of those that are listed
+pub allowed : (terms items : List TermFacts) (k : ℕ) (known : TermFacts) (words : List ℕ) → All (AllowsTerm words) terms
+    → items ≡ terms → known ≡ get_or items k known → k < length items → AllowsTerm words known
+allowed terms items k known words all same read lt =
+    subst (AllowsTerm words) (sym (rw same at read)) (all k known (rw same at lt))
+
+pub one_more : (terms : List TermFacts) (known : TermFacts) (words : List ℕ)
+    → All (AllowsTerm words) (terms ++ known ∷ []) ↔ (All (AllowsTerm words) terms × AllowsTerm words known)
+one_more terms known words =
+    let P : TermFacts → Type 0 = AllowsTerm words in
+    grind (arith, All-pop P (terms ++ known ∷ []) terms (Some known) refl, All-push P terms known)
+
+-- where one that is listed is narrowed
+pub narrowed : (terms : List TermFacts) (index : ℕ) (old new : TermFacts) (words : List ℕ) (Q : Type 0)
+    → index < length terms → old ≡ get_or terms index old
+    → AllowsTerm words new ↔ (AllowsTerm words old × Q)
+    → All (AllowsTerm words) (slice_set terms index new) ↔ (All (AllowsTerm words) terms × Q)
+narrowed terms index old new words Q lt read same =
+    let P : TermFacts → Type 0 = AllowsTerm words in (
+      λ all.
+          let here : P new = rw (get_or-set_same terms index new old lt) at
+          (all index old (omega (arith, lt, length-set terms index new))) in (
+            λ k d l. grind (arith, common_steps, cases_eq k index, all k d, (same.0 here).0, get_or_read terms index old lt read d),
+            (same.0 here).1,
+          ),
+      λ both. All-set P terms index new (same.1 (subst P (sym read) (both.0 index old lt), both.1)) both.0,
+    )
+
+-- ---- what is learned
+
+-- only what is learned of words keeps facts exact
+pub exact_of_word : (atom : Atom) (holds : Bool) → KeepsExact atom holds → IsOfWord atom
+exact_of_word (Eq word mask value) holds keeps = tt
+exact_of_word (Gt word value) holds keeps = tt
+exact_of_word (Ge word value) holds keeps = tt
+exact_of_word (In word low high) holds keeps = tt
+exact_of_word (TermEq term mask value) holds keeps = absurd keeps
+exact_of_word (TermIn term low high) holds keeps = absurd keeps
+
+pub among_of_word : (masks : ℕ) (atom : Atom) (holds : Bool) → KeepsAmong masks atom holds → IsOfWord atom
+among_of_word masks (Eq word mask value) holds keeps = tt
+among_of_word masks (Gt word value) holds keeps = tt
+among_of_word masks (Ge word value) holds keeps = tt
+among_of_word masks (In word low high) holds keeps = tt
+among_of_word masks (TermEq term mask value) holds keeps = absurd keeps
+among_of_word masks (TermIn term low high) holds keeps = absurd keeps
