@@ -20,7 +20,7 @@ use Rattle.scf_compare.specs.declared.side.Side.{Side}
 use Rattle.scf_compare.specs.declared.side.Side.TheVariants.{Stack, Profile as OfProfile, Profiles as OfProfiles}
 use Rattle.scf_compare.specs.declared.step.Step.{Step}
 use Rattle.scf_compare.specs.declared.value.Decision.{Decision}
-use Rattle.scf_compare.specs.declared.value.Decision.TheVariants.{Known as Decided, Asks, Open}
+use Rattle.scf_compare.specs.declared.value.Decision.TheVariants.{Known as Decided, Asks, AsksTerm, Open}
 use Rattle.scf_compare.specs.declared.value.Value.{Value}
 use Rattle.scf_compare.specs.declared.value.Value.TheVariants.{Known, Slice, Affine, Computed}
 use Rattle.scf_compare.specs.internal.Conditions.{HasMasksOf}
@@ -77,6 +77,7 @@ by_decision tree tells_all masks (Asks atom true) if_true if_false step is plain
     rw is (plain, first, second)
 by_decision tree tells_all masks (Asks atom false) if_true if_false step is plain first second =
     rw is (plain, second, first)
+by_decision tree tells_all masks (AsksTerm atom holds test) if_true if_false step is plain first second = absurd plain
 by_decision tree tells_all masks (Open test) if_true if_false step is plain first second = absurd plain
 
 pub proper_by : (tree : Tree FilterNode) (is_leaf : FilterLeaf → Type 0) (decision : Decision)
@@ -86,6 +87,8 @@ proper_by tree is_leaf (Decided true) if_true if_false step is asks first second
 proper_by tree is_leaf (Decided false) if_true if_false step is asks first second = rw is second
 proper_by tree is_leaf (Asks atom true) if_true if_false step is asks first second = rw is (asks, first, second)
 proper_by tree is_leaf (Asks atom false) if_true if_false step is asks first second = rw is (asks, second, first)
+proper_by tree is_leaf (AsksTerm atom true test) if_true if_false step is asks first second = rw is (asks, first, second)
+proper_by tree is_leaf (AsksTerm atom false test) if_true if_false step is asks first second = rw is (asks, second, first)
 proper_by tree is_leaf (Open test) if_true if_false step is asks first second = rw is (tt, first, second)
 
 -- of a condition under masks so is the test

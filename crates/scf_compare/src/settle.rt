@@ -160,7 +160,7 @@ fn advance_again<C: Comparison, F: WordFacts>(
             let next = ask(settling, frontier, known, Some(atom), if_true, if_false)?;
             Ok(Some(Stage::At(next)))
         }
-        Step::Branch(_, _, _) => split(settling, frontier, known, node, budget),
+        Step::Branch(..) => split(settling, frontier, known, node, budget),
         Step::Leaf(leaf) => match judge(settling, &frontier.facts, leaf) {
             Judged::Related => Ok(Some(take_branch(settling, frontier, known)?)),
             Judged::Fails(finding) => Ok(Some(Stage::Found(finding))),

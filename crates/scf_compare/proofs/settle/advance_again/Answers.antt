@@ -49,11 +49,11 @@ returns-in_ok-take_branch-in-Related-clause-search g c = λ steps splits come.
     (c.in_ok-take_branch-in-Related.ensures.whole c.args.known.now c.args.node None come.whole)
     c.in_ok-take_branch-in-Related.ensures.taken
 
-pub returns-in-Branch-None-default-default-clause-stage : goal.returns-in-Branch-None-default-default-clause-stage
-returns-in-Branch-None-default-default-clause-stage g c = c.split.ensures.stage c.args.known.now
+pub returns-in-Branch-clause-stage : goal.returns-in-Branch-clause-stage
+returns-in-Branch-clause-stage g c = c.split.ensures.stage c.args.known.now
 
-pub returns-in-Branch-None-default-default-clause-search : goal.returns-in-Branch-None-default-default-clause-search
-returns-in-Branch-None-default-default-clause-search g c = c.split.ensures.search c.args.known.now
+pub returns-in-Branch-clause-search : goal.returns-in-Branch-clause-search
+returns-in-Branch-clause-search g c = c.split.ensures.search c.args.known.now
 
 pub returns-in-Open-clause-stage : goal.returns-in-Open-clause-stage
 returns-in-Open-clause-stage g c = c.split-in-Open.ensures.stage c.args.known.now
