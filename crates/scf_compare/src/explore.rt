@@ -71,6 +71,31 @@ pub(crate) fn difference_by<C: Comparison>(comparison: &C, call: CallRecord) -> 
     }
 }
 
+/// The difference that a call shows, if it is in the scope and shows one.
+pub(crate) fn difference_in_scope<C: Comparison>(
+    comparison: &C,
+    call: CallRecord,
+) -> Option<Finding>
+    requires record { IsRecord call }
+    ensures found { IfSome result (IsFound (C.compared comparison.now)) }
+    ensures related { let compared = C.compared comparison.now in
+        IfNone result (compared.in_scope call → WordsRelated compared (words_of call)) }
+{
+    if comparison.is_in_scope(&call) {
+        difference_by(comparison, call)
+    } else {
+        None
+    }
+}
+
+/// The difference that guessed words show, if they are in the scope and show one.
+fn guessed_difference<C: Comparison, F: WordFacts>(comparison: &C, facts: &F) -> Option<Finding>
+    ensures { IfSome result (IsFound (C.compared comparison.now)) }
+{
+    let words = facts.guess()?;
+    difference_in_scope(comparison, CallRecord::from_words(&words))
+}
+
 /// Judges a leaf by what the store knows there. A record is shown only after both sides answered it.
 pub(crate) fn judge<C: Comparison, F: WordFacts>(
     comparison: &C,
@@ -92,23 +117,11 @@ pub(crate) fn judge<C: Comparison, F: WordFacts>(
     }
     let found = match facts.pick() {
         Some(words) => difference_by(comparison, CallRecord::from_words(&words)),
-        None => guessed_difference(comparison, facts.guess()),
+        None => guessed_difference(comparison, facts),
     };
     match found {
         Some(finding) => Judged::Fails(finding),
         None => Judged::Open,
-    }
-}
-
-/// The difference that guessed words show, if they are in the scope and show one.
-fn guessed_difference<C: Comparison>(comparison: &C, words: Option<[u32; 16]>) -> Option<Finding>
-    ensures { IfSome result (IsFound (C.compared comparison.now)) }
-{
-    let call = CallRecord::from_words(&words?);
-    if comparison.is_in_scope(&call) {
-        difference_by(comparison, call)
-    } else {
-        None
     }
 }
 

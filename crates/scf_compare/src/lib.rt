@@ -24,19 +24,20 @@
 //! goes on as far as the store decides its own (`decided`), and each branch keeps how far it came. So two filters of
 //! the same tests, one after another, are walked once, side by side.
 //!
-//! A value that the filter computes stays known while it is a bit slice of a word (`bit_slice`). Of everything else
-//! only single bits are known (`computed`): those that follow from the operands' known bits (`known_bits`). Where
-//! neither an atom nor the known bits decide a test, the walk follows both sides and learns nothing, so a leaf behind
-//! may stay undecided. The path remembers the first such test, by the bits of the record on which it depends
-//! (`sources`).
+//! A value that the filter computes stays known while it is a bit slice of a word (`bit_slice`) or an affine term of
+//! one (`affine_term`). Of everything else only single bits are known (`computed`): those that follow from the operands'
+//! known bits (`known_bits`). Where neither an atom about a word nor the known bits decide the test of a term against a
+//! constant, it is asked as an atom about the term (`Decision::AsksTerm`), and the store remembers the answer. At any
+//! other test the walk follows both sides and learns nothing. Behind either a leaf may stay undecided. The path
+//! remembers the first such test, by the bits of the record on which it depends (`sources`).
 //!
 //! If the walk ends with such a leaf, and nothing fails, two stacks of the same filters are related all the same. Of
-//! others a second walk begins (`settle`). Take the filter `ld [16];
-//! add #1; jgt #9, ..`: the sum is unknown, and the test is open. The second walk splits there, on a bit of word 4: it
-//! opens a branch where the highest bit is clear, learns that it is set, and begins at the root again (`settling`). The
-//! sum is now known to be above 9, or 0 where all bits are set; that one is split off by further bits. The bits that
-//! splits have fixed go along (`fixed_bits`); where all are, there is one record, and both sides answer it. So with
-//! enough splits (`budget`) every comparison ends with `Holds` or `Fails`, else with `Undecided`.
+//! others a second walk begins (`settle`). Take the filter `ld [16]; div #3; tax; ld [24]; add x; jgt #9, ..`: the sum
+//! of two words is unknown, and the test is open. The second walk splits there, on a bit of word 4 or 6: it opens a
+//! branch where the highest bit is clear, learns that it is set, and begins at the root again (`settling`), until known
+//! bits decide the test. The bits that splits have fixed go along (`fixed_bits`); where all are, there is one record, and
+//! both sides answer it. So with enough splits (`budget`) every comparison ends with `Holds` or `Fails`, else with
+//! `Undecided`.
 //!
 //! Everything that two sides answer is found by the same steps (`regions`): at each leaf what the store knows is kept
 //! as a region (`region`), with both answers, their origins (`origin`) and a record. A side by itself is walked beside
