@@ -9,7 +9,7 @@ ghost use Rattle.scf_machine.specs.Machine.{holds, value_computed};
 ghost use Rattle.scf_compare.specs.internal.AffineTerms.{IsAffineTerm, affine_value, is_within, product_value};
 ghost use Rattle.scf_compare.specs.internal.AffineTerms.{sum_value, xored_value};
 ghost use Rattle.scf_compare.specs.internal.BitSlices.{IsBitSlice, bit_slice_value};
-ghost use Rattle.scf_compare.specs.internal.Values.{Decides, IsComputedNumber, IsPlainDecision, IsTestDecision};
+ghost use Rattle.scf_compare.specs.internal.Values.{Decides, IsComputedNumber, IsTestDecision};
 
 use crate::bit_slice::BitSlice;
 use crate::computed::Computed;
@@ -57,6 +57,16 @@ impl AffineTerm {
             .times(self.factor)
             .plus(self.addend)
             .over(self.divisor)
+    }
+
+    /// The known bits of the number under a mask, and the bits of the word on which that depends.
+    pub(crate) fn in_bits_under(self, mask: u32, word: Bits) -> Computed
+        requires { IsAffineTerm self }
+        ensures { (words : List ℕ) → HasBits word (slice_index words self.bit_slice.word)
+            → IsComputedNumber result (bit_and (affine_value self words) mask) }
+    {
+        self.in_bits(word)
+            .combined(Arithmetic::And, Computed::constant(mask))
     }
 
     /// `self op v`, if it is an affine term.
@@ -291,23 +301,31 @@ impl AffineTerm {
         ensures asks { IsTestDecision result }
         ensures decides { (words : List ℕ) → IsWords words
             → Decides result words (holds test (affine_value self words) v) }
-        ensures open { (masks : ℕ) → IsPlainDecision masks result → ⊥ }
     {
         let term = self.with_odd_factor().term();
         let (low, high, holds) = match test {
             Test::Equal => (v, v, true),
             Test::Greater => (0, v, false),
             Test::GreaterOrEqual => (v, u32::MAX, true),
-            Test::CommonBit => {
-                let atom = Atom::TermEq {
-                    term,
-                    mask: v,
-                    value: 0,
-                };
-                return Decision::AsksTerm(atom, false, OpenTest::NONE);
-            }
+            Test::CommonBit => return term_has_bits(term, v, 0).negated(),
         };
         Decision::AsksTerm(Atom::TermIn { term, low, high }, holds, OpenTest::NONE)
+    }
+
+    /// The test of `self & mask` against `v`, as an atom about the term, if it is no order.
+    #[tactic(auto, using(std::proofs::lemmas::Nat::and_assoc))]
+    pub(crate) fn ask_bits(self, mask: u32, test: Test, v: u32) -> Decision
+        requires { IsAffineTerm self }
+        ensures asks { IsTestDecision result }
+        ensures decides { (words : List ℕ) → IsWords words
+            → Decides result words (holds test (bit_and (affine_value self words) mask) v) }
+    {
+        let term = self.with_odd_factor().term();
+        match test {
+            Test::Equal => term_has_bits(term, mask, v),
+            Test::CommonBit => term_has_bits(term, mask & v, 0).negated(),
+            Test::Greater | Test::GreaterOrEqual => Decision::Open(OpenTest::NONE),
+        }
     }
 
     /// As a number that is computed from its word.
@@ -457,6 +475,17 @@ impl AffineTerm {
             Decision::Open(OpenTest::NONE)
         }
     }
+}
+
+/// The test `term & mask == value`, as an atom about the term.
+fn term_has_bits(term: Term, mask: u32, value: u32) -> Decision
+    requires { term.word < 16 }
+    ensures asks { IsTestDecision result }
+    ensures decides { (words : List ℕ)
+        → Decides result words (bit_and (term_value term (slice_index words term.word)) mask == value) }
+{
+    let atom = Atom::TermEq { term, mask, value };
+    Decision::AsksTerm(atom, true, OpenTest::NONE)
 }
 
 /// A number as an odd number, or 0, and how far that is shifted to the left.

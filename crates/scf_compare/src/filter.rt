@@ -120,7 +120,7 @@ pub(crate) fn waits_in_filter(
         }
         ControlFlow::Jump(_) | ControlFlow::ReturnConstant => false,
         ControlFlow::ConditionalJump(_, operand, ..) => {
-            operand == Operand::Index || matches!(registers.a, Value::Computed(_))
+            operand == Operand::Index || matches!(registers.a, Value::Bits(..) | Value::Computed(_))
         }
         ControlFlow::DivideByIndex(_) | ControlFlow::ReturnAccumulator => true,
     }

@@ -1,6 +1,6 @@
 //! Abstract values: what is known of a register or a scratch word on a path through a filter.
 
-ghost use Rattle.std.specs.Prelude.{◌≡◌, ℕ, ◌%◌, ◌^◌, ◌<◌, List, Bool, false, true, not, IfSome, IsSome};
+ghost use Rattle.std.specs.Prelude.{◌≡◌, ℕ, ◌%◌, ◌^◌, ◌<◌, List, Bool, false, true, not, IfSome, IsSome, bit_and};
 ghost use Rattle.scf_insn.specs.Words.{IsWords};
 ghost use Rattle.scf_machine.specs.Machine.{holds, value_computed};
 ghost use Rattle.scf_compare.specs.Masked.{IsMaskOf, IsMaskedTest};
@@ -14,7 +14,7 @@ use crate::bit_slice::BitSlice;
 use crate::computed::Computed;
 use crate::known_bits::{known_outcome, told_bits};
 use crate::sources::OpenTest;
-use scf_facts::{Atom, WordFacts};
+use scf_facts::{Atom, Tell, WordFacts};
 use scf_insn::{Arithmetic, Test};
 use scf_machine::holds_of;
 
@@ -26,6 +26,8 @@ pub(crate) enum Value {
     Slice(BitSlice),
     /// An affine term of a bit slice.
     Affine(AffineTerm),
+    /// Bits of an affine term under a mask.
+    Bits(AffineTerm, u32),
     /// Anything else, by the bits that are known of it.
     Computed(Computed),
 }
@@ -54,6 +56,9 @@ impl Value {
             Value::Known(value) => Computed::constant(value),
             Value::Slice(bit_slice) => bit_slice.in_bits(told_bits(facts, bit_slice.word)),
             Value::Affine(term) => term.in_bits(told_bits(facts, term.bit_slice.word)),
+            Value::Bits(term, mask) => {
+                term.in_bits_under(mask, told_bits(facts, term.bit_slice.word))
+            }
             Value::Computed(computed) => computed,
         }
     }
@@ -80,10 +85,59 @@ impl Value {
         }
         match self.affine_result(arithmetic, other) {
             Some(term) => Value::Affine(term),
-            None => self
-                .in_bits(facts)
-                .combined(arithmetic, other.in_bits(facts))
-                .value(),
+            None => self.result_in_bits(facts, arithmetic, other),
+        }
+    }
+
+    /// The abstract result of `self op other` by the known bits of both, or as bits of an affine term.
+    fn result_in_bits<F: WordFacts>(self, facts: &F, arithmetic: Arithmetic, other: Value) -> Value
+        requires value { IsValue self }
+        requires other { IsValue other }
+        ensures value { IsValue result }
+        ensures stands { (words : List ℕ) (a v : ℕ) → F.allows facts.now (F.level facts.now) words
+            → Abstracts self words a
+            → Abstracts other words v
+            → Abstracts result words (value_computed arithmetic a v) }
+    {
+        let computed = self
+            .in_bits(facts)
+            .combined(arithmetic, other.in_bits(facts))
+            .value();
+        match (computed, self.masked_result(arithmetic, other)) {
+            (Value::Computed(_), Some(bits)) => bits,
+            _ => computed,
+        }
+    }
+
+    /// `self & other`, if one of them is an affine term or bits of one, and the other a constant.
+    #[tactic(auto, using(std::proofs::lemmas::Nat::and_comm))]
+    fn masked_result(self, arithmetic: Arithmetic, other: Value) -> Option<Value>
+        requires value { IsValue self }
+        requires other { IsValue other }
+        ensures value { IfSome result IsValue }
+        ensures stands { IfSome result (λ value. (words : List ℕ) (a v : ℕ) → Abstracts self words a
+            → Abstracts other words v
+            → Abstracts value words (value_computed arithmetic a v)) }
+    {
+        match (arithmetic, self, other) {
+            (Arithmetic::And, value, Value::Known(v)) => value.under_mask(v),
+            (Arithmetic::And, Value::Known(v), value) => value.under_mask(v),
+            _ => None,
+        }
+    }
+
+    /// `self & v`, as bits of an affine term.
+    #[tactic(auto, using(std::proofs::lemmas::Nat::and_assoc))]
+    fn under_mask(self, v: u32) -> Option<Value>
+        requires value { IsValue self }
+        ensures value { IfSome result IsValue }
+        ensures stands { IfSome result (λ value. (words : List ℕ) (a : ℕ) → Abstracts self words a
+            → Abstracts value words (bit_and a v)) }
+    {
+        match self {
+            Value::Affine(term) => Some(Value::Bits(term, v)),
+            Value::Bits(term, mask) => Some(Value::Bits(term, mask & v)),
+            Value::Known(_) | Value::Slice(_) | Value::Computed(_) => None,
         }
     }
 
@@ -138,7 +192,7 @@ impl Value {
         match self {
             Value::Slice(bit_slice) => Some(AffineTerm::of(bit_slice)),
             Value::Affine(term) => Some(term),
-            Value::Known(_) | Value::Computed(_) => None,
+            Value::Known(_) | Value::Bits(..) | Value::Computed(_) => None,
         }
     }
 
@@ -186,11 +240,42 @@ impl Value {
     {
         match self.decide_by_atoms(test, other) {
             Decision::Open(_) => self.decide_by_bits(facts, test, other),
-            Decision::AsksTerm(atom, holds, _) => match self.decide_by_bits(facts, test, other) {
-                Decision::Open(open_test) => Decision::AsksTerm(atom, holds, open_test),
+            Decision::AsksTerm(atom, holds, _) => {
+                self.decide_by_term(facts, test, other, atom, holds)
+            }
+            decision => decision,
+        }
+    }
+
+    /// The decision where the test holds exactly if an atom about a term has this answer: by what the store remembers of
+    /// the term, so both sides are told the same, then by the known bits of both.
+    #[cold]
+    #[inline(never)]
+    fn decide_by_term<F: WordFacts>(
+        self,
+        facts: &F,
+        test: Test,
+        other: Value,
+        atom: Atom,
+        answer: bool,
+    ) -> Decision
+        requires value { IsValue self }
+        requires other { IsValue other }
+        requires asks { IsTestDecision (Decision.Asks atom answer) }
+        ensures asks { IsTestDecision result }
+        ensures decides { (words : List ℕ) (a v : ℕ) → F.allows facts.now (F.level facts.now) words
+            → Abstracts self words a
+            → Abstracts other words v
+            → Decides (Decision.Asks atom answer) words (holds test a v)
+            → Decides result words (holds test a v) }
+    {
+        match facts.tell(atom) {
+            Tell::Always => Decision::Known(answer),
+            Tell::Never => Decision::Known(!answer),
+            Tell::Maybe => match self.decide_by_bits(facts, test, other) {
+                Decision::Open(open_test) => Decision::AsksTerm(atom, answer, open_test),
                 decision => decision,
             },
-            decision => decision,
         }
     }
 
@@ -259,6 +344,7 @@ impl Value {
                 Decision::Open(_) => term.ask(test, v),
                 decision => decision,
             },
+            Value::Bits(term, mask) => term.ask_bits(mask, test, v),
             Value::Computed(_) => Decision::Open(OpenTest::NONE),
         }
     }

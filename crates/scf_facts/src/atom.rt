@@ -1,6 +1,6 @@
 //! Questions about one word of a call record, and what a store knows of the answer.
 
-ghost use Rattle.std.specs.Prelude.{◌≡◌, ℕ, if◌then◌else◌, IfNone, IfSome};
+ghost use Rattle.std.specs.Prelude.{◌≡◌, ℕ, if◌then◌else◌, IfNone, IfSome, IsTrue, false};
 ghost use Rattle.scf_facts.specs.Atoms.{IsOfWord, answer_at, word_of};
 ghost use Rattle.scf_facts.specs.Terms.{term_value};
 
@@ -77,7 +77,11 @@ impl Atom {
     }
 
     /// Whether it asks of a term.
-    pub fn is_of_term(self) -> bool {
+    #[inline(always)]
+    pub fn is_of_term(self) -> bool
+        ensures word { result ≡ false → IsOfWord self }
+        ensures term { IsTrue result → IsOfWord self → ⊥ }
+    {
         matches!(self, Atom::TermEq { .. } | Atom::TermIn { .. })
     }
 }

@@ -93,9 +93,25 @@ impl Snapshot {
             → RefuteAmong masks self.old → RefuteAmong masks self.new) }
         ensures refused { OnErr result (self.new ≡ self.old) }
     {
-        match atom.of_term() {
-            None => learn_word(&mut self.sets, alloc, atom, holds)?,
-            Some((term, question)) => learn_term(&mut self.terms, alloc, term, question, holds)?,
+        if atom.is_of_term() {
+            self.learn_of_term(alloc, atom, holds)?;
+        } else {
+            learn_word(&mut self.sets, alloc, atom, holds)?;
+        }
+        Ok(())
+    }
+
+    /// Keeps the allowed lists that give an atom about a term this answer.
+    #[cold]
+    #[inline(never)]
+    fn learn_of_term(&mut self, alloc: Global, atom: Atom, holds: bool) -> Result<(), Memory>
+        requires { IsOfWord atom → ⊥ }
+        ensures learned { OnOk result ((words : List ℕ) → AllowsWords self.new words
+            ↔ (AllowsWords self.old words × (atom_answer atom words ≡ holds))) }
+        ensures refused { OnErr result (self.new ≡ self.old) }
+    {
+        if let Some((term, question)) = atom.of_term() {
+            learn_term(&mut self.terms, alloc, term, question, holds)?;
         }
         Ok(())
     }
@@ -112,8 +128,24 @@ impl Snapshot {
             → ((words : List ℕ) × AllowsWords self.now words × (atom_answer atom words ≡ true))
             × ((words : List ℕ) × AllowsWords self.now words × (atom_answer atom words ≡ false)) }
     {
+        if atom.is_of_term() {
+            return self.tell_of_term(atom);
+        }
+        tell_by_word(&self.sets, atom)
+    }
+
+    /// The answer of an atom about a term: by its word, if that leaves only one value, else by what is known of the term.
+    #[cold]
+    #[inline(never)]
+    fn tell_of_term(&self, atom: Atom) -> Tell
+        requires word { word_of atom < 16 }
+        ensures always { result ≡ Tell.Always
+            → (words : List ℕ) → AllowsWords self.now words → atom_answer atom words ≡ true }
+        ensures never { result ≡ Tell.Never
+            → (words : List ℕ) → AllowsWords self.now words → atom_answer atom words ≡ false }
+    {
         match atom.of_term() {
-            None => tell_by_word(&self.sets, atom),
+            None => Tell::Maybe,
             Some((term, question)) => {
                 let set = self.sets[term.word as usize].as_set();
                 match set.value_under(term.mask) {

@@ -1,11 +1,11 @@
 -- What is known of the numbers that a filter computes from the words of a record.
-use Rattle.std.specs.Prelude.{◌≡◌, ◌<◌, ◌↔◌, ◌^◌, ℕ, List, Bool, false, true, Some, All, slice_index_or}
+use Rattle.std.specs.Prelude.{◌≡◌, ◌<◌, ◌↔◌, ◌^◌, ℕ, List, Bool, false, true, Some, All, bit_and, slice_index_or}
 use Rattle.scf_facts.specs.Atoms.{atom_answer, word_of}
 use Rattle.scf_facts.specs.Bits.{HasBits}
 use Rattle.scf_insn.specs.Kernel.{bpf_memwords}
 use Rattle.scf_machine.specs.Machine.{State, word_at}
 use Rattle.scf_compare.specs.declared.value.Value.{Value}
-use Rattle.scf_compare.specs.declared.value.Value.TheVariants.{Known, Slice, Affine, Computed}
+use Rattle.scf_compare.specs.declared.value.Value.TheVariants.{Known, Slice, Affine, Bits, Computed}
 use Rattle.scf_compare.specs.declared.computed.Computed.{Computed as ComputedBits}
 use Rattle.scf_compare.specs.declared.value.Decision.{Decision}
 use Rattle.scf_compare.specs.declared.value.Decision.TheVariants.{Known as Decided, Asks, AsksTerm, Open}
@@ -23,6 +23,7 @@ abbrev pub IsValue : Value → Type 0
 IsValue (Known value) = Unit {0}
 IsValue (Slice bit_slice) = IsBitSlice bit_slice
 IsValue (Affine term) = IsAffineTerm term
+IsValue (Bits term mask) = IsAffineTerm term
 IsValue (Computed computed) = Unit {0}
 
 -- over the words a value abstracts a number
@@ -30,6 +31,7 @@ abbrev pub Abstracts : Value → List ℕ → ℕ → Type 0
 Abstracts (Known value) words x = x ≡ value
 Abstracts (Slice bit_slice) words x = x ≡ bit_slice_value bit_slice words
 Abstracts (Affine term) words x = x ≡ affine_value term words
+Abstracts (Bits term mask) words x = x ≡ bit_and (affine_value term words) mask
 Abstracts (Computed computed) words x = IsComputedNumber computed x
 
 -- a decision asks of some of the sixteen words
@@ -51,6 +53,7 @@ abbrev pub IsMaskedValue : ℕ → Bool → Value → Type 0
 IsMaskedValue masks under (Known value) = Unit {0}
 IsMaskedValue masks under (Slice bit_slice) = IsMaskedSlice masks bit_slice × (under ≡ false → IsWhole bit_slice)
 IsMaskedValue masks under (Affine term) = ⊥
+IsMaskedValue masks under (Bits term mask) = ⊥
 IsMaskedValue masks under (Computed computed) = ⊥
 
 -- a decision that isn't left open, and with which facts still refute under bits of the masks alone
