@@ -1,6 +1,7 @@
 -- From one stage of an exploration to the next.
-use Rattle.scf_compare.proofs.Common.{◌≡◌, ℕ, ◌<◌, ◌≤◌, List, arith, IfSome, Option, None, IsWords-words_of, call_of-words_of, words_of, AllRelated, Finding, Which, AreWordsIn, Compared, IsFirstUndecided, WereSeen, finding_of_all}
+use Rattle.scf_compare.proofs.Common.{inl, inr, Frontier, IsAhead, IsExact, Store, Tree, ◌≡◌, ℕ, ◌<◌, ◌≤◌, List, arith, IfSome, Option, None, IsWords-words_of, call_of-words_of, words_of, AllRelated, Finding, Which, AreWordsIn, Compared, IsFirstUndecided, WereSeen, finding_of_all}
 use Rattle.scf_compare.specs.internal.Stages.{IsExplored, IsFound}
+use Rattle.scf_compare.specs.internal.Trees.{IsLaterNode}
 
 -- the relation holds of the answers to every record, once the words of each were seen and no leaf is undecided
 pub all_related : (compared : Compared) (found : Option (Which × ℕ)) → found ≡ None
@@ -22,3 +23,22 @@ pub of_found : (compared : Compared) (given : ℕ → Type 0) (steps limit effor
     → IsFound compared finding → 0 < steps → steps ≤ limit → steps ≤ effort
     → IsExplored compared given limit effort steps finding
 of_found compared given steps limit effort finding found some within_limit within_effort = grind arith
+
+-- At a later node that the allowed words come to, the same words are ahead, and what complete facts decide they still
+-- decide.
+module _ {F K N : Type 0} (store : Store F) (tree : K → Tree N) (frontier : Frontier F K N) (here : Tree N) (from : N)
+    (there : Tree N) (to : N)
+    (later : IsLaterNode (store.allows frontier.facts (store.level frontier.facts)) here from there to) where
+  pub ahead_later : (words : List ℕ) → IsAhead store tree frontier (here.reaches from) words
+      → IsAhead store tree frontier (there.reaches to) words
+  ahead_later words (inl inside) = inl inside
+  ahead_later words (inr (allowed, reached)) = inr (allowed, later.reached words allowed reached)
+
+  pub exact_later : (masks : ℕ) → IsExact store tree masks frontier (here.is_plain masks from) (here.reaches from)
+      → IsExact store tree masks frontier (there.is_plain masks to) (there.reaches to)
+  exact_later masks exact = record {
+    branches = exact.branches;
+    facts = exact.facts;
+    plain = later.plain masks exact.plain;
+    reached = λ words allowed. later.reached words allowed (exact.reached words allowed);
+  }

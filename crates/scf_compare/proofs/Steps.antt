@@ -1,5 +1,5 @@
 -- Several steps as one.
-use Rattle.scf_compare.proofs.Common.{◌+◌, ◌≤◌, ℕ, List, arith, Step, Tree}
+use Rattle.scf_compare.proofs.Common.{◌*◌, ◌+◌, ◌<◌, ◌≤◌, ℕ, List, arith, mul-le-mul_left, Step, Tree}
 use Rattle.scf_compare.specs.declared.step.Step.TheVariants.{Next, Branch, Leaf}
 use Rattle.scf_compare.specs.internal.Trees.{IsLaterNode, IsStep, Leaves, pending_size, pending_tree, step_size}
 
@@ -63,3 +63,32 @@ later_both given first between last from next to one two = record {
   size = omega (arith, one.size, two.size);
   plain = λ masks plain. two.plain masks (one.plain masks plain);
 }
+
+-- a step from a later node to the only next one
+pub passed_on : {N E : Type 0} (leaves : Leaves E) (given : List ℕ → Type 0) (first here there : Tree N) (from node next : N)
+    → IsLaterNode given first from here node → IsStep leaves given here node there (Next next)
+    → IsLaterNode given first from there next
+passed_on leaves given first here there from node next later step = record {
+  node = step.proper;
+  reached = λ words is reached. step.leads words is (later.reached words is reached);
+  size = omega (arith, later.size, step.costs);
+  plain = λ masks plain. step.plain masks (later.plain masks plain);
+}
+
+-- a step from a later node
+pub stepped : {N E : Type 0} (leaves : Leaves E) (given : List ℕ → Type 0) (here between there : Tree N) (from node : N)
+    (step : Step N E) → IsLaterNode given here from between node → IsStep leaves given between node there step
+    → IsStep leaves given here from there step
+stepped leaves given here between there from node step later one = record {
+  proper = one.proper;
+  leads = λ words is reached. one.leads words is (later.reached words is reached);
+  costs = omega (arith, later.size, one.costs);
+  plain = λ masks plain. one.plain masks (later.plain masks plain);
+}
+
+-- so many steps before a node, with a tree behind each end
+pub scaled_steps : (a steps n scale : ℕ) → a + steps ≤ n → 0 < scale → a * scale + steps ≤ n * scale
+scaled_steps a steps n scale h s =
+    let all : scale * (a + steps) ≤ scale * n = mul-le-mul_left scale h in
+    let each : steps * 1 ≤ steps * scale = mul-le-mul_left steps s in
+    omega arith

@@ -1,14 +1,14 @@
 //! What the explorer knows of the two sides: one tree of questions.
 
-ghost use Rattle.std.specs.Prelude.{◌<◌, ◌↔◌, IsTrue};
+ghost use Rattle.std.specs.Prelude.{◌+◌, ◌<◌, ◌≤◌, ◌↔◌, IsTrue};
 ghost use Rattle.scf_insn.specs.Words.{words_of};
 ghost use Rattle.scf_compare.specs.Findings.{Compared};
 ghost use Rattle.scf_compare.specs.internal.Leaves.{IsOnlyAnswer, pair_leaves};
-ghost use Rattle.scf_compare.specs.internal.Trees.{Tree, IsStep};
+ghost use Rattle.scf_compare.specs.internal.Trees.{IsLaterNode, IsStep, Tree};
 
 use crate::side_tree::SideLeaf;
 use crate::sources::OpenTest;
-use crate::step::Step;
+use crate::step::{Passed, Step};
 use scf_facts::WordFacts;
 use scf_insn::{Answer, CallRecord};
 
@@ -41,6 +41,26 @@ pub(crate) trait Comparison {
         requires { (tree self.now known.old).is_node node.now }
         ensures { IsStep (pair_leaves (compared self.now)) (F.allows facts.now (F.level facts.now))
             (tree self.now known.old) node.now (tree self.now known.new) result };
+
+    /// Passes steps that the store decides, at most so many, at less cost than step by step.
+    fn pass<F: WordFacts>(
+        &self,
+        facts: &F,
+        known: &mut Self::Known,
+        node: Self::Node,
+        most: u64,
+    ) -> Passed<Self::Node>
+        requires { (tree self.now known.old).is_node node }
+        ensures later { IsLaterNode (F.allows facts.now (F.level facts.now))
+            (tree self.now known.old) node (tree self.now known.new) result.node }
+        ensures size { (tree self.now known.new).size result.node + result.steps ≤ (tree self.now known.old).size node }
+        ensures most { result.steps ≤ most }
+    {
+        let _ = facts;
+        let _ = known;
+        let _ = most;
+        Passed::nothing(node)
+    }
 
     /// The first test on the path that nothing known decides, given what is known at its end.
     fn open_test(&self, known: &Self::Known) -> Option<OpenTest>;

@@ -27,6 +27,7 @@ pub(crate) enum ControlFlow {
 impl ControlFlow {
     /// The instruction at an index, its operation, and where it leads.
     #[tactic(auto, using(crate::proofs::ControlFlows::reads))]
+    #[inline(always)]
     pub(crate) fn at(insns: &[Insn], index: usize) -> (Insn, Operation, ControlFlow)
         requires index { index < length insns.now }
         requires valid { IsValidList insns.now }

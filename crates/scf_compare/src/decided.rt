@@ -13,10 +13,10 @@ use scf_facts::{Tell, WordFacts};
 
 /// How many steps are taken at once: enough that a long chain of tests whose answers are known costs few steps, and few
 /// enough that each of those is short.
-const MOST_AT_ONCE: usize = 8;
+const MOST_AT_ONCE: u64 = 8;
 
 /// The step from a node, behind those that the store decides.
-#[tactic(auto, using(crate::proofs::Steps::followed))]
+#[tactic(auto, using(crate::proofs::Steps::followed, crate::proofs::Steps::stepped))]
 pub(crate) fn decided_step<T: SideTree, F: WordFacts>(
     side: &T,
     facts: &F,
@@ -28,8 +28,9 @@ pub(crate) fn decided_step<T: SideTree, F: WordFacts>(
         (λ words. IsWords words × F.allows facts.now (F.level facts.now) words)
         (T.tree side.now known.old) node (T.tree side.now known.new) result }
 {
-    let mut step = side.step(facts, known, node);
-    for _count in 1..MOST_AT_ONCE {
+    let passed = side.pass(facts, known, node, MOST_AT_ONCE - 1);
+    let mut step = side.step(facts, known, passed.node);
+    for _count in passed.steps + 1..MOST_AT_ONCE {
         let Some(next) = decided_next(side, facts, known, step) else {
             return step;
         };
@@ -57,13 +58,15 @@ pub(crate) fn follow<T: SideTree, F: WordFacts>(
     }
 }
 
-/// Goes on from a pending step as far as the store decides it now, up to a node at which the side waits.
+/// Goes on from a pending step as far as the store decides it now, up to a node at which the side waits: this many times
+/// as far as a step goes.
 #[tactic(auto, using(crate::proofs::Steps::later))]
 pub(crate) fn go_ahead<T: SideTree, F: WordFacts>(
     side: &T,
     facts: &F,
     known: &mut T::Known,
     pending: Step<T::Node, SideLeaf>,
+    times: u64,
 ) -> Step<T::Node, SideLeaf>
     requires { IsProper (T.tree side.now known.old) (IsSideLeaf (T.behavior side.now)) pending }
     ensures { let leaves = side_leaves (T.behavior side.now) in
@@ -72,7 +75,7 @@ pub(crate) fn go_ahead<T: SideTree, F: WordFacts>(
         (pending_tree leaves (T.tree side.now known.new)) result }
 {
     let mut step = pending;
-    for _count in 0..MOST_AT_ONCE {
+    for _count in 0..times.saturating_mul(MOST_AT_ONCE) {
         let Some(next) = decided_next(side, facts, known, step) else {
             return step;
         };

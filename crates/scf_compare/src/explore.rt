@@ -168,7 +168,8 @@ fn advance<C: Comparison, F: WordFacts>(
 
 /// Walks the whole tree from a node, with what is known there, for the words that the store allows.
 ///
-/// An undecided leaf doesn't end the walk: another leaf may show a difference. `taken` becomes the count of steps.
+/// An undecided leaf doesn't end the walk: another leaf may show a difference. `taken` becomes the count of steps, with
+/// those that are passed.
 pub(crate) fn explore<C: Comparison, F: WordFacts>(
     alloc: Global,
     comparison: &C,
@@ -192,21 +193,24 @@ pub(crate) fn explore<C: Comparison, F: WordFacts>(
     let mut known = start;
     let mut node = root;
     let mut first_undecided = None;
-    for steps in 0..limit {
+    let mut steps = 0;
+    while steps < limit {
+        let passed = comparison.pass(&frontier.facts, &mut known, node, limit - steps - 1);
+        steps += passed.steps + 1;
         match advance(
             comparison,
             &mut frontier,
             &mut known,
-            node,
+            passed.node,
             &mut first_undecided,
         )? {
             Stage::At(next) => node = next,
             Stage::AllSeen => {
-                *taken = steps + 1;
-                return Ok(seen_in(steps + 1, first_undecided));
+                *taken = steps;
+                return Ok(seen_in(steps, first_undecided));
             }
             Stage::Found(finding) => {
-                *taken = steps + 1;
+                *taken = steps;
                 return Ok(finding);
             }
         }

@@ -1,21 +1,24 @@
 //! A filter as a tree of questions: its paths are followed with what is known of the registers.
 
-ghost use Rattle.std.specs.Prelude.{◌≡◌, ℕ, List};
+ghost use Rattle.std.specs.Prelude.{◌≡◌, ◌+◌, ◌≤◌, ℕ, List, IfNone, IfSome, IsTrue};
 ghost use Rattle.scf_insn.specs.Words.{IsWords};
 ghost use Rattle.scf_compare.specs.Masked.{IsMaskedProgram};
 ghost use Rattle.scf_compare.specs.Paths.{tree_size};
 ghost use Rattle.scf_compare.specs.internal.Filters.{IsStepOf, leaves_of_filter, filter_is_node, filter_is_plain};
 ghost use Rattle.scf_compare.specs.internal.Filters.{filter_reaches, filter_size, filter_tree};
-ghost use Rattle.scf_compare.specs.internal.Trees.{IsStep};
+ghost use Rattle.scf_compare.specs.declared.step.Step.{Step};
+ghost use Rattle.scf_compare.specs.internal.Trees.{IsLaterNode, IsStep};
+ghost use Rattle.scf_compare.specs.internal.Values.{Abstracts, IsValue};
 
+use crate::asking::known_word;
 use crate::control_flow::ControlFlow;
 use crate::registers::KnownRegisters;
 use crate::sources::OpenTest;
-use crate::step::Step;
+use crate::step::{Passed, Step};
 use crate::value::{Decision, Value};
 use scf_facts::WordFacts;
 use scf_insn::{Answer, Operand, Operation, Test};
-use scf_machine::Program;
+use scf_machine::{Program, holds_of};
 
 /// An instruction index, or the leaf of a division by 0.
 #[derive(Clone, Copy)]
@@ -99,6 +102,104 @@ pub(crate) fn step_in_filter<F: WordFacts>(
             answer: Some(answer),
             at,
         }),
+    }
+}
+
+/// Passes jumps, loads of words, and tests against constants while the accumulator is a whole word that the store knows,
+/// at most so many.
+#[tactic(auto, using(crate::proofs::Steps::passed_on))]
+pub(crate) fn pass_in_filter<F: WordFacts>(
+    program: &Program,
+    facts: &F,
+    registers: &mut KnownRegisters,
+    node: FilterNode,
+    most: u64,
+) -> Passed<FilterNode>
+    requires { filter_is_node program.now registers.old node }
+    ensures later { IsLaterNode (λ words. IsWords words × F.allows facts.now (F.level facts.now) words)
+        (filter_tree program.now registers.old) node (filter_tree program.now registers.new) result.node }
+    ensures steps { filter_size program.now result.node + result.steps ≤ filter_size program.now node }
+    ensures most { result.steps ≤ most }
+{
+    let FilterNode::At(first) = node else {
+        return Passed::nothing(node);
+    };
+    let (mut steps, mut asked) = (0, 0);
+    let mut index = first;
+    let mut accumulator = known_accumulator(facts, registers.a);
+    while steps < most {
+        let Some(number) = accumulator else {
+            break;
+        };
+        let Some((next, asks)) = pass_at(program, facts, registers, index, number) else {
+            break;
+        };
+        if !asks {
+            accumulator = known_accumulator(facts, registers.a);
+        }
+        index = next;
+        steps += 1;
+        asked += u64::from(asks);
+    }
+    let node = FilterNode::At(index);
+    Passed { node, steps, asked }
+}
+
+/// The index after a jump, a load of a word, or a test of the accumulator, which is this number, against a constant; and
+/// whether it is such a test, with two successors.
+#[tactic(auto, using(crate::proofs::ControlFlows::load_fits))]
+fn pass_at<F: WordFacts>(
+    program: &Program,
+    facts: &F,
+    registers: &mut KnownRegisters,
+    index: usize,
+    number: u32,
+) -> Option<(usize, bool)>
+    requires node { filter_is_node program.now registers.old (FilterNode.At index) }
+    requires number { (words : List ℕ) (x : ℕ) → IsWords words → F.allows facts.now (F.level facts.now) words
+        → Abstracts registers.old.a words x → x ≡ number }
+    ensures next { IfSome result (λ next. IsStep (leaves_of_filter program.now)
+        (λ words. IsWords words × F.allows facts.now (F.level facts.now) words)
+        (filter_tree program.now registers.old) (FilterNode.At index)
+        (filter_tree program.now registers.new) (Step.Next (FilterNode.At next.0))) }
+    ensures asks { IfSome result (λ next. IsTrue next.1 → registers.new ≡ registers.old) }
+    ensures none { IfNone result (registers.new ≡ registers.old) }
+{
+    let (insn, operation, control_flow) = ControlFlow::at(program.insns(), index);
+    match control_flow {
+        ControlFlow::Jump(target) => Some((target, false)),
+        ControlFlow::FallThrough(next) => match operation {
+            Operation::LoadWord => {
+                registers.apply(facts, insn, operation);
+                Some((next, false))
+            }
+            _ => None,
+        },
+        ControlFlow::ConditionalJump(test, operand, if_true, if_false) => {
+            let Operand::Constant = operand else {
+                return None;
+            };
+            let asks = if_true != if_false;
+            if holds_of(test, number, insn.k) {
+                Some((if_true, asks))
+            } else {
+                Some((if_false, asks))
+            }
+        }
+        _ => None,
+    }
+}
+
+/// The accumulator, if it is a whole word that the store knows.
+#[tactic(auto, using(crate::proofs::Bits::whole_words))]
+fn known_accumulator<F: WordFacts>(facts: &F, value: Value) -> Option<u32>
+    requires { IsValue value }
+    ensures { IfSome result (λ number. (words : List ℕ) (x : ℕ) → IsWords words
+        → F.allows facts.now (F.level facts.now) words → Abstracts value words x → x ≡ number) }
+{
+    match value {
+        Value::Slice(bit_slice) if bit_slice.is_whole() => known_word(facts, bit_slice.word),
+        _ => None,
     }
 }
 

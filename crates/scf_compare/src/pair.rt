@@ -16,7 +16,7 @@ use crate::decided::{follow, go_ahead};
 use crate::scope::is_in_scope;
 use crate::side_tree::{SideLeaf, SideTree};
 use crate::sources::OpenTest;
-use crate::step::Step;
+use crate::step::{Passed, Step};
 use scf_facts::WordFacts;
 use scf_insn::{Answer, CallRecord};
 use scf_profile::{Relation, Scope};
@@ -65,7 +65,7 @@ impl<L: SideTree, R: SideTree> Comparison for Pair<L, R> {
             PairNode::AtLeft(node) => match self.left.step(facts, &mut known.left, node) {
                 Step::Next(next) => Step::Next(PairNode::AtLeft(next)),
                 Step::Branch(atom, if_true, if_false) => {
-                    known.ahead = go_ahead(&self.right, facts, &mut known.right, known.ahead);
+                    known.ahead = go_ahead(&self.right, facts, &mut known.right, known.ahead, 1);
                     Step::Branch(atom, PairNode::AtLeft(if_true), PairNode::AtLeft(if_false))
                 }
                 Step::Leaf(leaf) => self.ask_right(facts, &mut known.right, leaf, known.ahead),
@@ -74,6 +74,26 @@ impl<L: SideTree, R: SideTree> Comparison for Pair<L, R> {
                 self.ask_right(facts, &mut known.right, leaf, Step::Next(node))
             }
         }
+    }
+
+    fn pass<F: WordFacts>(
+        &self,
+        facts: &F,
+        known: &mut PairKnown<L::Known, R::Known, R::Node>,
+        node: PairNode<L::Node, R::Node>,
+        most: u64,
+    ) -> Passed<PairNode<L::Node, R::Node>> {
+        let PairNode::AtLeft(left) = node else {
+            return Passed::nothing(node);
+        };
+        let passed = self.left.pass(facts, &mut known.left, left, most);
+        let next = passed.at(PairNode::AtLeft(passed.node));
+        if passed.asked == 0 {
+            return next;
+        }
+        let right = &self.right;
+        known.ahead = go_ahead(right, facts, &mut known.right, known.ahead, passed.asked);
+        next
     }
 
     fn open_test(&self, known: &PairKnown<L::Known, R::Known, R::Node>) -> Option<OpenTest> {

@@ -17,7 +17,7 @@ ghost use Rattle.scf_compare.specs.internal.Profiles.{profile_is_node, profile_r
 ghost use Rattle.scf_compare.specs.internal.Profiles.{profile_size, profile_tree, size_behind, size_of_rest};
 ghost use Rattle.scf_compare.specs.internal.Trees.{IsStep};
 
-use crate::asking::{number_from, word_is};
+use crate::asking::{known_word, number_from, word_is};
 use crate::by_number::ByNumber;
 use crate::origin::Origin;
 use crate::question::{ConditionPart, Successor, question_of};
@@ -236,7 +236,7 @@ impl ByNumber<'_> {
         if index >= numbers.len() {
             return index;
         }
-        let known = known_number(facts);
+        let known = known_word(facts, 0);
         let mut least = index;
         let mut first = index + 1;
         let mut last = numbers.len();
@@ -373,16 +373,6 @@ impl ByNumber<'_> {
             Successor::Then(part) => ProfileNode::Condition(at, part),
         }
     }
-}
-
-/// The syscall number, if the store knows it.
-#[tactic(auto, using(crate::proofs::Bits::whole_words))]
-fn known_number<F: WordFacts>(facts: &F) -> Option<u32>
-    ensures { IfSome result (λ number. (words : List ℕ) → IsWords words
-        → F.allows facts.now (F.level facts.now) words → slice_index words 0 ≡ number) }
-{
-    let bits = facts.known_bits(0);
-    (bits.mask == u32::MAX).then_some(bits.value)
 }
 
 /// Whether the syscall number is at least another one: by itself if it is known, else by the store.

@@ -1,14 +1,14 @@
 //! A side of a comparison as a tree of questions about the words of a call record.
 
-ghost use Rattle.std.specs.Prelude.{◌≡◌, ◌<◌, ℕ, List};
+ghost use Rattle.std.specs.Prelude.{◌≡◌, ◌+◌, ◌<◌, ◌≤◌, ℕ, List};
 ghost use Rattle.scf_insn.specs.Words.{words_of, IsWords};
 ghost use Rattle.scf_compare.specs.Sides.{Behavior};
 ghost use Rattle.scf_compare.specs.internal.Leaves.{IsOnlyAnswer, side_leaves};
-ghost use Rattle.scf_compare.specs.internal.Trees.{Tree, IsStep};
+ghost use Rattle.scf_compare.specs.internal.Trees.{IsLaterNode, IsStep, Tree};
 
 use crate::origin::Origin;
 use crate::sources::OpenTest;
-use crate::step::Step;
+use crate::step::{Passed, Step};
 use scf_facts::WordFacts;
 use scf_insn::{Answer, CallRecord};
 
@@ -52,6 +52,26 @@ pub(crate) trait SideTree {
         ensures { IsStep (side_leaves (behavior self.now))
             (λ words. IsWords words × F.allows facts.now (F.level facts.now) words)
             (tree self.now known.old) node (tree self.now known.new) result };
+
+    /// Passes steps that the store decides, at most so many, where the side does so at less cost than step by step.
+    fn pass<F: WordFacts>(
+        &self,
+        facts: &F,
+        known: &mut Self::Known,
+        node: Self::Node,
+        most: u64,
+    ) -> Passed<Self::Node>
+        requires { (tree self.now known.old).is_node node }
+        ensures later { IsLaterNode (λ words. IsWords words × F.allows facts.now (F.level facts.now) words)
+            (tree self.now known.old) node (tree self.now known.new) result.node }
+        ensures size { (tree self.now known.new).size result.node + result.steps ≤ (tree self.now known.old).size node }
+        ensures most { result.steps ≤ most }
+    {
+        let _ = facts;
+        let _ = known;
+        let _ = most;
+        Passed::nothing(node)
+    }
 
     /// Whether the step from a node wants all that will be known there: it computes, or tests a computed value.
     fn waits_at(&self, known: &Self::Known, node: Self::Node) -> bool

@@ -10,12 +10,12 @@ ghost use Rattle.scf_compare.specs.internal.Stacks.{FirstAnswer, IsOlder, IsStac
 ghost use Rattle.scf_compare.specs.internal.Stacks.{stack_is_node, stack_tree};
 ghost use Rattle.scf_compare.specs.internal.Trees.{IsStep};
 
-use crate::filter::{FilterNode, start_in_filter, step_in_filter, waits_in_filter};
+use crate::filter::{FilterNode, pass_in_filter, start_in_filter, step_in_filter, waits_in_filter};
 use crate::origin::Origin;
 use crate::registers::KnownRegisters;
 use crate::side_tree::{SideLeaf, SideTree};
 use crate::sources::OpenTest;
-use crate::step::Step;
+use crate::step::{Passed, Step};
 use StackNode::{At, Empty};
 use scf_facts::WordFacts;
 use scf_insn::{Action, Answer, CallRecord};
@@ -68,6 +68,23 @@ impl SideTree for StackSide<'_> {
                 },
             }),
             At(index, older, node) => step_from(self.filters, facts, known, index, older, node),
+        }
+    }
+
+    fn pass<F: WordFacts>(
+        &self,
+        facts: &F,
+        known: &mut KnownRegisters,
+        node: StackNode,
+        most: u64,
+    ) -> Passed<StackNode> {
+        match node {
+            Empty => Passed::nothing(node),
+            At(index, older, inner) => {
+                let program = filter_of(self.filters, index);
+                let passed = pass_in_filter(program, facts, known, inner, most);
+                passed.at(At(index, older, passed.node))
+            }
         }
     }
 

@@ -1,5 +1,7 @@
 //! Steps in a tree of questions.
 
+ghost use Rattle.std.specs.Prelude.{◌≡◌};
+
 use scf_facts::Atom;
 
 /// A step from a node of a tree of questions about words. `E` is the type of its leaves.
@@ -11,4 +13,38 @@ pub(crate) enum Step<N, E> {
     Branch(Option<Atom>, N, N),
     /// The tree ends here.
     Leaf(E),
+}
+
+/// A later node of a tree of questions, and what was passed on the way to it.
+#[derive(Clone, Copy)]
+pub(crate) struct Passed<N> {
+    pub(crate) node: N,
+    /// How many steps were taken.
+    pub(crate) steps: u64,
+    /// How many of them ask what the store knows.
+    pub(crate) asked: u64,
+}
+
+impl<N: Copy> Passed<N> {
+    /// Nothing is passed.
+    pub(crate) fn nothing(node: N) -> Passed<N>
+        ensures { result ≡ record { node = node; steps = 0; asked = 0 } }
+    {
+        Passed {
+            node,
+            steps: 0,
+            asked: 0,
+        }
+    }
+
+    /// As much is passed on the way to a node of another tree.
+    pub(crate) fn at<M>(self, node: M) -> Passed<M>
+        ensures { result ≡ record { node = node; steps = self.steps; asked = self.asked } }
+    {
+        Passed {
+            node,
+            steps: self.steps,
+            asked: self.asked,
+        }
+    }
 }

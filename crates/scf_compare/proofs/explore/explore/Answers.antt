@@ -1,5 +1,5 @@
 use Rattle.scf_compare.proofs.Common.{◌≡◌, ◌+◌, ◌∙◌, arith, inl, inr, None}
-use Rattle.scf_compare.proofs.Stages.{all_related, of_all, of_found}
+use Rattle.scf_compare.proofs.Stages.{ahead_later, all_related, exact_later, of_all, of_found}
 use Rattle.scf_compare.proofs.explore.explore.Goals as goal
 
 pub loop-steps-init : goal.loop-steps-init
@@ -9,6 +9,7 @@ loop-steps-init g c = record {
   index = tt;
   words = λ words within. grind (arith, c.requires.scope words, c.requires.reached words within);
   size = grind arith;
+  most = grind arith;
   exact = λ masks few among plain. grind (arith, c.requires.scope, c.requires.reached);
 }
 
@@ -18,26 +19,33 @@ returns-in-AllSeen g c =
     let seen = rw c.in-AllSeen.is at after.stage in
     let compared = g.C.Comparison.compared c.args.comparison.now in
     let so_far = c.loop-steps.invariant in
-    let counts = g.met.C.Comparison.counts c.args.comparison.now c.loop-steps.known c.loop-steps.node in
+    let passed = c.pass-passed.ensures in
+    let counts = g.met.C.Comparison.counts c.args.comparison.now c.pass-passed.new.known c.pass-passed.result.node in
     let all = λ (none : c.advance.new.first_undecided ≡ None).
     all_related compared c.advance.new.first_undecided none
-    (λ words within. grind (arith, so_far.words words within, seen words, after.kept)) in
-    rw c.seen_in.ensures (of_all compared _ (c.loop-steps.steps + 1) c.args.limit _ c.advance.new.first_undecided
+    (λ words within. elim (so_far.words words within) [
+      | inl was ↦ grind (arith, was, after.kept)
+      | inr ahead ↦ seen words (ahead_later _ _ _ _ _ _ _ passed.later words ahead)
+    ]) in
+    rw c.seen_in.ensures (of_all compared _ (c.loop-steps.steps + (c.pass-passed.result.steps + 1)) c.args.limit _ c.advance.new.first_undecided
     after.index all (λ masks given. let before = so_far.exact masks given.0 given.1 given.2 in
-    after.exact masks given.0 before.1 ∙ before.0)
-    (omega arith) (omega arith) (omega (arith, so_far.size, counts)))
+    after.exact masks given.0 (exact_later _ _ _ _ _ _ _ passed.later masks before.1) ∙ before.0)
+    (omega arith) (omega (arith, passed.most)) (omega (arith, so_far.size, passed.size, counts)))
 
 pub returns-in-Found : goal.returns-in-Found
 returns-in-Found g c =
-    let counts = g.met.C.Comparison.counts c.args.comparison.now c.loop-steps.known c.loop-steps.node in
-    of_found _ _ (c.loop-steps.steps + 1) c.args.limit _ c.in-Found.finding (rw c.in-Found.is at c.in_ok-next.ensures.stage)
-    (omega arith) (omega arith) (omega (arith, c.loop-steps.invariant.size, counts))
+    let passed = c.pass-passed.ensures in
+    let counts = g.met.C.Comparison.counts c.args.comparison.now c.pass-passed.new.known c.pass-passed.result.node in
+    of_found _ _ (c.loop-steps.steps + (c.pass-passed.result.steps + 1)) c.args.limit _ c.in-Found.finding
+    (rw c.in-Found.is at c.in_ok-next.ensures.stage) (omega arith) (omega (arith, passed.most))
+    (omega (arith, c.loop-steps.invariant.size, passed.size, counts))
 
 pub loop-steps-preserved : goal.loop-steps-preserved
 loop-steps-preserved g c =
     let after = c.in_ok-next.ensures in
     let over = rw c.in-At.is at after.stage in
     let so_far = c.loop-steps.invariant in
+    let passed = c.pass-passed.ensures in
     record {
       frontier = over.frontier;
       node = over.node;
@@ -45,10 +53,12 @@ loop-steps-preserved g c =
       words = λ words within.
           elim (so_far.words words within) [
             | inl seen ↦ grind (arith, seen, after.kept)
-            | inr ahead ↦ over.words words ahead
+            | inr ahead ↦ over.words words (ahead_later _ _ _ _ _ _ _ passed.later words ahead)
           ];
-      size = omega (arith, over.size, so_far.size);
+      size = omega (arith, over.size, so_far.size, passed.size);
+      most = omega (arith, passed.most);
       exact = λ masks few among plain.
           let before = so_far.exact masks few among plain in
-          (after.exact masks few before.1 ∙ before.0, over.exact masks before.1);
+          let here = exact_later _ _ _ _ _ _ _ passed.later masks before.1 in
+          (after.exact masks few here ∙ before.0, over.exact masks here);
     }

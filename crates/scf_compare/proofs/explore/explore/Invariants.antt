@@ -1,4 +1,4 @@
-use Rattle.scf_compare.proofs.Common.{◌≡◌, ◌+◌, ◌≤◌, ◌⊎◌, ℕ, List, IfSome, None, AreWordsIn, IsFirstUndecided, WereSeen, IsAhead, IsFrontier, IsExact, open_size}
+use Rattle.scf_compare.proofs.Common.{◌≡◌, ◌+◌, ◌-◌, ◌≤◌, ◌⊎◌, ℕ, List, IfSome, None, AreWordsIn, IsFirstUndecided, WereSeen, IsAhead, IsFrontier, IsExact, open_size}
 use Rattle.scf_facts.specs.Masks.{AreFew}
 use Rattle.scf_compare.proofs.explore.explore.Given as goal
 
@@ -16,7 +16,11 @@ invariant-loop-steps g l =
       words : (words : List ℕ) → AreWordsIn compared words
           → WereSeen compared l.first_undecided words ⊎ IsAhead store tree l.frontier (here.reaches l.node) words;
       size : l.steps + (open_size tree l.frontier + here.size l.node) ≤ whole.size l.fn.root;
+      most : l.steps ≤ l.limit;
       exact : (masks : ℕ) → AreFew masks → store.refutes_among l.fn.facts 0 masks → whole.is_plain masks l.fn.root
           → (l.first_undecided ≡ None)
           × IsExact store tree masks l.frontier (here.is_plain masks l.node) (here.reaches l.node);
     }
+
+abbrev pub decreases-loop-steps : goal.decreases-loop-steps
+decreases-loop-steps g l = l.limit - l.steps
