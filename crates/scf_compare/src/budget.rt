@@ -63,12 +63,12 @@ impl Limit {
 }
 
 /// Takes one of a number, if it isn't 0.
-fn take_one(left: &mut u64) -> bool
-    ensures { IsOneTaken result left.old left.new }
+fn take_one(count: &mut u64) -> bool
+    ensures { IsOneTaken result count.old count.new }
 {
-    match left.checked_sub(1) {
+    match count.checked_sub(1) {
         Some(fewer) => {
-            *left = fewer;
+            *count = fewer;
             true
         }
         None => false,

@@ -211,11 +211,11 @@ impl ByNumber<'_> {
         if from >= numbers.len() {
             return Step::Leaf(leaf_by(default_answer, Reason::Default));
         }
-        let own = &numbers[from];
-        match facts.tell(number_from(own.number)) {
+        let candidate = &numbers[from];
+        match facts.tell(number_from(candidate.number)) {
             Tell::Never => Step::Leaf(leaf_by(default_answer, Reason::Default)),
             Tell::Always | Tell::Maybe => Step::Branch(
-                Some(word_is(0, own.number)),
+                Some(word_is(0, candidate.number)),
                 self.next_rule(from, 0),
                 ProfileNode::Number(from + 1),
             ),
@@ -243,8 +243,8 @@ impl ByNumber<'_> {
         let mut reach = if index == 0 { usize::MAX } else { 0 };
         while first < last {
             let middle = middle_of(first, last, reach);
-            let own = &numbers[middle];
-            match tell_from(facts, known, own.number) {
+            let candidate = &numbers[middle];
+            match tell_from(facts, known, candidate.number) {
                 Tell::Always => {
                     least = middle;
                     first = middle + 1;
@@ -262,12 +262,12 @@ impl ByNumber<'_> {
     /// The rules of the number at an index.
     fn rules_at(&self, number: usize) -> &[Rule]
         requires { number < length self.now.numbers }
-        ensures own { result.now ≡ own_rules self.now.numbers number }
+        ensures rules { result.now ≡ own_rules self.now.numbers number }
         ensures known { All (λ r. Contains self.now.profile.rules r) result.now }
         ensures valid { All (IsRule self.now.profile.architecture) result.now }
     {
-        let own = &self.numbers()[number];
-        &own.rules
+        let number_rules = &self.numbers()[number];
+        &number_rules.rules
     }
 
     /// The rule of a condition.

@@ -45,25 +45,25 @@ fn restart<C: Comparison, F: WordFacts>(
     bit: WordBit,
     budget: &mut Limit,
 ) -> Result<Option<Stage<SettlingNode<C::Node>>>, Memory>
-    requires frontier { let own = settling.now in let tree = C.tree own.comparison.now in
-        IsFrontier F.WordFacts (settling_trees tree own.start own.root)
-        (AreWordsIn (C.compared own.comparison.now)) frontier.old }
-    requires root { let own = settling.now in
-        StartsAt (AreWordsIn (C.compared own.comparison.now)) (C.tree own.comparison.now own.start) own.root }
+    requires frontier { let walk = settling.now in let tree = C.tree walk.comparison.now in
+        IsFrontier F.WordFacts (settling_trees tree walk.start walk.root)
+        (AreWordsIn (C.compared walk.comparison.now)) frontier.old }
+    requires root { let walk = settling.now in
+        StartsAt (AreWordsIn (C.compared walk.comparison.now)) (C.tree walk.comparison.now walk.start) walk.root }
     requires have { (words : List ℕ) → F.allows frontier.old.facts (F.level frontier.old.facts) words
         → HaveBits from.fixed.words words → HaveBits fixed.words words }
     requires less { open_bits fixed.words ≤ open_bits from.fixed.words }
     requires open { IsOpenBit fixed.words bit }
-    ensures stage { let own = settling.now in
-        let trees = settling_trees (C.tree own.comparison.now) own.start own.root in
+    ensures stage { let walk = settling.now in
+        let trees = settling_trees (C.tree walk.comparison.now) walk.start walk.root in
         (before : C.Known) → IfOk result (λ stage. IfSome stage (IsStageAfter F.WordFacts
-        (C.compared own.comparison.now) trees frontier.old frontier.new (trees before) from (trees known.new)
-        (WereSeen (C.compared own.comparison.now) None))) }
-    ensures search { let own = settling.now in
-        (before : C.Known) (steps splits : ℕ) → HasCome F.WordFacts (C.compared own.comparison.now)
-        (C.tree own.comparison.now) own.start own.root frontier.old before from steps splits
-        → IfOk result (SearchesOn F.WordFacts (C.compared own.comparison.now)
-        (C.tree own.comparison.now) own.start own.root steps splits frontier.new known.new
+        (C.compared walk.comparison.now) trees frontier.old frontier.new (trees before) from (trees known.new)
+        (WereSeen (C.compared walk.comparison.now) None))) }
+    ensures search { let walk = settling.now in
+        (before : C.Known) (steps splits : ℕ) → HasCome F.WordFacts (C.compared walk.comparison.now)
+        (C.tree walk.comparison.now) walk.start walk.root frontier.old before from steps splits
+        → IfOk result (SearchesOn F.WordFacts (C.compared walk.comparison.now)
+        (C.tree walk.comparison.now) walk.start walk.root steps splits frontier.new known.new
         budget.old.splits budget.new.splits) }
     ensures splits { IfOk result (λ stage. IfNone stage (budget.old.splits ≡ Splits.AtMost 0)) }
     ensures steps { budget.new.steps ≡ budget.old.steps }
@@ -91,21 +91,21 @@ fn split<C: Comparison, F: WordFacts>(
     from: SettlingNode<C::Node>,
     budget: &mut Limit,
 ) -> Result<Option<Stage<SettlingNode<C::Node>>>, Memory>
-    requires frontier { let own = settling.now in let tree = C.tree own.comparison.now in
-        IsFrontier F.WordFacts (settling_trees tree own.start own.root)
-        (AreWordsIn (C.compared own.comparison.now)) frontier.old }
-    requires root { let own = settling.now in
-        StartsAt (AreWordsIn (C.compared own.comparison.now)) (C.tree own.comparison.now own.start) own.root }
-    ensures stage { let own = settling.now in
-        let trees = settling_trees (C.tree own.comparison.now) own.start own.root in
+    requires frontier { let walk = settling.now in let tree = C.tree walk.comparison.now in
+        IsFrontier F.WordFacts (settling_trees tree walk.start walk.root)
+        (AreWordsIn (C.compared walk.comparison.now)) frontier.old }
+    requires root { let walk = settling.now in
+        StartsAt (AreWordsIn (C.compared walk.comparison.now)) (C.tree walk.comparison.now walk.start) walk.root }
+    ensures stage { let walk = settling.now in
+        let trees = settling_trees (C.tree walk.comparison.now) walk.start walk.root in
         (before : C.Known) → IfOk result (λ stage. IfSome stage (IsStageAfter F.WordFacts
-        (C.compared own.comparison.now) trees frontier.old frontier.new (trees before) from (trees known.new)
-        (WereSeen (C.compared own.comparison.now) None))) }
-    ensures search { let own = settling.now in
-        (before : C.Known) (steps splits : ℕ) → HasCome F.WordFacts (C.compared own.comparison.now)
-        (C.tree own.comparison.now) own.start own.root frontier.old before from steps splits
-        → IfOk result (SearchesOn F.WordFacts (C.compared own.comparison.now)
-        (C.tree own.comparison.now) own.start own.root steps splits frontier.new known.new
+        (C.compared walk.comparison.now) trees frontier.old frontier.new (trees before) from (trees known.new)
+        (WereSeen (C.compared walk.comparison.now) None))) }
+    ensures search { let walk = settling.now in
+        (before : C.Known) (steps splits : ℕ) → HasCome F.WordFacts (C.compared walk.comparison.now)
+        (C.tree walk.comparison.now) walk.start walk.root frontier.old before from steps splits
+        → IfOk result (SearchesOn F.WordFacts (C.compared walk.comparison.now)
+        (C.tree walk.comparison.now) walk.start walk.root steps splits frontier.new known.new
         budget.old.splits budget.new.splits) }
     ensures splits { IfOk result (λ stage. IfNone stage (budget.old.splits ≡ Splits.AtMost 0)) }
     ensures steps { budget.new.steps ≡ budget.old.steps }
@@ -129,22 +129,22 @@ fn advance_again<C: Comparison, F: WordFacts>(
     node: SettlingNode<C::Node>,
     budget: &mut Limit,
 ) -> Result<Option<Stage<SettlingNode<C::Node>>>, Memory>
-    requires frontier { let own = settling.now in let tree = C.tree own.comparison.now in
-        IsFrontier F.WordFacts (settling_trees tree own.start own.root)
-        (AreWordsIn (C.compared own.comparison.now)) frontier.old }
-    requires root { let own = settling.now in
-        StartsAt (AreWordsIn (C.compared own.comparison.now)) (C.tree own.comparison.now own.start) own.root }
+    requires frontier { let walk = settling.now in let tree = C.tree walk.comparison.now in
+        IsFrontier F.WordFacts (settling_trees tree walk.start walk.root)
+        (AreWordsIn (C.compared walk.comparison.now)) frontier.old }
+    requires root { let walk = settling.now in
+        StartsAt (AreWordsIn (C.compared walk.comparison.now)) (C.tree walk.comparison.now walk.start) walk.root }
     requires node { (C.tree settling.now.comparison.now known.old).is_node node.node }
-    ensures stage { let own = settling.now in
-        let trees = settling_trees (C.tree own.comparison.now) own.start own.root in
-        IfOk result (λ stage. IfSome stage (IsStageAfter F.WordFacts (C.compared own.comparison.now) trees
+    ensures stage { let walk = settling.now in
+        let trees = settling_trees (C.tree walk.comparison.now) walk.start walk.root in
+        IfOk result (λ stage. IfSome stage (IsStageAfter F.WordFacts (C.compared walk.comparison.now) trees
         frontier.old frontier.new (trees known.old) node (trees known.new)
-        (WereSeen (C.compared own.comparison.now) None))) }
-    ensures search { let own = settling.now in
-        (steps splits : ℕ) → HasCome F.WordFacts (C.compared own.comparison.now)
-        (C.tree own.comparison.now) own.start own.root frontier.old known.old node steps splits
-        → IfOk result (SearchesOn F.WordFacts (C.compared own.comparison.now)
-        (C.tree own.comparison.now) own.start own.root steps splits frontier.new known.new
+        (WereSeen (C.compared walk.comparison.now) None))) }
+    ensures search { let walk = settling.now in
+        (steps splits : ℕ) → HasCome F.WordFacts (C.compared walk.comparison.now)
+        (C.tree walk.comparison.now) walk.start walk.root frontier.old known.old node steps splits
+        → IfOk result (SearchesOn F.WordFacts (C.compared walk.comparison.now)
+        (C.tree walk.comparison.now) walk.start walk.root steps splits frontier.new known.new
         budget.old.splits budget.new.splits) }
     ensures splits { IfOk result (λ stage. IfNone stage (budget.old.splits ≡ Splits.AtMost 0)) }
     ensures steps { budget.new.steps ≡ budget.old.steps }

@@ -45,9 +45,9 @@ impl<C: Comparison> Comparison for Settling<'_, C> {
         node: &SettlingNode<C::Node>,
     ) -> Step<SettlingNode<C::Node>, PairLeaf>
         requires { (C.tree self.now.comparison.now known.old).is_node node.now.node }
-        ensures step { let own = self.now in
-            let trees = settling_trees (C.tree own.comparison.now) own.start own.root in
-            IsStep (pair_leaves (C.compared own.comparison.now)) (F.allows facts.now (F.level facts.now))
+        ensures step { let walk = self.now in
+            let trees = settling_trees (C.tree walk.comparison.now) walk.start walk.root in
+            IsStep (pair_leaves (C.compared walk.comparison.now)) (F.allows facts.now (F.level facts.now))
             (trees known.old) node.now (trees known.new) result }
         ensures keeps { let tree = C.tree self.now.comparison.now in
             KeepsFixed (tree known.new) node.now.fixed ((tree known.old).size node.now.node) result }

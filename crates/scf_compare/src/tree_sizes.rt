@@ -109,9 +109,9 @@ fn spread_of(profile: &Profile) -> u64
     ensures { result ≡ saturated (spread profile.now) }
 {
     let mut sum: u64 = if profile.stub().is_some() { 10 } else { 8 };
-    for own in profile.numbers() {
+    for number in profile.numbers() {
         sum = sum
-            .saturating_add(size_of_rules(&own.rules))
+            .saturating_add(size_of_rules(&number.rules))
             .saturating_add(1);
     }
     sum
