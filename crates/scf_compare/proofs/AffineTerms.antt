@@ -11,8 +11,8 @@ use Rattle.scf_compare.proofs.BitSlices.{number_fits}
 use Rattle.scf_compare.proofs.Bits.{each_bit, whole_word}
 use Rattle.scf_compare.proofs.KnownBits.{quotient_grows}
 use Rattle.scf_facts.specs.HighMask.{IsHighMask}
-use Rattle.scf_facts.specs.Terms.{term_value}
-use Rattle.scf_facts.specs.declared.term.Term.{Term}
+use Rattle.scf_facts.specs.Terms.{word_term_value}
+use Rattle.scf_facts.specs.declared.term.WordTerm.{WordTerm}
 use Rattle.scf_compare.specs.internal.AffineTerms.{is_within}
 
 -- ---- XOR
@@ -240,10 +240,10 @@ by_odd x f o c s a d parts shifted =
     ap (λ n. (n + a) % 2 ^ 32 / d) (by_parts x f o c parts ∙ ap (λ n. n * o % 2 ^ 32) shifted)
 
 -- the value of a term whose left shift loses no bit
-pub term_of : (term : Term) (n : ℕ) → term.mask / 2 ^ term.right * 2 ^ term.left < 2 ^ 32 → term_value term n
+pub term_of : (term : WordTerm) (n : ℕ) → term.mask / 2 ^ term.right * 2 ^ term.left < 2 ^ 32 → word_term_value term n
     ≡ (bit_xor (bit_and n term.mask / 2 ^ term.right * 2 ^ term.left) term.xor_mask * term.factor % 2 ^ 32
     + term.addend) % 2 ^ 32 / term.divisor
-unfolding term_value
+unfolding word_term_value
 term_of term n fits = rw (mod-eq_of_lt (number_fits n term.mask term.right term.left fits)) refl
 
 -- a number times another and its inverse

@@ -1,5 +1,5 @@
 -- Words under masks.
-use Rattle.std.proofs.Math.Nat.{div-le_self}
+pub use Rattle.scf_facts.proofs.TermLaws.{computed_fits, value_fits}
 use Rattle.scf_compare.proofs.Common.{div-one, ◌+◌, ◌*◌, ◌/◌, ◌%◌, add_comm, and_comm, mul_comm, or_comm, xor_comm, Arithmetic, Add, Sub, Mul, Div, Or, And, Lsh, Rsh, Xor, value_computed, and_le_l, or_lt, same_from_bits, xor_lt, ◌≡◌, ◌≢◌, ℕ, ◌-◌, ◌<◌, ◌≤◌, ◌^◌, true, false, eqb, leb, List, sym, ◌∙◌, arith, bit_and, slice_index, eq-eqb, eqb-true, and_mask, bit_at_and, bit_at_or, bit_at_xor, bit_at-lt, bit_at-zero, mod-eq_of_lt, IsWords, word_below}
 
 -- what each bit is of numbers that are joined
@@ -34,12 +34,6 @@ pub ruleset word_answers = (word_is, word_isnt, at_least, below)
 pub ruleset whole_words = (whole_word, word_below, word_is)
 
 -- ---- bits that are known
-
--- a computation on 32-bit numbers has a 32-bit result
-pub computed_fits : (arithmetic : Arithmetic) (a v : ℕ) → a < 2 ^ 32 → v < 2 ^ 32
-    → value_computed arithmetic a v < 2 ^ 32
-computed_fits arithmetic a v h k =
-    grind (arith, div-le_self a, and_le_l a v, or_lt 32 a v h k, xor_lt 32 a v h k, value_computed)
 
 pub sum_with_zero : (a v : ℕ) → a < 2 ^ 32 → v ≡ 0 → (a + v) % 2 ^ 32 ≡ a
 sum_with_zero a v fits none = omega arith

@@ -22,7 +22,7 @@ use Rattle.scf_compare.specs.declared.step.Step.{Step}
 use Rattle.scf_compare.specs.declared.value.Decision.{Decision}
 use Rattle.scf_compare.specs.declared.value.Decision.TheVariants.{Known as Decided, Asks, AsksTerm, Open}
 use Rattle.scf_compare.specs.declared.value.Value.{Value}
-use Rattle.scf_compare.specs.declared.value.Value.TheVariants.{Known, Slice, Affine, Bits, Computed}
+use Rattle.scf_compare.specs.declared.value.Value.TheVariants.{Known, Slice, Affine, Bits, Binary, Computed}
 use Rattle.scf_compare.specs.internal.Conditions.{HasMasksOf}
 use Rattle.scf_compare.specs.internal.Filters.{IsStepOf}
 use Rattle.scf_compare.specs.internal.Trees.{IsProper, StaysPlain}
@@ -65,6 +65,7 @@ carried masks true false (Slice bit_slice) goes is = absurd (let no = goes refl 
 carried masks false to (Slice bit_slice) goes is = (is.0, λ _. is.1 refl)
 carried masks from to (Affine term) goes is = absurd is
 carried masks from to (Bits term mask) goes is = absurd is
+carried masks from to (Binary term) goes is = absurd is
 carried masks from to (Computed computed) goes is = absurd is
 
 -- the step of a test that is decided or asked

@@ -4,7 +4,7 @@ ghost use Rattle.std.specs.Prelude.{◌≡◌, ◌-◌, ◌*◌, ◌/◌, ◌%�
 ghost use Rattle.std.specs.Prelude.{◌==◌, bit_and, bit_or, bit_xor, slice_index};
 ghost use Rattle.scf_insn.specs.Words.{IsWords};
 ghost use Rattle.scf_facts.specs.Bits.{HasBits};
-ghost use Rattle.scf_facts.specs.Terms.{term_value};
+ghost use Rattle.scf_facts.specs.Terms.{first_word, term_value};
 ghost use Rattle.scf_machine.specs.Machine.{holds, value_computed};
 ghost use Rattle.scf_compare.specs.internal.AffineTerms.{IsAffineTerm, affine_value, is_within, product_value};
 ghost use Rattle.scf_compare.specs.internal.AffineTerms.{sum_value, xored_value};
@@ -15,7 +15,7 @@ use crate::bit_slice::BitSlice;
 use crate::computed::Computed;
 use crate::sources::OpenTest;
 use crate::value::{Decision, Value};
-use scf_facts::{Atom, Bits, Term, inverse_of, is_high_mask};
+use scf_facts::{Bits, Term, WordTerm, inverse_of, is_high_mask};
 use scf_insn::{Arithmetic, Test};
 
 /// `((bit_slice ^ xor_mask) * factor + addend) / divisor`, where the product and the sum are modulo 2^32.
@@ -302,14 +302,7 @@ impl AffineTerm {
         ensures decides { (words : List ℕ) → IsWords words
             → Decides result words (holds test (affine_value self words) v) }
     {
-        let term = self.with_odd_factor().term();
-        let (low, high, holds) = match test {
-            Test::Equal => (v, v, true),
-            Test::Greater => (0, v, false),
-            Test::GreaterOrEqual => (v, u32::MAX, true),
-            Test::CommonBit => return term_has_bits(term, v, 0).negated(),
-        };
-        Decision::AsksTerm(Atom::TermIn { term, low, high }, holds, OpenTest::NONE)
+        Decision::about(self.with_odd_factor().term(), test, v)
     }
 
     /// The test of `self & mask` against `v`, as an atom about the term, if it is no order.
@@ -322,8 +315,8 @@ impl AffineTerm {
     {
         let term = self.with_odd_factor().term();
         match test {
-            Test::Equal => term_has_bits(term, mask, v),
-            Test::CommonBit => term_has_bits(term, mask & v, 0).negated(),
+            Test::Equal => Decision::has_bits(term, mask, v),
+            Test::CommonBit => Decision::has_bits(term, mask & v, 0).negated(),
             Test::Greater | Test::GreaterOrEqual => Decision::Open(OpenTest::NONE),
         }
     }
@@ -332,11 +325,10 @@ impl AffineTerm {
     #[tactic(auto, using(crate::proofs::AffineTerms::term_of))]
     fn term(self) -> Term
         requires { IsAffineTerm self }
-        ensures word { result.word ≡ self.bit_slice.word }
-        ensures value { (words : List ℕ) → IsWords words
-            → term_value result (slice_index words self.bit_slice.word) ≡ affine_value self words }
+        ensures word { first_word result ≡ self.bit_slice.word }
+        ensures value { (words : List ℕ) → IsWords words → term_value result words ≡ affine_value self words }
     {
-        Term {
+        Term::Word(WordTerm {
             word: self.bit_slice.word,
             right: self.bit_slice.right as u8,
             left: self.bit_slice.left as u8,
@@ -345,7 +337,7 @@ impl AffineTerm {
             factor: self.factor,
             addend: self.addend,
             divisor: self.divisor,
-        }
+        })
     }
 
     /// The same number with an odd factor, where bits of the slice remain: so `w * 2 * 3` and `w * 6` are one term.
@@ -475,17 +467,6 @@ impl AffineTerm {
             Decision::Open(OpenTest::NONE)
         }
     }
-}
-
-/// The test `term & mask == value`, as an atom about the term.
-fn term_has_bits(term: Term, mask: u32, value: u32) -> Decision
-    requires { term.word < 16 }
-    ensures asks { IsTestDecision result }
-    ensures decides { (words : List ℕ)
-        → Decides result words (bit_and (term_value term (slice_index words term.word)) mask == value) }
-{
-    let atom = Atom::TermEq { term, mask, value };
-    Decision::AsksTerm(atom, true, OpenTest::NONE)
 }
 
 /// A number as an odd number, or 0, and how far that is shifted to the left.

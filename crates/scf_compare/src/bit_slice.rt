@@ -33,6 +33,7 @@ impl BitSlice {
         requires { word < 16 }
         ensures bit_slice { IsBitSlice result }
         ensures whole { IsWhole result }
+        ensures word { result.word ≡ word }
         ensures number { (words : List ℕ) → IsWords words → slice_index words word ≡ bit_slice_value result words }
     {
         BitSlice {

@@ -221,7 +221,11 @@ pub(crate) fn waits_in_filter(
         }
         ControlFlow::Jump(_) | ControlFlow::ReturnConstant => false,
         ControlFlow::ConditionalJump(_, operand, ..) => {
-            operand == Operand::Index || matches!(registers.a, Value::Bits(..) | Value::Computed(_))
+            operand == Operand::Index
+                || matches!(
+                    registers.a,
+                    Value::Bits(..) | Value::Binary(_) | Value::Computed(_)
+                )
         }
         ControlFlow::DivideByIndex(_) | ControlFlow::ReturnAccumulator => true,
     }

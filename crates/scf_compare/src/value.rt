@@ -1,6 +1,8 @@
 //! Abstract values: what is known of a register or a scratch word on a path through a filter.
 
-ghost use Rattle.std.specs.Prelude.{◌≡◌, ℕ, ◌%◌, ◌^◌, ◌<◌, List, Bool, false, true, not, IfSome, IsSome, bit_and};
+ghost use Rattle.std.specs.Prelude.{◌≡◌, ◌==◌, ℕ, ◌%◌, ◌^◌, ◌<◌, List, Bool, false, true, not, IfSome, IsSome, bit_and};
+ghost use Rattle.std.specs.Prelude.{slice_index};
+ghost use Rattle.scf_facts.specs.Terms.{binary_value, first_word, term_value};
 ghost use Rattle.scf_insn.specs.Words.{IsWords};
 ghost use Rattle.scf_machine.specs.Machine.{holds, value_computed};
 ghost use Rattle.scf_compare.specs.Masked.{IsMaskOf, IsMaskedTest};
@@ -14,7 +16,7 @@ use crate::bit_slice::BitSlice;
 use crate::computed::Computed;
 use crate::known_bits::{known_outcome, told_bits};
 use crate::sources::OpenTest;
-use scf_facts::{Atom, Tell, WordFacts};
+use scf_facts::{Atom, BinaryTerm, Tell, Term, WordFacts};
 use scf_insn::{Arithmetic, Test};
 use scf_machine::holds_of;
 
@@ -28,6 +30,8 @@ pub(crate) enum Value {
     Affine(AffineTerm),
     /// Bits of an affine term under a mask.
     Bits(AffineTerm, u32),
+    /// The result of an operation on two whole words.
+    Binary(BinaryTerm),
     /// Anything else, by the bits that are known of it.
     Computed(Computed),
 }
@@ -59,6 +63,10 @@ impl Value {
             Value::Bits(term, mask) => {
                 term.in_bits_under(mask, told_bits(facts, term.bit_slice.word))
             }
+            Value::Binary(term) => word_in_bits(facts, term.first).combined(
+                term.arithmetic,
+                word_in_bits(facts, term.second),
+            ),
             Value::Computed(computed) => computed,
         }
     }
@@ -89,7 +97,8 @@ impl Value {
         }
     }
 
-    /// The abstract result of `self op other` by the known bits of both, or as bits of an affine term.
+    /// The abstract result of `self op other` by the known bits of both, if these fix it, or as bits of an affine term or
+    /// a binary term.
     fn result_in_bits<F: WordFacts>(self, facts: &F, arithmetic: Arithmetic, other: Value) -> Value
         requires value { IsValue self }
         requires other { IsValue other }
@@ -103,10 +112,15 @@ impl Value {
             .in_bits(facts)
             .combined(arithmetic, other.in_bits(facts))
             .value();
-        match (computed, self.masked_result(arithmetic, other)) {
-            (Value::Computed(_), Some(bits)) => bits,
-            _ => computed,
+        if let Value::Computed(_) = computed {
+            if let Some(bits) = self.masked_result(arithmetic, other) {
+                return bits;
+            }
+            if let Some(term) = self.binary_result(arithmetic, other) {
+                return Value::Binary(term);
+            }
         }
+        computed
     }
 
     /// `self & other`, if one of them is an affine term or bits of one, and the other a constant.
@@ -137,7 +151,7 @@ impl Value {
         match self {
             Value::Affine(term) => Some(Value::Bits(term, v)),
             Value::Bits(term, mask) => Some(Value::Bits(term, mask & v)),
-            Value::Known(_) | Value::Slice(_) | Value::Computed(_) => None,
+            Value::Known(_) | Value::Slice(_) | Value::Binary(_) | Value::Computed(_) => None,
         }
     }
 
@@ -192,7 +206,7 @@ impl Value {
         match self {
             Value::Slice(bit_slice) => Some(AffineTerm::of(bit_slice)),
             Value::Affine(term) => Some(term),
-            Value::Known(_) | Value::Bits(..) | Value::Computed(_) => None,
+            Value::Known(_) | Value::Bits(..) | Value::Binary(_) | Value::Computed(_) => None,
         }
     }
 
@@ -209,6 +223,23 @@ impl Value {
         match (self, other) {
             (_, Value::Known(v)) => self.affine_term()?.computed(arithmetic, v),
             (Value::Known(v), _) => other.affine_term()?.computed_from(arithmetic, v),
+            _ => None,
+        }
+    }
+
+    /// `self op other` as a binary term, if both are whole words.
+    #[tactic(auto, using(crate::proofs::BitSlices::of_whole))]
+    fn binary_result(self, arithmetic: Arithmetic, other: Value) -> Option<BinaryTerm>
+        requires value { IsValue self }
+        requires other { IsValue other }
+        ensures term { IfSome result (λ term. IsValue (Value.Binary term)) }
+        ensures number { IfSome result (λ term. (words : List ℕ) (a v : ℕ) → Abstracts self words a
+            → Abstracts other words v
+            → value_computed arithmetic a v ≡ binary_value term words) }
+    {
+        match (self, other) {
+            (Value::Slice(first), Value::Slice(second)) if first.is_whole() && second.is_whole() =>
+                { Some(BinaryTerm::of(arithmetic, first.word, second.word)) }
             _ => None,
         }
     }
@@ -320,7 +351,39 @@ impl Value {
                 Test::Greater => other.decide_against(Test::GreaterOrEqual, a).negated(),
                 Test::GreaterOrEqual => other.decide_against(Test::Greater, a).negated(),
             },
-            _ => Decision::Open(OpenTest::NONE),
+            _ => self.decide_words(test, other),
+        }
+    }
+
+    /// The decision of a test of two whole words for equality or a common bit: whether their XOR or AND is 0.
+    fn decide_words(self, test: Test, other: Value) -> Decision
+        requires value { IsValue self }
+        requires other { IsValue other }
+        ensures asks { IsTestDecision result }
+        ensures decides { (words : List ℕ) (a v : ℕ) → IsWords words
+            → Abstracts self words a
+            → Abstracts other words v
+            → Decides result words (holds test a v) }
+    {
+        match test {
+            Test::Equal => self.decide_zero(Arithmetic::Xor, other),
+            Test::CommonBit => self.decide_zero(Arithmetic::And, other).negated(),
+            Test::Greater | Test::GreaterOrEqual => Decision::Open(OpenTest::NONE),
+        }
+    }
+
+    /// The decision of the test `self op other == 0` of two whole words.
+    fn decide_zero(self, arithmetic: Arithmetic, other: Value) -> Decision
+        requires value { IsValue self }
+        requires other { IsValue other }
+        ensures asks { IsTestDecision result }
+        ensures decides { (words : List ℕ) (a v : ℕ) → Abstracts self words a
+            → Abstracts other words v
+            → Decides result words (value_computed arithmetic a v == 0) }
+    {
+        match self.binary_result(arithmetic, other) {
+            Some(term) => Decision::about(Term::Binary(term), Test::Equal, 0),
+            None => Decision::Open(OpenTest::NONE),
         }
     }
 
@@ -345,12 +408,40 @@ impl Value {
                 decision => decision,
             },
             Value::Bits(term, mask) => term.ask_bits(mask, test, v),
+            Value::Binary(term) => Decision::about(Term::Binary(term), test, v),
             Value::Computed(_) => Decision::Open(OpenTest::NONE),
         }
     }
 }
 
 impl Decision {
+    /// The test of a term against `v`, as an atom about the term.
+    #[tactic(auto, using(crate::proofs::Bits::value_fits))]
+    pub(crate) fn about(term: Term, test: Test, v: u32) -> Decision
+        requires { first_word term < 16 }
+        ensures asks { IsTestDecision result }
+        ensures decides { (words : List ℕ) → Decides result words (holds test (term_value term words) v) }
+    {
+        let (low, high, holds) = match test {
+            Test::Equal => (v, v, true),
+            Test::Greater => (0, v, false),
+            Test::GreaterOrEqual => (v, u32::MAX, true),
+            Test::CommonBit => return Decision::has_bits(term, v, 0).negated(),
+        };
+        Decision::AsksTerm(Atom::TermIn { term, low, high }, holds, OpenTest::NONE)
+    }
+
+    /// The test `term & mask == value`, as an atom about the term.
+    pub(crate) fn has_bits(term: Term, mask: u32, value: u32) -> Decision
+        requires { first_word term < 16 }
+        ensures asks { IsTestDecision result }
+        ensures decides { (words : List ℕ)
+            → Decides result words (bit_and (term_value term words) mask == value) }
+    {
+        let atom = Atom::TermEq { term, mask, value };
+        Decision::AsksTerm(atom, true, OpenTest::NONE)
+    }
+
     /// The decision of the negated test.
     pub(crate) fn negated(self) -> Decision
         requires { IsTestDecision self }
@@ -366,6 +457,16 @@ impl Decision {
             Decision::Open(test) => Decision::Open(test),
         }
     }
+}
+
+/// The known bits of a whole word, and the word itself as what it depends on.
+#[tactic(auto, using(crate::proofs::BitSlices::of_whole))]
+fn word_in_bits<F: WordFacts>(facts: &F, word: u8) -> Computed
+    requires { word < 16 }
+    ensures { (words : List ℕ) → F.allows facts.now (F.level facts.now) words
+        → IsComputedNumber result (slice_index words word % 2 ^ 32) }
+{
+    BitSlice::of_word(word).in_bits(told_bits(facts, word))
 }
 
 /// A test of two values that their known bits don't decide.

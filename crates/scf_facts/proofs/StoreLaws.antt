@@ -1,6 +1,7 @@
 -- What facts of each word say of lists of words.
 use Rattle.scf_insn.proofs.CallWords.{word_below}
-use Rattle.scf_facts.proofs.Common.{◌-◌, recursion_from_All, All-from_recursion, common_steps, ◌≡◌, ◌≢◌, ℕ, suc, ◌<◌, ◌^◌, ◌↔◌, List, [], ◌∷◌, refl, sym, ap, subst, ◌∙◌, arith, length, get_or, All, Bool, IsTrue, slice_index, slice_set, replicate, list_all, AllByRecursion, and_zero_r, cases_eq, get_or-set_same, get_or_read, get_or-replicate, length-set, length-replicate, All-set, AllPass-from_list_all, list_all-from_AllPass, IsWords, Atom, answer_at, atom_answer, word_of, NumberFacts, AllowsNumber, EachNumber, SomeNumber, AllowsEach, AllowsTerm, AllowsWords, RecordFacts, TermFacts, are_exact_facts, no_facts, is_exact_set}
+use Rattle.scf_facts.proofs.Common.{◌-◌, recursion_from_All, All-from_recursion, common_steps, ◌≡◌, ◌≢◌, ℕ, suc, ◌<◌, ◌^◌, ◌↔◌, List, [], ◌∷◌, refl, sym, ap, subst, ◌∙◌, arith, length, get_or, All, Bool, IsTrue, slice_index, slice_set, replicate, list_all, AllByRecursion, and_zero_r, cases_eq, get_or-set_same, get_or_read, get_or-replicate, length-set, length-replicate, All-set, AllPass-from_list_all, list_all-from_AllPass, IsOfWord, IsWords, Atom, answer_at, atom_answer, word_of, NumberFacts, AllowsNumber, EachNumber, SomeNumber, AllowsEach, AllowsTerm, AllowsWords, RecordFacts, TermFacts, are_exact_facts, no_facts, is_exact_set}
+use Rattle.scf_facts.proofs.TermLaws.{own_number}
 use Rattle.scf_facts.specs.Masks.{EachRefutesAmong, RefutesAmong}
 
 pub all_numbers : (x : ℕ) → x < 2 ^ 32 → AllowsNumber no_facts x
@@ -87,13 +88,13 @@ module _ (sets : List NumberFacts) (index : ℕ) (old : NumberFacts)
   }
 
   -- so an answer of some number of the word is that of some list
-  pub other_answer : (atom : Atom) (answer : Bool) → index ≡ word_of atom → index < 16 → (some : List ℕ)
+  pub other_answer : (atom : Atom) (answer : Bool) → IsOfWord atom → index ≡ word_of atom → index < 16 → (some : List ℕ)
       → AllowsEach sets some → SomeNumber old (λ x. answer_at atom x ≡ answer)
       → (words : List ℕ) × AllowsEach sets words × (atom_answer atom words ≡ answer)
-  other_answer atom answer asked below some h (x, fits, allowed, e) = (
+  other_answer atom answer own asked below some h (x, fits, allowed, e) = (
     slice_set some index x,
     allows_other some x below h fits allowed,
-    rw (← asked, get_or-set_same some index x 0 (omega (arith, h.sixteen.count))) e,
+    rw (own_number atom own _, ← asked, get_or-set_same some index x 0 (omega (arith, h.sixteen.count))) e,
   )
 
 -- ---- some list

@@ -5,7 +5,14 @@ use Rattle.scf_facts.proofs.Common.{◌≡◌, ◌<◌, ◌≤◌, ◌^◌, ◌+
 use Rattle.scf_facts.specs.Exactness.{KeepsExact}
 use Rattle.scf_facts.specs.Masks.{KeepsAmong}
 use Rattle.scf_facts.specs.declared.atom.Atom.TheVariants.{Eq, Gt, Ge, In, TermEq, TermIn}
-use Rattle.scf_facts.specs.Terms.{term_value}
+use Rattle.scf_facts.specs.Atoms.{number_asked, word_of}
+use Rattle.scf_facts.specs.Terms.{term_value, word_term_value}
+use Rattle.scf_facts.specs.declared.term.Term.TheVariants.{Word, Binary}
+use Rattle.scf_facts.specs.declared.term.WordTerm.{WordTerm}
+use Rattle.scf_insn.specs.declared.operation.Arithmetic.{Arithmetic}
+use Rattle.scf_machine.specs.Machine.{value_computed}
+use Rattle.std.proofs.lemmas.Nat.{and_le_l, and_mask, or_lt}
+use Rattle.scf_facts.proofs.Common.{slice_index, xor_lt}
 
 -- bits under a mask, where they are known
 pub under_known : (x known value mask : ℕ) → bit_and x known ≡ value → bit_and known mask ≡ mask
@@ -20,16 +27,30 @@ left_past x count far =
     let whole : count - 32 + 32 ≡ count = omega arith in
     rw (← whole, pow-add, ← mul_assoc) (omega arith)
 
-pub value_fits : (term : Term) (x : ℕ) → term_value term x < 2 ^ 32
-unfolding term_value
-value_fits term x = omega (arith, div-le_self)
+-- a computation on 32-bit numbers has a 32-bit result
+pub computed_fits : (arithmetic : Arithmetic) (a v : ℕ) → a < 2 ^ 32 → v < 2 ^ 32
+    → value_computed arithmetic a v < 2 ^ 32
+computed_fits arithmetic a v h k =
+    grind (arith, div-le_self a, and_le_l a v, or_lt 32 a v h k, xor_lt 32 a v h k, value_computed)
+
+word_fits : (term : WordTerm) (x : ℕ) → word_term_value term x < 2 ^ 32
+unfolding word_term_value
+word_fits term x = omega (arith, div-le_self)
+
+pub value_fits : (term : Term) (words : List ℕ) → term_value term words < 2 ^ 32
+value_fits (Word term) words = word_fits term (slice_index words term.word)
+value_fits (Binary term) words = computed_fits term.arithmetic _ _ (omega arith) (omega arith)
+
+-- all bits of a word
+pub low_bits : (x : ℕ) → bit_and x (2 ^ 32 - 1) ≡ x % 2 ^ 32
+low_bits x = and_mask x 32
 
 mask_twice : (x mask : ℕ) → bit_and (bit_and x mask) mask ≡ bit_and x mask
 mask_twice x mask = same_from_bits _ _ (λ i. grind (arith, bit_at_and))
 
 -- the value depends on the bits under the mask alone
-pub value_under : (term : Term) (x : ℕ) → term_value term (bit_and x term.mask) ≡ term_value term x
-unfolding term_value
+pub value_under : (term : WordTerm) (x : ℕ) → word_term_value term (bit_and x term.mask) ≡ word_term_value term x
+unfolding word_term_value
 value_under term x = rw (mask_twice x term.mask) refl
 
 -- ---- what is known of terms
@@ -62,7 +83,17 @@ narrowed terms index old new words Q lt read same =
       λ both. All-set P terms index new (same.1 (subst P (sym read) (both.0 index old lt), both.1)) both.0,
     )
 
--- ---- what is learned
+-- ---- what is asked
+
+-- an atom of a word itself asks of that word
+pub own_number : (atom : Atom) → IsOfWord atom → (words : List ℕ)
+    → number_asked atom words ≡ slice_index words (word_of atom)
+own_number (Eq word mask value) own words = refl
+own_number (Gt word value) own words = refl
+own_number (Ge word value) own words = refl
+own_number (In word low high) own words = refl
+own_number (TermEq term mask value) own words = absurd own
+own_number (TermIn term low high) own words = absurd own
 
 -- only what is learned of words keeps facts exact
 pub exact_of_word : (atom : Atom) (holds : Bool) → KeepsExact atom holds → IsOfWord atom

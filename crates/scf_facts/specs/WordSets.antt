@@ -38,7 +38,7 @@ pub record AllowsEach (sets : List NumberFacts) (words : List ℕ) : Type 0 wher
 
 -- the value that a term has over the words is allowed
 abbrev pub AllowsTerm : List ℕ → TermFacts → Type 0
-AllowsTerm words known = AllowsNumber known.values (term_value known.term (slice_index words known.term.word))
+AllowsTerm words known = AllowsNumber known.values (term_value known.term words)
 
 -- the lists of words that are allowed: each word, and the value of each term
 pub record AllowsWords (facts : RecordFacts) (words : List ℕ) : Type 0 where

@@ -1,13 +1,13 @@
 //! Questions about one word of a call record, and what a store knows of the answer.
 
-ghost use Rattle.std.specs.Prelude.{◌≡◌, ℕ, if◌then◌else◌, IfNone, IfSome, IsTrue, false};
-ghost use Rattle.scf_facts.specs.Atoms.{IsOfWord, answer_at, word_of};
+ghost use Rattle.std.specs.Prelude.{◌≡◌, ℕ, List, if◌then◌else◌, IfNone, IfSome, IsTrue, false, slice_index};
+ghost use Rattle.scf_facts.specs.Atoms.{IsOfWord, answer_at, atom_answer, number_asked, word_of};
 ghost use Rattle.scf_facts.specs.Terms.{term_value};
 
-use crate::term::Term;
+use crate::term::{Term, word_at};
 
-/// A question about one of the sixteen 32-bit words of a call record, or about a term of one. `word` is the word's index,
-/// 0 to 15 (the caller's condition); comparisons are unsigned. The answer is true or false.
+/// A question about one of the sixteen 32-bit words of a call record, or about a term of them. `word` is the word's
+/// index, 0 to 15 (the caller's condition); comparisons are unsigned. The answer is true or false.
 #[derive(Clone, Copy, Debug, PartialEq, Eq)]
 pub enum Atom {
     /// `word & mask == value`.
@@ -25,7 +25,7 @@ pub enum Atom {
 }
 
 impl Atom {
-    /// The index of its word, 0 to 15.
+    /// The index of its word, or of the first one of its term, 0 to 15.
     pub fn word(self) -> u8
         ensures { result ≡ word_of self }
     {
@@ -34,45 +34,60 @@ impl Atom {
             | Atom::Gt { word, .. }
             | Atom::Ge { word, .. }
             | Atom::In { word, .. } => word,
-            Atom::TermEq { term, .. } | Atom::TermIn { term, .. } => term.word,
+            Atom::TermEq { term, .. } | Atom::TermIn { term, .. } => term.first_word(),
         }
     }
 
-    /// The answer if its word has this value.
+    /// The answer if the number that it asks of is this one: its word, or the value of its term.
     pub fn answer(self, number: u32) -> bool
         ensures { result ≡ answer_at self number }
     {
         match self {
-            Atom::Eq { mask, value, .. } => number & mask == value,
+            Atom::Eq { mask, value, .. } | Atom::TermEq { mask, value, .. } => {
+                number & mask == value
+            }
             Atom::Gt { value, .. } => number > value,
             Atom::Ge { value, .. } => number >= value,
-            Atom::In { low, high, .. } => low <= number && number <= high,
-            Atom::TermEq { term, mask, value } => term.value(number) & mask == value,
-            Atom::TermIn { term, low, high } => {
-                low <= term.value(number) && term.value(number) <= high
+            Atom::In { low, high, .. } | Atom::TermIn { low, high, .. } => {
+                low <= number && number <= high
             }
         }
     }
 
-    /// If it asks of a term: the term, and the question about a word that it asks of the term's value.
-    pub(crate) fn of_term(self) -> Option<(Term, Atom)>
-        ensures word { IfSome result (λ asked. word_of self ≡ asked.0.word) }
-        ensures question { IfSome result (λ asked. IsOfWord asked.1) }
+    /// The answer over these words.
+    pub(crate) fn answer_over(self, words: &[u32; 16]) -> bool
+        ensures { result ≡ atom_answer self words.now }
+    {
+        let number = match self.term() {
+            Some(term) => term.value(words),
+            None => word_at(words, self.word()),
+        };
+        self.answer(number)
+    }
+
+    /// The answer if this word has this value, unless other words matter.
+    pub(crate) fn answer_by(self, word: u8, value: u32) -> Option<bool>
+        ensures { IfSome result (λ answer. (words : List ℕ) → slice_index words word ≡ value
+            → atom_answer self words ≡ answer) }
+    {
+        let number = match self.term() {
+            None if self.word() == word => value,
+            Some(Term::Word(term)) if term.word == word => term.value(value),
+            _ => return None,
+        };
+        Some(self.answer(number))
+    }
+
+    /// The term that it asks of, if it asks of one.
+    pub(crate) fn term(self) -> Option<Term>
+        ensures asked { IfSome result (λ term. (words : List ℕ) → number_asked self words ≡ term_value term words) }
         ensures some { IfSome result (λ _. IsOfWord self → ⊥) }
-        ensures answer { IfSome result (λ asked. (x : ℕ)
-            → answer_at self x ≡ answer_at asked.1 (term_value asked.0 x)) }
-        ensures none { IfNone result (IsOfWord self) }
+        ensures own { IfNone result (IsOfWord self) }
+        ensures word { IfNone result ((words : List ℕ) → number_asked self words ≡ slice_index words (word_of self)) }
     {
         match self {
             Atom::Eq { .. } | Atom::Gt { .. } | Atom::Ge { .. } | Atom::In { .. } => None,
-            Atom::TermEq { term, mask, value } => {
-                let word = term.word;
-                Some((term, Atom::Eq { word, mask, value }))
-            }
-            Atom::TermIn { term, low, high } => {
-                let word = term.word;
-                Some((term, Atom::In { word, low, high }))
-            }
+            Atom::TermEq { term, .. } | Atom::TermIn { term, .. } => Some(term),
         }
     }
 

@@ -31,6 +31,13 @@ impl Learned {
         }
     }
 
+    /// Whether this is of that atom.
+    fn asks(&self, atom: Atom) -> bool
+        ensures { IsTrue result → self.now.atom ≡ atom }
+    {
+        self.atom == atom
+    }
+
     /// What this alone shows of another atom.
     pub(crate) fn tells(&self, atom: Atom) -> Tell
         ensures always { result ≡ Tell.Always
@@ -42,12 +49,12 @@ impl Learned {
             → atom_answer self.now.atom words ≡ self.now.holds
             → atom_answer atom words ≡ false }
     {
-        if self.atom == atom {
+        if self.asks(atom) {
             return Tell::of(self.holds);
         }
         match self.fixes() {
-            Some((word, value)) if word == atom.word() => Tell::of(atom.answer(value)),
-            _ => Tell::Maybe,
+            Some((word, value)) => atom.answer_by(word, value).map_or(Tell::Maybe, Tell::of),
+            None => Tell::Maybe,
         }
     }
 
@@ -55,6 +62,6 @@ impl Learned {
     pub(crate) fn agrees(&self, words: &[u32; 16]) -> bool
         ensures { IsTrue result ↔ (atom_answer self.now.atom words.now ≡ self.now.holds) }
     {
-        self.atom.answer(words[self.atom.word() as usize]) == self.holds
+        self.atom.answer_over(words) == self.holds
     }
 }

@@ -27,7 +27,7 @@ pub use high_mask::is_high_mask;
 pub use interval::Interval;
 pub use laws::word_sets_start_exact;
 pub use snapshot::{Snapshot, Snapshots};
-pub use term::{Term, inverse_of};
+pub use term::{BinaryTerm, Term, WordTerm, inverse_of};
 pub use word_facts::WordFacts;
 pub use word_set::WordSet;
 pub use word_sets::WordSets;

@@ -1,7 +1,6 @@
-//! An atom's question about the value of its word, as an interval or as bits.
+//! An atom's question about a number, as an interval or as bits.
 
 ghost use Rattle.std.specs.Prelude.{◌≡◌, ℕ};
-ghost use Rattle.scf_facts.specs.Atoms.{IsOfWord};
 ghost use Rattle.scf_facts.specs.internal.Query.{Asks, AsksAmong, AsksSimply};
 
 use crate::atom::Atom;
@@ -9,7 +8,7 @@ use crate::bits::Bits;
 use crate::high_mask::is_high_mask;
 use crate::interval::Interval;
 
-/// An atom's question about the value of its word.
+/// An atom's question about the number that it asks of.
 #[derive(Clone, Copy)]
 pub(crate) enum Query {
     /// Is the value in `range`? It is exactly if the atom has the answer `answer`.
@@ -23,7 +22,6 @@ impl Query {
     /// range.
     #[tactic(auto, using(crate::proofs::HighMasks::asked))]
     pub(crate) fn of(atom: Atom) -> Query
-        requires { IsOfWord atom }
         ensures asks { Asks atom result }
         ensures simple { AsksSimply atom result }
         ensures among { (masks : ℕ) → AsksAmong masks atom result }
@@ -31,21 +29,24 @@ impl Query {
         match atom {
             Atom::Gt { value, .. } => Query::within(0, value, false),
             Atom::Ge { value, .. } => Query::within(value, u32::MAX, true),
-            Atom::In { low, high, .. } if low > high => Query::within(0, u32::MAX, false),
-            Atom::In { low, high, .. } => Query::within(low, high, true),
-            Atom::Eq { mask, value, .. } if value & mask != value => Query::within(
-                0,
-                u32::MAX,
-                false,
-            ),
-            Atom::Eq { mask, value, .. } if mask == u32::MAX => Query::within(value, value, true),
-            Atom::Eq { mask, value, .. } if is_high_mask(mask) => Query::within(
-                value,
-                value + !mask,
-                true,
-            ),
-            Atom::Eq { mask, value, .. } => Query::Masked(Bits { mask, value }),
-            Atom::TermEq { .. } | Atom::TermIn { .. } => Query::within(0, u32::MAX, true),
+            Atom::In { low, high, .. } | Atom::TermIn { low, high, .. } => {
+                if low > high {
+                    Query::within(0, u32::MAX, false)
+                } else {
+                    Query::within(low, high, true)
+                }
+            }
+            Atom::Eq { mask, value, .. } | Atom::TermEq { mask, value, .. } => {
+                if value & mask != value {
+                    Query::within(0, u32::MAX, false)
+                } else if mask == u32::MAX {
+                    Query::within(value, value, true)
+                } else if is_high_mask(mask) {
+                    Query::within(value, value + !mask, true)
+                } else {
+                    Query::Masked(Bits { mask, value })
+                }
+            }
         }
     }
 

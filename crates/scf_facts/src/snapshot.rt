@@ -15,6 +15,7 @@ ghost use Rattle.scf_facts.specs.internal.WordSets.{are_exact_facts, is_exact_se
 use crate::atom::{Atom, Tell};
 use crate::bits::Bits;
 use crate::shared_set::SharedSet;
+use crate::term::Term;
 use crate::term_set::{TermSet, learn_term, tell_by_term};
 use crate::word_facts::WordFacts;
 use crate::word_set::WordSet;
@@ -110,8 +111,8 @@ impl Snapshot {
             ↔ (AllowsWords self.old words × (atom_answer atom words ≡ holds))) }
         ensures refused { OnErr result (self.new ≡ self.old) }
     {
-        if let Some((term, question)) = atom.of_term() {
-            learn_term(&mut self.terms, alloc, term, question, holds)?;
+        if let Some(term) = atom.term() {
+            learn_term(&mut self.terms, alloc, term, atom, holds)?;
         }
         Ok(())
     }
@@ -134,26 +135,50 @@ impl Snapshot {
         tell_by_word(&self.sets, atom)
     }
 
-    /// The answer of an atom about a term: by its word, if that leaves only one value, else by what is known of the term.
+    /// The answer of an atom about a term: by its words, if these leave only one value, else by what is known of the term.
     #[cold]
     #[inline(never)]
     fn tell_of_term(&self, atom: Atom) -> Tell
-        requires word { word_of atom < 16 }
         ensures always { result ≡ Tell.Always
             → (words : List ℕ) → AllowsWords self.now words → atom_answer atom words ≡ true }
         ensures never { result ≡ Tell.Never
             → (words : List ℕ) → AllowsWords self.now words → atom_answer atom words ≡ false }
     {
-        match atom.of_term() {
+        match atom.term() {
             None => Tell::Maybe,
-            Some((term, question)) => {
-                let set = self.sets[term.word as usize].as_set();
-                match set.value_under(term.mask) {
-                    Some(only) => Tell::of(question.answer(term.value(only))),
-                    None => tell_by_term(&self.terms, term, question),
-                }
+            Some(term) => match self.only_value(term) {
+                Some(only) => Tell::of(atom.answer(only)),
+                None => tell_by_term(&self.terms, term, atom),
+            },
+        }
+    }
+
+    /// The value of a term, if what is known of its words shows it.
+    #[tactic(auto, using(crate::proofs::TermLaws::value_under, crate::proofs::TermLaws::low_bits))]
+    fn only_value(&self, term: Term) -> Option<u32>
+        ensures { IfSome result (λ only. (words : List ℕ) → AllowsEach self.now.sets words
+            → term_value term words ≡ only) }
+    {
+        match term {
+            Term::Word(term) => Some(term.value(self.bits_under(term.word, term.mask)?)),
+            Term::Binary(term) => {
+                let first = self.bits_under(term.first, u32::MAX)?;
+                let second = self.bits_under(term.second, u32::MAX)?;
+                Some(term.value(first, second))
             }
         }
+    }
+
+    /// The bits of a word under a mask, if what is known of the word shows them all.
+    #[tactic(auto, using(crate::proofs::StoreLaws::each_word))]
+    fn bits_under(&self, word: u8, mask: u32) -> Option<u32>
+        ensures { IfSome result (λ bits. (words : List ℕ) → AllowsEach self.now.sets words
+            → bit_and (slice_index words word) mask ≡ bits) }
+    {
+        if word >= 16 {
+            return None;
+        }
+        self.sets[word as usize].as_set().value_under(mask)
     }
 
     /// Bits that the word with this index has in every allowed list.
@@ -223,19 +248,52 @@ impl Snapshot {
             .then_some(words)
     }
 
-    /// Changes the word of a term whose value isn't allowed, if a number is found for which it is.
-    #[tactic(auto, using(crate::proofs::StoreLaws::allows_other))]
+    /// Changes words of a term whose value isn't allowed, if tries find some for which it is.
     fn fit(&self, known: &TermSet, words: &mut [u32; 16])
         requires { AllowsEach self.now.sets words.old }
         ensures { AllowsEach self.now.sets words.new }
     {
-        let index = known.word() as usize;
-        if known.allows(words) || index >= 16 {
+        if known.allows(words) {
             return;
         }
-        if let Some(number) = known.number_in(self.sets[index].as_set(), words[index]) {
-            words[index] = number;
+        if let Some(value) = known.values().pick() {
+            if self.try_value(known, value, words) {
+                return;
+            }
         }
+        for interval in known.values().intervals() {
+            if self.try_value(known, interval.low, words)
+                || self.try_value(known, interval.high, words)
+            {
+                return;
+            }
+        }
+    }
+
+    /// Whether words are found that give a term this value, which is allowed: they take the place of the others.
+    fn try_value(&self, known: &TermSet, value: u32, words: &mut [u32; 16]) -> bool
+        requires { AllowsEach self.now.sets words.old }
+        ensures { AllowsEach self.now.sets words.new }
+    {
+        for guess in &known.term().guesses(value, words) {
+            if known.allows(guess) && self.allows_each(guess) {
+                *words = *guess;
+                return true;
+            }
+        }
+        false
+    }
+
+    /// Whether each word's values allow it.
+    fn allows_each(&self, words: &[u32; 16]) -> bool
+        ensures { IsTrue result → AllowsEach self.now.sets words.now }
+    {
+        for (index, set) in self.sets.iter().enumerate() {
+            if !set.as_set().allows(words[index]) {
+                return false;
+            }
+        }
+        true
     }
 
     /// The bits of a word that refuted masks have.

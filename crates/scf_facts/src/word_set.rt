@@ -3,7 +3,7 @@
 ghost use Rattle.std.specs.Prelude.{◌≡◌, ◌↔◌, ◌⊎◌, ◌<◌, ◌^◌, ℕ, All, IsTrue, true, false, bit_and, bit_or};
 ghost use Rattle.std.specs.Prelude.{IsSome, IfSome, IfNone, IfOk};
 ghost use Rattle.std.specs.Int.{IsPowerOfTwo};
-ghost use Rattle.scf_facts.specs.Atoms.{IsOfWord, answer_at};
+ghost use Rattle.scf_facts.specs.Atoms.{answer_at};
 ghost use Rattle.scf_facts.specs.Bits.{HasBits, LacksBits};
 ghost use Rattle.scf_facts.specs.Exactness.{KeepsExact};
 ghost use Rattle.scf_facts.specs.Intervals.{LiesIn, LiesInOne};
@@ -59,9 +59,8 @@ impl WordSet {
         })
     }
 
-    /// The values for which the atom has this answer.
+    /// The values for which an atom that asks of them has this answer.
     pub(crate) fn learn(&self, alloc: Global, atom: Atom, holds: bool) -> Result<WordSet, Memory>
-        requires { IsOfWord atom }
         ensures learned { IfOk result (λ kept. (x : ℕ) → x < 2 ^ 32
             → AllowsNumber kept x ↔ (AllowsNumber self.now x × (answer_at atom x ≡ holds))) }
         ensures exact { IfOk result (λ kept. KeepsExact atom holds
@@ -144,7 +143,6 @@ impl WordSet {
 
     /// The atom's answer for every value, if it is known.
     pub(crate) fn tell(&self, atom: Atom) -> Tell
-        requires { IsOfWord atom }
         ensures always { result ≡ Tell.Always → EachNumber self.now (λ x. answer_at atom x ≡ true) }
         ensures never { result ≡ Tell.Never → EachNumber self.now (λ x. answer_at atom x ≡ false) }
         ensures both { result ≡ Tell.Maybe → IsTrue (is_exact_set self.now)

@@ -2,10 +2,11 @@
 use Rattle.std.specs.Prelude.{◌≡◌, ◌<◌, ◌↔◌, ◌^◌, ℕ, List, Bool, false, true, Some, All, bit_and, slice_index_or}
 use Rattle.scf_facts.specs.Atoms.{atom_answer, word_of}
 use Rattle.scf_facts.specs.Bits.{HasBits}
+use Rattle.scf_facts.specs.Terms.{binary_value}
 use Rattle.scf_insn.specs.Kernel.{bpf_memwords}
 use Rattle.scf_machine.specs.Machine.{State, word_at}
 use Rattle.scf_compare.specs.declared.value.Value.{Value}
-use Rattle.scf_compare.specs.declared.value.Value.TheVariants.{Known, Slice, Affine, Bits, Computed}
+use Rattle.scf_compare.specs.declared.value.Value.TheVariants.{Known, Slice, Affine, Bits, Binary, Computed}
 use Rattle.scf_compare.specs.declared.computed.Computed.{Computed as ComputedBits}
 use Rattle.scf_compare.specs.declared.value.Decision.{Decision}
 use Rattle.scf_compare.specs.declared.value.Decision.TheVariants.{Known as Decided, Asks, AsksTerm, Open}
@@ -24,6 +25,7 @@ IsValue (Known value) = Unit {0}
 IsValue (Slice bit_slice) = IsBitSlice bit_slice
 IsValue (Affine term) = IsAffineTerm term
 IsValue (Bits term mask) = IsAffineTerm term
+IsValue (Binary term) = (term.first < 16) × (term.second < 16)
 IsValue (Computed computed) = Unit {0}
 
 -- over the words a value abstracts a number
@@ -32,6 +34,7 @@ Abstracts (Known value) words x = x ≡ value
 Abstracts (Slice bit_slice) words x = x ≡ bit_slice_value bit_slice words
 Abstracts (Affine term) words x = x ≡ affine_value term words
 Abstracts (Bits term mask) words x = x ≡ bit_and (affine_value term words) mask
+Abstracts (Binary term) words x = x ≡ binary_value term words
 Abstracts (Computed computed) words x = IsComputedNumber computed x
 
 -- a decision asks of some of the sixteen words
@@ -54,6 +57,7 @@ IsMaskedValue masks under (Known value) = Unit {0}
 IsMaskedValue masks under (Slice bit_slice) = IsMaskedSlice masks bit_slice × (under ≡ false → IsWhole bit_slice)
 IsMaskedValue masks under (Affine term) = ⊥
 IsMaskedValue masks under (Bits term mask) = ⊥
+IsMaskedValue masks under (Binary term) = ⊥
 IsMaskedValue masks under (Computed computed) = ⊥
 
 -- a decision that isn't left open, and with which facts still refute under bits of the masks alone

@@ -1,5 +1,6 @@
 use Rattle.scf_facts.proofs.Common.{◌≡◌, ◌<◌, arith, length, answer_at}
 use Rattle.scf_facts.proofs.StoreLaws.{allows_set, among_set}
+use Rattle.scf_facts.proofs.TermLaws.{own_number}
 use Rattle.scf_facts.proofs.snapshot.learn_word.Goals as goal
 
 pub returns-clause-learned : goal.returns-clause-learned
@@ -8,7 +9,7 @@ returns-clause-learned c = λ words.
     let within : c.word-word.result < length sets =
     omega (arith, c.word-word.ensures, c.requires.word, c.requires.sixteen) in
     let read = rw (← c.as_set.ensures) at c.index.ensures in
-    rw (c.in_ok-sets.ensures, ← c.word-word.ensures) (allows_set sets c.word-word.result _ within read
+    rw (c.in_ok-sets.ensures, own_number c.args.atom c.requires.own words, ← c.word-word.ensures) (allows_set sets c.word-word.result _ within read
     c.in_ok-set.set (λ x. answer_at c.args.atom x ≡ c.args.holds) c.in_ok-set.ensures.learned words)
 
 pub returns-clause-among : goal.returns-clause-among
