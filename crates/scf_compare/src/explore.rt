@@ -115,11 +115,11 @@ pub(crate) fn judge<C: Comparison, F: WordFacts>(
     if is_related(comparison, leaf) || facts.is_empty() {
         return Judged::Related;
     }
-    let found = match facts.pick() {
+    let difference = match facts.pick() {
         Some(words) => difference_by(comparison, CallRecord::from_words(&words)),
         None => guessed_difference(comparison, facts),
     };
-    match found {
+    match difference {
         Some(finding) => Judged::Fails(finding),
         None => Judged::Open,
     }

@@ -83,7 +83,7 @@ fn ask(atom: Atom, if_true: Successor, if_false: Successor) -> Question
 #[tactic(auto, using(crate::proofs::MaskedSides::masked_test))]
 pub(crate) fn question_of(condition: Condition, part: ConditionPart) -> Question
     requires { condition.index < seccomp_data_args }
-    ensures own { IsOfWord result.atom }
+    ensures of_word { IsOfWord result.atom }
     ensures within { word_of result.atom < 16 }
     ensures word { word_of result.atom ≡ word_asked part (2 * condition.index + 4) }
     ensures splits { let test = test_of condition in

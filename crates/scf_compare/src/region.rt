@@ -30,11 +30,11 @@ pub(crate) fn region_of<F: Snapshots>(
     leaf: PairLeaf,
     is_whole: bool,
 ) -> Result<Option<Region>, Memory>
-    ensures some { IfOk result (λ found. IfSome found (
+    ensures some { IfOk result (λ added. IfSome added (
         IsRegionOf (F.allows facts.now (F.level facts.now)) leaf is_whole)) }
-    ensures none { IfOk result (λ found. IfNone found (
+    ensures none { IfOk result (λ added. IfNone added (
         (words : List ℕ) → F.allows facts.now (F.level facts.now) words → ⊥)) }
-    ensures exact { IfOk result (λ found. IfSome found (λ region.
+    ensures exact { IfOk result (λ added. IfSome added (λ region.
         (masks : ℕ) → AreFew masks → F.refutes_among facts.now (F.level facts.now) masks
         → IsTrue is_whole → IsTrue region.is_exact)) }
 {

@@ -48,14 +48,14 @@ pub fn regions_of<F: Snapshots>(
     scope: Scope,
     limit: u64,
 ) -> Result<Option<Regions>, Memory>
-    ensures regions { IfOk result (λ found. IfSome found
+    ensures regions { IfOk result (λ listed. IfSome listed
         (AreRegions (behavior_of left.now) (behavior_of right.now) (IsInScope scope) limit)) }
-    ensures unfinished { IfOk result (λ found. IfNone found (limit < effort_of_sides left.now right.now)) }
+    ensures unfinished { IfOk result (λ listed. IfNone listed (limit < effort_of_sides left.now right.now)) }
     ensures decided { IsTrue F.starts_exact → IsPlainSide left.now → IsPlainSide right.now
-        → IfOk result (λ found. IfSome found (λ regions. All IsDecidedRegion regions.list.items)) }
+        → IfOk result (λ listed. IfSome listed (λ regions. All IsDecidedRegion regions.list.items)) }
     ensures by_masks { IsTrue F.starts_exact → (masks : ℕ) → AreFew masks
         → IsMaskedSide masks left.now → IsMaskedSide masks right.now
-        → IfOk result (λ found. IfSome found (λ regions. All IsDecidedRegion regions.list.items)) }
+        → IfOk result (λ listed. IfSome listed (λ regions. All IsDecidedRegion regions.list.items)) }
 {
     match *left {
         Side::Stack(filters) => {
@@ -81,13 +81,13 @@ fn regions_beside<F: Snapshots, L: SideTree + Drop>(
     scope: Scope,
     limit: u64,
 ) -> Result<Option<Regions>, Memory>
-    ensures regions { IfOk result (λ found. IfSome found
+    ensures regions { IfOk result (λ listed. IfSome listed
         (AreRegions (L.behavior left) (behavior_of right.now) (IsInScope scope) limit)) }
-    ensures unfinished { IfOk result (λ found. IfNone found
+    ensures unfinished { IfOk result (λ listed. IfNone listed
         (limit < (L.behavior left).size * (behavior_of right.now).size)) }
     ensures decided { IsTrue F.starts_exact → (masks : ℕ) → AreFew masks
         → (L.behavior left).is_masked masks → IsMaskedSide masks right.now
-        → IfOk result (λ found. IfSome found (λ regions. All IsDecidedRegion regions.list.items)) }
+        → IfOk result (λ listed. IfSome listed (λ regions. All IsDecidedRegion regions.list.items)) }
 {
     match *right {
         Side::Stack(filters) => {
@@ -113,13 +113,13 @@ fn regions_of_trees<F: Snapshots, L: SideTree + Drop, R: SideTree + Drop>(
     over: Scope,
     limit: u64,
 ) -> Result<Option<Regions>, Memory>
-    ensures regions { IfOk result (λ found. IfSome found
+    ensures regions { IfOk result (λ listed. IfSome listed
         (AreRegions (L.behavior left) (R.behavior right) (IsInScope over) limit)) }
-    ensures unfinished { IfOk result (λ found. IfNone found
+    ensures unfinished { IfOk result (λ listed. IfNone listed
         (limit < (L.behavior left).size * (R.behavior right).size)) }
     ensures decided { IsTrue F.starts_exact → (masks : ℕ) → AreFew masks
         → (L.behavior left).is_masked masks → (R.behavior right).is_masked masks
-        → IfOk result (λ found. IfSome found (λ regions. All IsDecidedRegion regions.list.items)) }
+        → IfOk result (λ listed. IfSome listed (λ regions. All IsDecidedRegion regions.list.items)) }
 {
     let pair = Pair {
         left,
@@ -148,13 +148,13 @@ fn regions_of_pair<C: Comparison, F: Snapshots>(
         → (C.tree comparison.now start).reaches root words }
     requires size { let compared = C.compared comparison.now in
         (C.tree comparison.now start).size root ≡ compared.left.size * compared.right.size }
-    ensures regions { let compared = C.compared comparison.now in IfOk result (λ found. IfSome found
+    ensures regions { let compared = C.compared comparison.now in IfOk result (λ listed. IfSome listed
         (AreRegions compared.left compared.right compared.in_scope limit)) }
-    ensures unfinished { let compared = C.compared comparison.now in IfOk result (λ found. IfNone found
+    ensures unfinished { let compared = C.compared comparison.now in IfOk result (λ listed. IfNone listed
         (limit < compared.left.size * compared.right.size)) }
     ensures decided { (masks : ℕ) → AreFew masks → F.refutes_among facts 0 masks
         → (C.tree comparison.now start).is_plain masks root
-        → IfOk result (λ found. IfSome found (λ regions. All IsDecidedRegion regions.list.items)) }
+        → IfOk result (λ listed. IfSome listed (λ regions. All IsDecidedRegion regions.list.items)) }
 {
     let mut frontier = Frontier::new(alloc, facts);
     let mut known = start;

@@ -82,7 +82,7 @@ impl Atom {
     pub(crate) fn term(self) -> Option<Term>
         ensures asked { IfSome result (λ term. (words : List ℕ) → number_asked self words ≡ term_value term words) }
         ensures some { IfSome result (λ _. IsOfWord self → ⊥) }
-        ensures own { IfNone result (IsOfWord self) }
+        ensures of_word { IfNone result (IsOfWord self) }
         ensures word { IfNone result ((words : List ℕ) → number_asked self words ≡ slice_index words (word_of self)) }
     {
         match self {

@@ -314,7 +314,7 @@ fn learn_word(
 ) -> Result<(), Memory>
     requires sixteen { length sets.old.items ≡ 16 }
     requires word { word_of atom < 16 }
-    requires own { IsOfWord atom }
+    requires of_word { IsOfWord atom }
     ensures sixteen { length sets.new.items ≡ 16 }
     ensures learned { OnOk result ((words : List ℕ) → AllowsEach sets.new.items words
         ↔ (AllowsEach sets.old.items words × (atom_answer atom words ≡ holds))) }
@@ -335,7 +335,7 @@ fn learn_word(
 fn tell_by_word(sets: &[SharedSet], atom: Atom) -> Tell
     requires sixteen { length sets.now ≡ 16 }
     requires word { word_of atom < 16 }
-    requires own { IsOfWord atom }
+    requires of_word { IsOfWord atom }
     ensures always { result ≡ Tell.Always
         → (words : List ℕ) → AllowsEach sets.now words → atom_answer atom words ≡ true }
     ensures never { result ≡ Tell.Never

@@ -16,8 +16,8 @@ pub enum Term {
     Binary(BinaryTerm),
 }
 
-/// `((word & mask) >> right << left ^ xor_mask) * factor + addend) / divisor`, of the word with index `word`. The left
-/// shift, the product and the sum are modulo 2^32; a division by 0 gives 0.
+/// `((((word & mask) >> right << left) ^ xor_mask) * factor + addend) / divisor`, of the word with index `word`. The
+/// left shift, the product and the sum are modulo 2^32; a division by 0 gives 0.
 #[derive(Clone, Copy, Debug, PartialEq, Eq)]
 pub struct WordTerm {
     pub word: u8,
@@ -30,7 +30,7 @@ pub struct WordTerm {
     pub divisor: u32,
 }
 
-/// The result of an operation on the words with the indexes `first` and `second`: a division by 0 and a shift of 32 or
+/// The result of an operation on the words with the indices `first` and `second`: a division by 0 and a shift of 32 or
 /// more give 0.
 #[derive(Clone, Copy, Debug, PartialEq, Eq)]
 pub struct BinaryTerm {

@@ -30,7 +30,7 @@ use Rattle.scf_compare.specs.internal.Trees.{Tree}
 
 -- the rules of the number at an index
 abbrev pub own_rules : List NumberRules → ℕ → List Rule
-own_rules numbers index = slice_index_or (map (λ own. own.rules.items) numbers) index []
+own_rules numbers index = slice_index_or (map (λ entry. entry.rules.items) numbers) index []
 
 -- the conditions of the rule at an index of them
 abbrev pub own_conditions : List NumberRules → ConditionPosition → List Condition
@@ -69,7 +69,7 @@ pub record KnowsPart (s : NumberedProfile) (at : ConditionPosition) (part : Cond
 
 -- the call has none of the numbers before an index
 abbrev pub IsFrom : ℕ → List NumberRules → CallRecord → Type 0
-IsFrom index numbers call = All (λ own. call.nr ≢ own.number) (take index numbers)
+IsFrom index numbers call = All (λ entry. call.nr ≢ entry.number) (take index numbers)
 
 -- Whether a number is past the last one is asked only where there is such a number, and whether the stub answers a
 -- number only where there is a stub.
@@ -106,7 +106,7 @@ size_of_rest numbers at =
 
 -- what numbers add to the spread
 abbrev pub numbers_size : List NumberRules → ℕ
-numbers_size numbers = sum_by (λ own. 1 + rules_size own.rules.items) numbers
+numbers_size numbers = sum_by (λ entry. 1 + rules_size entry.rules.items) numbers
 
 -- the size of what is asked of the architecture's calls
 abbrev pub calls_size : NumberedProfile → ℕ

@@ -9,7 +9,7 @@ returns-clause-learned c = λ words.
     let within : c.word-word.result < length sets =
     omega (arith, c.word-word.ensures, c.requires.word, c.requires.sixteen) in
     let read = rw (← c.as_set.ensures) at c.index.ensures in
-    rw (c.in_ok-sets.ensures, own_number c.args.atom c.requires.own words, ← c.word-word.ensures) (allows_set sets c.word-word.result _ within read
+    rw (c.in_ok-sets.ensures, own_number c.args.atom c.requires.of_word words, ← c.word-word.ensures) (allows_set sets c.word-word.result _ within read
     c.in_ok-set.set (λ x. answer_at c.args.atom x ≡ c.args.holds) c.in_ok-set.ensures.learned words)
 
 pub returns-clause-among : goal.returns-clause-among

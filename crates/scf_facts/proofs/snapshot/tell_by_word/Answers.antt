@@ -12,8 +12,8 @@ returns-clause-both c = λ maybe exact some h.
     let below : word < 16 = omega (arith, asked, c.requires.word) in
     let read = rw (← c.as_set.ensures) at c.index-sets-word.is in
     let some_of = c.tell.ensures.both maybe (exact_word sets word _ within read exact) in (
-      other_answer sets word _ within read c.args.atom true c.requires.own asked below some h some_of.0,
-      other_answer sets word _ within read c.args.atom false c.requires.own asked below some h some_of.1,
+      other_answer sets word _ within read c.args.atom true c.requires.of_word asked below some h some_of.0,
+      other_answer sets word _ within read c.args.atom false c.requires.of_word asked below some h some_of.1,
     )
 
 pub returns-clause-always : goal.returns-clause-always
@@ -22,7 +22,7 @@ returns-clause-always c = λ told words h.
     let asked = c.word.ensures in
     let within : c.word.result < length sets = omega (arith, asked, c.requires.word, c.requires.sixteen) in
     let read = rw (← c.as_set.ensures) at c.index-sets-word.is in
-    rw (own_number c.args.atom c.requires.own words, ← asked) (each_word sets c.word.result _ within read
+    rw (own_number c.args.atom c.requires.of_word words, ← asked) (each_word sets c.word.result _ within read
     (λ x. answer_at c.args.atom x ≡ true) (c.tell.ensures.always told) words h)
 
 pub returns-clause-never : goal.returns-clause-never
@@ -31,5 +31,5 @@ returns-clause-never c = λ told words h.
     let asked = c.word.ensures in
     let within : c.word.result < length sets = omega (arith, asked, c.requires.word, c.requires.sixteen) in
     let read = rw (← c.as_set.ensures) at c.index-sets-word.is in
-    rw (own_number c.args.atom c.requires.own words, ← asked) (each_word sets c.word.result _ within read
+    rw (own_number c.args.atom c.requires.of_word words, ← asked) (each_word sets c.word.result _ within read
     (λ x. answer_at c.args.atom x ≡ false) (c.tell.ensures.never told) words h)
