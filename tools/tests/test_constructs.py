@@ -3,7 +3,8 @@ import random
 import unittest
 
 from support import constructs
-from support.constructs import FilterPair, ProfilePair
+from support.common import ALLOW, CORE, EPERM, Case, insn, load, part, ret
+from support.constructs import ADD, AND, DIV, JEQ, JGE, JGT, JSET, MUL, OR, SUB, TAX, X, XOR, FilterPair, ProfilePair
 
 # Of each kind of pair: its constructs, how many pairs of each are drawn, the seed, and the construct of a plain test.
 KINDS = {ProfilePair: (constructs.CONSTRUCTS, 16, 30, constructs.by_mask),
@@ -52,3 +53,33 @@ class Constructs(unittest.TestCase):
                     with self.assertRaises(constructs.Wrong):
                         constructs.verdict(changed, difference, "same\n")
             self.assertGreater(differing, 0)
+
+
+class Terms(Case):
+    """Both sides compute the same from one word or two, and ask the same of it by tests with exchanged branches, or an
+    order by its neighbour: what the first one is told the second one is told, too, so no split is needed."""
+
+    TESTS = {JEQ: JEQ, JSET: JSET, JGT: JGE, JGE: JGT}
+
+    def asking(self, body, test, value, is_turned):
+        if not is_turned:
+            return body + insn(test, value, 0, 1) + ret(ALLOW) + ret(EPERM)
+        value += {JGT: 1, JGE: -1}.get(test, 0)
+        return body + insn(self.TESTS[test], value, 1, 0) + ret(EPERM) + ret(ALLOW)
+
+    def assert_same(self, first, second, what):
+        data = part("filter", first) + part("beside", second)
+        self.assertEqual(self.run_words([*CORE, "compare", "--beside", "--splits", "0"], data), (0, "same\n", ""), what)
+
+    def test_by_constants_and_of_words(self):
+        dice = random.Random(25)
+        words = [load(16) + insn(TAX, 0) + load(24), load(24) + insn(TAX, 0) + load(16)]
+        for operation in (ADD, SUB, MUL, DIV, OR, AND, XOR):
+            for test in self.TESTS:
+                for _ in range(4):
+                    constant, value = (dice.randrange(1, 1 << dice.randrange(2, 32)) for _ in range(2))
+                    one = load(16) + insn(operation, constant)
+                    exchanged = words[operation not in (SUB, DIV)]
+                    for bodies in ((one, one), (words[0] + insn(operation | X, 0), exchanged + insn(operation | X, 0))):
+                        sides = [self.asking(body, test, value, is_turned) for body, is_turned in zip(bodies, (0, 1))]
+                        self.assert_same(*sides, (operation, test, constant, value))
