@@ -12,11 +12,12 @@ which hold together:
 Regions that have the same answer at the same instruction under the same conditions are one line. Arguments have the
 names of their manual page, or are a0 to a5; `(u32)a0` is the lower half of a register, `a0 >> 32` the upper one, and
 `ip` the instruction pointer. Where a test isn't decided, the regions behind it are `open`: a record that meets several
-of them gets the answer of one. The answer `unknown` is computed. With --examples a line after each, marked by `# `, has
-a syscall of the region. --arch names another architecture of the syscalls than this machine's own. --dot prints a
-picture for graphviz, as in `scf answers --dot FILTER | dot -Tsvg >answers.svg`: the syscalls with the tests of their
-arguments, and the answers, green where they allow and red where they deny. Without a FILTER standard input is read, one
-filter or a bundle, of a profile too; of a bundle the program's own lines are printed.
+of them gets the answer of one, and none may meet one of them. The answer `unknown` is computed. With --examples a line
+after each, marked by `# `, has a syscall of the region, if one is found. --arch names another architecture of the
+syscalls than this machine's own. --dot prints a picture for graphviz, as in `scf answers --dot FILTER | dot -Tsvg
+>answers.svg`: the syscalls with the tests of their arguments, and the answers, green where they allow and red where they
+deny. Without a FILTER standard input is read, one filter or a bundle, of a profile too; of a bundle the program's own
+lines are printed.
 
 Exit status: 0 every answer is known; 1 a filter or the table is refused; 2 usage error; 3 an input or the output
 failed; 4 a region is open or its answer unknown, or scf took as many steps as --limit says; 125 scf can't be run.
