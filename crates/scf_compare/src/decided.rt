@@ -58,8 +58,8 @@ pub(crate) fn follow<T: SideTree, F: WordFacts>(
     }
 }
 
-/// Goes on from a pending step as far as the store decides it now, up to a node at which the side waits: this many times
-/// as far as a step goes.
+/// Goes on from a pending step as far as the store decides it now, up to a node at which the side waits: this many
+/// times as far as a step goes.
 #[tactic(auto, using(crate::proofs::Steps::later))]
 pub(crate) fn go_ahead<T: SideTree, F: WordFacts>(
     side: &T,

@@ -105,8 +105,8 @@ pub(crate) fn step_in_filter<F: WordFacts>(
     }
 }
 
-/// Passes jumps, loads of words, and tests against constants while the accumulator is a whole word that the store knows,
-/// at most so many.
+/// Passes jumps, loads of words, and tests against constants while the accumulator is a whole word that the store
+/// knows, at most so many.
 #[tactic(auto, using(crate::proofs::Steps::passed_on))]
 pub(crate) fn pass_in_filter<F: WordFacts>(
     program: &Program,
@@ -145,8 +145,8 @@ pub(crate) fn pass_in_filter<F: WordFacts>(
     Passed { node, steps, asked }
 }
 
-/// The index after a jump, a load of a word, or a test of the accumulator, which is this number, against a constant; and
-/// whether it is such a test, with two successors.
+/// The index after a jump, a load of a word, or a test of the accumulator, which is this number, against a constant;
+/// and whether it is such a test, with two successors.
 #[tactic(auto, using(crate::proofs::ControlFlows::load_fits))]
 fn pass_at<F: WordFacts>(
     program: &Program,

@@ -36,8 +36,8 @@
 //! others a second walk begins (`settle`). Take the filter `ld [16]; div #3; tax; ld [24]; add x; jgt #9, ..`: the sum
 //! of two words is unknown, and the test is open. The second walk splits there, on a bit of word 4 or 6: it opens a
 //! branch where the highest bit is clear, learns that it is set, and begins at the root again (`settling`), until known
-//! bits decide the test. The bits that splits have fixed go along (`fixed_bits`); where all are, there is one record, and
-//! both sides answer it. So with enough splits (`budget`) every comparison ends with `Holds` or `Fails`, else with
+//! bits decide the test. The bits that splits have fixed go along (`fixed_bits`); where all are, there is one record,
+//! and both sides answer it. So with enough splits (`budget`) every comparison ends with `Holds` or `Fails`, else with
 //! `Undecided`.
 //!
 //! Everything that two sides answer is found by the same steps (`regions`): at each leaf what the store knows is kept

@@ -17,9 +17,9 @@ pub struct Region {
     pub example: Option<CallRecord>,
     /// What both sides answer them.
     pub leaf: PairLeaf,
-    /// Whether every record with such words comes to the leaf, and there is one; nothing is known of terms then, so what
-    /// is known of each word says it all. Otherwise a test on the path wasn't decided by words: such a record may come to
-    /// another leaf.
+    /// Whether every record with such words comes to the leaf, and there is one; nothing is known of terms then, so
+    /// what is known of each word says it all. Otherwise a test on the path wasn't decided by words: such a record may
+    /// come to another leaf.
     pub is_exact: bool,
 }
 

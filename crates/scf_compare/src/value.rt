@@ -97,8 +97,8 @@ impl Value {
         }
     }
 
-    /// The abstract result of `self op other` by the known bits of both, if these fix it, or as bits of an affine term or
-    /// a binary term.
+    /// The abstract result of `self op other` by the known bits of both, if these fix it, or as bits of an affine term
+    /// or a binary term.
     fn result_in_bits<F: WordFacts>(self, facts: &F, arithmetic: Arithmetic, other: Value) -> Value
         requires value { IsValue self }
         requires other { IsValue other }
@@ -278,8 +278,8 @@ impl Value {
         }
     }
 
-    /// The decision where the test holds exactly if an atom about a term has this answer: by what the store remembers of
-    /// the term, so both sides are told the same, then by the known bits of both.
+    /// The decision where the test holds exactly if an atom about a term has this answer: by what the store remembers
+    /// of the term, so both sides are told the same, then by the known bits of both.
     #[cold]
     #[inline(never)]
     fn decide_by_term<F: WordFacts>(

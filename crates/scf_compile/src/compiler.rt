@@ -220,8 +220,8 @@ fn filter_of(alloc: Global, profiles: &[Profile], counts: &[CallCount]) -> Resul
     filter_of_several(alloc, profiles, counts)
 }
 
-/// Compiles profiles, of which no two are for one record, as `compile_profiles` does. Searches are cut by how often each
-/// syscall is called, so that frequent ones take few steps; what is promised doesn't depend on the counts.
+/// Compiles profiles, of which no two are for one record, as `compile_profiles` does. Searches are cut by how often
+/// each syscall is called, so that frequent ones take few steps; what is promised doesn't depend on the counts.
 #[tactic(auto, using(crate::proofs::Valid::answers_same, crate::proofs::Valid::is_plain))]
 pub fn compile_by_counts(
     alloc: Global,

@@ -51,8 +51,8 @@ fn nr_weights(
     Ok(weights)
 }
 
-/// For each of the ranges of a profile, in rising order, the sum of the weights of its numbers, or `u64::MAX` if that is
-/// less.
+/// For each of the ranges of a profile, in rising order, the sum of the weights of its numbers, or `u64::MAX` if that
+/// is less.
 pub(crate) fn range_weights(
     alloc: Global,
     profile: &Profile,

@@ -135,7 +135,8 @@ impl Snapshot {
         tell_by_word(&self.sets, atom)
     }
 
-    /// The answer of an atom about a term: by its words, if these leave only one value, else by what is known of the term.
+    /// The answer of an atom about a term: by its words, if these leave only one value, else by what is known of the
+    /// term.
     #[cold]
     #[inline(never)]
     fn tell_of_term(&self, atom: Atom) -> Tell

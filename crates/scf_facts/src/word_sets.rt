@@ -12,15 +12,15 @@ use crate::word_facts::WordFacts;
 use scf_insn::Memory;
 use std::alloc::Global;
 
-/// For each word its possible values, as sorted intervals, known bits and refuted bits under masks; and so for each term
-/// of which something was learned.
+/// For each word its possible values, as sorted intervals, known bits and refuted bits under masks; and so for each
+/// term of which something was learned.
 ///
 /// Everything learned becomes intervals or known bits, except an `Eq` that is false under a mask of several bits, and
 /// what is learned of terms. Without such an answer the store is exact. With one, `tell` still knows what was itself
-/// learned, and an `Eq` under known bits. `known_bits` gives a word's known bits and those that the ends of its intervals
-/// have in common. `pick` tries the least value, the ends of the intervals, the known value and that value with one
-/// further bit; if all are refuted, it searches bit by bit until a value is found, there is none, or the tries run out.
-/// Where a term's value isn't allowed then, it tries words for some of the values that are.
+/// learned, and an `Eq` under known bits. `known_bits` gives a word's known bits and those that the ends of its
+/// intervals have in common. `pick` tries the least value, the ends of the intervals, the known value and that value
+/// with one further bit; if all are refuted, it searches bit by bit until a value is found, there is none, or the tries
+/// run out. Where a term's value isn't allowed then, it tries words for some of the values that are.
 ///
 /// A mark saves what is known. Levels share a set that they know alike.
 #[derive(Drop)]
