@@ -1,5 +1,5 @@
 -- The map behind entries of names and numbers, and names as text.
-use Rattle.scf_profile.proofs.Common.{All-weaker, AllPass-from_list_all, IsAscii-from_all, ◌≡◌, ℕ, ◌<◌, Option, None, true, cond, List, [], ◌∷◌, Some, length, BTreeMap, refl, sym, ap, ◌∙◌, subst, arith, IfSome, IsUtf8, lookup, get, insert, get-from_entries, get-empty, get-insert, same_map, is_at, Updates, slice_cmp, nat_list_cmp_total, eq_by_cmp, eq_by_cmp_equiv, and_parts, nat_tests, IsUtf8-from_ascii, exact_bytes, x32_syscall_bit, Names, AreCallNumbers, is_call_name, is_in_name, names_of}
+use Rattle.scf_profile.proofs.Common.{All-weaker, AllPass-from_list_all, IsAscii-from_all, ◌≡◌, ℕ, ◌<◌, None, true, cond, List, [], ◌∷◌, Some, length, BTreeMap, refl, sym, ap, ◌∙◌, subst, arith, IsUtf8, lookup, get, insert, get-from_entries, get-empty, get-insert, same_map, is_at, Updates, slice_cmp, nat_list_cmp_total, eq_by_cmp, eq_by_cmp_equiv, and_parts, nat_tests, IsUtf8-from_ascii, exact_bytes, x32_syscall_bit, Names, AreCallNumbers, is_call_name, is_in_name, names_of}
 use Rattle.std.proofs.Common.{nat_cmp}
 use Rattle.std.specs.FinMap.{empty, find}
 
@@ -58,9 +58,3 @@ pub call_numbers_updated : (m n : BTreeMap (List ℕ) ℕ) (name : List ℕ) (nu
 call_numbers_updated m n name number updates each below =
     subst AreCallNumbers (sym (insert_named m n name number updates))
     (call_numbers_insert (names_of m.entries) name number each below)
-
--- what is found among the names is a call number
-pub found_below : (names : Names) (name : List ℕ) (number : Option ℕ) → AreCallNumbers names → number ≡ get names name
-    → IfSome number (λ n. n < x32_syscall_bit)
-found_below names name None each is = tt
-found_below names name (Some n) each is = each name n (sym is)

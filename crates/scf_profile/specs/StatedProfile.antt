@@ -42,7 +42,8 @@ use Rattle.scf_profile.specs.Table.{Names}
 
 -- a member that has to be there, of a kind
 abbrev pub required : {T : Type 0} → Option ℕ → List ℕ → (Data → Option T) → Data → Result T LoadFault
-required entry name kind d = ok_or (member name d) (faults.Missing entry) >>= λ value. ok_or (kind value) (faults.Kind entry)
+required entry name kind d =
+    ok_or (member name d) (faults.Missing entry) >>= λ value. ok_or (kind value) (faults.Kind entry)
 
 -- one that may be absent, of a kind
 abbrev pub optional : {T : Type 0} → T → Option ℕ → List ℕ → (Data → Option T) → Data → Result T LoadFault

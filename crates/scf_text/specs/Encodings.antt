@@ -87,7 +87,8 @@ known_encodings = map encoding_of operations
 -- The form that every instruction has. Its code stands among its operands, so the 0 here is always written over.
 abbrev pub raw : Encoding
 raw =
-    let fields = Number Jt Decimal ∷ Mark (code ",") ∷ Number Jf Decimal ∷ Mark (code ",") ∷ Number K Hexadecimal ∷ [] in
+    let fields = Number Jt Decimal ∷ Mark (code ",") ∷ Number Jf Decimal ∷ Mark (code ",") ∷ Number K Hexadecimal ∷ []
+    in
     record { code = 0; mnemonic = codes "raw"; pieces = Number Code FourDigits ∷ Mark (code ",") ∷ fields }
 
 abbrev pub encodings : List Encoding

@@ -152,8 +152,8 @@ pub(crate) fn add_line<'a>(
     ensures { (all remaining : List Statement)
         → IsLeft text.now line.entry.start all (part_statements line.entry.line line.entry.bytes.now ++ remaining)
         labels.old.items parsed_insns.old.items
-        → Leaves text.now result all remaining (λ _. line.entry.start + length line.entry.bytes.now + 1) labels.new.items
-        parsed_insns.new.items }
+        → Leaves text.now result all remaining (λ _. line.entry.start + length line.entry.bytes.now + 1)
+        labels.new.items parsed_insns.new.items }
 {
     let mut part = line;
     'statements: loop {

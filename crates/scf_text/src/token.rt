@@ -44,7 +44,8 @@ pub(crate) fn first_line(text: &[u8]) -> (&[u8], Option<&[u8]>)
     ensures lines { lines_of text.now ≡ result.0.now ∷ lines_after result.1 }
     ensures len { MatchOption result.1 (result.0.now ≡ text.now)
         (λ behind. length text.now ≡ length result.0.now + 1 + length behind.now) }
-    ensures whole { MatchOption result.1 (text.now ≡ result.0.now) (λ behind. text.now ≡ result.0.now ++ 10 ∷ behind.now) }
+    ensures whole { MatchOption result.1 (text.now ≡ result.0.now)
+        (λ behind. text.now ≡ result.0.now ++ 10 ∷ behind.now) }
     ensures unbroken { count_ends result.0.now ≡ 0 }
 {
     let len = line_len(text);

@@ -44,9 +44,9 @@ part_statements line part =
 abbrev pub HaveTokens : List Statement → Type 0
 HaveTokens ss = flat_map (λ (s : Statement). s.tokens) ss ≢ []
 
--- Labels are stored by the offsets at which they begin, in any order, and so are instructions, in the order of the text;
--- all offsets are before this index. The first fault of the statements is the first repeat among the labels, or else a
--- later one.
+-- Labels are stored by the offsets at which they begin, in any order, and so are instructions, in the order of the
+-- text; all offsets are before this index. The first fault of the statements is the first repeat among the labels, or
+-- else a later one.
 pub record AreKept (text : List ℕ) (end : ℕ) (given : Labels) (all : List Statement) (later : Option TextFault)
     (begins stored : List ℕ) : Type 0 where
   pub labels : List ℕ
