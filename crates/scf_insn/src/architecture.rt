@@ -56,35 +56,13 @@ pub enum Architecture {
     Loongarch64,
 }
 
-/// The parameters of an architecture.
+/// What sets an architecture apart, but for its numbers.
 #[derive(Clone, Copy)]
 struct Row {
     audit: u32,
-    first: u32,
-    last: u32,
     bits: ArgumentBits,
     name: &'static str,
     part: &'static str,
-}
-
-/// A row with every number.
-fn whole(audit: u32, bits: ArgumentBits, name: &'static str, part: &'static str) -> Row
-    ensures audit { result.audit ≡ audit }
-    ensures first { result.first ≡ 0 }
-    ensures last { result.last ≡ 2 ^ 32 - 1 }
-    ensures bits { result.bits ≡ bits }
-    ensures name { result.name.now ≡ name.now }
-    ensures part { result.part.now ≡ part.now }
-{
-    let (first, last) = (0, u32::MAX);
-    Row {
-        audit,
-        first,
-        last,
-        bits,
-        name,
-        part,
-    }
 }
 
 /// How many architectures there are.
@@ -112,8 +90,6 @@ impl Architecture {
 
     fn row(self) -> Row
         ensures audit { result.audit ≡ (row_of self).audit }
-        ensures first { result.first ≡ (row_of self).first }
-        ensures last { result.last ≡ (row_of self).last }
         ensures bits { result.bits ≡ (row_of self).bits }
         ensures name { result.name.now ≡ (row_of self).name }
         ensures part { result.part.now ≡ (row_of self).part }
@@ -121,57 +97,71 @@ impl Architecture {
         use Architecture::*;
         match self {
             X8664 => Row {
-                last: X32_SYSCALL_BIT - 1,
-                ..whole(AUDIT_ARCH_X86_64, Bits64, "SCMP_ARCH_X86_64", "table")
+                audit: AUDIT_ARCH_X86_64,
+                bits: Bits64,
+                name: "SCMP_ARCH_X86_64",
+                part: "table",
             },
-            X86 => whole(AUDIT_ARCH_I386, Bits32, "SCMP_ARCH_X86", "table-x86"),
+            X86 => Row {
+                audit: AUDIT_ARCH_I386,
+                bits: Bits32,
+                name: "SCMP_ARCH_X86",
+                part: "table-x86",
+            },
             X32 => Row {
-                first: X32_SYSCALL_BIT,
-                ..whole(AUDIT_ARCH_X86_64, Bits32, "SCMP_ARCH_X32", "table-x32")
+                audit: AUDIT_ARCH_X86_64,
+                bits: Bits32,
+                name: "SCMP_ARCH_X32",
+                part: "table-x32",
             },
-            Aarch64 => whole(
-                AUDIT_ARCH_AARCH64,
-                Bits64,
-                "SCMP_ARCH_AARCH64",
-                "table-aarch64",
-            ),
-            Arm => whole(AUDIT_ARCH_ARM, Bits32, "SCMP_ARCH_ARM", "table-arm"),
-            Riscv64 => whole(
-                AUDIT_ARCH_RISCV64,
-                Bits64,
-                "SCMP_ARCH_RISCV64",
-                "table-riscv64",
-            ),
-            Ppc64le => whole(
-                AUDIT_ARCH_PPC64LE,
-                Bits64,
-                "SCMP_ARCH_PPC64LE",
-                "table-ppc64le",
-            ),
-            Mipsel => whole(
-                AUDIT_ARCH_MIPSEL,
-                Bits32,
-                "SCMP_ARCH_MIPSEL",
-                "table-mipsel",
-            ),
-            Mipsel64 => whole(
-                AUDIT_ARCH_MIPSEL64,
-                Bits64,
-                "SCMP_ARCH_MIPSEL64",
-                "table-mipsel64",
-            ),
-            Mipsel64n32 => whole(
-                AUDIT_ARCH_MIPSEL64N32,
-                Bits32,
-                "SCMP_ARCH_MIPSEL64N32",
-                "table-mipsel64n32",
-            ),
-            Loongarch64 => whole(
-                AUDIT_ARCH_LOONGARCH64,
-                Bits64,
-                "SCMP_ARCH_LOONGARCH64",
-                "table-loongarch64",
-            ),
+            Aarch64 => Row {
+                audit: AUDIT_ARCH_AARCH64,
+                bits: Bits64,
+                name: "SCMP_ARCH_AARCH64",
+                part: "table-aarch64",
+            },
+            Arm => Row {
+                audit: AUDIT_ARCH_ARM,
+                bits: Bits32,
+                name: "SCMP_ARCH_ARM",
+                part: "table-arm",
+            },
+            Riscv64 => Row {
+                audit: AUDIT_ARCH_RISCV64,
+                bits: Bits64,
+                name: "SCMP_ARCH_RISCV64",
+                part: "table-riscv64",
+            },
+            Ppc64le => Row {
+                audit: AUDIT_ARCH_PPC64LE,
+                bits: Bits64,
+                name: "SCMP_ARCH_PPC64LE",
+                part: "table-ppc64le",
+            },
+            Mipsel => Row {
+                audit: AUDIT_ARCH_MIPSEL,
+                bits: Bits32,
+                name: "SCMP_ARCH_MIPSEL",
+                part: "table-mipsel",
+            },
+            Mipsel64 => Row {
+                audit: AUDIT_ARCH_MIPSEL64,
+                bits: Bits64,
+                name: "SCMP_ARCH_MIPSEL64",
+                part: "table-mipsel64",
+            },
+            Mipsel64n32 => Row {
+                audit: AUDIT_ARCH_MIPSEL64N32,
+                bits: Bits32,
+                name: "SCMP_ARCH_MIPSEL64N32",
+                part: "table-mipsel64n32",
+            },
+            Loongarch64 => Row {
+                audit: AUDIT_ARCH_LOONGARCH64,
+                bits: Bits64,
+                name: "SCMP_ARCH_LOONGARCH64",
+                part: "table-loongarch64",
+            },
         }
     }
 
@@ -186,14 +176,20 @@ impl Architecture {
     pub fn first(self) -> u32
         ensures { result ≡ (row_of self).first }
     {
-        self.row().first
+        match self {
+            Architecture::X32 => X32_SYSCALL_BIT,
+            _ => 0,
+        }
     }
 
     /// The last number that its syscalls can have.
     pub fn last(self) -> u32
         ensures { result ≡ (row_of self).last }
     {
-        self.row().last
+        match self {
+            Architecture::X8664 => X32_SYSCALL_BIT - 1,
+            _ => u32::MAX,
+        }
     }
 
     /// How wide its arguments are.
