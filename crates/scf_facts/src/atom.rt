@@ -8,7 +8,7 @@ use crate::term::{Term, word_at};
 
 /// A question about one of the sixteen 32-bit words of a call record, or about a term of them. `word` is the word's
 /// index, 0 to 15 (the caller's condition); comparisons are unsigned. The answer is true or false.
-#[derive(Clone, Copy, Debug, PartialEq, Eq)]
+#[derive(Clone, Copy, PartialEq, Eq)]
 pub enum Atom {
     /// `word & mask == value`.
     Eq { word: u8, mask: u32, value: u32 },
@@ -102,7 +102,7 @@ impl Atom {
 }
 
 /// What a store knows of an atom.
-#[derive(Clone, Copy, Debug, PartialEq, Eq)]
+#[derive(Clone, Copy, PartialEq, Eq)]
 pub enum Tell {
     /// It is true of every allowed list of words.
     Always,

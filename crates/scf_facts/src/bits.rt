@@ -6,7 +6,7 @@ ghost use Rattle.scf_facts.specs.Bits.{FixesNumber, HasBits, LacksBits};
 ghost use Rattle.scf_facts.specs.internal.Bits.{SomeLack};
 
 /// A mask and a value. A number `n` has these bits if `n & mask == value`.
-#[derive(Clone, Copy, Debug)]
+#[derive(Clone, Copy)]
 pub struct Bits {
     pub mask: u32,
     pub value: u32,

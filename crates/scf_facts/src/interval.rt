@@ -1,7 +1,7 @@
 //! One interval of values.
 
 /// The values `low..=high`.
-#[derive(Clone, Copy, Debug)]
+#[derive(Clone, Copy)]
 pub struct Interval {
     pub low: u32,
     pub high: u32,

@@ -8,7 +8,7 @@ use scf_insn::Arithmetic;
 use scf_machine::compute;
 
 /// A number that is computed from words.
-#[derive(Clone, Copy, Debug, PartialEq, Eq)]
+#[derive(Clone, Copy, PartialEq, Eq)]
 pub enum Term {
     /// From one word.
     Word(WordTerm),
@@ -18,7 +18,7 @@ pub enum Term {
 
 /// `((((word & mask) >> right << left) ^ xor_mask) * factor + addend) / divisor`, of the word with index `word`. The
 /// left shift, the product and the sum are modulo 2^32; a division by 0 gives 0.
-#[derive(Clone, Copy, Debug, PartialEq, Eq)]
+#[derive(Clone, Copy, PartialEq, Eq)]
 pub struct WordTerm {
     pub word: u8,
     pub right: u8,
@@ -32,7 +32,7 @@ pub struct WordTerm {
 
 /// The result of an operation on the words with the indices `first` and `second`: a division by 0 and a shift of 32 or
 /// more give 0.
-#[derive(Clone, Copy, Debug, PartialEq, Eq)]
+#[derive(Clone, Copy, PartialEq, Eq)]
 pub struct BinaryTerm {
     pub arithmetic: Arithmetic,
     pub first: u8,
