@@ -1,6 +1,6 @@
 //! Filter files: instructions of 8 bytes, one after another (Linux uapi filter.h).
 
-ghost use Rattle.std.specs.Prelude.{◌≡◌, ◌≢◌, ◌+◌, ◌%◌, [], Err, length, IfOk, OnOk, OnErr, IfSome};
+ghost use Rattle.std.specs.Prelude.{◌≡◌, ◌≢◌, ◌+◌, ◌%◌, [], Err, length, IfErr, IfOk, OnOk, OnErr, IfSome};
 ghost use Rattle.std.specs.Io.KnownBytes.{IsAtEnd};
 ghost use Rattle.std.specs.List.{AllByRecursion};
 ghost use Rattle.scf_insn.specs.Insn.{IsInsn, program_bytes};
@@ -12,7 +12,7 @@ use crate::input::{InputFault, read_input};
 use crate::insn::Insn;
 use crate::kernel::{MAX_FILTER_LEN, SOCK_FILTER_LEN};
 use crate::stream::{Sink, Source, WriteFault, write_whole};
-use std::alloc::{AllocError, Global};
+use std::alloc::{AllocFailed, Global};
 use thiserror::Error;
 
 /// Why a filter file wasn't read.
@@ -28,13 +28,13 @@ pub enum ReadFault {
     Memory,
 }
 
-impl From<AllocError> for ReadFault {
+impl<T: Drop> From<AllocFailed<T>> for ReadFault {
     ghost use Rattle.std.specs.Prelude.{◌≡◌};
     ghost use Rattle.scf_insn.specs.declared.encoding.ReadFault.TheVariants.{Memory};
 
     ghost from_gives = { λ _ e. e ≡ Memory };
 
-    fn from(_: AllocError) -> ReadFault {
+    fn from(_: AllocFailed<T>) -> ReadFault {
         ReadFault::Memory
     }
 }
@@ -55,10 +55,11 @@ impl From<InputFault> for ReadFault {
 }
 
 /// The instructions with these bytes.
-fn decode(alloc: Global, bytes: &[u8]) -> Result<Vec<Insn>, AllocError>
+fn decode(alloc: Global, bytes: &[u8]) -> Result<Vec<Insn>, ReadFault>
     requires { length bytes.now % sock_filter_len ≡ 0 }
     ensures bytes { IfOk result (λ v. bytes.now ≡ program_bytes v.items) }
     ensures widths { IfOk result (λ v. AllByRecursion IsInsn v.items) }
+    ensures memory { IfErr result (λ fault. fault ≡ ReadFault.Memory) }
     ensures wanted { OnErr result (bytes.now ≢ []) }
 {
     let mut insns = Vec::new(alloc);
@@ -99,7 +100,7 @@ pub fn read_program<S: Source>(alloc: Global, source: &mut S) -> Result<Vec<Insn
         let offset = bytes.len() - cut;
         return Err(ReadFault::Truncated { offset });
     }
-    Ok(decode(alloc, &bytes)?)
+    decode(alloc, &bytes)
 }
 
 /// Writes the bytes of instructions; or a prefix of them, if writing fails.
