@@ -372,10 +372,6 @@ dispatch_none {before} {after} {index} whole here =
 pub own_some : (s : Search) (later : List Search) → 0 < length (own_of (audit_of s) (s ∷ later))
 own_some s later = rw (eq-eqb (audit_of s) (audit_of s) refl) (omega arith)
 
-pub others_rest : (s : Search) (later : List Search)
-    → others_of (audit_of s) (s ∷ later) ≡ others_of (audit_of s) later
-others_rest s later = rw (eq-eqb (audit_of s) (audit_of s) refl) refl
-
 module _ (s : Search) (later : List Search) where
   abbrev audit : ℕ
   audit = audit_of s

@@ -84,26 +84,19 @@ pub(crate) fn put_only_gate(code: &mut VecDeque<Insn>, audit: u32) -> Result<(),
     Ok(())
 }
 
-/// The searches for architectures with a value of `arch`.
-fn with_audit(alloc: Global, searches: &[Search], audit: u32) -> Result<Vec<Search>, AllocError>
-    ensures { IfOk result (λ matching. matching.items ≡ filter (λ s. audit_of s == audit) searches.now) }
+/// The searches for architectures with a value of `arch`, and the others.
+fn split_by_audit(
+    alloc: Global,
+    searches: &[Search],
+    audit: u32,
+) -> Result<(Vec<Search>, Vec<Search>), AllocError>
+    ensures matching { IfOk result (λ parts. parts.0.items ≡ filter (λ s. audit_of s == audit) searches.now) }
+    ensures others { IfOk result (λ parts. parts.1.items ≡ filter (λ s. not (audit_of s == audit)) searches.now) }
 {
     searches
         .iter()
-        .filter(|search| search.architecture.audit() == audit)
         .copied()
-        .collect(alloc)
-}
-
-/// The searches for architectures with another value of `arch`.
-fn without_audit(alloc: Global, searches: &[Search], audit: u32) -> Result<Vec<Search>, AllocError>
-    ensures { IfOk result (λ others. others.items ≡ filter (λ s. not (audit_of s == audit)) searches.now) }
-{
-    searches
-        .iter()
-        .filter(|search| search.architecture.audit() != audit)
-        .copied()
-        .collect(alloc)
+        .partition(alloc, |search| search.architecture.audit() == audit)
 }
 
 /// Puts what leads a record to its search, with its `arch` in the accumulator, in front of the code. The first search's
@@ -117,13 +110,12 @@ pub(crate) fn put_dispatch(
     requires few { length code.now.items + 6 * length searches.now + 1 < 2 ^ 32 }
     ensures { IfOk result (IsDispatchPut searches.now code.old.items code.new.items) }
 {
-    let Some((first, later)) = searches.split_first() else {
+    let Some((first, _later)) = searches.split_first() else {
         put_front(code, &[return_with(FOREIGN_ANSWER)])?;
         return Ok(Position(code.len()));
     };
     let audit = first.architecture.audit();
-    let matching = with_audit(alloc, searches, audit)?;
-    let others = without_audit(alloc, later, audit)?;
+    let (matching, others) = split_by_audit(alloc, searches, audit)?;
     if others.is_empty() {
         let gate = put_gate(code, &matching)?;
         let foreign = put_foreign(code)?;

@@ -99,34 +99,19 @@ fn put_chain(
     Ok(next)
 }
 
-/// The values whose low half is below a bound.
-fn values_below(
+/// The values whose low half is below a bound, and the others.
+fn split_by_low(
     alloc: Global,
     values: &[ArgumentValue],
     bound: u32,
-) -> Result<Vec<ArgumentValue>, AllocError>
-    ensures { IfOk result (λ lower. lower.items ≡ filter (λ v. nat_lt (low v.value) bound) values.now) }
+) -> Result<(Vec<ArgumentValue>, Vec<ArgumentValue>), AllocError>
+    ensures lower { IfOk result (λ parts. parts.0.items ≡ filter (λ v. nat_lt (low v.value) bound) values.now) }
+    ensures upper { IfOk result (λ parts. parts.1.items ≡ filter (λ v. not (nat_lt (low v.value) bound)) values.now) }
 {
     values
         .iter()
-        .filter(|v| low_half(v.value) < bound)
         .copied()
-        .collect(alloc)
-}
-
-/// The values whose low half is a bound or above it.
-fn values_from(
-    alloc: Global,
-    values: &[ArgumentValue],
-    bound: u32,
-) -> Result<Vec<ArgumentValue>, AllocError>
-    ensures { IfOk result (λ upper. upper.items ≡ filter (λ v. not (nat_lt (low v.value) bound)) values.now) }
-{
-    values
-        .iter()
-        .filter(|v| low_half(v.value) >= bound)
-        .copied()
-        .collect(alloc)
+        .partition(alloc, |v| low_half(v.value) < bound)
 }
 
 /// The median of the low halves of values.
@@ -155,8 +140,7 @@ fn put_value_search(
         return put_chain(code, values, behind);
     }
     let middle = median(alloc, values)?;
-    let lower = values_below(alloc, values, middle)?;
-    let upper = values_from(alloc, values, middle)?;
+    let (lower, upper) = split_by_low(alloc, values, middle)?;
     // Values that are all equal have no halves.
     if lower.is_empty() || upper.is_empty() {
         return put_chain(code, values, behind);
@@ -197,34 +181,19 @@ fn put_half_search(
     }
 }
 
-/// The values with a high half.
-fn values_with(
+/// The values with a high half, and the others.
+fn split_by_high(
     alloc: Global,
     values: &[ArgumentValue],
     half: u32,
-) -> Result<Vec<ArgumentValue>, AllocError>
-    ensures { IfOk result (λ group. group.items ≡ filter (λ v. high v.value == half) values.now) }
+) -> Result<(Vec<ArgumentValue>, Vec<ArgumentValue>), AllocError>
+    ensures group { IfOk result (λ parts. parts.0.items ≡ filter (λ v. high v.value == half) values.now) }
+    ensures others { IfOk result (λ parts. parts.1.items ≡ filter (λ v. not (high v.value == half)) values.now) }
 {
     values
         .iter()
-        .filter(|v| high_half(v.value) == half)
         .copied()
-        .collect(alloc)
-}
-
-/// The values with other high halves.
-fn values_without(
-    alloc: Global,
-    values: &[ArgumentValue],
-    half: u32,
-) -> Result<Vec<ArgumentValue>, AllocError>
-    ensures { IfOk result (λ others. others.items ≡ filter (λ v. not (high v.value == half)) values.now) }
-{
-    values
-        .iter()
-        .filter(|v| high_half(v.value) != half)
-        .copied()
-        .collect(alloc)
+        .partition(alloc, |v| high_half(v.value) == half)
 }
 
 /// Puts the search for an argument among its values in front of the code, which follows if none is equal: for one high
@@ -243,9 +212,9 @@ pub(crate) fn put_values(
     let mut remaining = values;
     while !remaining.is_empty() {
         let half = high_half(remaining[0].value);
-        let group = values_with(alloc, &remaining, half)?;
+        let (group, others) = split_by_high(alloc, &remaining, half)?;
         put_half_search(alloc, code, architecture, half, &group)?;
-        remaining = values_without(alloc, &remaining, half)?;
+        remaining = others;
     }
     Ok(())
 }

@@ -19,40 +19,20 @@ pub struct CallCount {
 /// The weight of one call; a number with rules weighs 1.
 const CALL_WEIGHT: u64 = 1024;
 
-/// What a syscall number adds to the weight of its range.
-#[derive(Clone, Copy)]
-struct NrWeight {
-    nr: u32,
-    weight: u64,
-}
-
-/// The weights of numbers: 1 for each that a profile has rules for, and `CALL_WEIGHT` for each counted call of the
-/// profile's architecture.
-fn nr_weights(
-    alloc: Global,
-    profile: &Profile,
-    counts: &[CallCount],
-) -> Result<Vec<NrWeight>, AllocError> {
-    let mut weights = Vec::new(alloc);
-    for number_rules in profile.numbers() {
-        weights.push(NrWeight {
-            nr: number_rules.number,
-            weight: 1,
-        })?;
+/// Adds to the weight of the range of a syscall number.
+fn add_weight(sums: &mut [u64], ranges: &[NrRange], nr: u32, weight: u64)
+    requires { length sums.old ≡ length ranges.now }
+    ensures { length sums.new ≡ length sums.old }
+{
+    let begun = ranges.partition_point(|range| range.first <= nr);
+    if begun > 0 {
+        sums[begun - 1] = sums[begun - 1].saturating_add(weight);
     }
-    for call in counts {
-        if call.architecture.name() == profile.architecture().name() {
-            weights.push(NrWeight {
-                nr: call.nr,
-                weight: call.count.saturating_mul(CALL_WEIGHT),
-            })?;
-        }
-    }
-    Ok(weights)
 }
 
 /// For each of the ranges of a profile, in rising order, the sum of the weights of its numbers, or `u64::MAX` if that
-/// is less.
+/// is less. A number weighs 1 if the profile has rules for it, and `CALL_WEIGHT` for each counted call of the profile's
+/// architecture.
 pub(crate) fn range_weights(
     alloc: Global,
     profile: &Profile,
@@ -61,12 +41,14 @@ pub(crate) fn range_weights(
 ) -> Result<Vec<u64>, AllocError>
     ensures { IfOk result (λ sums. length sums.items ≡ length ranges.now) }
 {
-    let weights = nr_weights(alloc, profile, counts)?;
     let mut sums = vec![in alloc; 0u64; ranges.len()]?;
-    for number in &weights {
-        let begun = ranges.partition_point(|range| range.first <= number.nr);
-        if begun > 0 {
-            sums[begun - 1] = sums[begun - 1].saturating_add(number.weight);
+    for number_rules in profile.numbers() {
+        add_weight(&mut sums, ranges, number_rules.number, 1);
+    }
+    for call in counts {
+        if call.architecture.name() == profile.architecture().name() {
+            let weight = call.count.saturating_mul(CALL_WEIGHT);
+            add_weight(&mut sums, ranges, call.nr, weight);
         }
     }
     Ok(sums)

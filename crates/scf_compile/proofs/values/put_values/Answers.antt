@@ -7,7 +7,7 @@ put_half_search-requires-clause-fine c =
     let half = c.high_half-half.result in
     let vs = c.loop-alloc.remaining.items in
     let group : c.deref-in-loop-alloc.result.now ≡ filter (λ v. eqb (high v.value) half) vs =
-    c.deref-in-loop-alloc.ensures.value ∙ rw c.deref.ensures.value at c.in_ok-group.ensures in
+    c.deref-in-loop-alloc.ensures.value ∙ rw c.deref.ensures.value at c.in_ok-group.ensures.group in
     rw group (All-filter (λ v. eqb (high v.value) half) (IsArgumentValue c.args.architecture) vs c.loop-alloc.invariant.fine)
 
 pub put_half_search-requires-clause-halves : goal.put_half_search-requires-clause-halves
@@ -15,7 +15,7 @@ put_half_search-requires-clause-halves c =
     let half = c.high_half-half.result in
     let vs = c.loop-alloc.remaining.items in
     let group : c.deref-in-loop-alloc.result.now ≡ filter (λ v. eqb (high v.value) half) vs =
-    c.deref-in-loop-alloc.ensures.value ∙ rw c.deref.ensures.value at c.in_ok-group.ensures in
+    c.deref-in-loop-alloc.ensures.value ∙ rw c.deref.ensures.value at c.in_ok-group.ensures.group in
     rw group (All-from_recursion (λ v. high v.value ≡ half) _ (own_halves half vs))
 
 pub put_half_search-requires-clause-small : goal.put_half_search-requires-clause-small
@@ -23,7 +23,7 @@ put_half_search-requires-clause-small c =
     let half = c.high_half-half.result in
     let vs = c.loop-alloc.remaining.items in
     let group : c.deref-in-loop-alloc.result.now ≡ filter (λ v. eqb (high v.value) half) vs =
-    c.deref-in-loop-alloc.ensures.value ∙ rw c.deref.ensures.value at c.in_ok-group.ensures in
+    c.deref-in-loop-alloc.ensures.value ∙ rw c.deref.ensures.value at c.in_ok-group.ensures.group in
     omega (arith, c.loop-alloc.invariant.small, groups_len half vs, ap (λ (l : List ArgumentValue). length l) group)
 
 pub loop-alloc-smaller : goal.loop-alloc-smaller
@@ -32,8 +32,8 @@ loop-alloc-smaller c =
     let vs = c.loop-alloc.remaining.items in
     let d = c.index.result.now in
     let some : 0 < length vs = grind (arith, common_steps) in
-    let others : c.in_ok-remaining.remaining.items ≡ filter (λ v. not (eqb (high v.value) half)) vs =
-    rw c.deref-in-loop-alloc-2.ensures.value at c.in_ok-remaining.ensures in
+    let others : c.in_ok-group.others.items ≡ filter (λ v. not (eqb (high v.value) half)) vs =
+    rw c.deref.ensures.value at c.in_ok-group.ensures.others in
     let is : half ≡ high (get_or vs 0 d).value =
     c.high_half-half.ensures ∙ ap (λ (v : ArgumentValue). high v.value) c.index.ensures in
     omega (
@@ -48,9 +48,9 @@ loop-alloc-preserved c =
     let half = c.high_half-half.result in
     let vs = c.loop-alloc.remaining.items in
     let group : c.deref-in-loop-alloc.result.now ≡ filter (λ v. eqb (high v.value) half) vs =
-    c.deref-in-loop-alloc.ensures.value ∙ rw c.deref.ensures.value at c.in_ok-group.ensures in
-    let others : c.in_ok-remaining.remaining.items ≡ filter (λ v. not (eqb (high v.value) half)) vs =
-    rw c.deref-in-loop-alloc-2.ensures.value at c.in_ok-remaining.ensures in
+    c.deref-in-loop-alloc.ensures.value ∙ rw c.deref.ensures.value at c.in_ok-group.ensures.group in
+    let others : c.in_ok-group.others.items ≡ filter (λ v. not (eqb (high v.value) half)) vs =
+    rw c.deref.ensures.value at c.in_ok-group.ensures.others in
     let put = rw group at c.in_ok-put_half_search.ensures in
     let before = c.loop-alloc.invariant in
     let len = groups_len half vs in
