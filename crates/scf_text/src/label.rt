@@ -8,7 +8,7 @@ ghost use Rattle.scf_text.specs.internal.Labels.{compared, is_before, word_order
 ghost use Rattle.scf_text.specs.internal.Symbols.{name_at, line_at};
 
 use crate::fault::TextFault;
-use crate::token::is_of_word;
+use crate::token::{is_in_word, is_of_word, leading_word};
 use std::cmp::Ordering;
 
 /// The text from an offset on.
@@ -36,8 +36,8 @@ fn common_len(left: &[u8], right: &[u8]) -> usize
 fn compare_fronts(left: &[u8], right: &[u8]) -> Ordering
     ensures { result ≡ word_order left.now right.now }
 {
-    let left = left.iter().take_while(|byte| is_of_word(**byte));
-    let right = right.iter().take_while(|byte| is_of_word(**byte));
+    let left = left.iter().take_while(is_in_word);
+    let right = right.iter().take_while(is_in_word);
     left.cmp(right)
 }
 
@@ -51,14 +51,11 @@ fn compare_words(text: &[u8], left: usize, right: usize) -> Ordering
     compare_fronts(&left[len..], &right[len..])
 }
 
-/// Compares the word at an offset with another, up to their first difference.
+/// Compares the word at an offset with another.
 pub(crate) fn compare_with(text: &[u8], index: usize, name: &[u8]) -> Ordering
     ensures { result ≡ slice_cmp nat_cmp (name_at text.now index) name.now }
 {
-    let word = text_from(text, index)
-        .iter()
-        .take_while(|byte| is_of_word(**byte));
-    word.cmp(name.iter())
+    leading_word(text_from(text, index)).cmp(name)
 }
 
 /// Compares labels by name, equal names by offset.

@@ -1,7 +1,7 @@
 //! The tokens of a text.
 ghost use Rattle.std.specs.Prelude.{◌≡◌, ◌≢◌, ℕ, ◌+◌, ◌≤◌, ◌<◌, ◌^◌, ◌++◌, ◌∷◌, [], not, true, length, drop};
 ghost use Rattle.std.specs.Prelude.{OnOk, OnErr, IfOk, IfSome, MatchOption};
-ghost use Rattle.std.specs.List.{All, prefix_len};
+ghost use Rattle.std.specs.List.{All, prefix_len, take_while};
 ghost use Rattle.scf_text.specs.Characters.{is_line_end, is_blank, is_word_byte};
 ghost use Rattle.scf_text.specs.ParsedInsns.{is_name};
 ghost use Rattle.scf_text.specs.Tokens.{before_comment, lexemes_from, lines_of, tokens_of};
@@ -29,6 +29,13 @@ pub(crate) fn is_of_word(byte: u8) -> bool
     ensures { result ≡ is_word_byte byte }
 {
     byte.is_ascii_alphanumeric() || byte == b'_'
+}
+
+/// `is_of_word`, as an iterator over references asks it.
+pub(crate) fn is_in_word(byte: &&u8) -> bool
+    ensures { result ≡ is_word_byte byte.now.now }
+{
+    is_of_word(**byte)
 }
 
 /// The count of bytes before the first line end.
@@ -96,7 +103,14 @@ fn word_len(bytes: &[u8]) -> usize
     ensures value { result ≡ prefix_len is_word_byte bytes.now }
     ensures within { result ≤ length bytes.now }
 {
-    bytes.iter().take_while(|byte| is_of_word(**byte)).count()
+    bytes.iter().take_while(is_in_word).count()
+}
+
+/// The word in front of a text, which may be empty.
+pub(crate) fn leading_word(text: &[u8]) -> &[u8]
+    ensures { result.now ≡ take_while is_word_byte text.now }
+{
+    &text[..word_len(text)]
 }
 
 /// The first token of a part of a line, with its offset in the part.
