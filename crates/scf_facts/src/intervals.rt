@@ -143,5 +143,5 @@ pub(crate) fn lies_in_one(intervals: &[Interval], x: u32) -> bool
     requires { AreApart intervals.now }
     ensures { IsTrue result ↔ LiesInOne intervals.now x }
 {
-    first_reaching(intervals, x).is_some_and(|interval| interval.low <= x)
+    matches!(first_reaching(intervals, x), Some(interval) if interval.low <= x)
 }
