@@ -26,7 +26,7 @@ pub use Rattle.std.specs.Global.{Vec}
 unfoldable pub use Rattle.std.specs.List.{IsDistinct}
 pub use Rattle.std.specs.List.{All, Contains, enumerate_from, find, join_with_byte, list_any, position_or_len, filter, prefix_len, slice_split, take_while}
 pub use Rattle.std.specs.List.Sorted.{IsNonDecreasing, IsPermutation, IsSortedBy}
-pub use Rattle.std.specs.Option.{IsSome, IsSomeAnd, MatchOption, is_some, option_map, option_or, option_to_list, unwrap_or}
+pub use Rattle.std.specs.Option.{IsSome, MatchOption, is_some, option_and, option_map, option_or, option_to_list, unwrap_or}
 pub use Rattle.std.specs.Ordering.{is_eq, is_lt, nat_cmp, ordering_reverse, ordering_then}
 pub use Rattle.std.specs.declared.cmp.Ordering.{Ordering}
 pub use Rattle.std.specs.declared.cmp.Ordering.TheVariants.{Equal, Greater, Less}

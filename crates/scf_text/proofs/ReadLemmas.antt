@@ -1,5 +1,5 @@
 -- Reading one statement after another.
-use Rattle.scf_text.proofs.Common.{◌≡◌, ◌≢◌, ℕ, ◌+◌, ◌-◌, ◌<◌, ◌≤◌, Bool, List, [], ◌∷◌, ◌++◌, length, map, Option, Some, None, Result, Ok, Err, refl, sym, ap, subst, ◌∙◌, append_assoc, append-nil, arith, inl, inr, zero-add, ltb, flat_map, lookup, is_some, option_or, option_to_list, unwrap_or, IsSome, IfOk, option_map, bytes_eq, OnErr, cond, true, false, prefix_len, nat_eq, nat_eq_equiv, length-append, length-map, map-append, All, All-append, All-contains, All-head, All-map, All-nil, All-push, All-tail, all_pairs_push, Contains-append_cases, Contains-append_left, Contains-append_right, Contains-push, Contains-push_cases, IsDistinct, IsDistinct-IsPermutation, IsDistinct-from_apart, IsNonDecreasing, IsPermutation, IsPermutation-append_left, IsPermutation-refl, IsPermutation-trans, IsSomeAnd, MatchOption, cases_Bool, same_from_decides, nat_tests, bytes_eq-Decides, flat_map-append, TextFault, before_comment, lines_of, Statement, NumberedInsn, index_of, label_in, instruction_in, parsed_insns_in, label_at, labels_from, statements_from, IsFault, label_fault, instruction_fault, statements_fault, IsFirstRepeat, Labels, labels_at, repeat_fault, IsLinePart, line_at, name_at, AreKept, IsEnded, IsLeft, Leaves, HaveTokens, begins_of, part_statements, AddsInstruction, AddsLabel}
+use Rattle.scf_text.proofs.Common.{◌≡◌, ◌≢◌, ℕ, ◌+◌, ◌-◌, ◌<◌, ◌≤◌, Bool, List, [], ◌∷◌, ◌++◌, length, map, Option, Some, None, Result, Ok, Err, refl, sym, ap, subst, ◌∙◌, append_assoc, append-nil, arith, inl, inr, zero-add, ltb, flat_map, lookup, is_some, option_or, option_to_list, unwrap_or, IsSome, IfOk, option_and, option_map, bytes_eq, OnErr, cond, true, false, prefix_len, nat_eq, nat_eq_equiv, length-append, length-map, map-append, All, All-append, All-contains, All-head, All-map, All-nil, All-push, All-tail, all_pairs_push, Contains-append_cases, Contains-append_left, Contains-append_right, Contains-push, Contains-push_cases, IsDistinct, IsDistinct-IsPermutation, IsDistinct-from_apart, IsNonDecreasing, IsPermutation, IsPermutation-append_left, IsPermutation-refl, IsPermutation-trans, cases_Bool, same_from_decides, nat_tests, bytes_eq-Decides, flat_map-append, TextFault, before_comment, lines_of, Statement, NumberedInsn, index_of, label_in, instruction_in, parsed_insns_in, label_at, labels_from, statements_from, IsFault, label_fault, instruction_fault, statements_fault, IsFirstRepeat, Labels, labels_at, repeat_fault, IsLinePart, line_at, name_at, AreKept, IsEnded, IsLeft, Leaves, HaveTokens, begins_of, part_statements, AddsInstruction, AddsLabel}
 use Rattle.scf_text.specs.declared.fault.TextFault.TheVariants as fault
 use Rattle.std.proofs.lemmas.List.Sorted.{IsNonDecreasingBy-push}
 use Rattle.scf_text.proofs.IndexLemmas.{line_of_part, name_of_part}
@@ -328,11 +328,9 @@ pub is_fault : (e : TextFault) (o : Option TextFault) → o ≡ Some e → IsFau
 is_fault fault.Memory o h = tt
 is_fault e o h = h
 
-pub label_mapped : (o r : Option ℕ) (b : ℕ) → MatchOption o (r ≡ None) (λ x. IsSomeAnd r (λ y. y ≡ b))
-    → r ≡ option_map (λ _. b) o
+pub label_mapped : (o r : Option ℕ) (b : ℕ) → r ≡ option_and o (Some b) → r ≡ option_map (λ _. b) o
 label_mapped None r b h = h
-label_mapped (Some x) None b h = absurd h
-label_mapped (Some x) (Some y) b h = ap Some h
+label_mapped (Some x) r b h = h
 
 pub some_refused : {T E : Type 0} (r : Result T E) (ts us : List (List ℕ)) → us ≡ instruction_in ts → OnErr r (us ≢ [])
     → OnErr r (ts ≢ [])

@@ -4,7 +4,7 @@ use Rattle.std.proofs.lemmas.List.Sums.{take_while-cons}
 use Rattle.std.specs.List.{take_while}
 use Rattle.scf_text.specs.internal.Labels.{word_order}
 use Rattle.scf_text.proofs.Common.{is_word_byte, drop, cond, [], ◌∷◌}
-use Rattle.scf_text.proofs.Common.{◌≡◌, ◌≢◌, ◌⊎◌, ℕ, ◌+◌, ◌-◌, ◌<◌, ◌≤◌, Bool, true, false, List, length, length-take-le, get_or, get_or-take, get_or_default, take, take_more, Decides, Option, Some, None, refl, sym, ap, ◌∙◌, min, arith, inl, inr, IsDistinct, IsPermutation, IsSortedBy, bytes_eq, bytes_eq-Decides, slice_cmp, nat_cmp, nat_tests, cases_lt, IsTotalOrder, Ordering, Less, Equal, Greater, is_lt, is_eq, ordering_then, ordering_reverse, nat_list_cmp_total, nat_cmp_total, on_total, then_total, ranks_by, sorted_far, is_eq-slice_cmp, apart_from_distinct, Contains-append_left, Contains-permutation, Contains-push, Contains-push_cases, Contains, MatchBool, cond, [], ◌∷◌, ◌++◌, IsPermutation-sym, nat_eq, MatchOption, All, All-contains, option_or, cases_Bool, name_at, compared, is_before, IsRepeat, IsFirstRepeat, least}
+use Rattle.scf_text.proofs.Common.{◌≡◌, ◌≢◌, ◌⊎◌, ℕ, ◌+◌, ◌-◌, ◌<◌, ◌≤◌, Bool, true, false, List, length, length-take-le, get_or, get_or-take, get_or_default, take, take_more, Decides, Option, Some, None, refl, sym, ap, ◌∙◌, min, arith, inl, inr, IsDistinct, IsPermutation, IsSortedBy, bytes_eq, bytes_eq-Decides, slice_cmp, nat_cmp, nat_tests, cases_lt, IsTotalOrder, Ordering, Less, Equal, Greater, is_lt, is_eq, ordering_then, ordering_reverse, nat_list_cmp_total, nat_cmp_total, on_total, then_total, ranks_by, sorted_far, is_eq-slice_cmp, apart_from_distinct, Contains-append_left, Contains-permutation, Contains-push, Contains-push_cases, Contains, MatchBool, cond, [], ◌∷◌, ◌++◌, IsPermutation-sym, nat_eq, unwrap_or, All, All-contains, option_or, cases_Bool, name_at, compared, is_before, IsRepeat, IsFirstRepeat, least}
 
 pub compared_total : (text : List ℕ) → IsTotalOrder (compared text)
 compared_total text = then_total (on_total (name_at text) nat_list_cmp_total) nat_cmp_total
@@ -197,8 +197,8 @@ module _ (text labels : List ℕ) (sorted : IsSortedBy (is_before text) labels) 
             cc)
       ]) k)
 
-pub least_is : (first : Option ℕ) (s m : ℕ) → MatchOption first (m ≡ s) (λ x. m ≡ min x s) → m ≡ least first s
-least_is None s m h = h
+pub least_is : (first : Option ℕ) (s m : ℕ) → m ≡ min (unwrap_or first s) s → m ≡ least first s
+least_is None s m h = omega (arith, h)
 least_is (Some r) s m h = h
 
 -- a label behind the others is no first repeat if there is one

@@ -83,7 +83,7 @@ fn first_repeat(text: &[u8], labels: &[usize]) -> Option<usize>
     for index in 1..labels.len() {
         let label = labels[index];
         if compare_words(text, labels[index - 1], label).is_eq() {
-            first = Some(first.map_or(label, |earlier: usize| earlier.min(label)));
+            first = Some(first.unwrap_or(label).min(label));
         }
     }
     first

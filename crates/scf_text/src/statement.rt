@@ -137,7 +137,7 @@ fn add_statement<'a>(
 {
     let (label, instruction) = split_label(part.bytes);
     let start = part.start + label.unwrap_or(0);
-    add_label(text, labels, label.map(|_| start))?;
+    add_label(text, labels, label.and(Some(start)))?;
     add_instruction(parsed_insns, instruction, start, part.line)
 }
 

@@ -19,10 +19,10 @@ pub struct Token<'a> {
     pub text: &'a [u8],
 }
 
-fn is_blank_byte(byte: u8) -> bool
-    ensures { result ≡ is_blank byte }
+fn is_blank_byte(byte: &&u8) -> bool
+    ensures { result ≡ is_blank byte.now.now }
 {
-    matches!(byte, b' ' | b'\t' | b'\r')
+    matches!(**byte, b' ' | b'\t' | b'\r')
 }
 
 pub(crate) fn is_of_word(byte: u8) -> bool
@@ -92,10 +92,7 @@ fn blanks_len(bytes: &[u8]) -> usize
     ensures value { result ≡ prefix_len is_blank bytes.now }
     ensures within { result ≤ length bytes.now }
 {
-    bytes
-        .iter()
-        .take_while(|byte| is_blank_byte(**byte))
-        .count()
+    bytes.iter().take_while(is_blank_byte).count()
 }
 
 /// The count of leading bytes of a word.

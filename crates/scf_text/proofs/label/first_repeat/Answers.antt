@@ -17,7 +17,7 @@ loop-index-preserved c = λ apart.
     (c.loop-index.invariant apart) in
     elim c.if-is_eq.branch [
       | then-is_eq w ↦
-          rw (w.first-is, least_is first (get_or labels i 0) w.map_or.result (search rules))
+          rw (w.first-is, least_is first (get_or labels i 0) w.min.result (search rules))
           (rw w.if-is_eq.true at looked)
       | else-is_eq w ↦ rw w.first-is (rw w.if-is_eq.false at looked)
     ]

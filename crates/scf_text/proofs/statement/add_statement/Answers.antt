@@ -9,8 +9,8 @@ returns-clause-leaves c = λ all remaining left.
     let next = c.split_label-label.result.1 in
     let bytes = c.args.part.bytes.now in
     let start = c.args.part.start in
-    let mapped : c.map.result ≡ option_map (λ _. start + unwrap_or label 0) label =
-    label_mapped label c.map.result (start + unwrap_or label 0) (search rules) in
+    let mapped : c.and.result ≡ option_map (λ _. start + unwrap_or label 0) label =
+    label_mapped label c.and.result (start + unwrap_or label 0) (search rules) in
     let lies = c.split_label-label.ensures.behind in
     statement_leaves (record { line = c.args.part.line; tokens = words_in bytes }) label
     c.add_label.new.labels.items left c.requires c.split_label-label.ensures.label
@@ -34,8 +34,8 @@ returns-in_err-add_label-clause-leaves c = λ all remaining left.
     let label = c.split_label-label.result.0 in
     let bytes = c.args.part.bytes.now in
     let start = c.args.part.start in
-    let mapped : c.map.result ≡ option_map (λ _. start + unwrap_or label 0) label =
-    label_mapped label c.map.result (start + unwrap_or label 0) (search rules) in
+    let mapped : c.and.result ≡ option_map (λ _. start + unwrap_or label 0) label =
+    label_mapped label c.and.result (start + unwrap_or label 0) (search rules) in
     rw (p.1, p.2)
     (label_refused (record { line = c.args.part.line; tokens = words_in bytes }) label
     c.add_label.new.labels.items left c.requires c.split_label-label.ensures.label
