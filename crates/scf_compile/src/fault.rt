@@ -5,7 +5,7 @@ use scf_insn::kernel::BPF_MAXINSNS;
 use thiserror::Error;
 
 /// Why a profile isn't compiled.
-#[derive(Clone, Copy, Debug, PartialEq, Eq, Error)]
+#[derive(Clone, Copy, Debug, Error)]
 pub enum CompileFault {
     /// The filter would have more than `BPF_MAXINSNS` (4096) instructions. This can happen only if `size_bound` exceeds
     /// that.
