@@ -15,7 +15,7 @@ use scf_insn::Architecture;
 /// Two entries that conflict, and the syscall number on which they do.
 ///
 /// Ordered by the second entry, then by the first, then by the number.
-#[derive(Clone, Copy, PartialEq, Eq, PartialOrd, Ord)]
+#[derive(Clone, Copy, PartialEq, PartialOrd)]
 pub(crate) struct Clash {
     pub(crate) second: u32,
     pub(crate) first: u32,

@@ -7,7 +7,7 @@ use scf_insn::Answer;
 
 /// How a profile is read: by its words, as a container runtime reads it that hands it to libseccomp, or as what a
 /// program's own sandbox answers.
-#[derive(Clone, Copy, Debug, PartialEq, Eq)]
+#[derive(Clone, Copy)]
 pub enum Reading {
     /// By its words (OCI runtime specification).
     Strict,
