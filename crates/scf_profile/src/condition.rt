@@ -160,7 +160,7 @@ impl Conditions {
     pub(crate) fn are_plain(&self) -> bool
         ensures { IsTrue result ↔ All IsPlainCondition self.now }
     {
-        self.list.iter().all(|c| c.is_plain())
+        self.list.iter().all(Condition::is_plain)
     }
 
     /// Whether none of them compares anything.

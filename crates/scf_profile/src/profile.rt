@@ -204,7 +204,7 @@ impl Profile {
 fn are_plain(rules: &[Rule]) -> bool
     ensures { IsTrue result ↔ All IsPlainRule rules.now }
 {
-    rules.iter().all(|rule| rule.is_plain())
+    rules.iter().all(Rule::is_plain)
 }
 
 /// The first rule that a record of an architecture meets.
