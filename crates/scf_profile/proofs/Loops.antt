@@ -1,6 +1,6 @@
 -- Loops over the items of an array, and over tables.
 use Rattle.scf_profile.specs.declared.load_fault.LoadFault.TheVariants.{NotListed}
-use Rattle.scf_profile.proofs.Common.{common_steps, ◌≡◌, ℕ, suc, ◌+◌, ◌<◌, ◌≤◌, List, [], ◌∷◌, length, get_or, drop, refl, sym, ap, ◌∙◌, add-one, String, Global, Bool, map, ◌||◌, drop-cons, list_any, drop_all, Architecture, ArchitectureTable, Names, Option, Some, None, option_map, cond, true, false, find, row_of, is_named, all_listed, Ok, Err, table_for, tables_of, Value, item, no_items, view, items_view, members_view, items_len, members_len}
+use Rattle.scf_profile.proofs.Common.{common_steps, ◌≡◌, ℕ, suc, ◌+◌, ◌<◌, ◌≤◌, List, [], ◌∷◌, length, get_or, drop, refl, sym, ap, ◌∙◌, add-one, String, Global, Bool, map, ◌||◌, drop-cons, list_any, drop_all, Architecture, ArchitectureTable, Names, Option, Some, None, is_some, option_map, cond, true, false, find, row_of, is_named, all_listed, Ok, Err, table_for, tables_of, Value, item, no_items, view, items_view, members_view, items_len, members_len}
 
 -- the items from an index on, in the words that a search finds
 pub items_at : (vs : List Value) (i : ℕ) (d : Value) → i < length vs
@@ -28,6 +28,23 @@ members_counted [] = refl
 members_counted (m ∷ ms) = ap suc (members_counted ms)
 
 pub ruleset lengths = (items_counted, members_counted)
+
+-- whether one is found, through a view of what was found
+is_some-viewed : {A B : Type 0} (f : A → B) (o : Option A) → is_some (option_map f o) ≡ is_some o
+is_some-viewed f None = refl
+is_some-viewed f (Some x) = refl
+
+is_some-find : {A : Type 0} (p : A → Bool) (xs : List A) → is_some (find p xs) ≡ list_any p xs
+is_some-find p [] = refl
+is_some-find p (x ∷ xs) = by_test (p x) (is_some-find p xs) where
+  by_test : (b : Bool) → is_some (find p xs) ≡ list_any p xs
+      → is_some (cond b (Some x) (find p xs)) ≡ (b || list_any p xs)
+  by_test true rest = refl
+  by_test false rest = rest
+
+pub is_found : {A B : Type 0} (p : B → Bool) (f : A → B) (found : Option A) (xs : List B) → option_map f found ≡ find p xs
+    → is_some found ≡ list_any p xs
+is_found p f found xs is = sym (is_some-viewed f found) ∙ ap is_some is ∙ is_some-find p xs
 
 find-map : {A B : Type 0} (p : B → Bool) (f : A → B) (xs : List A)
     → find p (map f xs) ≡ option_map f (find (λ x. p (f x)) xs)

@@ -16,7 +16,7 @@ pub struct ArchitectureTable<'t> {
 }
 
 /// The first table with an architecture of this name.
-fn table_named<'a, 't>(
+pub(crate) fn table_named<'a, 't>(
     tables: &'a [ArchitectureTable<'t>],
     name: &str,
 ) -> Option<&'a ArchitectureTable<'t>>

@@ -21,6 +21,7 @@ use crate::forms::find_items;
 use crate::json_members::member_of;
 use crate::limits::ARGUMENTS;
 use crate::load_fault::LoadFault;
+use crate::overlap::condition_on;
 use crate::reading::Reading;
 use serde_json::Value;
 use std::alloc::Global;
@@ -96,10 +97,11 @@ pub(crate) fn has_repeated_index(conditions: &[Condition]) -> bool
     false
 }
 
+#[tactic(auto, using(crate::proofs::Loops::is_found))]
 fn has_index(index: u8, conditions: &[Condition]) -> bool
     ensures { result ≡ list_any (λ c. c.index == index) conditions.now }
 {
-    conditions.iter().any(|c| c.index == index)
+    condition_on(conditions, index).is_some()
 }
 
 /// Parses one condition of `args`, given those before it. A runtime takes several on one argument.

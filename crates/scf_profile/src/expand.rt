@@ -9,13 +9,12 @@ ghost use Rattle.scf_profile.specs.Limits.{max_rules};
 ghost use Rattle.scf_profile.specs.References.{texts_at};
 ghost use Rattle.scf_profile.specs.StatedProfile.{rules_by_each, rules_named, rules_of_entry, rules_from, skipped_names, other_names, tables_of, is_named as named};
 
-use crate::architecture_table::ArchitectureTable;
+use crate::architecture_table::{ArchitectureTable, table_named};
 use crate::args::has_repeated_index;
 use crate::condition::{Condition, Conditions};
 use crate::entry::Entry;
 use crate::limits::MAX_RULES;
 use crate::load_fault::LoadFault;
-use crate::object::is_named;
 use crate::rule::Rule;
 use crate::table::CallTable;
 use crate::texts::{BorrowedTexts, Texts};
@@ -209,9 +208,7 @@ pub(crate) fn skipped_under(
 fn has_table(tables: &[ArchitectureTable], name: &str) -> bool
     ensures { result ≡ list_any (λ t. named name.now t.0) (tables_of tables.now) }
 {
-    tables
-        .iter()
-        .any(|table| is_named(name, table.architecture))
+    table_named(tables, name).is_some()
 }
 
 /// The architectures that have no table.

@@ -13,7 +13,7 @@ use crate::number_set::NumberSet;
 use scf_insn::ArgumentBits;
 
 /// The first condition on an argument.
-fn condition_on(conditions: &[Condition], index: u8) -> Option<&Condition>
+pub(crate) fn condition_on(conditions: &[Condition], index: u8) -> Option<&Condition>
     ensures { option_map (λ c. c.now) result ≡ find (λ c. c.index == index) conditions.now }
 {
     conditions.iter().find(|condition| condition.index == index)
