@@ -29,7 +29,7 @@ impl<'v> Entry<'v> {
     ghost use Rattle.scf_profile.specs.StatedProfile.{entry_of as entry_stated};
 
     /// Parses the entry at an index.
-    #[tactic(auto, using(std::proofs::lemmas::Grind::common_steps), unfolding(crate::specs::StatedProfile::entry_of))]
+    #[tactic(auto, unfolding(crate::specs::StatedProfile::entry_of))]
     pub(crate) fn read(
         alloc: Global,
         reading: Reading,

@@ -224,7 +224,6 @@ pub fn load(alloc: Global, text: &[u8], table: &CallTable) -> Result<Loaded, Loa
 }
 
 /// Loads a profile as `load` does, but reads it as a container runtime does.
-#[tactic(auto, using(crate::proofs::TestFaults::refuses_of_fault))]
 pub fn load_as(
     alloc: Global,
     reading: Reading,
@@ -375,7 +374,6 @@ pub fn load_profiles(
 
 /// Loads profiles as `load_profiles` does, but reads them as a container runtime does, which adds the machine's own
 /// architecture to those that are listed: x86-64 if it has a table, else aarch64.
-#[tactic(auto, using(crate::proofs::TestFaults::refuses_each_of_fault))]
 pub fn load_profiles_as(
     alloc: Global,
     reading: Reading,

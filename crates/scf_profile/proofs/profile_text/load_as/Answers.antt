@@ -1,6 +1,6 @@
 use Rattle.scf_profile.proofs.Common.{◌≡◌, List, Ok, Architecture, LoadFault, Rule, HaveNoConflict, NamesLeastConflict, RefusesAs, subst, view, TestsGive, effective_rules, loaded_of, profile_of}
 use Rattle.scf_profile.proofs.Handed.{handed_fault}
-use Rattle.scf_profile.proofs.TestFaults.{refuses_of_conflict}
+use Rattle.scf_profile.proofs.TestFaults.{refuses_of_conflict, refuses_of_fault}
 use Rattle.scf_profile.proofs.profile_text.load_as.Goals as goal
 
 conflict_under : (a b : Architecture) → a ≡ b → (rules : List Rule) (fault : LoadFault)
@@ -17,6 +17,11 @@ returns-clause-ok c =
       (view c.in_ok-value.value, c.in_ok-value.ensures.ok, c.in_ok-stated.ensures.value),
       subst (λ (a : Architecture). HaveNoConflict a rules) c.in_ok-stated.ensures.architecture none,
     )
+
+pub returns-in_err-stated-clause-err : goal.returns-in_err-stated-clause-err
+returns-in_err-stated-clause-err c =
+    handed_fault (RefusesAs c.args.reading c.args.text.now c.args.table.now) _ _ c.from_residual-in_err-stated.ensures.1
+    (refuses_of_fault _ _ _ (view c.in_ok-value.value) _ c.in_ok-value.ensures.ok c.in_err-stated.ensures.value)
 
 pub returns-in_err-effective_profile-clause-err : goal.returns-in_err-effective_profile-clause-err
 returns-in_err-effective_profile-clause-err c =
