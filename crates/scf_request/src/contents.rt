@@ -1,6 +1,6 @@
 //! The contents of a bundle.
 
-ghost use Rattle.std.specs.Prelude.{◌≡◌, Err, IfOk, IfErr};
+ghost use Rattle.std.specs.Prelude.{◌≡◌, ◌++◌, ◌∷◌, [], Err, IfOk, IfErr, OnOk};
 ghost use Rattle.scf_request.specs.Bundle.{AreNoParts, IsPartFault, kinds_of};
 ghost use Rattle.scf_request.specs.Contents.{IsHeldBy, rest_of};
 ghost use Rattle.scf_request.specs.internal.Contents.{AddsPart, HoldParts};
@@ -37,24 +37,26 @@ impl<'a> Contents<'a> {
     {
         let reader = PartReader::new(bytes);
         match kind {
-            PartKind::Filter => self.filters.push(reader)?,
-            PartKind::Profile => self.profiles.push(reader)?,
-            PartKind::Beside => self.beside.push(reader)?,
-            PartKind::BesideProfile => self.beside_profiles.push(reader)?,
-            PartKind::Table => self
-                .tables
-                .push(TableReader::new(Architecture::X8664, reader))?,
+            PartKind::Filter => push(&mut self.filters, reader),
+            PartKind::Profile => push(&mut self.profiles, reader),
+            PartKind::Beside => push(&mut self.beside, reader),
+            PartKind::BesideProfile => push(&mut self.beside_profiles, reader),
+            PartKind::Table => {
+                push(
+                    &mut self.tables,
+                    TableReader::new(Architecture::X8664, reader),
+                )
+            }
             PartKind::TableOf(architecture) => {
-                self.tables.push(TableReader::new(architecture, reader))?
+                push(&mut self.tables, TableReader::new(architecture, reader))
             }
             PartKind::StubOf(architecture) => {
-                self.stubs.push(TableReader::new(architecture, reader))?
+                push(&mut self.stubs, TableReader::new(architecture, reader))
             }
             PartKind::CountsOf(architecture) => {
-                self.counts.push(TableReader::new(architecture, reader))?
+                push(&mut self.counts, TableReader::new(architecture, reader))
             }
         }
-        Ok(())
     }
 
     /// The contents of the bundle of this form that the bytes spell. Errors are those of `split`, where the kinds of
@@ -116,6 +118,15 @@ impl<'a> Contents<'a> {
         }
         Ok(contents)
     }
+}
+
+/// Appends a reader. The error: out of memory.
+fn push<R: Drop>(readers: &mut Vec<R>, reader: R) -> Result<(), BundleFault>
+    ensures ok { OnOk result (readers.new.items ≡ readers.old.items ++ reader ∷ []) }
+    ensures fault { IfErr result (λ fault. fault ≡ BundleFault.Memory) }
+{
+    readers.push(reader)?;
+    Ok(())
 }
 
 /// A reader of a syscall table, of the number of a stub or of counts of calls, and its architecture.
