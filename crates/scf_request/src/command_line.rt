@@ -128,25 +128,45 @@ fn define_check<'a>(alloc: Global) -> Result<Command<'a>, AllocError>
     define(alloc, "check", "Checks a filter", &[], false, &[])
 }
 
+/// The flags of `run`, each with its help.
+const RUN_FLAGS: [(&str, &str); 1] = [(
+    PATH_FLAG,
+    "Also the indices of the instructions on the way",
+)];
+
 /// The command `run`.
 fn define_run<'a>(alloc: Global) -> Result<Command<'a>, AllocError>
     ensures { IfOk result (λ command. app_of command ≡ definition_of Run) }
 {
     let about = "Runs a filter on a call";
-    let path = "Also the indices of the instructions on the way";
-    let flags = [(PATH_FLAG, path)];
-    define(alloc, "run", about, &call_options(), false, &flags)
+    define(alloc, "run", about, &call_options(), false, &RUN_FLAGS)
 }
+
+/// The flags of `decide`, each with its help.
+const DECIDE_FLAGS: [(&str, &str); 2] = [
+    (
+        AT_FLAG,
+        "Also the filter that gives the answer, the oldest being 0, and its instruction",
+    ),
+    (
+        PATH_FLAG,
+        "This, and the answer of each filter and the instructions on its way",
+    ),
+];
 
 /// The command `decide`.
 fn define_decide<'a>(alloc: Global) -> Result<Command<'a>, AllocError>
     ensures { IfOk result (λ command. app_of command ≡ definition_of Decide) }
 {
     let about = "Runs a bundle of filters on a call";
-    let at = "Also the filter that gives the answer, the oldest being 0, and its instruction";
-    let path = "This, and the answer of each filter and the instructions on its way";
-    let flags = [(AT_FLAG, at), (PATH_FLAG, path)];
-    define(alloc, "decide", about, &call_options(), false, &flags)
+    define(
+        alloc,
+        "decide",
+        about,
+        &call_options(),
+        false,
+        &DECIDE_FLAGS,
+    )
 }
 
 /// The command `dis`.
@@ -165,51 +185,95 @@ fn define_asm<'a>(alloc: Global) -> Result<Command<'a>, AllocError>
     define(alloc, "asm", about, &[], false, &[])
 }
 
+/// The flags of `compile`, each with its help.
+const COMPILE_FLAGS: [(&str, &str); 2] = [
+    (ARCHITECTURES_FLAG, TABLES_HELP),
+    (
+        LEFT_OUT_FLAG,
+        "First the skipped names and the other architectures, as `compare` prints them, and a line that ends them",
+    ),
+];
+
 /// The command `compile`.
 fn define_compile<'a>(alloc: Global) -> Result<Command<'a>, AllocError>
     ensures { IfOk result (λ command. app_of command ≡ definition_of Compile) }
 {
     let about = "Compiles a bundle of a profile and a table";
-    let left_out =
-        "First the skipped names and the other architectures, as `compare` prints them, and a line that ends them";
-    let flags = [(ARCHITECTURES_FLAG, TABLES_HELP), (LEFT_OUT_FLAG, left_out)];
-    define(alloc, "compile", about, &[], true, &flags)
+    define(alloc, "compile", about, &[], true, &COMPILE_FLAGS)
 }
+
+/// The flags of `compare`, each with its help.
+const COMPARE_FLAGS: [(&str, &str); 7] = [
+    (NATIVE_FLAG, NATIVE_HELP),
+    (
+        CALLS_FLAG,
+        "Each named call by itself, and a line for each that isn't the same; not with --native",
+    ),
+    (
+        NO_MORE_FLAG,
+        "Whether the filters are nowhere more permissive than the profile",
+    ),
+    (
+        NO_LESS_FLAG,
+        "Whether they are nowhere less permissive; not with --no-more",
+    ),
+    (
+        DISPOSITION_FLAG,
+        "Whether both deny, delegate and allow alike; not with --no-more or --no-less",
+    ),
+    (
+        BESIDE_FLAG,
+        "With parts `beside`, other filters, in place of a profile",
+    ),
+    (
+        ARCHITECTURES_FLAG,
+        "Only calls of architectures with a table: parts `table`, `table-x86` ..; not with --native or --beside",
+    ),
+];
 
 /// The command `compare`.
 fn define_compare<'a>(alloc: Global) -> Result<Command<'a>, AllocError>
     ensures { IfOk result (λ command. app_of command ≡ definition_of Compare) }
 {
     let about = "Compares a bundle of filters, a profile and a table";
-    let calls =
-        "Each named call by itself, and a line for each that isn't the same; not with --native";
-    let no_more = "Whether the filters are nowhere more permissive than the profile";
-    let no_less = "Whether they are nowhere less permissive; not with --no-more";
-    let disposition =
-        "Whether both deny, delegate and allow alike; not with --no-more or --no-less";
-    let beside = "With parts `beside`, other filters, in place of a profile";
-    let each =
-        "Only calls of architectures with a table: parts `table`, `table-x86` ..; not with --native or --beside";
-    let flags = [
-        (NATIVE_FLAG, NATIVE_HELP),
-        (CALLS_FLAG, calls),
-        (NO_MORE_FLAG, no_more),
-        (NO_LESS_FLAG, no_less),
-        (DISPOSITION_FLAG, disposition),
-        (BESIDE_FLAG, beside),
-        (ARCHITECTURES_FLAG, each),
-    ];
-    define(alloc, "compare", about, &comparison_options(), true, &flags)
+    define(
+        alloc,
+        "compare",
+        about,
+        &comparison_options(),
+        true,
+        &COMPARE_FLAGS,
+    )
 }
+
+/// The flags of `ask`, each with its help.
+const ASK_FLAGS: [(&str, &str); 1] = [(ARCHITECTURES_FLAG, TABLES_HELP)];
 
 /// The command `ask`.
 fn define_ask<'a>(alloc: Global) -> Result<Command<'a>, AllocError>
     ensures { IfOk result (λ command. app_of command ≡ definition_of Ask) }
 {
     let about = "Says what a profile answers to a call, and why, of a bundle with a table";
-    let flags = [(ARCHITECTURES_FLAG, TABLES_HELP)];
-    define(alloc, "ask", about, &call_options(), true, &flags)
+    define(alloc, "ask", about, &call_options(), true, &ASK_FLAGS)
 }
+
+/// The flags of `answers`, each with its help.
+const ANSWERS_FLAGS: [(&str, &str); 5] = [
+    (NATIVE_FLAG, NATIVE_HELP),
+    (
+        DIFFERENCES_FLAG,
+        "What two sides, as `compare` takes them, may answer differently; with --architectures of all calls",
+    ),
+    (
+        BESIDE_FLAG,
+        "With --differences, parts `beside`, other filters, in place of a profile",
+    ),
+    (
+        ARCHITECTURES_FLAG,
+        "Only calls of architectures with a table, of a profile: parts `table`, `table-x86` ..; not with --native",
+    ),
+    (EXAMPLES_FLAG, "Also a call of each region"),
+];
 
 /// The command `answers`.
 fn define_answers<'a>(alloc: Global) -> Result<Command<'a>, AllocError>
@@ -217,26 +281,13 @@ fn define_answers<'a>(alloc: Global) -> Result<Command<'a>, AllocError>
 {
     let about =
         "Lists what filters, or a profile with a table, answer to every call, by regions of calls";
-    let each =
-        "Only calls of architectures with a table, of a profile: parts `table`, `table-x86` ..; not with --native";
-    let differences =
-        "What two sides, as `compare` takes them, may answer differently; with --architectures of all calls";
-    let beside = "With --differences, parts `beside`, other filters, in place of a profile";
-    let examples = "Also a call of each region";
-    let flags = [
-        (NATIVE_FLAG, NATIVE_HELP),
-        (DIFFERENCES_FLAG, differences),
-        (BESIDE_FLAG, beside),
-        (ARCHITECTURES_FLAG, each),
-        (EXAMPLES_FLAG, examples),
-    ];
     define(
         alloc,
         "answers",
         about,
         &exploration_options(),
         true,
-        &flags,
+        &ANSWERS_FLAGS,
     )
 }
 
