@@ -296,7 +296,7 @@ impl AffineTerm {
     }
 
     /// The test of `self` against `v`, as an atom about the term.
-    pub(crate) fn ask(self, test: Test, v: u32) -> Decision
+    fn ask(self, test: Test, v: u32) -> Decision
         requires { IsAffineTerm self }
         ensures asks { IsTestDecision result }
         ensures decides { (words : List ℕ) → IsWords words
@@ -305,18 +305,31 @@ impl AffineTerm {
         Decision::about(self.with_odd_factor().term(), test, v)
     }
 
-    /// The test of `self & mask` against `v`, as an atom about the term, if it is no order.
+    /// The test of `self` against `v`, as an atom about its word, or else about the term.
+    pub(crate) fn decide_or_ask(self, test: Test, v: u32) -> Decision
+        requires { IsAffineTerm self }
+        ensures asks { IsTestDecision result }
+        ensures decides { (words : List ℕ) → IsWords words
+            → Decides result words (holds test (affine_value self words) v) }
+    {
+        match self.decide(test, v) {
+            Decision::Open(_) => self.ask(test, v),
+            decision => decision,
+        }
+    }
+
+    /// The test of `self & mask` against `v`, as an atom about its word or the term, if it is no order.
     #[tactic(auto, using(std::proofs::lemmas::Nat::and_assoc))]
-    pub(crate) fn ask_bits(self, mask: u32, test: Test, v: u32) -> Decision
+    pub(crate) fn decide_bits(self, mask: u32, test: Test, v: u32) -> Decision
         requires { IsAffineTerm self }
         ensures asks { IsTestDecision result }
         ensures decides { (words : List ℕ) → IsWords words
             → Decides result words (holds test (bit_and (affine_value self words) mask) v) }
     {
-        let term = self.with_odd_factor().term();
         match test {
-            Test::Equal => Decision::has_bits(term, mask, v),
-            Test::CommonBit => Decision::has_bits(term, mask & v, 0).negated(),
+            Test::Equal if v == 0 => self.decide_or_ask(Test::CommonBit, mask).negated(),
+            Test::Equal => Decision::has_bits(self.with_odd_factor().term(), mask, v),
+            Test::CommonBit => self.decide_or_ask(Test::CommonBit, mask & v),
             Test::Greater | Test::GreaterOrEqual => Decision::Open(OpenTest::NONE),
         }
     }

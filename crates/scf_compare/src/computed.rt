@@ -97,14 +97,13 @@ impl Computed {
             → IsComputedNumber result (value_computed arithmetic a v) }
     {
         let bits = known_result(arithmetic, self.bits, other.bits);
-        let joined = self.sources.and(other.sources);
+        let guiding = self.sources.guiding(other.sources);
         let sources = match arithmetic {
-            Arithmetic::Add | Arithmetic::Sub | Arithmetic::Mul | Arithmetic::Lsh => joined.moved(
-                0,
-            ),
-            Arithmetic::Div => joined.moved(u32::BITS),
-            Arithmetic::Rsh => joined.moved(other.number().unwrap_or(u32::BITS)),
-            Arithmetic::And | Arithmetic::Or | Arithmetic::Xor => joined,
+            Arithmetic::Add | Arithmetic::Sub | Arithmetic::Mul => guiding.moved(0),
+            Arithmetic::Lsh if other.number().is_some() => guiding.moved(0),
+            Arithmetic::Lsh | Arithmetic::Div => guiding.moved(u32::BITS),
+            Arithmetic::Rsh => guiding.moved(other.number().unwrap_or(u32::BITS)),
+            Arithmetic::And | Arithmetic::Or | Arithmetic::Xor => self.sources.and(other.sources),
         };
         Computed {
             bits,

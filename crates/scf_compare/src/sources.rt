@@ -19,6 +19,9 @@ pub(crate) struct Sources {
     is_moved: bool,
 }
 
+/// The most bits of one value that are split before any of another one is.
+const FEW: u32 = 8;
+
 /// A test that nothing known decides.
 #[derive(Clone, Copy)]
 pub(crate) struct OpenTest {
@@ -78,6 +81,23 @@ impl Sources {
             is_moved: self.is_moved || other.is_moved,
             ..joined
         }
+    }
+
+    /// The bits on which to split for an operation on two values that isn't followed bit by bit: those of one that
+    /// depends on so few that each of its numbers can be tried, since with a constant the result is exact; else those
+    /// of both.
+    pub(crate) fn guiding(self, other: Sources) -> Sources {
+        let (first, second) = (self.count(), other.count());
+        if first.min(second) > 0 && first.min(second) <= FEW {
+            return if first <= second { self } else { other };
+        }
+        self.and(other)
+    }
+
+    /// How many bits there are.
+    fn count(self) -> u32 {
+        let others = u32::from(self.others).count_ones() * u32::BITS;
+        self.first_bits.count_ones() + self.second_bits.count_ones() + others
     }
 
     /// Those of a value whose bits may have moved, to the right by at most so many bits.

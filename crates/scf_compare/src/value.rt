@@ -88,17 +88,14 @@ impl Value {
         ensures masked { (masks v : ℕ) (under : Bool) → IsMaskedValue masks under self → other ≡ Value.Known v
             → arithmetic ≡ Arithmetic.And → IsMaskOf masks v → IsMaskedValue masks true result }
     {
-        if let Some(value) = self.bit_slice_result(arithmetic, other) {
-            return value;
-        }
-        match self.affine_result(arithmetic, other) {
-            Some(term) => Value::Affine(term),
+        match self.exact_result(arithmetic, other) {
+            Some(value) => value,
             None => self.result_in_bits(facts, arithmetic, other),
         }
     }
 
-    /// The abstract result of `self op other` by the known bits of both, if these fix it, or as bits of an affine term
-    /// or a binary term.
+    /// The abstract result of `self op other` by the known bits of both: exact, if these make one of them a constant,
+    /// or as bits of an affine term or a binary term.
     fn result_in_bits<F: WordFacts>(self, facts: &F, arithmetic: Arithmetic, other: Value) -> Value
         requires value { IsValue self }
         requires other { IsValue other }
@@ -108,10 +105,14 @@ impl Value {
             → Abstracts other words v
             → Abstracts result words (value_computed arithmetic a v) }
     {
-        let computed = self
-            .in_bits(facts)
-            .combined(arithmetic, other.in_bits(facts))
-            .value();
+        let (first, second) = (self.in_bits(facts), other.in_bits(facts));
+        let exact = self
+            .folded(first)
+            .exact_result(arithmetic, other.folded(second));
+        if let Some(value) = exact {
+            return value;
+        }
+        let computed = first.combined(arithmetic, second).value();
         if let Value::Computed(_) = computed {
             if let Some(bits) = self.masked_result(arithmetic, other) {
                 return bits;
@@ -121,6 +122,39 @@ impl Value {
             }
         }
         computed
+    }
+
+    /// The value, or the number that its bits are, if all of them are known.
+    fn folded(self, bits: Computed) -> Value
+        requires { IsValue self }
+        ensures value { IsValue result }
+        ensures stands { (words : List ℕ) (x : ℕ) → IsComputedNumber bits x → Abstracts self words x
+            → Abstracts result words x }
+    {
+        match bits.number() {
+            Some(number) => Value::Known(number),
+            None => self,
+        }
+    }
+
+    /// The abstract result of `self op other`, if it is a constant, a bit slice or an affine term.
+    fn exact_result(self, arithmetic: Arithmetic, other: Value) -> Option<Value>
+        requires value { IsValue self }
+        requires other { IsValue other }
+        ensures value { IfSome result IsValue }
+        ensures stands { IfSome result (λ value. (words : List ℕ) (a v : ℕ) → Abstracts self words a
+            → Abstracts other words v
+            → Abstracts value words (value_computed arithmetic a v)) }
+        ensures some { (masks v : ℕ) (under : Bool) → IsMaskedValue masks under self → other ≡ Value.Known v
+            → arithmetic ≡ Arithmetic.And → IsSome result }
+        ensures masked { IfSome result (λ value. (masks v : ℕ) (under : Bool) → IsMaskedValue masks under self
+            → other ≡ Value.Known v → arithmetic ≡ Arithmetic.And → IsMaskOf masks v
+            → IsMaskedValue masks true value) }
+    {
+        match self.bit_slice_result(arithmetic, other) {
+            Some(value) => Some(value),
+            None => Some(Value::Affine(self.affine_result(arithmetic, other)?)),
+        }
     }
 
     /// `self & other`, if one of them is an affine term or bits of one, and the other a constant.
@@ -294,7 +328,8 @@ impl Value {
         requires other { IsValue other }
         requires asks { IsTestDecision (Decision.Asks atom answer) }
         ensures asks { IsTestDecision result }
-        ensures decides { (words : List ℕ) (a v : ℕ) → F.allows facts.now (F.level facts.now) words
+        ensures decides { (words : List ℕ) (a v : ℕ) → IsWords words
+            → F.allows facts.now (F.level facts.now) words
             → Abstracts self words a
             → Abstracts other words v
             → Decides (Decision.Asks atom answer) words (holds test a v)
@@ -310,14 +345,15 @@ impl Value {
         }
     }
 
-    /// The decision by the known bits of both.
+    /// The decision by the known bits of both, or by atoms, if the known bits make one of them a constant.
     #[cold]
     #[inline(never)]
     fn decide_by_bits<F: WordFacts>(self, facts: &F, test: Test, other: Value) -> Decision
         requires value { IsValue self }
         requires other { IsValue other }
         ensures asks { IsTestDecision result }
-        ensures decides { (words : List ℕ) (a v : ℕ) → F.allows facts.now (F.level facts.now) words
+        ensures decides { (words : List ℕ) (a v : ℕ) → IsWords words
+            → F.allows facts.now (F.level facts.now) words
             → Abstracts self words a
             → Abstracts other words v
             → Decides result words (holds test a v) }
@@ -326,7 +362,15 @@ impl Value {
         let second = other.in_bits(facts);
         match known_outcome(test, first.bits, second.bits) {
             Some(outcome) => Decision::Known(outcome),
-            None => Decision::Open(open_test(test, first, second)),
+            None => match self
+                .folded(first)
+                .decide_by_atoms(test, other.folded(second))
+            {
+                Decision::Open(_) | Decision::AsksTerm(..) => {
+                    Decision::Open(open_test(test, first, second))
+                }
+                decision => decision,
+            },
         }
     }
 
@@ -400,14 +444,11 @@ impl Value {
         match self {
             Value::Known(a) => Decision::Known(holds_of(test, a, v)),
             Value::Slice(bit_slice) => match decide_bit_slice(bit_slice, test, v) {
-                Decision::Open(_) => AffineTerm::of(bit_slice).ask(test, v),
+                Decision::Open(_) => AffineTerm::of(bit_slice).decide_or_ask(test, v),
                 decision => decision,
             },
-            Value::Affine(term) => match term.decide(test, v) {
-                Decision::Open(_) => term.ask(test, v),
-                decision => decision,
-            },
-            Value::Bits(term, mask) => term.ask_bits(mask, test, v),
+            Value::Affine(term) => term.decide_or_ask(test, v),
+            Value::Bits(term, mask) => term.decide_bits(mask, test, v),
             Value::Binary(term) => Decision::about(Term::Binary(term), test, v),
             Value::Computed(_) => Decision::Open(OpenTest::NONE),
         }
@@ -472,8 +513,8 @@ fn word_in_bits<F: WordFacts>(facts: &F, word: u8) -> Computed
 /// A test of two values that their known bits don't decide.
 fn open_test(test: Test, first: Computed, second: Computed) -> OpenTest {
     let (sources, is_order) = match test {
-        Test::Equal => (first.sources.and(second.sources), false),
-        Test::Greater | Test::GreaterOrEqual => (first.sources.and(second.sources), true),
+        Test::Equal => (first.sources.guiding(second.sources), false),
+        Test::Greater | Test::GreaterOrEqual => (first.sources.guiding(second.sources), true),
         Test::CommonBit => {
             let common = first.combined(Arithmetic::And, second);
             (common.sources, common.bits.mask & 0xff == 0xff)
