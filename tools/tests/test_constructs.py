@@ -9,9 +9,6 @@ from support.constructs import ADD, AND, DIV, JEQ, JGE, JGT, JSET, MUL, OR, SUB,
 # Of each kind of pair: its constructs, how many pairs of each are drawn, the seed, and the construct of a plain test.
 KINDS = {ProfilePair: (constructs.CONSTRUCTS, 16, 30, constructs.by_mask),
          FilterPair: (constructs.REWRITES, 12, 60, constructs.mask_split)}
-# Of these some pairs need more splits than the default: the bits of a shifted word are split before the shift's count,
-# and the low bits of a sum before the bit that is tested above them.
-MAY_BE_UNDECIDED = {"shift by word", "branch by product", "bits of sum"}
 
 
 class Constructs(unittest.TestCase):
@@ -20,8 +17,7 @@ class Constructs(unittest.TestCase):
         constructs.build_program()
 
     def test_all_are_decided(self):
-        """No pair is left undecided but where that is known, no verdict is wrong, and none takes more than a second or
-        64 megabytes."""
+        """No pair is left undecided, no verdict is wrong, and none takes more than a second or 64 megabytes."""
         for kind, (makers, pairs, seed, _) in KINDS.items():
             for name, construct in makers.items():
                 with self.subTest(name):
@@ -29,9 +25,8 @@ class Constructs(unittest.TestCase):
                     equal, differ = measurement.equal, measurement.differ
                     self.assertEqual(equal[0] + differ[0], pairs)
                     self.assertGreaterEqual(equal[0], pairs // 2)
-                    if name not in MAY_BE_UNDECIDED:
-                        self.assertGreater(differ[0], 0)
-                        self.assertEqual((equal[1], differ[1]), (0, 0))
+                    self.assertGreater(differ[0], 0)
+                    self.assertEqual((equal[1], differ[1]), (0, 0))
                     self.assertLess(measurement.seconds, 1)
                     self.assertLess(measurement.memory, 64)
 

@@ -734,8 +734,8 @@ def quotient_by_orders(dice, word, other_word):
 
 
 def remainder_by_orders(dice, word, other_word):
-    """Of a byte."""
-    divisor = dice.randrange(1, 256)
+    """Of a byte; a jump goes over at most 255 instructions."""
+    divisor = dice.randrange(2, 256)
     value = dice.randrange(divisor)
     tests = [step for at in range(value, 256, divisor) for step in ((JEQ, at, "yes", f"t{at}"), f"t{at}")]
     return ([(LD, word), (AND, 0xFF), (ST, 0), (DIV, divisor), (MUL, divisor), (TAX, 0), (LD_M, 0), (SUB | X, 0),
