@@ -292,9 +292,10 @@ place_fits n some fits = (bit_at-trailing_zeros w32 n some fits).0
 
 -- ---- ranges under an XOR
 
-pub xor_equal : (s f v : ℕ) → is_within v v (bit_xor s f) ≡ eqb s (bit_xor v f)
-xor_equal s f v =
-    sym (one_value (bit_xor s f) v) ∙ grind (arith, cases_eq (bit_xor s f) v, cases_eq s (bit_xor v f), xor_moved s f v, eq-eqb, ne_eqb)
+pub xor_equal : (s f low high : ℕ) → low ≡ high → is_within low high (bit_xor s f) ≡ eqb s (bit_xor low f)
+xor_equal s f low high one =
+    rw (← one)
+    (sym (one_value (bit_xor s f) low) ∙ grind (arith, cases_eq (bit_xor s f) low, cases_eq s (bit_xor low f), xor_moved s f low, eq-eqb, ne_eqb))
 
 -- an XOR sets bits that a number can't have
 pub set_within : (s b f low high : ℕ) → bit_and s b ≡ s → bit_and b f ≡ 0 → f ≤ high
@@ -402,8 +403,6 @@ gap a low high fits some fits_high part order =
 
 pub ruleset of_laws = (of_bit_slice, number_fits)
 
-pub ruleset xor_laws = (xor_more, xor_ones, quotient_fits, number_fits)
-
 pub ruleset complement_laws = (complement_sum, number_fits)
 
 pub ruleset and_laws = (and_xor, number_fits)
@@ -420,10 +419,6 @@ pub ruleset div_laws = (div-div-eq-div-mul, some_product)
 
 pub ruleset commuted_laws = (add_comm, and_comm, mul_comm, or_comm, xor_comm)
 
-pub ruleset decide_laws = (one_value, from_least, past_least, none_past, from_lowest_bit, quotient_fits)
-
-pub ruleset quotient_laws = (quotient_within, none_within, to_most, least_fits, last_fits, last_past, mod-lt)
-
 pub ruleset sum_laws = (sum_within, sum_beyond, gap, all_within, xor_lt, number_fits, mod-lt)
 
 pub ruleset product_laws = (by_one, by_power, by_inverse, xor_lt, number_fits, mod-lt)
@@ -431,7 +426,5 @@ pub ruleset product_laws = (by_one, by_power, by_inverse, xor_lt, number_fits, m
 pub ruleset shifted_laws = (xor_shifted, number_fits)
 
 pub ruleset odd_laws = (shifted_out, place_fits)
-
-pub ruleset xored_laws = (xor_equal, set_within, turned_within)
 
 pub ruleset slice_laws = (from_first, from_least, past_first, whole_word, word_below, div-one, number_fits)

@@ -70,7 +70,6 @@ impl AffineTerm {
     }
 
     /// `self op v`, if it is an affine term.
-    #[tactic(auto, using(crate::proofs::Common::one_shl))]
     pub(crate) fn computed(self, arithmetic: Arithmetic, v: u32) -> Option<AffineTerm>
         requires { IsAffineTerm self }
         ensures term { IfSome result IsAffineTerm }
@@ -111,7 +110,6 @@ impl AffineTerm {
     }
 
     /// `self ^ v`, if it is an affine term.
-    #[tactic(auto, using(crate::proofs::AffineTerms::xor_laws))]
     fn xor(self, v: u32) -> Option<AffineTerm>
         requires { IsAffineTerm self }
         ensures term { IfSome result IsAffineTerm }
@@ -275,7 +273,6 @@ impl AffineTerm {
     }
 
     /// The decision of the test of `self` against `v`.
-    #[tactic(auto, using(crate::proofs::AffineTerms::decide_laws))]
     pub(crate) fn decide(self, test: Test, v: u32) -> Decision
         requires { IsAffineTerm self }
         ensures asks { IsTestDecision result }
@@ -368,7 +365,6 @@ impl AffineTerm {
     }
 
     /// The test `low <= self <= high`.
-    #[tactic(auto, using(crate::proofs::AffineTerms::quotient_laws))]
     fn is_within(self, low: u32, high: u32) -> Decision
         requires term { IsAffineTerm self }
         requires some { low ≤ high }
@@ -459,7 +455,6 @@ impl AffineTerm {
 
     /// The test that the bit slice under the XOR lies in `low..=high`: it is one value, or the XOR sets bits that the
     /// slice lacks, or turns all bits round that it may have.
-    #[tactic(auto, using(crate::proofs::AffineTerms::xored_laws))]
     fn is_xored_within(self, low: u32, high: u32) -> Decision
         requires term { IsAffineTerm self }
         requires some { low ≤ high }

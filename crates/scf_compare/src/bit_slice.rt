@@ -156,7 +156,6 @@ impl BitSlice {
     }
 
     /// The test `self > v`, as an atom about its word, if the mask has all bits of the word from one on.
-    #[tactic(auto, using(crate::proofs::BitSlices::test_laws))]
     pub(crate) fn is_above(self, v: u32) -> Decision
         requires { IsBitSlice self }
         ensures asks { IsTestDecision result }
