@@ -1,14 +1,15 @@
 -- Open branches, as one is opened and one is taken.
-use Rattle.scf_compare.proofs.Common.{◌≡◌, ℕ, zero, suc, ◌+◌, ◌<◌, ◌≤◌, ◌↔◌, ◌⊎◌, inl, inr, List, [], ◌∷◌, ◌++◌, length, refl, ap, ◌∙◌, arith, length-append, Option, None, Some, true, false, cases_Bool, cases_lt, Atom, Branch, GoesOver, atom_answer, slice_get, slice_get_within, sum_by-append, AreWordsIn, Store, IsSameLevel, Frontier, Compared, GivesAnswer, LearnsAmong, IsFrontier, open_size, Tree}
+use Rattle.scf_compare.proofs.Common.{◌≡◌, Bool, ℕ, ◌+◌, ◌<◌, ◌≤◌, ◌↔◌, ◌⊎◌, inl, inr, List, [], ◌∷◌, ◌++◌, length, refl, ap, ◌∙◌, arith, length-append, Option, None, Some, true, false, if◌then◌else◌, cases_Bool, cases_lt, Atom, Branch, GoesOver, atom_answer, slice_get, slice_get_within, sum_by-append, AreWordsIn, Store, IsSameLevel, Frontier, Compared, GivesAnswer, LearnsAmong, IsFrontier, open_size, Tree}
 use Rattle.scf_machine.proofs.Indices.{index_before, index_cases, index_last}
 use Rattle.scf_compare.specs.declared.frontier.OpenBranch.{OpenBranch}
-use Rattle.scf_compare.specs.internal.Trees.{GoesEither, IsStep, KeepsAsked}
+use Rattle.scf_compare.specs.internal.Trees.{GoesEither, IsLaterNode, IsStep, KeepsAsked, Leaves}
 use Rattle.scf_compare.specs.internal.Frontier.{HasOpened, HasTaken, IsBefore, IsWhole, IsWhollyAhead, StaysWhole, first_open_after, first_open_left}
 use Rattle.scf_compare.specs.internal.Leaves.{pair_leaves}
-use Rattle.scf_compare.specs.internal.Stages.{IsStageAfter}
+use Rattle.scf_compare.specs.internal.Stages.{IsAfterTest, IsStageAfter}
+use Rattle.scf_compare.proofs.Stages.{went_on}
 use Rattle.scf_compare.specs.declared.frontier.Stage.{Stage}
 use Rattle.scf_compare.specs.declared.frontier.Stage.TheVariants.{At as AtNode, AllSeen, Found}
-use Rattle.std.specs.Prelude.{IfOk, IfSome, IsSome, Result, Ok, Err}
+use Rattle.std.specs.Prelude.{IfSome, IsSome}
 
 -- ---- one more at the end of a list
 
@@ -317,6 +318,53 @@ pub decided_whole : {F K N : Type 0} (store : Store F) (tree : K → Tree N) (fr
 decided_whole store tree frontier first atom count whole goes =
     rw (after_atom first (Some atom) count refl) (goes_on whole goes, λ words ahead. ahead)
 
+-- a test whose answer the facts know leads to one node
+pub known_step : {N E : Type 0} (leaves : Leaves E) (given : List ℕ → Type 0) (here : Tree N) (from : N)
+    (there : Tree N) (atom : Atom) (if_true if_false : N) (answer : Bool)
+    → ((words : List ℕ) → given words → atom_answer atom words ≡ answer)
+    → IsStep leaves given here from there (Branch (Some atom) if_true if_false)
+    → let next = if answer then if_true else if_false in
+    IsLaterNode given here from there next × (there.size next + 1 ≤ here.size from)
+known_step leaves given here from there atom if_true if_false true known step = (
+  record {
+    node = step.proper.1;
+    reached = λ words allowed reached. (step.leads words allowed reached).0 (known words allowed);
+    size = omega (arith, step.costs);
+    plain = λ masks plain. (step.plain masks plain).1;
+  },
+  omega (arith, step.costs),
+)
+known_step leaves given here from there atom if_true if_false false known step = (
+  record {
+    node = step.proper.2;
+    reached = λ words allowed reached. (step.leads words allowed reached).1 (known words allowed);
+    size = omega (arith, step.costs);
+    plain = λ masks plain. (step.plain masks plain).2;
+  },
+  omega (arith, step.costs),
+)
+
+pub known_test : {F K N : Type 0} (store : Store F) (compared : Compared) (tree : K → Tree N) (frontier : Frontier F K N)
+    (known : K) (atom : Atom) (if_true if_false : N) (answer : Bool)
+    → IsFrontier store tree (AreWordsIn compared) frontier
+    → ((words : List ℕ) → store.allows frontier.facts (store.level frontier.facts) words
+    → atom_answer atom words ≡ answer)
+    → IsAfterTest store compared tree frontier frontier known (Some atom) if_true if_false
+    (if answer then if_true else if_false)
+known_test {K = K} {N = N} store compared tree frontier known atom if_true if_false answer f known_answer =
+    let given = store.allows frontier.facts (store.level frontier.facts) in
+    let leads = λ (before : K) (from : N).
+    known_step (pair_leaves compared) given (tree before) from (tree known) atom if_true if_false answer known_answer in
+    record {
+      opened = inl (refl, grind (arith, cases_Bool answer));
+      goes = λ before from step.
+          let (later, costs) = leads before from step in
+          went_on store tree frontier (tree before) from (tree known) _ later f costs;
+      whole = λ before from first step whole.
+          decided_whole store tree frontier first atom (length frontier.branches.items) whole
+          (leads before from step).0.reached;
+    }
+
 -- the branches before one that is taken were decided
 was_left : (first : Option ℕ) (count index : ℕ) → index < count → IsBefore (first_open_left first count) index
     → IsBefore first index
@@ -436,12 +484,3 @@ weaken_stage F K N store compared tree old new here from there was more (AtNode 
 weaken_stage F K N store compared tree old new here from there was more AllSeen follows all =
     λ words ahead. follows words (all words ahead)
 weaken_stage F K N store compared tree old new here from there was more (Found finding) follows found = found
-
-pub weaken_ok : (F K N E : Type 0) (store : Store F) (compared : Compared) (tree : K → Tree N) (old new : Frontier F K N)
-    (here : Tree N) (from : N) (there : Tree N) (was more : List ℕ → Type 0) (result : Result (Stage N) E)
-    → ((words : List ℕ) → was words → more words)
-    → IfOk result (IsStageAfter store compared tree old new here from there was)
-    → IfOk result (IsStageAfter store compared tree old new here from there more)
-weaken_ok F K N E store compared tree old new here from there was more (Ok stage) follows after =
-    weaken_stage F K N store compared tree old new here from there was more stage follows after
-weaken_ok F K N E store compared tree old new here from there was more (Err why) follows after = after

@@ -278,7 +278,6 @@ fn compare_with<F: WordFacts, L: SideTree + Drop>(
 }
 
 /// Walks the tree of a pair; if that leaves it undecided, a second time with splits, unless both sides are the same.
-#[tactic(auto, using(crate::proofs::Budgets::unsplit))]
 fn compare_pair<F: WordFacts, L: SideTree, R: SideTree>(
     alloc: Global,
     pair: &Pair<L, R>,

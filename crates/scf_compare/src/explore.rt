@@ -1,13 +1,13 @@
 //! The explorer: a depth-first walk of a comparison's tree.
 
-ghost use Rattle.std.specs.Prelude.{◌≡◌, ◌↔◌, ℕ, List, IsTrue, false, IfOk, IfSome, IfNone, IsSome};
+ghost use Rattle.std.specs.Prelude.{◌≡◌, ◌↔◌, ℕ, List, IsTrue, false, IfOk, IfSome, IfNone};
 ghost use Rattle.scf_insn.specs.Words.{IsRecord, words_of};
 ghost use Rattle.scf_facts.specs.Masks.{AreFew};
 ghost use Rattle.scf_compare.specs.Findings.{WordsRelated};
 ghost use Rattle.scf_compare.specs.Leaves.{IsLeaf, KnowsBoth, Tells};
-ghost use Rattle.scf_compare.specs.internal.Leaves.{AreWordsIn, IsFirstUndecided, IsUndecidedLeaf, WereSeen, told_end};
-ghost use Rattle.scf_compare.specs.internal.Frontier.{IsFrontier, IsExact};
-ghost use Rattle.scf_compare.specs.internal.Stages.{IsExplored, IsFound, IsJudged, IsStageAfter, finding_of_all};
+ghost use Rattle.scf_compare.specs.internal.Leaves.{AreWordsIn, IsFirstUndecided, IsUndecidedLeaf, told_end};
+ghost use Rattle.scf_compare.specs.internal.Frontier.{IsFrontier};
+ghost use Rattle.scf_compare.specs.internal.Stages.{IsAdvanced, IsExplored, IsFound, IsJudged, finding_of_all};
 
 use crate::comparison::{Comparison, PairLeaf};
 use crate::finding::{Finding, Which};
@@ -138,16 +138,9 @@ fn advance<C: Comparison, F: WordFacts>(
         (AreWordsIn (C.compared comparison.now)) frontier.old }
     requires node { (C.tree comparison.now known.old).is_node node }
     requires index { IfSome first_undecided.old (IsFirstUndecided (C.compared comparison.now)) }
-    ensures stage { IfOk result (
-        IsStageAfter F.WordFacts (C.compared comparison.now) (C.tree comparison.now)
-        frontier.old frontier.new (C.tree comparison.now known.old) node (C.tree comparison.now known.new)
-        (WereSeen (C.compared comparison.now) first_undecided.new)) }
-    ensures index { IfSome first_undecided.new (IsFirstUndecided (C.compared comparison.now)) }
-    ensures kept { IsSome first_undecided.old → first_undecided.new ≡ first_undecided.old }
-    ensures exact { let here = C.tree comparison.now known.old in
-        (masks : ℕ) → AreFew masks
-        → IsExact F.WordFacts (C.tree comparison.now) masks frontier.old (here.is_plain masks node) (here.reaches node)
-        → first_undecided.new ≡ first_undecided.old }
+    ensures { let tree = C.tree comparison.now in
+        IfOk result (IsAdvanced F.WordFacts (C.compared comparison.now) tree frontier.old frontier.new
+        (tree known.old) node (tree known.new) first_undecided.old first_undecided.new) }
 {
     match comparison.step(&frontier.facts, known, &node) {
         Step::Next(next) => Ok(Stage::At(next)),

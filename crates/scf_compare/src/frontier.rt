@@ -1,13 +1,12 @@
 //! The open branches of a walk.
 
-ghost use Rattle.std.specs.Prelude.{◌≡◌, ◌<◌, ◌↔◌, ◌⊎◌, [], ℕ, Option, List, OnOk, IfOk, length};
+ghost use Rattle.std.specs.Prelude.{◌≡◌, ◌<◌, ◌↔◌, [], ℕ, List, OnOk, IfOk};
 ghost use Rattle.scf_facts.specs.Levels.{IsSameLevel};
 ghost use Rattle.scf_compare.specs.Leaves.{IsLeaf};
-ghost use Rattle.scf_compare.specs.internal.Leaves.{AreWordsIn, pair_leaves};
-ghost use Rattle.scf_compare.specs.internal.Frontier.{GivesAnswer, LearnsAmong, IsFrontier, IsWhole, StaysWhole};
-ghost use Rattle.scf_compare.specs.internal.Frontier.{HasOpened, first_open_after};
-ghost use Rattle.scf_compare.specs.internal.Stages.{FindsNothing, GoesOver, IsStageAfter, IsTaken, IsWholeStage};
-ghost use Rattle.scf_compare.specs.internal.Trees.{IsAsked, IsProper, IsStep};
+ghost use Rattle.scf_compare.specs.internal.Leaves.{AreWordsIn};
+ghost use Rattle.scf_compare.specs.internal.Frontier.{GivesAnswer, HasOpened, LearnsAmong, IsFrontier};
+ghost use Rattle.scf_compare.specs.internal.Stages.{IsAfterLeaf, IsAfterTest};
+ghost use Rattle.scf_compare.specs.internal.Trees.{IsAsked, IsProper};
 
 use crate::comparison::Comparison;
 use crate::finding::Finding;
@@ -86,18 +85,8 @@ pub(crate) fn take_branch<C: Comparison, F: WordFacts>(
     known: &mut C::Known,
 ) -> Result<Stage<C::Node>, Memory>
     requires { IsFrontier F.WordFacts (C.tree comparison.now) (AreWordsIn (C.compared comparison.now)) frontier.old }
-    ensures stage { let compared = C.compared comparison.now in
-        let tree = C.tree comparison.now in
-        (before : C.Known) (from : C.Node)
-        → IfOk result (IsStageAfter F.WordFacts compared tree frontier.old frontier.new
-        (tree before) from (tree known.new)
-        (λ words. F.allows frontier.old.facts (F.level frontier.old.facts) words × (tree before).reaches from words)) }
-    ensures whole { let tree = C.tree comparison.now in
-        (before : C.Known) (from : C.Node) (first_open : Option ℕ)
-        → IsWhole F.WordFacts tree frontier.old first_open ((tree before).reaches from)
-        → IfOk result (IsWholeStage F.WordFacts tree frontier.old frontier.new first_open (tree known.new)) }
-    ensures nothing { IfOk result FindsNothing }
-    ensures taken { IfOk result (IsTaken F.WordFacts frontier.old frontier.new known.new) }
+    ensures { IfOk result (IsAfterLeaf F.WordFacts (C.compared comparison.now) (C.tree comparison.now)
+        frontier.old frontier.new known.new) }
 {
     let _ = comparison;
     let Some(branch) = frontier.branches.pop() else {
@@ -149,26 +138,8 @@ pub(crate) fn ask<C: Comparison, F: WordFacts>(
     requires proper { let compared = C.compared comparison.now in
         let step = Step.Branch atom if_true if_false in
         IsProper (C.tree comparison.now known.now) (IsLeaf compared.left compared.right) step }
-    ensures opened { IfOk result (λ next. ((frontier.new ≡ frontier.old) × ((next ≡ if_true) ⊎ (next ≡ if_false)))
-        ⊎ ((next ≡ if_true) × HasOpened F.WordFacts frontier.old frontier.new
-        (record { known = known.now; node = if_false; asked = atom }))) }
-    ensures goes { let compared = C.compared comparison.now in
-        let tree = C.tree comparison.now in
-        let given = F.allows frontier.old.facts (F.level frontier.old.facts) in
-        (before : C.Known) (from : C.Node)
-        → let step = Step.Branch atom if_true if_false in
-        IsStep (pair_leaves compared) given (tree before) from (tree known.now) step
-        → IfOk result (GoesOver F.WordFacts compared tree frontier.old frontier.new
-        (tree before) from (tree known.now) (λ words. ⊥)) }
-    ensures whole { let tree = C.tree comparison.now in
-        let given = F.allows frontier.old.facts (F.level frontier.old.facts) in
-        (before : C.Known) (from : C.Node) (first_open : Option ℕ)
-        → let step = Step.Branch atom if_true if_false in
-        IsStep (pair_leaves (C.compared comparison.now)) given (tree before) from (tree known.now) step
-        → IsWhole F.WordFacts tree frontier.old first_open ((tree before).reaches from)
-        → let after = first_open_after first_open atom (length frontier.old.branches.items) in
-        IfOk result (λ next.
-        StaysWhole F.WordFacts tree frontier.old frontier.new first_open after ((tree known.now).reaches next)) }
+    ensures { IfOk result (IsAfterTest F.WordFacts (C.compared comparison.now) (C.tree comparison.now)
+        frontier.old frontier.new known.now atom if_true if_false) }
 {
     let question = atom;
     if let Some(asked) = question {

@@ -1,16 +1,15 @@
 //! What two sides answer to the records of a scope, as regions of records.
 
-ghost use Rattle.std.specs.Prelude.{◌≡◌, ◌*◌, ◌<◌, ◌↔◌, ℕ, List, All, AllPairs, None, IsTrue, IfOk, IfSome, IfNone};
+ghost use Rattle.std.specs.Prelude.{◌≡◌, ◌*◌, ◌<◌, ◌↔◌, ℕ, List, All, IsTrue, IfOk, IfSome, IfNone};
 ghost use Rattle.std.specs.Prelude.{OnOk, length};
 ghost use Rattle.scf_profile.specs.Scope.{IsInScope};
-ghost use Rattle.scf_compare.specs.Regions.{AreRegions, IsCovered, IsDecidedRegion};
+ghost use Rattle.scf_compare.specs.Regions.{AreRegions, IsDecidedRegion};
 ghost use Rattle.scf_facts.specs.Masks.{AreFew};
 ghost use Rattle.scf_compare.specs.Leaves.{KnowsBoth};
 ghost use Rattle.scf_compare.specs.Sides.{IsMaskedSide, IsPlainSide, behavior_of, effort_of_sides};
 ghost use Rattle.scf_compare.specs.internal.Leaves.{AreWordsIn};
-ghost use Rattle.scf_compare.specs.internal.Frontier.{IsExact, IsFrontier, IsWhole, first_open_after, first_open_left};
-ghost use Rattle.scf_compare.specs.internal.Regions.{AreRegionsAt, AreRegionsSoFar, IsAdded};
-ghost use Rattle.scf_compare.specs.internal.Stages.{FindsNothing, IsStageAfter};
+ghost use Rattle.scf_compare.specs.internal.Frontier.{IsFrontier, IsWhole, first_open_after, first_open_left};
+ghost use Rattle.scf_compare.specs.internal.Regions.{AreRegionsSoFar, IsAdded, IsRegionStep};
 
 use crate::by_number::ByNumber;
 use crate::comparison::{Comparison, PairLeaf};
@@ -200,20 +199,9 @@ fn region_step<C: Comparison, F: Snapshots>(
         ((C.tree comparison.now known.old).reaches node) }
     requires regions { AreRegionsSoFar F.WordFacts (C.compared comparison.now) (C.tree comparison.now)
         frontier.old first_open.old regions.old.items }
-    ensures stage { let compared = C.compared comparison.now in IfOk result (
-        IsStageAfter F.WordFacts compared (C.tree comparison.now)
-        frontier.old frontier.new (C.tree comparison.now known.old) node (C.tree comparison.now known.new)
-        (IsCovered compared.left compared.right regions.new.items)) }
-    ensures kept { let compared = C.compared comparison.now in OnOk result ((words : List ℕ)
-        → IsCovered compared.left compared.right regions.old.items words
-        → IsCovered compared.left compared.right regions.new.items words) }
-    ensures regions { IfOk result (AreRegionsAt F.WordFacts (C.compared comparison.now) (C.tree comparison.now)
-        frontier.new first_open.new regions.new.items (C.tree comparison.now known.new)) }
-    ensures decided { let here = C.tree comparison.now known.old in OnOk result ((masks : ℕ) → AreFew masks
-        → IsExact F.WordFacts (C.tree comparison.now) masks frontier.old (here.is_plain masks node) (here.reaches node)
-        → first_open.old ≡ None → (first_open.new ≡ None)
-        × (All IsDecidedRegion regions.old.items → All IsDecidedRegion regions.new.items)) }
-    ensures nothing { IfOk result FindsNothing }
+    ensures { let tree = C.tree comparison.now in
+        IfOk result (IsRegionStep F.WordFacts (C.compared comparison.now) tree frontier.old frontier.new
+        (tree known.old) node (tree known.new) first_open.old first_open.new regions.old.items regions.new.items) }
 {
     match comparison.step(&frontier.facts, known, &node) {
         Step::Next(next) => Ok(Stage::At(next)),

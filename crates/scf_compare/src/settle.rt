@@ -2,17 +2,15 @@
 
 ghost use Rattle.std.specs.Prelude.{◌≡◌, ◌≤◌, ◌↔◌, ℕ, List, None, IfNone, IfOk, IfSome};
 ghost use Rattle.scf_compare.specs.Findings.{WordsRelated};
-ghost use Rattle.scf_compare.specs.Searches.{IsGivenUp};
 ghost use Rattle.scf_compare.specs.Splits.{HaveBits, open_bits};
-ghost use Rattle.scf_compare.specs.internal.Budgets.{LeavesSteps};
 ghost use Rattle.scf_compare.specs.internal.FixedBits.{AreWhole, IsOpenBit};
 ghost use Rattle.scf_compare.specs.internal.Frontier.{IsFrontier};
-ghost use Rattle.scf_compare.specs.internal.Leaves.{AreWordsIn, WereSeen};
-ghost use Rattle.scf_compare.specs.internal.Settling.{IsSettled, StartsAt, settling_trees};
-ghost use Rattle.scf_compare.specs.internal.Stages.{IsFound, IsStageAfter};
-ghost use Rattle.scf_compare.specs.internal.Walks.{HasCome, SearchesOn};
+ghost use Rattle.scf_compare.specs.internal.Leaves.{AreWordsIn};
+ghost use Rattle.scf_compare.specs.internal.Settling.{IsSecondWalk, StartsAt, settling_trees};
+ghost use Rattle.scf_compare.specs.internal.Stages.{IsFound};
+ghost use Rattle.scf_compare.specs.internal.Walks.{IsWalkedOn};
 
-use crate::budget::{Limit, Splits};
+use crate::budget::Limit;
 use crate::comparison::Comparison;
 use crate::explore::{Judged, difference_in_scope, judge};
 use crate::finding::Finding;
@@ -54,19 +52,10 @@ fn restart<C: Comparison, F: WordFacts>(
         → HaveBits from.fixed.words words → HaveBits fixed.words words }
     requires less { open_bits fixed.words ≤ open_bits from.fixed.words }
     requires open { IsOpenBit fixed.words bit }
-    ensures stage { let walk = settling.now in
-        let trees = settling_trees (C.tree walk.comparison.now) walk.start walk.root in
-        (before : C.Known) → IfOk result (λ stage. IfSome stage (IsStageAfter F.WordFacts
-        (C.compared walk.comparison.now) trees frontier.old frontier.new (trees before) from (trees known.new)
-        (WereSeen (C.compared walk.comparison.now) None))) }
-    ensures search { let walk = settling.now in
-        (before : C.Known) (steps splits : ℕ) → HasCome F.WordFacts (C.compared walk.comparison.now)
-        (C.tree walk.comparison.now) walk.start walk.root frontier.old before from steps splits
-        → IfOk result (SearchesOn F.WordFacts (C.compared walk.comparison.now)
-        (C.tree walk.comparison.now) walk.start walk.root steps splits frontier.new known.new
-        budget.old.splits budget.new.splits) }
-    ensures splits { IfOk result (λ stage. IfNone stage (budget.old.splits ≡ Splits.AtMost 0)) }
-    ensures steps { budget.new.steps ≡ budget.old.steps }
+    ensures { let walk = settling.now in
+        (before : C.Known) → IfOk result (IsWalkedOn F.WordFacts (C.compared walk.comparison.now)
+        (C.tree walk.comparison.now) walk.start walk.root frontier.old frontier.new before from known.new
+        budget.old budget.new) }
 {
     if !budget.take_split() {
         return Ok(None);
@@ -96,19 +85,10 @@ fn split<C: Comparison, F: WordFacts>(
         (AreWordsIn (C.compared walk.comparison.now)) frontier.old }
     requires root { let walk = settling.now in
         StartsAt (AreWordsIn (C.compared walk.comparison.now)) (C.tree walk.comparison.now walk.start) walk.root }
-    ensures stage { let walk = settling.now in
-        let trees = settling_trees (C.tree walk.comparison.now) walk.start walk.root in
-        (before : C.Known) → IfOk result (λ stage. IfSome stage (IsStageAfter F.WordFacts
-        (C.compared walk.comparison.now) trees frontier.old frontier.new (trees before) from (trees known.new)
-        (WereSeen (C.compared walk.comparison.now) None))) }
-    ensures search { let walk = settling.now in
-        (before : C.Known) (steps splits : ℕ) → HasCome F.WordFacts (C.compared walk.comparison.now)
-        (C.tree walk.comparison.now) walk.start walk.root frontier.old before from steps splits
-        → IfOk result (SearchesOn F.WordFacts (C.compared walk.comparison.now)
-        (C.tree walk.comparison.now) walk.start walk.root steps splits frontier.new known.new
-        budget.old.splits budget.new.splits) }
-    ensures splits { IfOk result (λ stage. IfNone stage (budget.old.splits ≡ Splits.AtMost 0)) }
-    ensures steps { budget.new.steps ≡ budget.old.steps }
+    ensures { let walk = settling.now in
+        (before : C.Known) → IfOk result (IsWalkedOn F.WordFacts (C.compared walk.comparison.now)
+        (C.tree walk.comparison.now) walk.start walk.root frontier.old frontier.new before from known.new
+        budget.old budget.new) }
 {
     let mut fixed = from.fixed;
     match fixed.next_bit(&frontier.facts, settling.open_test(known)) {
@@ -135,19 +115,10 @@ fn advance_again<C: Comparison, F: WordFacts>(
     requires root { let walk = settling.now in
         StartsAt (AreWordsIn (C.compared walk.comparison.now)) (C.tree walk.comparison.now walk.start) walk.root }
     requires node { (C.tree settling.now.comparison.now known.old).is_node node.node }
-    ensures stage { let walk = settling.now in
-        let trees = settling_trees (C.tree walk.comparison.now) walk.start walk.root in
-        IfOk result (λ stage. IfSome stage (IsStageAfter F.WordFacts (C.compared walk.comparison.now) trees
-        frontier.old frontier.new (trees known.old) node (trees known.new)
-        (WereSeen (C.compared walk.comparison.now) None))) }
-    ensures search { let walk = settling.now in
-        (steps splits : ℕ) → HasCome F.WordFacts (C.compared walk.comparison.now)
-        (C.tree walk.comparison.now) walk.start walk.root frontier.old known.old node steps splits
-        → IfOk result (SearchesOn F.WordFacts (C.compared walk.comparison.now)
-        (C.tree walk.comparison.now) walk.start walk.root steps splits frontier.new known.new
-        budget.old.splits budget.new.splits) }
-    ensures splits { IfOk result (λ stage. IfNone stage (budget.old.splits ≡ Splits.AtMost 0)) }
-    ensures steps { budget.new.steps ≡ budget.old.steps }
+    ensures { let walk = settling.now in
+        IfOk result (IsWalkedOn F.WordFacts (C.compared walk.comparison.now)
+        (C.tree walk.comparison.now) walk.start walk.root frontier.old frontier.new known.old node known.new
+        budget.old budget.new) }
 {
     match settling.step(&frontier.facts, known, &node) {
         Step::Next(next) => Ok(Some(Stage::At(next))),
@@ -166,7 +137,6 @@ fn advance_again<C: Comparison, F: WordFacts>(
 
 /// Walks the whole tree from a node again, with splits. The finding is `Holds`, with these steps, or `Fails`; there is
 /// none only if the budget was used up.
-#[tactic(auto, using(crate::proofs::Budgets::spent))]
 pub(crate) fn settle<C: Comparison, F: WordFacts>(
     alloc: Global,
     comparison: &C,
@@ -179,12 +149,8 @@ pub(crate) fn settle<C: Comparison, F: WordFacts>(
     requires unmarked { F.level facts ≡ 0 }
     requires scope { (words : List ℕ) → F.allows facts 0 words ↔ AreWordsIn (C.compared comparison.now) words }
     requires root { StartsAt (AreWordsIn (C.compared comparison.now)) (C.tree comparison.now start) root }
-    ensures settled { IfOk result (λ finding. IfSome finding (IsSettled (C.compared comparison.now) steps)) }
-    ensures steps { IfOk result (λ finding.
-        LeavesSteps budget.old.splits finding budget.old.steps budget.new.steps) }
-    ensures given_up { IfOk result (λ finding. IfNone finding
-        (IsGivenUp (C.compared comparison.now) ((C.tree comparison.now start).size root)
-        budget.old.splits budget.old.steps)) }
+    ensures { IfOk result (IsSecondWalk (C.compared comparison.now) ((C.tree comparison.now start).size root) steps
+        budget.old budget.new.steps) }
 {
     let settling = Settling {
         comparison,

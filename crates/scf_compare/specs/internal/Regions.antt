@@ -1,6 +1,7 @@
 -- From one region to the next.
-use Rattle.std.specs.Prelude.{◌≡◌, ◌⊎◌, ◌++◌, ◌∷◌, ◌↔◌, [], ℕ, List, Option, All, AllPairs, Bool, IfSome, IsSome, IsTrue}
+use Rattle.std.specs.Prelude.{◌≡◌, ◌⊎◌, ◌++◌, ◌∷◌, ◌↔◌, [], ℕ, List, Option, None, All, AllPairs, Bool, IfSome, IsSome, IsTrue}
 use Rattle.scf_insn.specs.Words.{IsRecord, words_of}
+use Rattle.scf_facts.specs.Masks.{AreFew}
 use Rattle.scf_facts.specs.declared.word_facts.WordFacts.{Ghosts as Store}
 use Rattle.scf_facts.specs.WordSets.{AllowsWords}
 use Rattle.scf_compare.specs.declared.comparison.PairLeaf.{PairLeaf}
@@ -9,8 +10,9 @@ use Rattle.scf_compare.specs.declared.frontier.Stage.{Stage}
 use Rattle.scf_compare.specs.declared.frontier.Stage.TheVariants.{At, AllSeen, Found}
 use Rattle.scf_compare.specs.declared.region.Region.{Region}
 use Rattle.scf_compare.specs.Findings.{Compared}
-use Rattle.scf_compare.specs.Regions.{AreDisjoint, IsRegion}
-use Rattle.scf_compare.specs.internal.Frontier.{IsWhole, IsWhollyAhead}
+use Rattle.scf_compare.specs.Regions.{AreDisjoint, IsCovered, IsDecidedRegion, IsRegion}
+use Rattle.scf_compare.specs.internal.Frontier.{IsExact, IsWhole, IsWhollyAhead}
+use Rattle.scf_compare.specs.internal.Stages.{FindsNothing, IsStageAfter}
 use Rattle.scf_compare.specs.internal.Trees.{Tree}
 
 -- the region of a leaf, given the words that come to it and whether all that are allowed do
@@ -43,3 +45,17 @@ AreRegionsAt store compared tree frontier first_open regions there (At next) =
 AreRegionsAt store compared tree frontier first_open regions there AllSeen =
     All (IsRegion compared.left compared.right compared.in_scope) regions × AllPairs AreDisjoint regions
 AreRegionsAt store compared tree frontier first_open regions there (Found finding) = ⊥
+
+-- A step that adds the region of a leaf: what was covered still is. What complete facts decide has decided regions.
+pub record IsRegionStep {F K N : Type 0} (store : Store F) (compared : Compared) (tree : K → Tree N)
+    (old new : Frontier F K N) (here : Tree N) (from : N) (there : Tree N) (first_open now_open : Option ℕ)
+    (old_regions new_regions : List Region) (stage : Stage N) : Type 0 where
+  pub explores : IsStageAfter store compared tree old new here from there
+      (IsCovered compared.left compared.right new_regions) stage
+  pub kept : (words : List ℕ) → IsCovered compared.left compared.right old_regions words
+      → IsCovered compared.left compared.right new_regions words
+  pub regions : AreRegionsAt store compared tree new now_open new_regions there stage
+  pub decided : (masks : ℕ) → AreFew masks
+      → IsExact store tree masks old (here.is_plain masks from) (here.reaches from) → first_open ≡ None
+      → (now_open ≡ None) × (All IsDecidedRegion old_regions → All IsDecidedRegion new_regions)
+  pub nothing : FindsNothing stage

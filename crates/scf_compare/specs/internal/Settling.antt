@@ -1,6 +1,7 @@
 -- The second walk of a comparison's tree, which begins at the root again with each split.
-use Rattle.std.specs.Prelude.{◌≡◌, ◌+◌, ◌*◌, ◌<◌, ◌^◌, ◌⊎◌, ℕ, List}
+use Rattle.std.specs.Prelude.{◌≡◌, ◌+◌, ◌*◌, ◌<◌, ◌^◌, ◌⊎◌, ℕ, List, Option, IfNone, IfSome}
 use Rattle.scf_facts.specs.declared.bits.Bits.{Bits}
+use Rattle.scf_compare.specs.declared.budget.Limit.{Limit}
 use Rattle.scf_compare.specs.declared.finding.Finding.{Finding}
 use Rattle.scf_compare.specs.declared.finding.Finding.TheVariants.{Holds}
 use Rattle.scf_compare.specs.declared.fixed_bits.FixedBits.{FixedBits}
@@ -8,7 +9,9 @@ use Rattle.scf_compare.specs.declared.settling.SettlingNode.{SettlingNode}
 use Rattle.scf_compare.specs.declared.step.Step.{Step}
 use Rattle.scf_compare.specs.declared.step.Step.TheVariants.{Next, Branch, Leaf}
 use Rattle.scf_compare.specs.Findings.{AllRelated, Compared}
+use Rattle.scf_compare.specs.Searches.{IsGivenUp}
 use Rattle.scf_compare.specs.Splits.{HaveBits, open_bits}
+use Rattle.scf_compare.specs.internal.Budgets.{LeavesSteps}
 use Rattle.scf_compare.specs.internal.Stages.{IsFound}
 use Rattle.scf_compare.specs.internal.Trees.{Tree}
 
@@ -44,3 +47,10 @@ KeepsFixed tree fixed size (Leaf leaf) = Unit {0}
 -- the second walk decides: it finds, after so many steps of the first one, that the relation holds, or a difference
 abbrev pub IsSettled : Compared → ℕ → Finding → Type 0
 IsSettled compared steps finding = ((finding ≡ Holds steps) × AllRelated compared) ⊎ IsFound compared finding
+
+-- What a second walk leaves of a budget, and its finding: there is none only if the budget was used up.
+pub record IsSecondWalk (compared : Compared) (effort steps : ℕ) (budget : Limit) (left : ℕ) (finding : Option Finding)
+    : Type 0 where
+  pub settled : IfSome finding (IsSettled compared steps)
+  pub leaves : LeavesSteps budget.splits finding budget.steps left
+  pub given_up : IfNone finding (IsGivenUp compared effort budget.splits budget.steps)

@@ -1,6 +1,7 @@
 -- From one stage of an exploration to the next.
-use Rattle.std.specs.Prelude.{◌≡◌, ◌+◌, ◌≤◌, ◌⊎◌, ℕ, List, Option, Some, None, length}
+use Rattle.std.specs.Prelude.{◌≡◌, ◌+◌, ◌≤◌, ◌⊎◌, ℕ, List, Option, Some, None, IfSome, IsSome, length}
 use Rattle.scf_facts.specs.declared.atom.Atom.{Atom}
+use Rattle.scf_facts.specs.Masks.{AreFew}
 use Rattle.scf_facts.specs.declared.word_facts.WordFacts.{Ghosts as Store}
 use Rattle.scf_compare.specs.declared.explore.Judged.{Judged}
 use Rattle.scf_compare.specs.declared.explore.Judged.TheVariants.{Related, Fails as ShownBy, Open}
@@ -11,10 +12,11 @@ use Rattle.scf_compare.specs.declared.finding.Finding.{Finding}
 use Rattle.scf_compare.specs.declared.finding.Finding.TheVariants.{Holds, Fails, Undecided}
 use Rattle.scf_compare.specs.declared.finding.Which.{Which}
 use Rattle.scf_compare.specs.Findings.{AllRelated, AreSteps, Compared, IsFindingDecided, IsFindingWithin, IsTrueFinding, WordsRelated}
-use Rattle.scf_compare.specs.internal.Leaves.{AreWordsIn}
-use Rattle.scf_compare.specs.internal.Frontier.{HasTaken, IsAhead, IsFrontier, IsExact, IsWhollyAhead, StaysWhole}
-use Rattle.scf_compare.specs.internal.Frontier.{first_open_left, open_size}
-use Rattle.scf_compare.specs.internal.Trees.{Tree}
+use Rattle.scf_compare.specs.declared.step.Step.TheVariants.{Branch}
+use Rattle.scf_compare.specs.internal.Leaves.{AreWordsIn, IsFirstUndecided, WereSeen, pair_leaves}
+use Rattle.scf_compare.specs.internal.Frontier.{HasOpened, HasTaken, IsAhead, IsFrontier, IsExact, IsWhole, IsWhollyAhead}
+use Rattle.scf_compare.specs.internal.Frontier.{StaysWhole, first_open_after, first_open_left, open_size}
+use Rattle.scf_compare.specs.internal.Trees.{IsStep, Tree}
 
 -- a difference that was found: it is true, and so the relation doesn't hold of all
 abbrev pub IsFound : Compared → Finding → Type 0
@@ -92,3 +94,42 @@ IsTaken store old new known (At next) =
     (asked : Option Atom) × HasTaken store old new (record { known = known; node = next; asked = asked })
 IsTaken store old new known AllSeen = Unit {0}
 IsTaken store old new known (Found finding) = Unit {0}
+
+-- What is so after the words at a leaf were seen: the newest branch was taken, unless none was open.
+pub record IsAfterLeaf {F K N : Type 0} (store : Store F) (compared : Compared) (tree : K → Tree N)
+    (old new : Frontier F K N) (known : K) (stage : Stage N) : Type 0 where
+  pub explores : (before : K) (from : N) → IsStageAfter store compared tree old new (tree before) from (tree known)
+      (λ words. store.allows old.facts (store.level old.facts) words × (tree before).reaches from words) stage
+  pub whole : (before : K) (from : N) (first_open : Option ℕ)
+      → IsWhole store tree old first_open ((tree before).reaches from)
+      → IsWholeStage store tree old new first_open (tree known) stage
+  pub nothing : FindsNothing stage
+  pub taken : IsTaken store old new known stage
+
+-- What is so after a test whose step leads to two nodes: it goes on to one of them, where the store knows the answer,
+-- or to the first, with a branch opened for the other.
+pub record IsAfterTest {F K N : Type 0} (store : Store F) (compared : Compared) (tree : K → Tree N)
+    (old new : Frontier F K N) (known : K) (atom : Option Atom) (if_true if_false next : N) : Type 0 where
+  pub opened : ((new ≡ old) × ((next ≡ if_true) ⊎ (next ≡ if_false))) ⊎ ((next ≡ if_true)
+      × HasOpened store old new (record { known = known; node = if_false; asked = atom }))
+  pub goes : (before : K) (from : N)
+      → IsStep (pair_leaves compared) (store.allows old.facts (store.level old.facts)) (tree before) from (tree known)
+      (Branch atom if_true if_false)
+      → GoesOver store compared tree old new (tree before) from (tree known) (λ words. ⊥) next
+  pub whole : (before : K) (from : N) (first_open : Option ℕ)
+      → IsStep (pair_leaves compared) (store.allows old.facts (store.level old.facts)) (tree before) from (tree known)
+      (Branch atom if_true if_false)
+      → IsWhole store tree old first_open ((tree before).reaches from)
+      → let after = first_open_after first_open atom (length old.branches.items) in
+      StaysWhole store tree old new first_open after ((tree known).reaches next)
+
+-- A step of the first walk: it comes to a stage, keeps the first undecided leaf, if there was one, and finds none where
+-- complete facts decide all.
+pub record IsAdvanced {F K N : Type 0} (store : Store F) (compared : Compared) (tree : K → Tree N)
+    (old new : Frontier F K N) (here : Tree N) (from : N) (there : Tree N) (first_undecided now : Option (Which × ℕ))
+    (stage : Stage N) : Type 0 where
+  pub explores : IsStageAfter store compared tree old new here from there (WereSeen compared now) stage
+  pub index : IfSome now (IsFirstUndecided compared)
+  pub kept : IsSome first_undecided → now ≡ first_undecided
+  pub exact : (masks : ℕ) → AreFew masks
+      → IsExact store tree masks old (here.is_plain masks from) (here.reaches from) → now ≡ first_undecided

@@ -1,5 +1,5 @@
 -- The second walk of a comparison's tree as a search.
-use Rattle.std.specs.Prelude.{◌≡◌, ◌+◌, ◌≤◌, ◌⊎◌, ℕ, List, Option, None, Some, IfSome, length, slice_get, true, false}
+use Rattle.std.specs.Prelude.{◌≡◌, ◌+◌, ◌≤◌, ◌⊎◌, ℕ, List, Option, None, Some, IfNone, IfSome, length, slice_get, true, false}
 use Rattle.scf_facts.specs.declared.word_facts.WordFacts.{Ghosts as Store}
 use Rattle.scf_compare.specs.declared.budget.Limit.{Limit}
 use Rattle.scf_compare.specs.declared.budget.Splits.{Splits}
@@ -12,8 +12,9 @@ use Rattle.scf_compare.specs.Findings.{Compared}
 use Rattle.scf_compare.specs.Searches.{GiveAnswers, Part, Search}
 use Rattle.scf_compare.specs.internal.Budgets.{AreCounted, IsSplitTaken}
 use Rattle.scf_compare.specs.internal.Frontier.{GivesAnswer, IsWhole}
-use Rattle.scf_compare.specs.internal.Leaves.{AreWordsIn}
+use Rattle.scf_compare.specs.internal.Leaves.{AreWordsIn, WereSeen}
 use Rattle.scf_compare.specs.internal.Settling.{settling_trees}
+use Rattle.scf_compare.specs.internal.Stages.{IsStageAfter}
 use Rattle.scf_compare.specs.internal.Trees.{Tree}
 
 module _ {F K N : Type 0} (store : Store F) (compared : Compared) (tree : K → Tree N) (start : K) (root : N) where
@@ -46,6 +47,18 @@ module _ {F K N : Type 0} (store : Store F) (compared : Compared) (tree : K → 
       ((new ≡ old) × HasCome frontier known next (steps + 1) splits)
       ⊎ (IsSplitTaken true old new × HasCome frontier known next (steps + 1) (splits + 1))
   SearchesOn steps splits frontier known old new stage = Unit {0}
+
+  -- A step of the second walk comes to a stage of the exploration and of the search, unless no split is left. Steps
+  -- are counted elsewhere.
+  pub record IsWalkedOn (old new : Frontier F K (SettlingNode N)) (before : K) (from : SettlingNode N) (known : K)
+      (budget left : Limit) (stage : Option (Stage (SettlingNode N))) : Type 0 where
+    pub explores : let trees = settling_trees tree start root in
+        IfSome stage (IsStageAfter store compared trees old new (trees before) from (trees known)
+        (WereSeen compared None))
+    pub searches : (steps splits : ℕ) → HasCome old before from steps splits
+        → SearchesOn steps splits new known budget.splits left.splits stage
+    pub given_up : IfNone stage (budget.splits ≡ Splits.AtMost 0)
+    pub steps : left.steps ≡ budget.steps
 
   -- what is gone of a budget was taken by a search that has come to here
   pub record HasSearched (old new : Limit) (frontier : Frontier F K (SettlingNode N)) (known : K)

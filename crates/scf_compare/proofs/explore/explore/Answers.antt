@@ -16,7 +16,7 @@ loop-steps-init g c = record {
 pub returns-in-AllSeen : goal.returns-in-AllSeen
 returns-in-AllSeen g c =
     let after = c.in_ok-next.ensures in
-    let seen = rw c.in-AllSeen.is at after.stage in
+    let seen = rw c.in-AllSeen.is at after.explores in
     let compared = g.C.Comparison.compared c.args.comparison.now in
     let so_far = c.loop-steps.invariant in
     let passed = c.pass-passed.ensures in
@@ -37,13 +37,13 @@ returns-in-Found g c =
     let passed = c.pass-passed.ensures in
     let counts = g.met.C.Comparison.counts c.args.comparison.now c.pass-passed.new.known c.pass-passed.result.node in
     of_found _ _ (c.loop-steps.steps + (c.pass-passed.result.steps + 1)) c.args.limit _ c.in-Found.finding
-    (rw c.in-Found.is at c.in_ok-next.ensures.stage) (omega arith) (omega (arith, passed.most))
+    (rw c.in-Found.is at c.in_ok-next.ensures.explores) (omega arith) (omega (arith, passed.most))
     (omega (arith, c.loop-steps.invariant.size, passed.size, counts))
 
 pub loop-steps-preserved : goal.loop-steps-preserved
 loop-steps-preserved g c =
     let after = c.in_ok-next.ensures in
-    let over = rw c.in-At.is at after.stage in
+    let over = rw c.in-At.is at after.explores in
     let so_far = c.loop-steps.invariant in
     let passed = c.pass-passed.ensures in
     record {

@@ -21,7 +21,7 @@ loop-steps-init g c = record {
 pub returns-in-AllSeen-clause-regions : goal.returns-in-AllSeen-clause-regions
 returns-in-AllSeen-clause-regions g c =
     let after = c.in_ok-next.ensures in
-    let seen = rw c.in-AllSeen.is at after.stage in
+    let seen = rw c.in-AllSeen.is at after.explores in
     let regions = rw c.in-AllSeen.is at after.regions in
     let counts = g.met.C.Comparison.counts c.args.comparison.now c.loop-steps.known c.loop-steps.node in
     record {
@@ -47,7 +47,7 @@ returns-in-AllSeen-clause-decided g c = λ masks few among plain.
 pub loop-steps-preserved : goal.loop-steps-preserved
 loop-steps-preserved g c =
     let after = c.in_ok-next.ensures in
-    let over = rw c.in-At.is at after.stage in
+    let over = rw c.in-At.is at after.explores in
     let regions = rw c.in-At.is at after.regions in
     record {
       frontier = over.frontier;

@@ -1,7 +1,8 @@
-use Rattle.scf_compare.proofs.Common.{◌≡◌, ◌+◌, ◌⊎◌, [], Compared, Frontier, None, Store, Tree, arith, inl, inr, refl}
-use Rattle.scf_compare.proofs.Budgets.{all_splits, all_steps, counted_split, counted_step, none_counted}
+use Rattle.scf_compare.proofs.Common.{◌+◌, [], None, arith, inl, inr, refl}
+use Rattle.scf_compare.proofs.Budgets.{all_splits, all_steps, at_end, at_last_split, at_last_step, counted_split, counted_step, none_counted}
 use Rattle.scf_compare.proofs.Stages.{all_related}
 use Rattle.scf_compare.specs.Searches.Search.{Begun}
+use Rattle.scf_compare.specs.declared.finding.Finding.TheVariants.{Holds}
 use Rattle.scf_compare.proofs.settle.settle.Goals as goal
 
 pub loop-settling-init : goal.loop-settling-init
@@ -44,7 +45,7 @@ loop-settling-init g c =
 pub loop-settling-preserved : goal.loop-settling-preserved
 loop-settling-preserved g c =
     let after = c.in_ok-next.ensures in
-    let on = rw (c.in-Some-At.is, c.in-Some-At.field-0-is) at after.stage in
+    let on = rw (c.in-Some-At.is, c.in-Some-At.field-0-is) at after.explores in
     let was = c.loop-settling.invariant.searched in
     record {
       frontier = on.frontier;
@@ -55,7 +56,7 @@ loop-settling-preserved g c =
             | inr ahead ↦ on.words words ahead
           ];
       searched =
-          elim (rw (c.in-Some-At.is, c.in-Some-At.field-0-is) at (after.search was.steps was.splits was.come)) [
+          elim (rw (c.in-Some-At.is, c.in-Some-At.field-0-is) at (after.searches was.steps was.splits was.come)) [
             | inl (same, come) ↦ record {
               steps = was.steps + 1;
               splits = was.splits;
@@ -73,25 +74,54 @@ loop-settling-preserved g c =
           ];
     }
 
-pub returns-in-Some-AllSeen-clause-settled : goal.returns-in-Some-AllSeen-clause-settled
-returns-in-Some-AllSeen-clause-settled g c =
-    let seen = rw (c.in-Some-AllSeen.is, c.in-Some-AllSeen.field-0-is) at c.in_ok-next.ensures.stage in
+pub returns-in-Some-AllSeen : goal.returns-in-Some-AllSeen
+returns-in-Some-AllSeen g c =
+    let after = c.in_ok-next.ensures in
+    let seen = rw (c.in-Some-AllSeen.is, c.in-Some-AllSeen.field-0-is) at after.explores in
     let compared = g.C.Comparison.compared c.args.comparison.now in
-    inl (
-      refl,
-      all_related compared None refl
-          (λ words within. grind (arith, c.loop-settling.invariant.words words within, seen words)),
-    )
+    let searched = c.loop-settling.invariant.searched in
+    record {
+      settled = inl (
+        refl,
+        all_related compared None refl
+            (λ words within. grind (arith, c.loop-settling.invariant.words words within, seen words)),
+      );
+      leaves = rw after.steps
+          (at_end _ _ _ _ _ _ _ (Holds c.args.steps) searched.counted
+          c.loop-settling-test.ensures.steps);
+      given_up = tt;
+    }
 
-pub returns-in-Some-Found-clause-settled : goal.returns-in-Some-Found-clause-settled
-returns-in-Some-Found-clause-settled g c =
-    inr (rw (c.in-Some-Found.is, c.in-Some-Found.field-0-is) at c.in_ok-next.ensures.stage)
+pub returns-in-Some-Found : goal.returns-in-Some-Found
+returns-in-Some-Found g c =
+    let after = c.in_ok-next.ensures in
+    record {
+      settled = inr (rw (c.in-Some-Found.is, c.in-Some-Found.field-0-is) at after.explores);
+      leaves = rw after.steps
+          (at_end _ _ _ _ _ _ _ c.in-Some-Found.finding c.loop-settling.invariant.searched.counted
+          c.loop-settling-test.ensures.steps);
+      given_up = tt;
+    }
 
-pub returns-in-None-clause-given_up : goal.returns-in-None-clause-given_up
-returns-in-None-clause-given_up g c =
-    let none = rw c.in-None.is at c.in_ok-next.ensures.splits in
-    all_splits c.loop-settling.invariant.searched (grind arith)
+pub returns-in-None : goal.returns-in-None
+returns-in-None g c =
+    let after = c.in_ok-next.ensures in
+    let none = rw c.in-None.is at after.given_up in
+    let searched = c.loop-settling.invariant.searched in
+    record {
+      settled = tt;
+      leaves = rw after.steps
+          (at_last_split _ _ _ _ _ _ _ searched.counted searched.few c.loop-settling-test.ensures.steps
+          (grind (arith, none)));
+      given_up = all_splits searched (grind arith);
+    }
 
-pub returns-clause-given_up : goal.returns-clause-given_up
-returns-clause-given_up g c =
-    all_steps _ c.loop-settling.invariant.searched c.loop-settling-test.ensures.steps
+pub returns : goal.returns
+returns g c =
+    let searched = c.loop-settling.invariant.searched in
+    let gone = c.loop-settling-test.ensures.steps in
+    record {
+      settled = tt;
+      leaves = at_last_step _ _ _ _ _ _ _ searched.counted searched.few gone;
+      given_up = all_steps _ searched gone;
+    }
