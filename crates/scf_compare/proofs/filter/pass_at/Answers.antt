@@ -1,5 +1,5 @@
 -- The instructions that are passed lead to where the runs that come to them go on.
-use Rattle.scf_compare.proofs.Common.{◌∙◌, arith, common_steps, rules}
+use Rattle.scf_compare.proofs.Common.{arith, rules}
 use Rattle.scf_compare.proofs.ControlFlows.{masked_at}
 use Rattle.scf_compare.proofs.MaskedSides.{carried}
 use Rattle.scf_compare.proofs.Successors.{leads}

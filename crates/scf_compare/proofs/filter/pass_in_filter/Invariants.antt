@@ -1,4 +1,4 @@
-use Rattle.scf_compare.proofs.Common.{◌≡◌, ◌+◌, ◌-◌, ◌≤◌, ℕ, List, IfSome, FilterNode, IsWords, filter_size, filter_tree}
+use Rattle.scf_compare.proofs.Common.{◌≡◌, ◌+◌, ◌-◌, ◌≤◌, ℕ, List, IfSome, IsWords, filter_size, filter_tree}
 use Rattle.scf_compare.specs.declared.filter.FilterNode.TheVariants.{At}
 use Rattle.scf_compare.specs.internal.Trees.{IsLaterNode}
 use Rattle.scf_compare.specs.internal.Values.{Abstracts}

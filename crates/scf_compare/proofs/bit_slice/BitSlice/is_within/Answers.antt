@@ -1,4 +1,4 @@
-use Rattle.scf_compare.proofs.Common.{ℕ, ◌≡◌, ◌≢◌, ◌*◌, ◌/◌, ◌<◌, ◌≤◌, ◌^◌, List, and_le_r, ap, arith, bit_and, le-div_iff_mul-le, mod-eq_of_lt, mul-le-mul_left, pow_pos, shr_mono, slice_index, subst, sym, refl, Decides, ◌∙◌}
+use Rattle.scf_compare.proofs.Common.{ℕ, ◌≡◌, ◌*◌, ◌/◌, ◌<◌, ◌≤◌, ◌^◌, List, and_le_r, ap, arith, bit_and, le-div_iff_mul-le, mod-eq_of_lt, mul-le-mul_left, pow_pos, shr_mono, slice_index, subst, sym, refl, Decides, ◌∙◌}
 use Rattle.scf_compare.proofs.AffineTerms.{none_between, only_between, past_below}
 use Rattle.scf_compare.specs.internal.BitSlices.{bit_slice_value}
 use Rattle.scf_compare.specs.declared.bit_slice.BitSlice.{BitSlice}
