@@ -32,11 +32,12 @@ fn are_alike(rules: &[Rule], others: &[Rule]) -> bool
 fn effective_rules<'a>(number_rules: &'a NumberRules, default: Answer) -> &'a [Rule]
     ensures { AreEffective default result.now number_rules.now.rules.items }
 {
-    if number_rules.rules.iter().all(|rule| rule.answer == default) {
-        &number_rules.rules[..0]
-    } else {
-        &number_rules.rules
+    for rule in number_rules.rules.iter() {
+        if rule.answer != default {
+            return &number_rules.rules;
+        }
     }
+    &number_rules.rules[..0]
 }
 
 /// Appends the rules for all numbers from `first` on. The last range goes on if its rules answer alike.

@@ -1,4 +1,4 @@
-use Rattle.scf_compile.proofs.Common.{rules, ◌≡◌, List, [], ◌∷◌, refl, sym, ap, inl, inr, arith, AllByRecursion, cases_Bool, recursion_from_All, Answer, Architecture, CallRecord, Rule, all_hold, first_answer}
+use Rattle.scf_compile.proofs.Common.{◌≡◌, List, [], ◌∷◌, refl, sym, ap, inl, inr, arith, AllByRecursion, cases_Bool, recursion_from_All, take_all, Answer, Architecture, CallRecord, Rule, all_hold, first_answer}
 use Rattle.scf_compile.proofs.ranges.effective_rules.Goals as goal
 
 of_default : (a : Architecture) (default : Answer) (call : CallRecord) (rs : List Rule)
@@ -10,10 +10,11 @@ of_default a default call (r ∷ rs) h =
       | inr unmet ↦ rw unmet (of_default a default call rs h.1)
     ]
 
-pub returns-then-all : goal.returns-then-all
-returns-then-all c =
+pub returns : goal.returns
+returns c =
     let all_rules = c.args.number_rules.now.rules.items in
-    let all = recursion_from_All (λ r. r.answer ≡ c.args.default) all_rules (search rules) in
+    let whole = take_all c.loop-rule.rule-index all_rules (grind arith) in
+    let all = recursion_from_All (λ r. r.answer ≡ c.args.default) all_rules (rw whole at c.loop-rule.invariant) in
     record {
       stand = record { answers = λ a call. sym (of_default a c.args.default call all_rules all); small = omega arith };
       some = inr refl;
