@@ -77,7 +77,7 @@ pub(crate) fn refutes(refuted: &[Bits], bits: Bits) -> bool
 }
 
 /// The first of the refuted bits that the value has.
-fn refuted_in(refuted: &[Bits], x: u32) -> Option<Bits>
+pub(crate) fn refuted_in(refuted: &[Bits], x: u32) -> Option<Bits>
     ensures some { IfSome result (λ bits. HasBits bits x) }
     ensures one { IfSome result (λ bits. (y : ℕ) → All (λ other. LacksBits other y) refuted.now → LacksBits bits y) }
     ensures among { IfSome result (λ bits. (masks : ℕ)

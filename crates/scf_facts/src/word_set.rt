@@ -14,7 +14,7 @@ ghost use Rattle.scf_facts.specs.internal.WordSets.{EachNumber, SomeNumber, is_e
 
 use crate::atom::{Atom, Tell};
 use crate::bits::Bits;
-use crate::free_number::{Searched, free_number, refutes};
+use crate::free_number::{Searched, free_number, refuted_in, refutes};
 use crate::interval::Interval;
 use crate::intervals::{end_outside, hull, lies_in_one, parts_outside, parts_within};
 use crate::least::first_number;
@@ -313,7 +313,7 @@ impl WordSet {
         ensures { IsTrue result ↔ AllowsNumber self.now x }
     {
         self.known.are_in(x)
-            && !self.refuted.iter().any(|refuted| refuted.are_in(x))
+            && refuted_in(&self.refuted, x).is_none()
             && lies_in_one(&self.intervals, x)
     }
 
