@@ -4,7 +4,7 @@ ghost use Rattle.std.specs.Prelude.{◌≡◌, ◌++◌, [], codes, false, true,
 ghost use Rattle.clap.specs.Words.{App, FailsBy, Shape, app_of, fault_of, new_app, rule_of, subcommand_of, subcommand_rows_of, with_subcommand};
 ghost use Rattle.scf_request.specs.CommandLine.{flag_rule, option_rule, reading_rule, rules_of_options, scf};
 ghost use Rattle.scf_request.specs.Requests.Command.{Answers, Ask, Asm, Check, Compare, Compile, Decide, Dis, Run};
-ghost use Rattle.scf_request.specs.internal.Parsing.{MakesNamed, ReadsAsProgram, command_of, definition_of, names_of_flags, option_of, options_kept};
+ghost use Rattle.scf_request.specs.internal.Parsing.{MakesNamed, ReadsAsProgram, command_of, definition_of, names_of_flags, option_of, options_kept, scf_of_filters};
 
 use crate::options::{
     ARCHITECTURES_FLAG, AT_FLAG, BESIDE_FLAG, CALLS_FLAG, DIFFERENCES_FLAG, DISPOSITION_FLAG,
@@ -313,19 +313,31 @@ fn with<'a>(
         → IfOk command.entry (λ c. app_of c ≡ record { top = shape; subs = [] }) → shape.is_plain ≡ true
         → IfOk result (λ whole. app_of whole ≡ with_subcommand before shape) }
 {
-    program?.subcommand(command?)
+    let Ok(program) = program else {
+        return Err(AllocError);
+    };
+    let Ok(command) = command else {
+        return Err(AllocError);
+    };
+    program.subcommand(command)
+}
+
+/// The program with the commands that take no profile.
+fn program_of_filters<'a>(alloc: Global) -> Result<Command<'a>, AllocError>
+    ensures { IfOk result (λ command. app_of command ≡ scf_of_filters) }
+{
+    let program = with(Ok(program_alone(alloc)), define_check(alloc));
+    let program = with(program, define_run(alloc));
+    let program = with(program, define_decide(alloc));
+    let program = with(program, define_dis(alloc));
+    with(program, define_asm(alloc))
 }
 
 /// The program with all its commands.
 fn program<'a>(alloc: Global) -> Result<Command<'a>, AllocError>
     ensures { IfOk result (λ command. app_of command ≡ scf) }
 {
-    let program = with(Ok(program_alone(alloc)), define_check(alloc));
-    let program = with(program, define_run(alloc));
-    let program = with(program, define_decide(alloc));
-    let program = with(program, define_dis(alloc));
-    let program = with(program, define_asm(alloc));
-    let program = with(program, define_compile(alloc));
+    let program = with(program_of_filters(alloc), define_compile(alloc));
     let program = with(program, define_compare(alloc));
     let program = with(program, define_ask(alloc));
     with(program, define_answers(alloc))

@@ -8,6 +8,7 @@ use Rattle.scf_request.specs.declared.options.NumberOption.{NumberOption as Kept
 use Rattle.scf_request.specs.Options.{NumberOption}
 use Rattle.scf_request.specs.CommandLine.{scf, scf_shape, shape_for}
 use Rattle.scf_request.specs.Requests.{Command, command_word}
+use Rattle.scf_request.specs.Requests.Command.{Asm, Check, Decide, Dis, Run}
 
 abbrev pub option_of : Kept → NumberOption
 option_of o = record { name = o.name.now; default = o.default; most = o.most }
@@ -30,6 +31,13 @@ names_of_flags = map (λ flag. flag.0.now)
 -- a command by itself
 abbrev pub definition_of : Command → App
 definition_of command = record { top = shape_for command; subs = [] }
+
+-- the program with its commands that take no profile
+abbrev pub scf_of_filters : App
+scf_of_filters = record {
+  top = scf_shape;
+  subs = map shape_for (Check ∷ Run ∷ Decide ∷ Dis ∷ Asm ∷ []);
+}
 
 -- the program with one of its commands
 abbrev pub scf_with : Command → App

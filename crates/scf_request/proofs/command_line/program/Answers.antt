@@ -1,15 +1,9 @@
-use Rattle.scf_request.proofs.Common.{refl, Answers, Ask, Asm, Check, Compare, Compile, Decide, Dis, Run, shape_for}
-use Rattle.scf_request.proofs.CommandLineLemmas.{bare}
+use Rattle.scf_request.proofs.Common.{refl, Answers, Ask, Compare, Compile, shape_for}
 use Rattle.scf_request.proofs.command_line.program.Goals as goal
 
 pub returns : goal.returns
 returns c =
-    let first = c.with-program.ensures bare (shape_for Check) c.program_alone.ensures c.define_check.ensures refl in
-    let second = c.with-program-2.ensures _ (shape_for Run) first c.define_run.ensures refl in
-    let third = c.with-program-3.ensures _ (shape_for Decide) second c.define_decide.ensures refl in
-    let fourth = c.with-program-4.ensures _ (shape_for Dis) third c.define_dis.ensures refl in
-    let fifth = c.with-program-5.ensures _ (shape_for Asm) fourth c.define_asm.ensures refl in
-    let sixth = c.with-program-6.ensures _ (shape_for Compile) fifth c.define_compile.ensures refl in
-    let seventh = c.with-program-7.ensures _ (shape_for Compare) sixth c.define_compare.ensures refl in
-    let eighth = c.with-program-8.ensures _ (shape_for Ask) seventh c.define_ask.ensures refl in
-    c.with.ensures _ (shape_for Answers) eighth c.define_answers.ensures refl
+    let first = c.with-program.ensures _ (shape_for Compile) c.program_of_filters.ensures c.define_compile.ensures refl in
+    let second = c.with-program-2.ensures _ (shape_for Compare) first c.define_compare.ensures refl in
+    let third = c.with-program-3.ensures _ (shape_for Ask) second c.define_ask.ensures refl in
+    c.with.ensures _ (shape_for Answers) third c.define_answers.ensures refl

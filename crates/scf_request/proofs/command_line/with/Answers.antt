@@ -4,7 +4,7 @@ use Rattle.scf_request.proofs.command_line.with.Goals as goal
 
 pub returns : goal.returns
 returns c = λ before shape is_before is_own plain.
-    let p = rw c.in_ok-program.was at is_before in
-    let q = rw c.in_ok-command.was at is_own in
+    let p = rw c.in-Ok.is at is_before in
+    let q = rw c.in-Ok-command.is at is_own in
     IfOk-weaker c.subcommand.result _ _ (λ whole added. one_more_command _ _ whole before shape added p q plain)
     c.subcommand.ensures
