@@ -6,7 +6,7 @@ ghost use Rattle.scf_compare.specs.internal.Budgets.{IsOneTaken, IsSplitTaken, I
 
 /// How many splits a comparison may make. A split takes the records that a walk has come to apart, by a bit of one of
 /// their words, and walks the whole tree again with each half.
-#[derive(Clone, Copy, Debug, PartialEq, Eq)]
+#[derive(Clone, Copy)]
 pub enum Splits {
     /// At most so many; and below them at most as many steps as the comparison may take itself, or as are left for all
     /// comparisons.
@@ -21,7 +21,7 @@ impl Splits {
 }
 
 /// How much a comparison may do.
-#[derive(Clone, Copy, Debug, PartialEq, Eq)]
+#[derive(Clone, Copy)]
 pub struct Limit {
     /// The most steps. Those below splits are counted apart.
     pub steps: u64,
