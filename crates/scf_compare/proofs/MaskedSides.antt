@@ -7,7 +7,7 @@ use Rattle.scf_profile.specs.declared.condition.Condition.{Condition}
 use Rattle.scf_profile.specs.declared.condition.Operator.{Operator}
 use Rattle.scf_profile.specs.declared.condition.Operator.TheVariants.{Equal, MaskedEqual, NotEqual}
 use Rattle.scf_compare.proofs.Bits.{whole_word}
-use Rattle.scf_compare.proofs.Common.{◌≡◌, ◌<◌, ◌^◌, ◌∙◌, ℕ, All-contains, Bool, ◌%◌, ◌*◌, ◌/◌, div-one, get_or, mod-eq_of_lt, Insn, IsPlainInsn, IsPlainProgram, List, Tree, and_comm, and_zero_r, arith, bit_and, false, inl, inr, refl, true}
+use Rattle.scf_compare.proofs.Common.{◌≡◌, ◌<◌, ◌^◌, ◌+◌, ◌≤◌, ◌∙◌, ℕ, All-contains, Bool, ◌%◌, ◌*◌, ◌/◌, div-one, get_or, mod-eq_of_lt, Insn, IsPlainInsn, IsPlainProgram, List, Tree, and_comm, and_zero_r, arith, bit_and, false, inl, inr, refl, true}
 use Rattle.scf_facts.proofs.Common.{same_from_bits}
 use Rattle.scf_compare.proofs.Rules.{contains_here}
 use Rattle.scf_compare.specs.Masked.{IsMaskOf, IsMaskedCondition, IsMaskedProfile, IsMaskedProgram}
@@ -25,7 +25,7 @@ use Rattle.scf_compare.specs.declared.value.Value.{Value}
 use Rattle.scf_compare.specs.declared.value.Value.TheVariants.{Known, Slice, Affine, Bits, Binary, Computed}
 use Rattle.scf_compare.specs.internal.Conditions.{HasMasksOf}
 use Rattle.scf_compare.specs.internal.Filters.{IsStepOf}
-use Rattle.scf_compare.specs.internal.Trees.{IsProper, StaysPlain}
+use Rattle.scf_compare.specs.internal.Trees.{Costs, IsProper, StaysPlain}
 use Rattle.scf_compare.specs.internal.Values.{IsMaskedValue, IsPlainDecision, IsTestDecision}
 
 -- two masks one behind the other
@@ -92,6 +92,17 @@ proper_by tree is_leaf (Asks atom false) if_true if_false step is asks first sec
 proper_by tree is_leaf (AsksTerm atom true test) if_true if_false step is asks first second = rw is (asks, first, second)
 proper_by tree is_leaf (AsksTerm atom false test) if_true if_false step is asks first second = rw is (asks, second, first)
 proper_by tree is_leaf (Open test) if_true if_false step is asks first second = rw is (tt, first, second)
+
+pub costs_by : (tree : Tree FilterNode) (decision : Decision) (if_true if_false : FilterNode)
+    (step : Step FilterNode FilterLeaf) (size : ℕ) → IsStepOf decision if_true if_false step
+    → tree.size if_true + tree.size if_false + 1 ≤ size → Costs tree step size
+costs_by tree (Decided true) if_true if_false step size is within = rw is (omega (arith, within))
+costs_by tree (Decided false) if_true if_false step size is within = rw is (omega (arith, within))
+costs_by tree (Asks atom true) if_true if_false step size is within = rw is within
+costs_by tree (Asks atom false) if_true if_false step size is within = rw is (omega (arith, within))
+costs_by tree (AsksTerm atom true test) if_true if_false step size is within = rw is within
+costs_by tree (AsksTerm atom false test) if_true if_false step size is within = rw is (omega (arith, within))
+costs_by tree (Open test) if_true if_false step size is within = rw is within
 
 -- of a condition under masks so is the test
 pub masked_test : (masks : ℕ) (c : Condition) → IsMaskedCondition masks c → HasMasksOf masks (test_of c).0

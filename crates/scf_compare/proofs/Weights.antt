@@ -45,8 +45,6 @@ settled_cost a n effort fixed h = omega (arith, settled_costs a 0 n effort fixed
 pub settled_end : (n effort : ℕ) (fixed : List Bits) → 1 ≤ n → 1 ≤ n * weight effort fixed
 settled_end n effort fixed h = omega (arith, settled_cost 0 n effort fixed h)
 
-pub ruleset settled = (settled_costs, settled_cost, settled_end)
-
 -- what a step counts where more is fixed, by what one counts before
 pub weighs_less : (effort size : ℕ) (more fewer : List Bits) → open_bits more ≤ open_bits fewer → 0 < size
     → weight effort more ≤ size * weight effort fewer

@@ -37,7 +37,6 @@ impl<C: Comparison> Comparison for Settling<'_, C> {
 
     ghost tree = { λ settling. settling_trees (C.tree settling.comparison.now) settling.start settling.root };
 
-    #[tactic(auto, using(crate::proofs::Weights::settled))]
     fn step<F: WordFacts>(
         &self,
         facts: &F,
