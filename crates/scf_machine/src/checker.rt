@@ -20,7 +20,7 @@ use std::alloc::{AllocError, Global};
 use thiserror::Error;
 
 /// Why a list of instructions is refused. `at` is an instruction index, from 0.
-#[derive(Clone, Copy, Debug, PartialEq, Eq, Error)]
+#[derive(Clone, Copy, Debug, Error)]
 pub enum CheckFault {
     #[error("the filter is empty")]
     Empty,

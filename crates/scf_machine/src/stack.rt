@@ -17,7 +17,7 @@ use std::marker::Model;
 use thiserror::Error;
 
 /// Why a filter isn't pushed.
-#[derive(Clone, Copy, Debug, PartialEq, Eq, Error)]
+#[derive(Clone, Copy, Debug, Error)]
 pub enum PushFault {
     #[error("the stack would count {total} instructions")]
     TooMany { total: usize },

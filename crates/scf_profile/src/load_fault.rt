@@ -24,7 +24,7 @@ impl fmt::Display for InEntry {
 
 /// The first test that fails. `entry` is the index of the entry of `syscalls` in which it stands, `None` outside of
 /// them.
-#[derive(Clone, Copy, Debug, PartialEq, Eq, Error)]
+#[derive(Clone, Copy, Debug, Error)]
 pub enum LoadFault {
     /// The text isn't UTF-8, isn't JSON, or is nested more than `MAX_DEPTH` deep.
     #[error("no JSON, or nested more than {most} deep", most = MAX_DEPTH)]

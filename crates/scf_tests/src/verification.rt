@@ -69,12 +69,13 @@ fn asks_at(given: &Given<'_>, index: usize, failing: usize, share: usize) -> u64
     }
 }
 
-/// The faults of the readers.
-fn fault_of(failing: usize) -> VerifyFault {
-    match failing {
-        0 | 1 => VerifyFault::FilterRead(ReadFault::Read),
-        2 => VerifyFault::TableRead(InputFault::Read),
-        _ => VerifyFault::ProfileRead(InputFault::Read),
+/// Whether a fault is that of the reader at an index.
+fn is_of_reader(fault: Option<VerifyFault>, index: usize) -> bool {
+    match fault {
+        Some(VerifyFault::FilterRead(ReadFault::Read)) => index < 2,
+        Some(VerifyFault::TableRead(InputFault::Read)) => index == 2,
+        Some(VerifyFault::ProfileRead(InputFault::Read)) => index == 3,
+        _ => false,
     }
 }
 
@@ -88,7 +89,7 @@ fn ends(
     (failing, share): (usize, usize),
 ) {
     let (fault, asks) = outcome;
-    let mut is_wanted = fault == Some(fault_of(failing));
+    let mut is_wanted = is_of_reader(fault, failing);
     for index in first..4usize {
         is_wanted &= asks[index] == asks_at(given, index, failing, share);
     }

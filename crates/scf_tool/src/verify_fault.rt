@@ -10,7 +10,7 @@ use scf_profile::{LoadFault, TableFault};
 use thiserror::Error;
 
 /// Why inputs weren't compared.
-#[derive(Clone, Copy, Debug, PartialEq, Eq, Error)]
+#[derive(Clone, Copy, Debug, Error)]
 pub enum VerifyFault {
     #[error("filter: {0}")]
     FilterRead(ReadFault),
@@ -64,7 +64,7 @@ impl From<Memory> for VerifyFault {
 }
 
 /// Why two sides weren't compared.
-#[derive(Clone, Copy, Debug, PartialEq, Eq, Error)]
+#[derive(Clone, Copy, Debug, Error)]
 pub enum BesideFault {
     /// A filter on the left is refused, or a table, or the first profile, or memory ran out during the comparison.
     #[error("{0}")]
