@@ -42,8 +42,8 @@ is_some-find p (x ∷ xs) = by_test (p x) (is_some-find p xs) where
   by_test true rest = refl
   by_test false rest = rest
 
-pub is_found : {A B : Type 0} (p : B → Bool) (f : A → B) (found : Option A) (xs : List B) → option_map f found ≡ find p xs
-    → is_some found ≡ list_any p xs
+pub is_found : {A B : Type 0} (p : B → Bool) (f : A → B) (found : Option A) (xs : List B)
+    → option_map f found ≡ find p xs → is_some found ≡ list_any p xs
 is_found p f found xs is = sym (is_some-viewed f found) ∙ ap is_some is ∙ is_some-find p xs
 
 find-map : {A B : Type 0} (p : B → Bool) (f : A → B) (xs : List A)

@@ -2,6 +2,17 @@ use Rattle.scf_profile.proofs.Common.{refl, head_of, head_stated}
 use Rattle.scf_profile.proofs.Handed.{handed_on}
 use Rattle.scf_profile.proofs.profile_text.read_head.Goals as goal
 
+pub returns-in_err-object-clause-value : goal.returns-in_err-object-clause-value
+unfolding head_of
+returns-in_err-object-clause-value c =
+    handed_on head_stated _ _ _ c.from_residual.ensures.1 (λ not_memory. rw (← c.in_err-object.ensures) refl)
+
+pub returns-in_err-default_answer-clause-value : goal.returns-in_err-default_answer-clause-value
+unfolding head_of
+returns-in_err-default_answer-clause-value c =
+    handed_on head_stated _ _ _ c.from_residual-in_err-default_answer.ensures.1 (λ not_memory.
+    rw (← c.in_ok-object.ensures, ← c.in_err-default_answer.ensures.value) refl)
+
 pub returns-in_err-architectures-clause-value : goal.returns-in_err-architectures-clause-value
 unfolding head_of
 returns-in_err-architectures-clause-value c =
