@@ -36,15 +36,6 @@ pub(crate) const READ_TABLE: &str = "read 0\n";
 
 pub(crate) const CLONE_TABLE: &str = "clone 56\n";
 
-/// Conditions that hold of no argument of `read`, and of each of `write`: no number is below 0, and each is at most the
-/// greatest.
-pub(crate) const EXTREMES: &str = r#"{"defaultAction":"SCMP_ACT_ERRNO","syscalls":[
-    {"names":["read"],"action":"SCMP_ACT_ALLOW","args":[{"index":0,"value":0,"op":"SCMP_CMP_LT"}]},
-    {"names":["write"],"action":"SCMP_ACT_ALLOW",
-    "args":[{"index":0,"value":18446744073709551615,"op":"SCMP_CMP_LE"}]}]}"#;
-
-pub(crate) const READ_WRITE_TABLE: &str = "read 0\nwrite 1\n";
-
 /// Two rules of `socket`, with two conditions and with one.
 pub(crate) const TWO_RULES: &str = r#"{"defaultAction":"SCMP_ACT_ERRNO","syscalls":[
     {"names":["socket"],"action":"SCMP_ACT_ALLOW",

@@ -18,8 +18,6 @@ mod faults;
 #[cfg(test)]
 mod fixtures;
 #[cfg(test)]
-mod measures;
-#[cfg(test)]
 mod messages;
 #[cfg(test)]
 mod parts;

@@ -1,11 +1,11 @@
 //! Readers and writers: each read and each write of the libraries' calls failing in turn, and the longest filter byte
-//! by byte. Also the bytes of a record, which no command reads or prints.
+//! by byte.
 
-use crate::fixtures::{holds_at, holds_of, insn};
+use crate::fixtures::{holds_at, insn};
 use scf_insn::faults::{Failing, Reader, Writer};
 use scf_insn::{
-    CallRecord, Counted, InputFault, Insn, ReadFault, Sink, Source, read_input, read_program,
-    write_numeral, write_program,
+    Counted, InputFault, Insn, ReadFault, Sink, Source, read_input, read_program, write_numeral,
+    write_program,
 };
 use scf_text::disassemble;
 use std::alloc::Global;
@@ -209,26 +209,4 @@ fn longest_filter_byte_by_byte(rt: HostRuntime) {
     let mut sink = Writer::new(rt.alloc(), 1, Failing::Never);
     write_program(&filter, &mut sink).expect(&rt, "no fault");
     assert!(rt; sink.taken() == &zeros[..32768] && sink.asks() == 32768);
-}
-
-/// Bytes as struct seccomp_data of the kernel's seccomp.h has them, and the record of that system call.
-const RECORD: CallRecord = CallRecord {
-    nr: 39,
-    arch: 0xc000_003e,
-    ip: 0x1122_3344_5566_7788,
-    args: [1, 0x2_0000_0000, u64::MAX, 0, 5, 0x8000_0000_0000_0006],
-};
-
-const RECORD_BYTES: &[u8; 64] = b"\x27\0\0\0\x3e\0\0\xc0\x88\x77\x66\x55\x44\x33\x22\x11\
-    \x01\0\0\0\0\0\0\0\0\0\0\0\x02\0\0\0\xff\xff\xff\xff\xff\xff\xff\xff\
-    \0\0\0\0\0\0\0\0\x05\0\0\0\0\0\0\0\x06\0\0\0\0\0\0\x80";
-
-#[test]
-fn bytes_of_a_record(rt: HostRuntime) {
-    holds_of(&rt, RECORD.to_bytes() == *RECORD_BYTES, "to bytes");
-    holds_of(
-        &rt,
-        CallRecord::from_bytes(*RECORD_BYTES) == RECORD,
-        "from bytes",
-    );
 }
