@@ -18,7 +18,7 @@ use scf_request::Limits;
 use std::alloc::{AllocError, Global};
 
 /// A call that a table names, and what the comparison over its records comes to.
-#[derive(Debug, Drop)]
+#[derive(Drop)]
 pub struct CallFinding {
     /// The number of the call.
     pub number: u32,
@@ -28,7 +28,7 @@ pub struct CallFinding {
 }
 
 /// What comparisons find.
-#[derive(Debug, Drop)]
+#[derive(Drop)]
 pub enum Findings {
     /// The finding of one comparison over all records that are asked for.
     AtOnce(Finding),
@@ -37,7 +37,7 @@ pub enum Findings {
 }
 
 /// What comparisons find, and what was left out of the profile, if they are with one.
-#[derive(Debug, Drop)]
+#[derive(Drop)]
 pub struct ComparisonOutcome {
     pub findings: Findings,
     pub left_out: Option<LeftOut>,

@@ -3,7 +3,7 @@
 use scf_profile::Texts;
 
 /// What was left out of a profile.
-#[derive(Debug, Drop)]
+#[derive(Drop)]
 pub struct LeftOut {
     /// The names that the table lacks, each occurrence, in the order of the text.
     pub skipped: Texts,

@@ -22,7 +22,7 @@ use scf_request::Interpretation;
 use std::alloc::Global;
 
 /// The verdict of a comparison, and what was left out of the profile.
-#[derive(Debug, Drop)]
+#[derive(Drop)]
 pub struct Outcome {
     pub verdict: Verdict,
     /// The names that the table lacks, each occurrence, in the order of the text.
