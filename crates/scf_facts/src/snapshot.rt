@@ -243,10 +243,35 @@ impl Snapshot {
         for known in &self.terms {
             self.fit(known, &mut words);
         }
+        if self.allows_terms(&words) {
+            return Some(words);
+        }
         self.terms
             .iter()
-            .all(|known| known.allows(&words))
-            .then_some(words)
+            .find_map(|known| self.pick_near(known, &guessed))
+    }
+
+    /// An allowed list that gives a term one of its values with one bit changed, if tries find one: what suits one of
+    /// two terms of a word may not suit the other one.
+    fn pick_near(&self, known: &TermSet, guessed: &[u32; 16]) -> Option<[u32; 16]>
+        ensures { IfSome result (AllowsWords self.now) }
+    {
+        let value = known.values().pick()?;
+        for bit in 0..u32::BITS {
+            for guess in &known.term().guesses(value ^ (1 << bit), guessed) {
+                if self.allows_terms(guess) && self.allows_each(guess) {
+                    return Some(*guess);
+                }
+            }
+        }
+        None
+    }
+
+    /// Whether the values of all terms over these words are allowed.
+    fn allows_terms(&self, words: &[u32; 16]) -> bool
+        ensures { IsTrue result → All (AllowsTerm words.now) self.now.terms }
+    {
+        self.terms.iter().all(|known| known.allows(words))
     }
 
     /// Changes words of a term whose value isn't allowed, if tries find some for which it is.
