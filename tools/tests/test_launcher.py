@@ -5,11 +5,13 @@ import shutil
 
 from support.common import TOP, Case
 
-# Builds a program that prints the source and its words, runs it, and notes that it was asked.
+# Notes where and how it was asked, and prints what it is told. A program that it builds, and runs, prints the source and
+# its words.
 RT = """#!/bin/sh
-echo "$*" >>"$ASKED"
-printf '%s' "${PRINTS-}" >&2
-[ -z "${FAILS-}" ] || exit 1
+echo "${PWD##*/} $*" >>"$ASKED"
+case ${PWD##*/} in ${PROVES-}) printf '%s' "${PRINTS-}" ;; esac
+[ "${PWD##*/}" != "${FAILS-}" ] || exit 1
+[ "$1" = run ] || exit 0
 mkdir -p out && printf '#!/bin/sh\\necho "%s" "$@"\\n' "$(cat src/main.rt)" >out/scf && chmod +x out/scf
 cat >/dev/null; exec out/scf --help
 """
@@ -23,6 +25,8 @@ class Launcher(Case):
         for name in ("scf", "build"):
             shutil.copy2(os.path.join(TOP, name), self.tree)
         self.file("tree/crates/scf/src/main.rt", "one")
+        for name in ("low", "middle", "aside"):
+            os.makedirs(os.path.join(self.tree, "crates", name))
         self.file("tree/crates.txt", "# NAME: what it stands on\nlow: thiserror\naside: low\nmiddle: low json\nscf: middle\n")
         os.chmod(self.file("kit/rt", RT), 0o755)
         self.room = os.path.join(self.folder, "room")
@@ -34,17 +38,23 @@ class Launcher(Case):
         return self.run_words([os.path.join(self.tree, name), *words], env={**self.env, **more})
 
     def asked(self):
-        if not os.path.exists(self.env["ASKED"]):
-            return 0
         with open(self.env["ASKED"], encoding="utf-8") as file:
-            return len(file.readlines())
+            return file.read().splitlines()
 
     def test_scf_is_built_where_it_never_was(self):
         status, out, err = self.run_here("scf", "core", "check", "--b c")
         self.assertEqual((status, out), (0, "one check --b c\n"))
         self.assertEqual(err, "build: proving and building scf; the first time this may take half an hour\n")
         self.assertEqual(self.run_here("scf", "dis"), (0, "one dis\n", ""))
-        self.assertEqual(self.asked(), 1)
+        self.assertEqual(self.asked(), ["low lib", "middle lib", "scf run -- --help"])
+
+    def test_the_libraries_below_a_crate(self):
+        status, out, err = self.run_here("build", "middle", PROVES="low", PRINTS=self.PRINTED)
+        self.assertEqual((status, out), (0, ""))
+        self.assertEqual(re.sub(r"\([0-9]+ s\)", "(N s)", err).splitlines(), [
+            "build: proving and building middle; the first time this may take half an hour",
+            "build: low: proved: crate 1 of 2 (N s)"])
+        self.assertEqual(self.asked(), ["low lib"])
 
     def test_build_has_the_kit_build_again(self):
         self.run_here("scf", "check")
@@ -53,34 +63,30 @@ class Launcher(Case):
         self.assertEqual(self.run_here("build"), (0, "", ""))
         self.assertEqual(self.run_here("scf", "check")[1], "two check\n")
 
-    # What the kit prints of crates, the last of which has changed since it was proved.
+    # What the kit prints of a crate that it proves.
     PRINTED = """rt: chose --jobs 4 for low
 so far: 0 of 2 functions checked; the verdict comes last
 fn low::first: proved
-fn low::second: proved
 library std: modules loaded=317 checked=0
 crate low: modules loaded=27 checked=27
 logic=proved functions=2 sum=dac8208d650f15bf incremental=trusted
-fn scf::main: proved
-crate scf: modules loaded=3 checked=3
-logic=proved functions=1 sum=dac8208d650f15bf incremental=trusted
 """
 
     def test_each_crate_that_is_proved_has_a_line(self):
-        """And what the kit prints is in a log, which stays where the build fails."""
-        status, out, err = self.run_here("build", PRINTS=self.PRINTED)
+        """And what the kit prints of a crate that isn't is in a log, which stays."""
+        status, out, err = self.run_here("build", PROVES="[ls]*", PRINTS=self.PRINTED)
         self.assertEqual((status, out), (0, ""))
         self.assertEqual(re.sub(r"\([0-9]+ s\)", "(N s)", err).splitlines(), [
             "build: proving and building scf; the first time this may take half an hour",
             "build: low: proved: crate 1 of 3 (N s)", "build: scf: proved: crate 3 of 3 (N s)"])
         self.assertEqual(os.listdir(self.room), [])
-        refused = self.PRINTED.split("logic=")[0] + "fn middle::third: not proved\nstatus 0\n"
-        status, out, err = self.run_here("build", PRINTS=refused, FAILS="1")
+        refused = "fn middle::third: not proved\nlogic=not-proved\n"
+        status, out, err = self.run_here("build", PROVES="middle", PRINTS=refused, FAILS="middle")
         self.assertEqual((status, out), (125, ""))
         log, = os.listdir(self.room)
-        self.assertEqual(err.splitlines(), [f"build: scf wasn't built: see {self.room}/{log}"])
+        self.assertEqual(err.splitlines(), [f"build: middle wasn't built: see {self.room}/{log}"])
         with open(os.path.join(self.room, log), encoding="utf-8") as file:
-            self.assertEqual(file.read(), f"{refused}status 1\n")
+            self.assertEqual(file.read(), refused)
 
     def test_its_input_is_not_read_by_the_build(self):
         self.file("tree/crates/scf/src/main.rt", "$(cat)")
@@ -94,7 +100,7 @@ logic=proved functions=1 sum=dac8208d650f15bf incremental=trusted
     def test_status_125(self):
         self.assertEqual(self.run_here("scf", "check", PATH="/usr/bin:/bin"),
                          (125, "", "build: rt, the Rattle kit's command, isn't on the PATH\n"))
-        status, out, err = self.run_here("scf", "check", FAILS="1")
+        status, out, err = self.run_here("scf", "check", FAILS="scf")
         self.assertEqual((status, out), (125, ""))
         self.assertRegex(err, "(?m)^build: scf wasn't built: see /.+\n\\Z")
 
