@@ -4,7 +4,8 @@ import unittest
 
 from support import constructs
 from support.common import ALLOW, CORE, EPERM, Case, insn, load, part, ret
-from support.constructs import ADD, AND, DIV, JEQ, JGE, JGT, JSET, MUL, OR, SUB, TAX, X, XOR, FilterPair, ProfilePair
+from support.constructs import (
+    ADD, AND, DIV, JEQ, JGE, JGT, JSET, LSH, MUL, NEG, OR, RSH, SUB, TAX, X, XOR, FilterPair, ProfilePair)
 
 # Of each kind of pair: its constructs, how many pairs of each are drawn, the seed, and the construct of a plain test.
 KINDS = {ProfilePair: (constructs.CONSTRUCTS, 16, 30, constructs.by_mask),
@@ -78,3 +79,41 @@ class Terms(Case):
                     for bodies in ((one, one), (words[0] + insn(operation | X, 0), exchanged + insn(operation | X, 0))):
                         sides = [self.asking(body, test, value, is_turned) for body, is_turned in zip(bodies, (0, 1))]
                         self.assert_same(*sides, (operation, test, constant, value))
+
+    def test_shifts_by_a_word(self):
+        """Of a word by the low five bits of another one, beside the same shift behind an order of the word."""
+        dice = random.Random(26)
+        for shift in (LSH, RSH):
+            for test in self.TESTS:
+                for _ in range(4):
+                    body = load(24) + insn(AND, 31) + insn(TAX, 0) + load(16) + insn(shift | X, 0)
+                    value = dice.randrange(1, 1 << dice.randrange(2, 32))
+                    one, other = (self.asking(body, test, value, is_turned) for is_turned in (False, True))
+                    behind = load(16) + insn(JGE, dice.getrandbits(32), 0, len(other) // 8) + other + other
+                    data = part("filter", one) + part("beside", behind)
+                    self.assertEqual(self.run_words([*CORE, "compare", "--beside"], data), (0, "same\n", ""))
+
+
+class OneWord(Case):
+    """Filters of one word, which differ for some of its values, or for none."""
+
+    def verdict(self, first, second):
+        out = self.run_words([*CORE, "compare", "--beside"], part("filter", first) + part("beside", second))[1]
+        return out.split("\n", maxsplit=1)[0]
+
+    def test_two_terms_that_seldom_differ(self):
+        """Of a difference and of twice its negation the same bits are tested: one has them, and the other one doesn't,
+        for one word in sixteen."""
+        by, mask = 0xd020494f, 0x1e00000
+        ends = ret(EPERM) + ret(ALLOW)
+        first = load(32) + insn(SUB, by) + insn(JSET, mask, 1, 0) + ends
+        second = (load(32) + insn(NEG, 0) + insn(ADD, by) + insn(MUL, 0xfffffffe) + insn(AND, mask) + insn(JEQ, 0, 0, 1)
+                  + ends)
+        self.assertEqual(self.verdict(first, second), "differs")
+
+    def test_a_wide_mask(self):
+        """Each of the 512 values under a mask of nine bits is tested, so how both filters end doesn't matter."""
+        tests = [load(16) + insn(AND, 0x1ff) + insn(JEQ, value, 0, 1) + ret(ALLOW if value % 3 else EPERM)
+                 for value in range(512)]
+        self.assertEqual(self.verdict(b"".join(tests) + ret(EPERM), b"".join(tests) + ret(ALLOW)), "same")
+        self.assertEqual(self.verdict(b"".join(tests[:-1]) + ret(EPERM), b"".join(tests) + ret(ALLOW)), "differs")
