@@ -356,11 +356,20 @@ class Profiles(Case):
         self.assertEqual([given["syscalls"] for given in profiles],
                          [[entry("ALLOW", "socket")], [entry("ERRNO 1", "socket")]])
         pair = load(24) + insn(0x07, 0) + load(16) + insn(0x1D, 0, 0, 1) + ret(ALLOW) + ret(EPERM)
-        both = where(1, "SCMP_CMP_EQ", 3, 0, pair, ret(EPERM))
+        both = where(2, "SCMP_CMP_EQ", 3, 0, pair, ret(EPERM))
         profiles = self.is_bounded([of_numbers({41: both}, EPERM)], "# socket: its answer depends on a comparison or "
                                 "computation that no operator makes\n")
         self.assertEqual([given["syscalls"] for given in profiles],
-                         [[entry("ALLOW", "socket", index=1, value=3, op="SCMP_CMP_EQ")], []])
+                         [[entry("ALLOW", "socket", index=2, value=3, op="SCMP_CMP_EQ")], []])
+
+    def test_an_argument_compared_with_a_known_one(self):
+        """The second argument is 3 where the first one's low half is compared with it."""
+        pair = load(24) + insn(0x07, 0) + load(16) + insn(0x1D, 0, 0, 1) + ret(ALLOW) + ret(EPERM)
+        both = where(1, "SCMP_CMP_EQ", 3, 0, pair, ret(EPERM))
+        self.is_read([of_numbers({41: both}, EPERM)], "ERRNO 1", {
+            **entry("ALLOW", "socket"),
+            "args": [{"index": 0, "value": 0xFFFFFFFF, "valueTwo": 3, "op": "SCMP_CMP_MASKED_EQ"},
+                     {"index": 1, "value": 3, "op": "SCMP_CMP_EQ"}]})
 
     def test_one_side(self):
         """With an option one profile is printed, as JSON, and what is said of it goes to standard error."""
