@@ -97,8 +97,8 @@ class Terms(Case):
 class OneWord(Case):
     """Filters of one word, which differ for some of its values, or for none."""
 
-    def verdict(self, first, second):
-        out = self.run_words([*CORE, "compare", "--beside"], part("filter", first) + part("beside", second))[1]
+    def verdict(self, first, second, *more):
+        out = self.run_words([*CORE, "compare", "--beside", *more], part("filter", first) + part("beside", second))[1]
         return out.split("\n", maxsplit=1)[0]
 
     def test_two_terms_that_seldom_differ(self):
@@ -111,9 +111,17 @@ class OneWord(Case):
                   + ends)
         self.assertEqual(self.verdict(first, second), "differs")
 
-    def test_a_wide_mask(self):
-        """Each of the 512 values under a mask of nine bits is tested, so how both filters end doesn't matter."""
-        tests = [load(16) + insn(AND, 0x1ff) + insn(JEQ, value, 0, 1) + ret(ALLOW if value % 3 else EPERM)
-                 for value in range(512)]
-        self.assertEqual(self.verdict(b"".join(tests) + ret(EPERM), b"".join(tests) + ret(ALLOW)), "same")
-        self.assertEqual(self.verdict(b"".join(tests[:-1]) + ret(EPERM), b"".join(tests) + ret(ALLOW)), "differs")
+    def test_wide_masks(self):
+        """Each of the 512 values under a mask of nine bits is tested, so how both filters end doesn't matter. They are
+        all searched, if at most 16 bits are tested together, and else left to splits."""
+        def is_tested(mask, value):
+            return load(16) + insn(AND, mask) + insn(JEQ, value, 0, 1) + ret(ALLOW if value % 3 else EPERM)
+
+        tests = [is_tested(0x1ff, value) for value in range(512)]
+        for first, splits in ((b"", ["--splits=0"]), (is_tested(0xfe00, 0x5400), ["--splits=0"]),
+                              (is_tested(0x1fe00, 0x5400), [])):
+            some, each = (first + b"".join(these) for these in (tests[:-1], tests))
+            with self.subTest(splits=splits):
+                self.assertEqual(self.verdict(each + ret(EPERM), each + ret(ALLOW), *splits), "same")
+                self.assertEqual(self.verdict(some + ret(EPERM), each + ret(ALLOW), *splits), "differs")
+        self.assertRegex(self.verdict(each + ret(EPERM), each + ret(ALLOW), "--splits=0"), "^undecided at [0-9]+$")

@@ -54,7 +54,7 @@ use std::slice;
 ///
 /// A store that starts exact decides plain sides: with a limit of at least the effort the finding is `Holds` exactly if
 /// the relation holds of the answers to every record of the scope, else `Fails`. It decides sides so that also test
-/// words under masks of several bits, if these masks have at most 8 bits together, without a split. If the splits have
+/// words under masks of several bits, if these masks have at most 16 bits together, without a split. If the splits have
 /// no limit, any two sides are decided so, by every store.
 pub fn compare_sides<F: WordFacts>(
     alloc: Global,

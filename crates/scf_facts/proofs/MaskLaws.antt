@@ -1,5 +1,6 @@
 -- Laws of numbers under masks.
 use Rattle.scf_facts.proofs.Common.{◌≡◌, ◌≢◌, ◌⊎◌, inl, inr, ℕ, ◌+◌, ◌<◌, ◌^◌, ◌↔◌, refl, sym, ap, ◌∙◌, arith, bit_and, bit_or, bit_xor, count_ones, Bool, true, false, IsTrue, bit_at, IsPowerOfTwo, is_power_of_two, SomeLack, cases_eq, eqb-true, eqb-false, and_comm, or_disjoint, pow_pos, xor_lt, power_from_one_bit, one_bit_of_power, bit_at_and, bit_at_or, bit_at_xor, bit_at-lt, bit_at-zero, and_pow, same_from_bits}
+use Rattle.scf_facts.specs.Masks.{IsAmong}
 
 -- what is said of each bit of a number that is made of others
 pub ruleset each_bit = (bit_at_and, bit_at_or, bit_at_xor, bit_at-lt, bit_at-zero)
@@ -86,6 +87,10 @@ some_lack k a m v fits_m fits_a within more = elim (cases_eq (bit_and a m) v) [
     λ e. more (same_from_bits _ _ (λ i. grind (arith, each_bit, at_bit i has, at_bit i e))),
   )
 ]
+
+-- masks among others, joined
+pub join_among : (a b masks : ℕ) → IsAmong a masks → IsAmong b masks → IsAmong (bit_or a b) masks
+join_among a b masks first second = same_from_bits _ _ (λ i. grind (arith, each_bit, at_bit i first, at_bit i second))
 
 -- the test for a power of two tells whether a mask has one bit
 pub is_one : (n : ℕ) (answer : Bool) → answer ≡ is_power_of_two n → IsTrue answer ↔ IsPowerOfTwo n

@@ -27,6 +27,12 @@ more_ones (suc digits) a b within =
     let of_high = ap count_ones high in
     (omega (arith, half.0), λ same. omega (arith, half.0, half.1 (omega (arith, half.0))))
 
+-- a mask among others has no more bits
+pub fewer_ones : (mask masks : ℕ) → IsAmong mask masks → count_ones mask ≤ count_ones masks
+fewer_ones mask masks among =
+    let joined : bit_or mask masks ≡ masks = same_from_bits _ _ (λ i. grind (arith, each_bit, at_bit i among)) in
+    omega (arith, (more_ones _ mask masks (le_refl _)).0, ap count_ones joined)
+
 -- one more bit is one more
 pub one_more : (a bit : ℕ) → IsPowerOfTwo bit → bit_and a bit ≡ 0 → count_ones a < count_ones (bit_or a bit)
 one_more a bit one apart =

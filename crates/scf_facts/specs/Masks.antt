@@ -9,9 +9,9 @@ use Rattle.scf_facts.specs.WordSets.{NumberFacts, RecordFacts}
 abbrev pub IsAmong : ℕ → ℕ → Type 0
 IsAmong mask masks = bit_and masks mask ≡ mask
 
--- so few bits that a search through their values, of which there are at most 256, comes to its end
+-- so few bits that a search through their values, of which there are at most 2^16, comes to its end
 abbrev pub AreFew : ℕ → Type 0
-AreFew masks = count_ones masks ≤ 8
+AreFew masks = count_ones masks ≤ 16
 
 -- what a word refutes, it refutes under bits of a mask
 abbrev pub RefutesAmong : ℕ → NumberFacts → Type 0

@@ -1,6 +1,6 @@
 //! What is known of one word.
 
-ghost use Rattle.std.specs.Prelude.{◌≡◌, ◌↔◌, ◌⊎◌, ◌<◌, ◌^◌, ℕ, All, IsTrue, true, false, bit_and, bit_or};
+ghost use Rattle.std.specs.Prelude.{◌≡◌, ◌↔◌, ◌⊎◌, ◌<◌, ◌≤◌, ◌^◌, ℕ, All, IsTrue, true, false, bit_and, bit_or};
 ghost use Rattle.std.specs.Prelude.{IsSome, IfSome, IfNone, IfOk};
 ghost use Rattle.std.specs.Int.{IsPowerOfTwo};
 ghost use Rattle.scf_facts.specs.Atoms.{answer_at};
@@ -23,7 +23,10 @@ use scf_insn::Memory;
 use std::alloc::Global;
 use std::marker::Model;
 
-/// How many choices of a bit a search for a value may make.
+/// A search for a value tries all values of the refuted bits, if these are at most so many.
+const MOST_BITS: u32 = 16;
+
+/// How many choices of a bit it makes at most, if they are more.
 const MOST_TRIES: u32 = 256;
 
 /// The values that a word may have: those in the intervals with the known bits and none of the refuted ones.
@@ -209,7 +212,10 @@ impl WordSet {
     }
 
     /// The bits of all refuted masks.
-    pub(crate) fn refuted_bits(&self) -> u32 {
+    #[tactic(auto, using(crate::proofs::MaskLaws::join_among))]
+    pub(crate) fn refuted_bits(&self) -> u32
+        ensures { (masks : ℕ) → RefutesAmong masks self.now → IsAmong result masks }
+    {
         let mut mask = 0;
         for bits in &self.refuted {
             mask |= bits.mask;
@@ -377,6 +383,18 @@ impl WordSet {
         None
     }
 
+    /// How many choices of a bit a search for a value may make.
+    #[tactic(auto, using(crate::proofs::Ones::fewer_ones))]
+    fn most_tries(&self) -> u32
+        ensures { (masks : ℕ) → AreFew masks → RefutesAmong masks self.now → 2 ^ 16 ≤ result }
+    {
+        if self.refuted_bits().count_ones() <= MOST_BITS {
+            1 << MOST_BITS
+        } else {
+            MOST_TRIES
+        }
+    }
+
     /// Searches a possible value bit by bit.
     fn free_number(&self) -> Searched
         ensures found { (x : ℕ) → result ≡ Searched.Found x → AllowsNumber self.now x }
@@ -384,7 +402,7 @@ impl WordSet {
         ensures nothing { result ≡ Searched.Nothing → EachNumber self.now (λ _. ⊥) }
         ensures ends { (masks : ℕ) → AreFew masks → RefutesAmong masks self.now → result ≡ Searched.GaveUp → ⊥ }
     {
-        let mut tries = MOST_TRIES;
+        let mut tries = self.most_tries();
         free_number(
             &self.intervals,
             &self.refuted,
