@@ -1,7 +1,11 @@
 -- Values of terms.
-use Rattle.std.proofs.Math.Nat.{div-le_self, mul_assoc}
-use Rattle.std.proofs.Math.Pow.{pow-add}
-use Rattle.scf_facts.proofs.Common.{◌≡◌, ◌<◌, ◌≤◌, ◌^◌, ◌+◌, ◌-◌, ◌*◌, ◌/◌, ◌%◌, ℕ, arith, refl, bit_and, and_assoc, div-eq_of_lt, pow_mono, same_from_bits, bit_at_and, Term, TermFacts, AllowsTerm, List, [], ◌∷◌, ◌++◌, ◌↔◌, Some, All, All-push, All-pop, All-set, Atom, Bool, IsOfWord, get_or, get_or-set_same, get_or_read, length, length-set, slice_set, sym, subst, common_steps, cases_eq}
+use Rattle.std.proofs.Math.Nat.{add-mod, div-le_self, div-one, mod-eq_of_lt, mod-mod, mul_assoc}
+use Rattle.std.proofs.Math.Pow.{mod-mod-pow, pow-add}
+use Rattle.std.proofs.lemmas.Nat.{and_comm, leading_length, mul-mod, xor_mod}
+use Rattle.std.proofs.lemmas.Nat.Bits.{ones_shr}
+use Rattle.std.specs.Int.Bits.{bit_xor}
+use Rattle.std.specs.Int.Count.{count_leading_zeros}
+use Rattle.scf_facts.proofs.Common.{◌≡◌, ◌<◌, ◌≤◌, ◌^◌, ◌+◌, ◌-◌, ◌*◌, ◌/◌, ◌%◌, ℕ, arith, refl, bit_and, and_assoc, div-eq_of_lt, pow_mono, same_from_bits, bit_at_and, Term, TermFacts, AllowsTerm, List, [], ◌∷◌, ◌++◌, ◌↔◌, Some, All, All-push, All-pop, All-set, Atom, Bool, IsOfWord, get_or, ◌∙◌, ap, get_or-set_same, get_or_read, length, length-set, slice_set, sym, subst, common_steps, cases_eq}
 use Rattle.scf_facts.specs.Exactness.{KeepsExact}
 use Rattle.scf_facts.specs.Masks.{KeepsAmong}
 use Rattle.scf_facts.specs.declared.atom.Atom.TheVariants.{Eq, Gt, Ge, In, TermEq, TermIn}
@@ -52,6 +56,53 @@ mask_twice x mask = same_from_bits _ _ (λ i. grind (arith, bit_at_and))
 pub value_under : (term : WordTerm) (x : ℕ) → word_term_value term (bit_and x term.mask) ≡ word_term_value term x
 unfolding word_term_value
 value_under term x = rw (mask_twice x term.mask) refl
+
+-- ---- low bits
+
+low_of : (n k : ℕ) → k ≤ 32 → n % 2 ^ 32 % 2 ^ k ≡ n % 2 ^ k
+low_of n k within =
+    let whole : 32 - k + k ≡ 32 = omega (arith, within) in
+    ap (λ j. n % 2 ^ j % 2 ^ k) (sym whole) ∙ mod-mod-pow n (32 - k) k
+
+-- the low bits of a sum with a product depend on those of what is flipped, multiplied and added alone
+low_sum : (s x f a k : ℕ) → k ≤ 32 → (bit_xor s x * f % 2 ^ 32 + a) % 2 ^ 32 % 2 ^ k
+    ≡ (bit_xor (s % 2 ^ k) (x % 2 ^ k) * (f % 2 ^ k) % 2 ^ k + a % 2 ^ k) % 2 ^ k
+low_sum s x f a k within =
+    let p = bit_xor s x * f in
+    let product : p % 2 ^ k ≡ bit_xor (s % 2 ^ k) (x % 2 ^ k) * (f % 2 ^ k) % 2 ^ k =
+    mul-mod (bit_xor s x) f (2 ^ k) ∙ ap (λ n. n * (f % 2 ^ k) % 2 ^ k) (xor_mod s x k) in
+    low_of (p % 2 ^ 32 + a) k within ∙ add-mod (p % 2 ^ 32) a (2 ^ k)
+    ∙ ap (λ n. (n + a % 2 ^ k) % 2 ^ k) (low_of p k within ∙ product)
+
+pub cut_value : (term : WordTerm) (low k n : ℕ) → low ≡ 2 ^ k - 1 → k ≤ 32 → term.divisor ≡ 1
+    → word_term_value (record term {
+      xor_mask = bit_and term.xor_mask low;
+      factor = bit_and term.factor low;
+      addend = bit_and term.addend low;
+    }) n % 2 ^ k ≡ word_term_value term n % 2 ^ k
+unfolding word_term_value
+cut_value term low k n ones within one =
+    let s = bit_and n term.mask / 2 ^ term.right * 2 ^ term.left % 2 ^ 32 in
+    rw (ones, one, div-one, div-one, and_mask, and_mask, and_mask)
+    (low_sum s (term.xor_mask % 2 ^ k) (term.factor % 2 ^ k) (term.addend % 2 ^ k) k within
+    ∙ rw (mod-mod, mod-mod, mod-mod) refl ∙ sym (low_sum s term.xor_mask term.factor term.addend k within))
+
+-- a mask lies below some power of two, and the numbers below that are those under the mask's low ones
+pub below_ones : (mask : ℕ) → mask < 2 ^ 32
+    → (k : ℕ) × (k ≤ 32) × ((2 ^ 32 - 1) / 2 ^ count_leading_zeros 32 mask ≡ 2 ^ k - 1) × (mask < 2 ^ k)
+below_ones mask fits =
+    let c = count_leading_zeros 32 mask in
+    let length = leading_length 32 mask fits in
+    let k : 32 - c ≡ length.0 = omega (arith, length.1) in
+    (length.0, omega (arith, length.1), ones_shr 32 c (omega (arith, length.1)) ∙ ap (λ n. 2 ^ n - 1) k, length.2)
+
+pub under_low : (v mask k : ℕ) → mask < 2 ^ k → bit_and v mask ≡ bit_and (v % 2 ^ k) mask
+under_low v mask k below =
+    let all : bit_and (2 ^ k - 1) mask ≡ mask = and_comm (2 ^ k - 1) mask ∙ and_mask mask k ∙ mod-eq_of_lt below in
+    rw (← and_mask v k, and_assoc, all) refl
+
+pub same_under : (v w mask k : ℕ) → mask < 2 ^ k → v % 2 ^ k ≡ w % 2 ^ k → bit_and v mask ≡ bit_and w mask
+same_under v w mask k below same = rw (under_low v mask k below, same, ← under_low w mask k below) refl
 
 -- ---- what is known of terms
 

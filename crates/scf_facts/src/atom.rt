@@ -78,6 +78,22 @@ impl Atom {
         Some(self.answer(number))
     }
 
+    /// Whether it has the same answer of both terms, over any words.
+    pub(crate) fn is_alike(self, first: Term, second: Term) -> bool
+        ensures { IsTrue result → (words : List ℕ)
+            → answer_at self (term_value first words) ≡ answer_at self (term_value second words) }
+    {
+        if first == second {
+            return true;
+        }
+        match (self, first, second) {
+            (Atom::TermEq { mask, .. }, Term::Word(first), Term::Word(second)) => {
+                first.agrees_under(second, mask)
+            }
+            _ => false,
+        }
+    }
+
     /// The term that it asks of, if it asks of one.
     pub(crate) fn term(self) -> Option<Term>
         ensures asked { IfSome result (λ term. (words : List ℕ) → number_asked self words ≡ term_value term words) }

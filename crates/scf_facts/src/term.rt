@@ -1,6 +1,6 @@
 //! Numbers that are computed from words of a call record.
 
-ghost use Rattle.std.specs.Prelude.{◌≡◌, ◌/◌, ◌*◌, ◌%◌, ◌^◌, ◌<◌, ℕ, List, IfSome, slice_index};
+ghost use Rattle.std.specs.Prelude.{◌≡◌, ◌-◌, ◌/◌, ◌*◌, ◌%◌, ◌^◌, ◌<◌, ◌≤◌, ℕ, List, IfSome, IsTrue, bit_and, slice_index};
 ghost use Rattle.scf_machine.specs.Machine.{value_computed};
 ghost use Rattle.scf_facts.specs.Terms.{binary_value, first_word, term_value, word_term_value};
 
@@ -90,6 +90,40 @@ impl WordTerm {
             return 0;
         }
         sum / self.divisor
+    }
+
+    /// Whether it has the same bits under a mask as another term, whatever the word: nothing is divided, and what they
+    /// flip, multiply by and add differs only above the mask.
+    pub(crate) fn agrees_under(self, other: WordTerm, mask: u32) -> bool
+        ensures word { IsTrue result → self.word ≡ other.word }
+        ensures bits { IsTrue result → (number : ℕ)
+            → bit_and (word_term_value self number) mask ≡ bit_and (word_term_value other number) mask }
+    {
+        let low = shifted_right(u32::MAX, mask.leading_zeros());
+        self.divisor == 1 && self.cut(low).is(other.cut(low))
+    }
+
+    /// Whether it is this term.
+    fn is(self, other: WordTerm) -> bool
+        ensures { IsTrue result → self ≡ other }
+    {
+        self == other
+    }
+
+    /// The term with the low bits alone of what it flips, multiplies by and adds: its value has the same low bits.
+    #[tactic(auto, using(crate::proofs::TermLaws::cut_value))]
+    fn cut(self, low: u32) -> WordTerm
+        ensures value { (k number : ℕ) → low ≡ 2 ^ k - 1 → k ≤ 32 → self.divisor ≡ 1
+            → word_term_value result number % 2 ^ k ≡ word_term_value self number % 2 ^ k }
+        ensures word { result.word ≡ self.word }
+        ensures divisor { result.divisor ≡ self.divisor }
+    {
+        WordTerm {
+            xor_mask: self.xor_mask & low,
+            factor: self.factor & low,
+            addend: self.addend & low,
+            ..self
+        }
     }
 
     /// A value that its word may have if it has this value: no proof rests on it.

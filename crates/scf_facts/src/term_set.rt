@@ -59,7 +59,9 @@ impl TermSet {
     }
 
     /// The term.
-    pub(crate) fn term(&self) -> Term {
+    pub(crate) fn term(&self) -> Term
+        ensures { result ≡ self.now.term }
+    {
         self.term
     }
 
@@ -142,7 +144,7 @@ fn index_of(terms: &[TermSet], term: Term) -> Option<usize>
     None
 }
 
-/// The answer of an atom about a term, if what is known of the term shows it.
+/// The answer of an atom about a term, if what is known of the term shows it, or of one that has the same answer.
 #[tactic(auto, using(crate::proofs::TermLaws::allowed))]
 pub(crate) fn tell_by_term(terms: &[TermSet], term: Term, atom: Atom) -> Tell
     ensures always { result ≡ Tell.Always → (words : List ℕ) → All (AllowsTerm words) terms.now
@@ -151,8 +153,11 @@ pub(crate) fn tell_by_term(terms: &[TermSet], term: Term, atom: Atom) -> Tell
         → answer_at atom (term_value term words) ≡ false }
 {
     for known in terms {
-        if known.is_of(term) {
-            return known.tell(atom);
+        if atom.is_alike(known.term(), term) {
+            let tell = known.tell(atom);
+            if tell != Tell::Maybe {
+                return tell;
+            }
         }
     }
     Tell::Maybe
