@@ -23,9 +23,9 @@ const (
 var (
 	allow = []byte{6, 0, 0, 0, 0, 0, 0xff, 0x7f}
 	deny  = []byte{6, 0, 0, 0, 1, 0, 5, 0}
-	// Three times word 4, less that word three times, is 0, so this denies; but no comparison splits that far.
-	unknown = []byte{0x20, 0, 0, 0, 16, 0, 0, 0, 7, 0, 0, 0, 0, 0, 0, 0, 0x24, 0, 0, 0, 3, 0, 0, 0,
-		0x1c, 0, 0, 0, 0, 0, 0, 0, 0x1c, 0, 0, 0, 0, 0, 0, 0, 0x1c, 0, 0, 0, 0, 0, 0, 0,
+	// Word 4 with its lowest bit set, XOR the word, has no other bit, so this denies; but no comparison splits that far.
+	unknown = []byte{0x20, 0, 0, 0, 16, 0, 0, 0, 7, 0, 0, 0, 0, 0, 0, 0, 0x44, 0, 0, 0, 1, 0, 0, 0,
+		0xac, 0, 0, 0, 0, 0, 0, 0, 0x74, 0, 0, 0, 1, 0, 0, 0,
 		0x15, 0, 0, 1, 0, 0, 0, 0, 6, 0, 0, 0, 1, 0, 5, 0, 6, 0, 0, 0, 0, 0, 0xff, 0x7f}
 	profile = Profile{Text: []byte(`{"defaultAction": "SCMP_ACT_ERRNO",
 		"syscalls": [{"names": ["read"], "action": "SCMP_ACT_ALLOW"}]}`)}
@@ -179,7 +179,7 @@ func TestComparisons(t *testing.T) {
 		}
 	}
 	compared, err := Compare(Filters{unknown}, profile, OneCall(X86_64, 1), Same, Limit, table)
-	is(t, []any{compared.Verdict, compared.Side, compared.At, err}, []any{Undecided, uint32(1), uint64(8), nil})
+	is(t, []any{compared.Verdict, compared.Side, compared.At, err}, []any{Undecided, uint32(1), uint64(7), nil})
 	compared, err = Compare(Filters{allow}, profile, EachCall, Same, Limit, table)
 	if err != nil || len(compared.Each) != 2 || compared.Each[0].Verdict != Holds || compared.Each[1].Verdict != Fails ||
 		compared.Each[1].Nr != 1 || compared.Verdict != Fails {

@@ -15,9 +15,9 @@ PROFILE = scf.Profile(b'{"defaultAction": "SCMP_ACT_ERRNO", "syscalls": [{"names
 NATIVE = scf.Table(scf.Architecture.X86_64, b"read 0\nwrite 1\n")
 NAMES, NOTHING, ABSENT = [NATIVE], scf.LeftOut(0, 0), scf.LeftOut(0, 1)
 READ, WRITE = scf.Call(0), scf.Call(1)
-# Three times word 4, less that word three times, is 0, so this denies; but no comparison splits that far.
-UNKNOWN = (bytes((0x20, 0, 0, 0, 16, 0, 0, 0, 7, 0, 0, 0, 0, 0, 0, 0, 0x24, 0, 0, 0, 3, 0, 0, 0))
-           + bytes((0x1C, 0, 0, 0, 0, 0, 0, 0)) * 3 + bytes((0x15, 0, 0, 1, 0, 0, 0, 0)) + DENY + ALLOW)
+# Word 4 with its lowest bit set, XOR the word, has no other bit, so this denies; but no comparison splits that far.
+UNKNOWN = (bytes((0x20, 0, 0, 0, 16, 0, 0, 0, 7, 0, 0, 0, 0, 0, 0, 0, 0x44, 0, 0, 0, 1, 0, 0, 0,
+                  0xAC, 0, 0, 0, 0, 0, 0, 0, 0x74, 0, 0, 0, 1, 0, 0, 0, 0x15, 0, 0, 1, 0, 0, 0, 0)) + DENY + ALLOW)
 I386 = scf.Architecture.X86.audit
 BOTH = scf.Profile(b'{"defaultAction": "SCMP_ACT_ERRNO", "architectures": ["SCMP_ARCH_X86_64", "SCMP_ARCH_X86"], '
                    b'"syscalls": [{"names": ["read"], "action": "SCMP_ACT_ALLOW"}]}')
@@ -105,7 +105,7 @@ class Calls(unittest.TestCase):
         finding = scf.compare(PROFILE, allow, NAMES, numbers(1, 1)).finding
         self.assertEqual((finding.call.nr, finding.left, finding.right), (1, RET_EPERM, RET_ALLOW))
         finding = scf.compare(scf.Filters([UNKNOWN]), PROFILE, NAMES, numbers(1, 1)).finding
-        self.assertEqual((finding.verdict, finding.side, finding.at, finding.call), (scf.Verdict.UNDECIDED, 1, 8, None))
+        self.assertEqual((finding.verdict, finding.side, finding.at, finding.call), (scf.Verdict.UNDECIDED, 1, 7, None))
         compared = scf.compare(scf.Filters([DENY]), scf.Filters([ALLOW, DENY]), relation=scf.Relation.SAME_DISPOSITION)
         self.assertEqual(compared.finding.verdict, scf.Verdict.HOLDS)
         self.refused(scf.Source.BESIDE, scf.Kind.TRUNCATED, (0, 0, 0), scf.compare, scf.Filters([]),

@@ -244,7 +244,7 @@ static void comparisons(void) {
     other = bytes_of(unknown_zero, sizeof unknown_zero);
     question = asked_of(0, 0, SCF_SAME);
     IS(compare(&left, &right, &question) == SCF_OK && found.finding.verdict == SCF_UNDECIDED);
-    IS(found.finding.side == 1 && found.finding.at == 8 && is_zero(&found.finding.call, sizeof found.finding.call));
+    IS(found.finding.side == 1 && found.finding.at == 7 && is_zero(&found.finding.call, sizeof found.finding.call));
     IS(compare(&right, &right, &question) == SCF_OK && is_zero(found.left.reserved, 32) && found.left.skipped == 1);
     IS(found.finding.verdict == SCF_HOLDS);
 }
@@ -428,7 +428,7 @@ static void compares_each(void) {
     IS(compare_each(&other, 3, SCF_NO_MORE, SCF_LIMIT) == SCF_OK && found.finding.verdict == SCF_FAILS);
     other = bytes_of(unknown_zero, sizeof unknown_zero);
     IS(compare_each(&other, 3, SCF_NO_MORE, SCF_LIMIT) == SCF_OK && found.finding.verdict == SCF_UNDECIDED);
-    IS(found.finding.side == 1 && found.finding.at == 8);
+    IS(found.finding.side == 1 && found.finding.at == 7);
     IS(compare_each(&filter, 4, SCF_SAME, SCF_LIMIT) == SCF_REFUSED && is_nothing() && is_zero(&found, sizeof found));
     IS(is_fault(&fault, SCF_SOURCE_PROFILE, SCF_KIND_NOT_LISTED, 3));
     tables[1].bytes = text_of("read\n");

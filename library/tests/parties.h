@@ -18,11 +18,11 @@ static const uint8_t deny[] = {6, 0, 0, 0, 1, 0, 5, 0};
 /* a = word 0; a > 0 allows, a = 0 denies */
 static const uint8_t positive[] = {0x20, 0, 0, 0, 0, 0, 0, 0, 0x25, 0, 0, 1, 0, 0, 0, 0, 6, 0, 0, 0, 0, 0, 0xff, 0x7f,
                                    6,    0, 0, 0, 1, 0, 5, 0};
-/* denies, since three times word 4, less that word three times, is 0; but the splits of a comparison don't show that */
+/* denies: word 4 with its lowest bit set, XOR the word, has no other bit; but no comparison splits that far */
 static const uint8_t unknown_zero[] = {
-    0x20, 0, 0, 0, 16, 0, 0, 0, 7,    0, 0, 0, 0, 0, 0, 0, 0x24, 0, 0, 0, 3, 0, 0,    0,
-    0x1c, 0, 0, 0, 0,  0, 0, 0, 0x1c, 0, 0, 0, 0, 0, 0, 0, 0x1c, 0, 0, 0, 0, 0, 0,    0,
-    0x15, 0, 0, 1, 0,  0, 0, 0, 6,    0, 0, 0, 1, 0, 5, 0, 6,    0, 0, 0, 0, 0, 0xff, 0x7f};
+    0x20, 0, 0, 0, 16, 0, 0, 0, 7,    0, 0, 0, 0, 0, 0, 0, 0x44, 0, 0, 0, 1, 0, 0, 0,
+    0xac, 0, 0, 0, 0,  0, 0, 0, 0x74, 0, 0, 0, 1, 0, 0, 0, 0x15, 0, 0, 1, 0, 0, 0, 0,
+    6,    0, 0, 0, 1,  0, 5, 0, 6,    0, 0, 0, 0, 0, 0xff, 0x7f};
 static const char profile[] =
     "{\"defaultAction\": \"SCMP_ACT_ERRNO\", \"syscalls\": [{\"names\": [\"write\", \"absent\"], \"action\": "
     "\"SCMP_ACT_ALLOW\"}]}";

@@ -29,11 +29,11 @@ ONE_RECORD = a_filter("""ld [0]; jeq #41, 0, no; ld [16]; jeq #2, 0, no; ld [20]
     ld [40]; jeq #0xffffffff, 0, no; ld [44]; jeq #0xffffffff, 0, no
     ld [48]; jeq #0xabc, 0, no; ld [52]; jeq #0, 0, no; ld [56]; jeq #16, 0, no; ld [60]; jeq #1, 0, no
     ret #0x50026; no: ret #0x7fff0000""")
-# One call is answered behind more than 64 steps, one by an even product of an argument, which takes a split, and one by
+# One call is answered behind more than 64 steps, one by an even product of two numbers, which takes a split, and one by
 # an errno; the others are allowed. Their numbers are 1, 2 and 3, and 7, 6 and 5.
 MIXED = a_filter("""ld [0]; jeq #1, slow, 0; jeq #2, even, 0; jeq #3, other, 0
     jeq #5, other, 0; jeq #6, even, 0; jeq #7, slow, allow
-    even: ld [16]; mul #6; jset #1, 0, allow; ret #0; other: ret #0x50001
+    even: ld [16]; tax; add #1; mul x; jset #1, 0, allow; ret #0; other: ret #0x50001
     slow: tax; tax; tax; tax; tax; tax; tax; tax; tax; tax; tax; tax; tax; tax; tax; tax
     tax; tax; tax; tax; tax; tax; tax; tax; tax; tax; tax; tax; tax; tax; tax; tax
     tax; tax; tax; tax; tax; tax; tax; tax; tax; tax; tax; tax; tax; tax; tax; tax
@@ -81,14 +81,14 @@ ROWS = (
     # The verdict that speaks for all: a difference goes first, and then the least number.
     ("--limit 64", [MIXED, ALL, a_table("a 0\nd 4")], "same\n", 0),
     ("--splits 0 --limit=64", [MIXED, ALL, a_table("b 2\na 1\nd 4")],
-     "unfinished\n1 a unfinished\n2 b undecided at 10\n", 4),
+     "unfinished\n1 a unfinished\n2 b undecided at 12\n", 4),
     ("--limit 64 --splits 0", [MIXED, ALL, a_table("n 0\nb 6\na 7")],
-     "undecided at 10\n6 b undecided at 10\n7 a unfinished\n", 4),
-    ("--splits=0", [MIXED, ALL, a_table("b 6\na 7")], "undecided at 10\n6 b undecided at 10\n", 4),
+     "undecided at 12\n6 b undecided at 12\n7 a unfinished\n", 4),
+    ("--splits=0", [MIXED, ALL, a_table("b 6\na 7")], "undecided at 12\n6 b undecided at 12\n", 4),
     ("--limit 64 --splits 0", [MIXED, ALL, a_table("a 1\nb 2\nc 3")],
-     "differs\n1 a unfinished\n2 b undecided at 10\n3 c differs args filter ERRNO 1 profile ALLOW 0\n", 1),
+     "differs\n1 a unfinished\n2 b undecided at 12\n3 c differs args filter ERRNO 1 profile ALLOW 0\n", 1),
     ("--splits 0 --limit 64", [MIXED, ALL, a_table("c 5\nb 6\na 7")],
-     "differs\n5 c differs args filter ERRNO 1 profile ALLOW 0\n6 b undecided at 10\n7 a unfinished\n", 1),
+     "differs\n5 c differs args filter ERRNO 1 profile ALLOW 0\n6 b undecided at 12\n7 a unfinished\n", 1),
     # With splits: each call has as many, and one that is undecided without them is decided.
     ("--limit=64", [MIXED, ALL, a_table("b 2\na 1\nd 4")], "unfinished\n1 a unfinished\n", 4),
     ("--limit 64", [MIXED, ALL, a_table("n 0\nb 6\na 7")], "unfinished\n7 a unfinished\n", 4),

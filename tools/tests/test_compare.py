@@ -158,8 +158,9 @@ class Compare(Case):
             self.assertRegex(out, r"^undecided at [0-9]+\n# Runs of a filter end at this instruction")
 
     def test_splits(self):
-        """Whether a product is even takes a split: no call gets the errno."""
-        for words in self.of_each(load(16) + insn(0x24, 6) + insn(0x45, 1, 0, 1) + ret(EPERM) + ret(ALLOW)):
+        """A number times the next one is even, which takes a split: no call gets the errno."""
+        product = load(16) + insn(0x07, 0) + insn(0x04, 1) + insn(0x2C, 0)
+        for words in self.of_each(product + insn(0x45, 1, 0, 1) + ret(EPERM) + ret(ALLOW)):
             self.assertEqual(self.run_tool(*words, "--splits=x")[1].split("\n")[0], "fault number splits")
             for more, status, word in (["--splits=0"], 4, "undecided"), ([], 0, "same"), (["--splits", str(2**64 - 1)],
                                                                                        0, "same"):

@@ -9,7 +9,7 @@ from support.worked import (ALL_BUT_TWO, EXTREMES, FAILS, KILLS, MADE, SOCKET_NO
                             effort, printed)
 
 LAST = X32 - 1
-EVEN = a_filter("ld [0]; jeq #1, 0, 4; ld [16]; mul #6; jset #1, 0, 1; ret #0; ret #0x7fff0000")
+EVEN = a_filter("ld [0]; jeq #1, 0, 6; ld [16]; tax; add #1; mul x; jset #1, 0, 1; ret #0; ret #0x7fff0000")
 WITHOUT_41 = behind_gate("jeq #41, 0, 1; ret #0x7fff0000; ret #0x50001")
 # The filters of a stack, the oldest first, a table, a profile, and what is wanted of numbers.
 NUMBERS = (
@@ -25,7 +25,7 @@ NUMBERS = (
     # Two filters.
     ([WITHOUT_READ, WITHOUT_WRITE], READ_WRITE_TABLE, ALL_BUT_TWO, {0: SAME, 1: SAME, 2: SAME}),
     ([WITHOUT_READ, ALLOW], READ_WRITE_TABLE, ALL_BUT_TWO, {0: SAME, 1: (MADE, FAILS), 2: SAME}),
-    # A product of an argument that is even, whatever the argument is: it takes a split on the argument's lowest bit.
+    # An argument times the next number, which is even: it takes a split on the argument's lowest bit.
     ([EVEN], "", DEFAULT_ALLOW, {0: SAME, 1: SAME, 2: SAME}),
     # Sums of the number, and some of its bits.
     ([a_filter("ld [0]; add #1; jeq #2, 0, 1; ret #0x50001; ret #0x7fff0000")], "", DEFAULT_ALLOW,
@@ -115,7 +115,7 @@ class Numbers(OnStacks):
         """The one that takes a split is undecided without it, and the others aren't."""
         for filters, table, profile, wanted in NUMBERS:
             with self.subTest(filters=filters, profile=profile):
-                alone = {**wanted, 1: 5} if filters == [EVEN] else wanted
+                alone = {**wanted, 1: 7} if filters == [EVEN] else wanted
                 self.says_of_numbers(filters, table, profile, alone, "--splits", "0")
                 self.says_of_numbers(filters, table, profile, wanted, "--splits", "1")
 

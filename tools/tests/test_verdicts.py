@@ -125,11 +125,11 @@ RELATIONS = (
     ("--calls --no-more --limit 0", [STUB, READ, TABLE], "unfinished\n0 read unfinished\n1 write unfinished\n",
      "skipped gone\n", 4),
 )
-# Stacks beside stacks: filters that answer each call so, one that allows everything, since three times a word, less
-# that word three times, is 0, which few splits don't show, and two that allow where a masked word is at least 5, as its
-# square of at least 25 says, which needs a split.
+# Stacks beside stacks: filters that answer each call so, one that allows everything, since a word with its lowest bit
+# set, XOR the word, has no other bit, which few splits don't show, and two that allow where a masked word is at least 5,
+# as its square of at least 25 says, which needs a split.
 LOG, EPERM, ENOSYS = map(a_filter, ("ret #0x7ffc0000", "ret #0x50001", "ret #0x50026"))
-ZERO = "ld [16]; tax; mul #3; sub x; sub x; sub x; jeq #0, 0, 1; ret #0x7fff0000; ret #0"
+ZERO = "ld [16]; tax; or #1; xor x; rsh #1; jeq #0, 0, 1; ret #0x7fff0000; ret #0"
 FROM_FIVE = a_filter("ld [16]; and #0xff; tax; mul x; jge #25, 0, 1; ret #0x7fff0000; ret #0x50001")
 ABOVE_FOUR = beside("ld [16]; and #0xff; jgt #4, 0, 1; ret #0x7fff0000; ret #0x50001")
 OTHER, NAMES_OF_1 = beside(ALLOW_ALL), a_table("b 1\na 1\nd 0")

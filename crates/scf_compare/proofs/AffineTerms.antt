@@ -2,10 +2,10 @@
 use Rattle.std.specs.Prelude.{not}
 use Rattle.std.specs.Int.Bits.{xor_add_and, xor_assoc, xor_disjoint, xor_zero_r}
 use Rattle.std.specs.Int.Count.{count_leading_zeros}
-use Rattle.std.proofs.Math.Nat.{add-mul, div-div-eq-div-mul, div-le_self, mul_assoc, mul-pos}
+use Rattle.std.proofs.Math.Nat.{add-mul, div-div-eq-div-mul, div-le_self, mul-add, mul_assoc, mul-pos}
 use Rattle.std.proofs.lemmas.Nat.{div-mul-add, leading_top, mod-mul-add, mul-mod_first, mul-mod_second, xor_block, xor_mod}
 use Rattle.std.specs.Int.{trailing_zeros}
-use Rattle.std.proofs.lemmas.Nat.Bits.{bit_at-trailing_zeros}
+use Rattle.std.proofs.lemmas.Nat.Bits.{bit_at-trailing_zeros, ones_shr}
 use Rattle.scf_compare.proofs.Common.{add-mod, and_assoc, and_le_r, and_mask, and_zero_r, mul-lt-mul_of_pos_right, one_shl, pow-add, shl-shr, bit_at_ones_above, div-add-mod', mul_comm, ◌≡◌, ◌≢◌, ℕ, ◌+◌, ◌-◌, ◌*◌, ◌/◌, ◌%◌, ◌<◌, ◌≤◌, ◌^◌, ◌↔◌, true, false, eqb, leb, nat_lt, refl, sym, ap, ◌∙◌, arith, bit_and, bit_or, bit_xor, add_comm, and_comm, and_le_l, at_bit, beyond_mask, bit_at, bit_at_not, bit_at_ones, cases_eq, div-eq_of_lt, div-lt_iff_lt-mul, div-mul-le_self, div-one, eq-eqb, eqb-true, le-div_iff_mul-le, mod-eq_of_lt, mod-lt, mul-le-mul_left, ne_eqb, cases_lt, of_multiple, one_more, or_comm, or_lt, pow_pos, same_from_bits, same_from_bits_below, same_from_xor, shr_mono, w32, xor_comm, xor_lt, xor_self, word_below, inl, inr}
 use Rattle.scf_compare.proofs.BitSlices.{number_fits}
 use Rattle.scf_compare.proofs.Bits.{each_bit, whole_word}
@@ -97,9 +97,27 @@ scaled_sum x k a d v one =
     mul-mod_first (x * k) v (2 ^ 32) ∙ ap (λ n. n % 2 ^ 32) (mul_assoc x k v) ∙ sym (mul-mod_second x (k * v) (2 ^ 32)) in
     rw (one, div-one, div-one, mul-mod_first, add-mul, add-mod, product) refl
 
--- times all ones
-pub scaled_by_ones : (n v : ℕ) → n < 2 ^ 32 → v ≡ 2 ^ 32 - 1 → n * v % 2 ^ 32 ≡ (0 + 2 ^ 32 - n) % 2 ^ 32
-scaled_by_ones n v fits all = rw all (omega arith)
+-- a factor and its negative, of a number and its complement z, where r is the complement's product with the factor
+both_signs : (p q r k a z : ℕ) → p + r ≡ (2 ^ 32 - 1) * k → q + r ≡ 2 ^ 32 * z → k < 2 ^ 32 → a < 2 ^ 32
+    → (p % 2 ^ 32 + a) % 2 ^ 32 ≡ (q % 2 ^ 32 + (a + (2 ^ 32 - k)) % 2 ^ 32) % 2 ^ 32
+both_signs p q r k a z sum negative fits fits_a = omega arith
+
+pub turned_sum : (y f k a d : ℕ) → y < 2 ^ 32 → f < 2 ^ 32 → k < 2 ^ 32 → a < 2 ^ 32
+    → (bit_xor y f * k % 2 ^ 32 + a) % 2 ^ 32 / d
+    ≡ (bit_xor y (2 ^ 32 - 1 - f) * ((0 + (2 ^ 32 - k)) % 2 ^ 32) % 2 ^ 32 + (a + (2 ^ 32 - k)) % 2 ^ 32) % 2 ^ 32 / d
+turned_sum y f k a d fits fits_f fits_k fits_a =
+    let x = bit_xor y f in
+    let z = 2 ^ 32 - 1 - x in
+    let complement : x + z ≡ 2 ^ 32 - 1 = omega (arith, xor_lt 32 y f fits fits_f) in
+    let sum : x * k + z * k ≡ (2 ^ 32 - 1) * k = sym (add-mul x z k) ∙ ap (λ n. n * k) complement in
+    let h = 0 + (2 ^ 32 - k) in
+    let whole : h + k ≡ 2 ^ 32 = omega (arith, fits_k) in
+    let negative : h * z + k * z ≡ 2 ^ 32 * z = sym (add-mul h k z) ∙ ap (λ n. n * z) whole in
+    let reduced : z * (h % 2 ^ 32) % 2 ^ 32 ≡ h * z % 2 ^ 32 =
+    mul-mod_second z h (2 ^ 32) ∙ ap (λ n. n % 2 ^ 32) (mul_comm z h) in
+    rw (xor_complement y f fits fits_f, reduced)
+    (ap (λ n. n / d)
+    (both_signs (x * k) (h * z) (k * z) k a z (ap (λ n. x * k + n) (mul_comm k z) ∙ sum) negative fits_k fits_a))
 
 -- ---- ranges
 
@@ -200,19 +218,12 @@ shifted_back n k c sum =
     let below : r * 2 ^ c < 2 ^ 32 = omega (arith, few, whole_shift k c sum) in
     ap (λ m. m % 2 ^ 32 / 2 ^ c) parts ∙ ap (λ m. m / 2 ^ c) (mod-mul-add q (2 ^ 32) (r * 2 ^ c) below) ∙ shl-shr r c
 
-low_ones : (k c : ℕ) → k + c ≡ 32 → (2 ^ 32 - 1) / 2 ^ c ≡ 2 ^ k - 1
-low_ones k c sum =
-    let parts : 2 ^ 32 - 1 ≡ (2 ^ k - 1) * 2 ^ c + (2 ^ c - 1) =
-    (let next : 2 ^ k - 1 + 1 ≡ 2 ^ k = omega (arith, pow_pos k) in
-    let more : 2 ^ k * 2 ^ c ≡ (2 ^ k - 1) * 2 ^ c + 2 ^ c = ap (λ m. m * 2 ^ c) (sym next) ∙ one_more (2 ^ k - 1) (2 ^ c) in
-    omega (arith, more, whole_shift k c sum, pow_pos c)) in
-    ap (λ m. m / 2 ^ c) parts ∙ div-mul-add (2 ^ k - 1) (2 ^ c) (2 ^ c - 1) (omega (arith, pow_pos c))
-
 pub low_masked : (n v c : ℕ) → c < 32 → v ≡ (2 ^ 32 - 1) / 2 ^ c
     → bit_and n v ≡ n * (1 * 2 ^ c % 2 ^ 32) % 2 ^ 32 / (1 * 2 ^ c % 2 ^ 32)
 low_masked n v c within ones =
     let sum : 32 - c + c ≡ 32 = omega (arith, within) in
-    rw (one_shl c 32 within, ones, low_ones (32 - c) c sum, and_mask n (32 - c)) (sym (shifted_back n (32 - c) c sum))
+    let low_ones = ones_shr 32 c (omega (arith, within)) in
+    rw (one_shl c 32 within, ones, low_ones, and_mask n (32 - c)) (sym (shifted_back n (32 - c) c sum))
 
 pub some_leading : (v : ℕ) → v ≢ 0 → v < 2 ^ 32 → count_leading_zeros 32 v < 32
 some_leading v some fits =
@@ -229,9 +240,6 @@ by_parts : (x f o c : ℕ) → f ≡ o * 2 ^ c → x * f % 2 ^ 32 ≡ x * 2 ^ c 
 by_parts x f o c parts =
     let same : x * f ≡ x * 2 ^ c * o = ap (λ n. x * n) (parts ∙ mul_comm o (2 ^ c)) ∙ sym (mul_assoc x (2 ^ c) o) in
     ap (λ n. n % 2 ^ 32) same ∙ sym (mul-mod_first (x * 2 ^ c) o (2 ^ 32))
-
-pub by_power : (x f o c s : ℕ) → f ≡ o * 2 ^ c → o ≡ 1 → x * 2 ^ c % 2 ^ 32 ≡ s → x * f % 2 ^ 32 ≡ s
-by_power x f o c s parts one shifted = by_parts x f o c parts ∙ rw (one, shifted) (omega (arith, shifted))
 
 -- what is multiplied may be shifted first, and then multiplied by an odd number
 pub by_odd : (x f o c s a d : ℕ) → f ≡ o * 2 ^ c → x * 2 ^ c % 2 ^ 32 ≡ s
@@ -253,21 +261,32 @@ there_and_back n o i fits inverse =
     mul-mod_first (n * o) i (2 ^ 32) ∙ ap (λ m. m % 2 ^ 32) (mul_assoc n o i) ∙ sym (mul-mod_second n (o * i) (2 ^ 32)) ∙ once
 
 -- a product is one value where the factor's inverse times the value is what is multiplied
-pub by_inverse : (x f o c i low high s : ℕ) → f ≡ o * 2 ^ c → o * i % 2 ^ 32 ≡ 1 → low ≡ high → low < 2 ^ 32
-    → x * 2 ^ c % 2 ^ 32 ≡ s → is_within low high (x * f % 2 ^ 32) ≡ is_within (low * i % 2 ^ 32) (low * i % 2 ^ 32) s
-by_inverse x f o c i low high s parts inverse one fits shifted =
-    let product : x * f % 2 ^ 32 ≡ s * o % 2 ^ 32 = by_parts x f o c parts ∙ ap (λ n. n * o % 2 ^ 32) shifted in
-    let back = there_and_back s o i (omega (arith, shifted)) inverse in
-    let there = there_and_back low i o fits (ap (λ n. n % 2 ^ 32) (mul_comm i o) ∙ inverse) in
-    same_within low high (x * f % 2 ^ 32) (low * i % 2 ^ 32) (low * i % 2 ^ 32) s
+pub by_inverse : (x f i low high : ℕ) → f * i % 2 ^ 32 ≡ 1 → low ≡ high → low < 2 ^ 32 → x < 2 ^ 32
+    → is_within low high (x * f % 2 ^ 32) ≡ is_within (low * i % 2 ^ 32) (low * i % 2 ^ 32) x
+by_inverse x f i low high inverse one fits fits_x =
+    let back = there_and_back x f i fits_x inverse in
+    let there = there_and_back low i f fits (ap (λ n. n % 2 ^ 32) (mul_comm i f) ∙ inverse) in
+    same_within low high (x * f % 2 ^ 32) (low * i % 2 ^ 32) (low * i % 2 ^ 32) x
     (λ lies.
-    let is : s * o % 2 ^ 32 ≡ low = omega (arith, product, lies.0, lies.1, one) in
-    let same : low * i % 2 ^ 32 ≡ s = ap (λ n. n * i % 2 ^ 32) (sym is) ∙ back in
+    let is : x * f % 2 ^ 32 ≡ low = omega (arith, lies.0, lies.1, one) in
+    let same : low * i % 2 ^ 32 ≡ x = ap (λ n. n * i % 2 ^ 32) (sym is) ∙ back in
     (omega (arith, same), omega (arith, same)))
     (λ lies.
-    let is : low * i % 2 ^ 32 ≡ s = omega (arith, lies.0, lies.1) in
-    let same : s * o % 2 ^ 32 ≡ low = ap (λ n. n * o % 2 ^ 32) (sym is) ∙ there in
-    (omega (arith, product, same), omega (arith, product, same, one)))
+    let is : low * i % 2 ^ 32 ≡ x = omega (arith, lies.0, lies.1) in
+    let same : x * f % 2 ^ 32 ≡ low = ap (λ n. n * f % 2 ^ 32) (sym is) ∙ there in
+    (omega (arith, same), omega (arith, same, one)))
+
+-- the sum of two terms, where what one multiplies is shifted to the left for the other
+pub plus_product : (x s f g a b c d e : ℕ) → x * 2 ^ c % 2 ^ 32 ≡ s → d ≡ 1 → e ≡ 1
+    → ((x * f % 2 ^ 32 + a) % 2 ^ 32 / d + (s * g % 2 ^ 32 + b) % 2 ^ 32 / e) % 2 ^ 32
+    ≡ (x * ((f + g * 2 ^ c % 2 ^ 32) % 2 ^ 32) % 2 ^ 32 + (a + b) % 2 ^ 32) % 2 ^ 32 / d
+plus_product x s f g a b c d e shifted one one_too =
+    let h = g * 2 ^ c % 2 ^ 32 in
+    let second : x * h % 2 ^ 32 ≡ s * g % 2 ^ 32 =
+    mul-mod_second x (g * 2 ^ c) (2 ^ 32) ∙ by_parts x (g * 2 ^ c) g c refl ∙ ap (λ n. n * g % 2 ^ 32) shifted in
+    let both : x * ((f + h) % 2 ^ 32) % 2 ^ 32 ≡ (x * f + x * h) % 2 ^ 32 =
+    mul-mod_second x (f + h) (2 ^ 32) ∙ ap (λ n. n % 2 ^ 32) (mul-add x f h) in
+    rw (one, one_too, div-one, div-one, div-one, both, ← second) (omega arith)
 
 pub xor_shifted : (y f k s : ℕ) → y * 2 ^ k % 2 ^ 32 ≡ s → bit_xor y f * 2 ^ k % 2 ^ 32 ≡ bit_xor s (f * 2 ^ k % 2 ^ 32)
 xor_shifted y f k s shifted =
@@ -352,6 +371,9 @@ add_more y a d v one = rw (one, div-one, div-one) (omega arith)
 pub sum_of_negation : (n v : ℕ) → v < 2 ^ 32 → (n + (0 + (2 ^ 32 - v)) % 2 ^ 32) % 2 ^ 32 ≡ (n + 2 ^ 32 - v) % 2 ^ 32
 sum_of_negation n v fits = omega arith
 
+pub sum_of_reverse : (n v : ℕ) → v < 2 ^ 32 → (n + (0 + 2 ^ 32 - v) % 2 ^ 32) % 2 ^ 32 ≡ (n + 2 ^ 32 - v) % 2 ^ 32
+sum_of_reverse n v fits = omega arith
+
 pub sum_of_complement : (n v : ℕ) → n < 2 ^ 32 → v < 2 ^ 32
     → (2 ^ 32 - 1 - n + (v + 1) % 2 ^ 32) % 2 ^ 32 ≡ (v + 2 ^ 32 - n) % 2 ^ 32
 sum_of_complement n v fits fits_v = omega arith
@@ -413,7 +435,11 @@ pub ruleset or_laws = (or_by_xor, quotient_fits)
 
 pub ruleset reverse_sub_laws = (sum_of_complement, quotient_fits)
 
-pub ruleset mul_laws = (scaled_sum, scaled_by_ones, quotient_fits)
+pub ruleset mul_laws = (scaled_sum)
+
+pub ruleset turned_laws = (turned_sum, number_fits)
+
+pub ruleset combined_laws = (sum_of_reverse, quotient_fits)
 
 pub ruleset div_laws = (div-div-eq-div-mul, some_product)
 
@@ -421,7 +447,7 @@ pub ruleset commuted_laws = (add_comm, and_comm, mul_comm, or_comm, xor_comm)
 
 pub ruleset sum_laws = (sum_within, sum_beyond, gap, all_within, xor_lt, number_fits, mod-lt)
 
-pub ruleset product_laws = (by_one, by_power, by_inverse, xor_lt, number_fits, mod-lt)
+pub ruleset product_laws = (by_one, by_inverse, xor_lt, number_fits, mod-lt)
 
 pub ruleset shifted_laws = (xor_shifted, number_fits)
 

@@ -109,6 +109,70 @@ impl AffineTerm {
         }
     }
 
+    /// `self op other`, if it is an affine term.
+    #[tactic(auto, using(crate::proofs::AffineTerms::combined_laws))]
+    pub(crate) fn combined(self, arithmetic: Arithmetic, other: AffineTerm) -> Option<AffineTerm>
+        requires term { IsAffineTerm self }
+        requires other { IsAffineTerm other }
+        ensures term { IfSome result IsAffineTerm }
+        ensures number { IfSome result (λ term. (words : List ℕ)
+            → value_computed arithmetic (affine_value self words) (affine_value other words)
+            ≡ affine_value term words) }
+    {
+        match arithmetic {
+            Arithmetic::Add => self.sum(other),
+            Arithmetic::Sub => self.sum(other.reverse_sub(0)?),
+            Arithmetic::Mul
+            | Arithmetic::Div
+            | Arithmetic::Or
+            | Arithmetic::And
+            | Arithmetic::Xor
+            | Arithmetic::Lsh
+            | Arithmetic::Rsh => None,
+        }
+    }
+
+    /// `self + other`, if the bit slice of one of them is that of the other one shifted to the left.
+    #[tactic(auto, using(crate::proofs::Common::add_comm))]
+    fn sum(self, other: AffineTerm) -> Option<AffineTerm>
+        requires term { IsAffineTerm self }
+        requires other { IsAffineTerm other }
+        ensures term { IfSome result IsAffineTerm }
+        ensures number { IfSome result (λ term. (words : List ℕ)
+            → (affine_value self words + affine_value other words) % 2 ^ 32 ≡ affine_value term words) }
+    {
+        let (first, second) = (self.upright(), other.upright());
+        let sum = if first.bit_slice.left <= second.bit_slice.left {
+            first.plus_shifted(second)
+        } else {
+            second.plus_shifted(first)
+        };
+        Some(sum?.normal())
+    }
+
+    /// `self + other`, if the bit slice of `other` is that of `self` shifted to the left.
+    fn plus_shifted(self, other: AffineTerm) -> Option<AffineTerm>
+        requires term { IsAffineTerm self }
+        requires other { IsAffineTerm other }
+        ensures term { IfSome result IsAffineTerm }
+        ensures number { IfSome result (λ term. (words : List ℕ)
+            → (affine_value self words + affine_value other words) % 2 ^ 32 ≡ affine_value term words) }
+    {
+        if self.divisor != 1 || other.divisor != 1 {
+            return None;
+        }
+        let count = other.bit_slice.left.checked_sub(self.bit_slice.left)?;
+        let shifted = self.shifted_left(count)?;
+        if shifted.bit_slice != other.bit_slice || shifted.xor_mask != other.xor_mask {
+            return None;
+        }
+        Some(AffineTerm {
+            factor: self.factor.wrapping_add(other.factor << count),
+            addend: self.addend.wrapping_add(other.addend),
+            ..self
+        })
+    }
+
     /// `self ^ v`, if it is an affine term.
     fn xor(self, v: u32) -> Option<AffineTerm>
         requires { IsAffineTerm self }
@@ -144,8 +208,8 @@ impl AffineTerm {
         }
     }
 
-    /// `self & v`, if it is an affine term: of a sum `v` is all bits below one, and the others are shifted out. Of a
-    /// product by an odd number the low bits are followed one by one: a range of it isn't one of the word.
+    /// `self & v`, if it is an affine term: of a sum `v` is all bits below one, and the others are shifted out. The low
+    /// bits of a product by an odd number are followed one by one: a range of it isn't one of the word.
     #[tactic(auto, using(crate::proofs::AffineTerms::masked_laws))]
     fn masked(self, v: u32) -> Option<AffineTerm>
         requires { IsAffineTerm self }
@@ -155,8 +219,12 @@ impl AffineTerm {
     {
         let count = v.leading_zeros();
         match self.and(v) {
-            None if self.factor == 1 && v != 0 && v == u32::MAX >> count => {
-                self.mul(1 << count)?.div(1 << count)
+            None if v != 0 && v == u32::MAX >> count => {
+                let top = self.mul(1 << count)?;
+                if top.factor != 1 {
+                    return None;
+                }
+                top.div(1 << count)
             }
             term => term,
         }
@@ -247,14 +315,12 @@ impl AffineTerm {
         if self.divisor != 1 {
             return None;
         }
-        if v == u32::MAX {
-            return self.reverse_sub(0);
-        }
-        Some(AffineTerm {
+        let product = AffineTerm {
             factor: self.factor.wrapping_mul(v),
             addend: self.addend.wrapping_mul(v),
             ..self
-        })
+        };
+        Some(product.normal())
     }
 
     /// `self / v`, if it is an affine term.
@@ -299,7 +365,7 @@ impl AffineTerm {
         ensures decides { (words : List ℕ) → IsWords words
             → Decides result words (holds test (affine_value self words) v) }
     {
-        Decision::about(self.with_odd_factor().term(), test, v)
+        Decision::about(self.term(), test, v)
     }
 
     /// The test of `self` against `v`, as an atom about its word, or else about the term.
@@ -325,7 +391,7 @@ impl AffineTerm {
     {
         match test {
             Test::Equal if v == 0 => self.decide_or_ask(Test::CommonBit, mask).negated(),
-            Test::Equal => Decision::has_bits(self.with_odd_factor().term(), mask, v),
+            Test::Equal => Decision::has_bits(self.term(), mask, v),
             Test::CommonBit => self.decide_or_ask(Test::CommonBit, mask & v),
             Test::Greater | Test::GreaterOrEqual => Decision::Open(OpenTest::NONE),
         }
@@ -350,7 +416,48 @@ impl AffineTerm {
         })
     }
 
-    /// The same number with an odd factor, where bits of the slice remain: so `w * 2 * 3` and `w * 6` are one term.
+    /// The same number with an odd factor below 2^31, where bits of the slice remain: so `w * 2 * 3` and `w * 6` are
+    /// one term, and `-w * 3` and `-(w * 3)`.
+    fn normal(self) -> AffineTerm
+        requires { IsAffineTerm self }
+        ensures term { IsAffineTerm result }
+        ensures number { (words : List ℕ) → affine_value self words ≡ affine_value result words }
+    {
+        let term = self.with_odd_factor();
+        if term.factor < 1 << 31 {
+            return term;
+        }
+        term.turned()
+    }
+
+    /// The same number, where the XOR doesn't turn the highest bit round.
+    fn upright(self) -> AffineTerm
+        requires { IsAffineTerm self }
+        ensures term { IsAffineTerm result }
+        ensures number { (words : List ℕ) → affine_value self words ≡ affine_value result words }
+    {
+        if self.xor_mask < 1 << 31 {
+            return self;
+        }
+        self.turned()
+    }
+
+    /// The same number, where the XOR turns the other bits round, and the factor has the other sign.
+    #[tactic(auto, using(crate::proofs::AffineTerms::turned_laws))]
+    fn turned(self) -> AffineTerm
+        requires { IsAffineTerm self }
+        ensures term { IsAffineTerm result }
+        ensures number { (words : List ℕ) → affine_value self words ≡ affine_value result words }
+    {
+        AffineTerm {
+            xor_mask: !self.xor_mask,
+            factor: 0u32.wrapping_sub(self.factor),
+            addend: self.addend.wrapping_sub(self.factor),
+            ..self
+        }
+    }
+
+    /// The same number with an odd factor, where bits of the slice remain.
     #[tactic(auto, using(crate::proofs::AffineTerms::by_odd))]
     fn with_odd_factor(self) -> AffineTerm
         requires { IsAffineTerm self }
@@ -405,7 +512,7 @@ impl AffineTerm {
         }
     }
 
-    /// The test that the product lies in `low..=high`: if the factor isn't a power of two, only that it is one value.
+    /// The test that the product lies in `low..=high`: if the factor isn't 1, only that it is one value.
     #[tactic(auto, using(crate::proofs::AffineTerms::product_laws))]
     fn is_product_within(self, low: u32, high: u32) -> Decision
         requires term { IsAffineTerm self }
@@ -417,17 +524,10 @@ impl AffineTerm {
         if self.factor == 1 {
             return self.is_xored_within(low, high);
         }
-        let (odd, count) = odd_part(self.factor);
-        let Some(shifted) = self.shifted_left(count) else {
-            return Decision::Open(OpenTest::NONE);
-        };
-        if odd == 1 {
-            return shifted.is_xored_within(low, high);
-        }
-        match inverse_of(odd) {
+        match inverse_of(self.factor) {
             Some(inverse) if low == high => {
                 let value = low.wrapping_mul(inverse);
-                shifted.is_xored_within(value, value)
+                self.is_xored_within(value, value)
             }
             _ => Decision::Open(OpenTest::NONE),
         }

@@ -18,7 +18,7 @@ use crate::value::{Decision, Value};
 use scf_facts::{Atom, Bits, is_high_mask};
 
 /// `(word & mask) >> right << left`, of the word with index `word`.
-#[derive(Clone, Copy)]
+#[derive(Clone, Copy, PartialEq, Eq)]
 pub(crate) struct BitSlice {
     pub(crate) word: u8,
     pub(crate) mask: u32,

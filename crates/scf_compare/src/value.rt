@@ -244,8 +244,7 @@ impl Value {
         }
     }
 
-    /// The abstract result of `self op other`, if one of them is an affine term, the other a constant, and the result
-    /// an affine term.
+    /// The abstract result of `self op other`, if they are affine terms or constants, and the result an affine term.
     fn affine_result(self, arithmetic: Arithmetic, other: Value) -> Option<AffineTerm>
         requires value { IsValue self }
         requires other { IsValue other }
@@ -257,7 +256,9 @@ impl Value {
         match (self, other) {
             (_, Value::Known(v)) => self.affine_term()?.computed(arithmetic, v),
             (Value::Known(v), _) => other.affine_term()?.computed_from(arithmetic, v),
-            _ => None,
+            _ => self
+                .affine_term()?
+                .combined(arithmetic, other.affine_term()?),
         }
     }
 

@@ -8,9 +8,9 @@ use scf::{
 
 const ALLOW: [u8; 8] = [6, 0, 0, 0, 0, 0, 0xff, 0x7f];
 const DENY: [u8; 8] = [6, 0, 0, 0, 1, 0, 5, 0];
-/// Three times word 4, less that word three times, is 0, so this denies; but no comparison splits that far.
-const UNKNOWN: [u64; 9] =
-    [0x10_0000_0020, 7, 0x3_0000_0024, 0x1c, 0x1c, 0x1c, 0x0100_0015, 0x0005_0001_0000_0006, 0x7fff_0000_0000_0006];
+/// Word 4 with its lowest bit set, XOR the word, has no other bit, so this denies; but no comparison splits that far.
+const UNKNOWN: [u64; 8] =
+    [0x10_0000_0020, 7, 0x1_0000_0044, 0xac, 0x1_0000_0074, 0x0100_0015, 0x0005_0001_0000_0006, 0x7fff_0000_0000_0006];
 const RET_ALLOW: Answer = Answer(0x7fff_0000);
 const RET_EPERM: Answer = Answer(0x0005_0001);
 const X86_64: u32 = 0xc000_003e;
@@ -106,7 +106,7 @@ fn comparisons() {
     let unknown: Vec<u8> = UNKNOWN.iter().flat_map(|instruction| instruction.to_le_bytes()).collect();
     let undecided: &[&[u8]] = &[&unknown];
     let undecided = Compare::new(undecided, PROFILE).tables(&tables).scope(numbers(1, 1)).run().unwrap();
-    assert_eq!(undecided.verdict, Verdict::Undecided { side: 1, at: 8 });
+    assert_eq!(undecided.verdict, Verdict::Undecided { side: 1, at: 7 });
     let (deny, both): (&[&[u8]], &[&[u8]]) = (&[&DENY], &[&ALLOW, &DENY]);
     assert_eq!(verdict(Compare::new(deny, both).relation(Relation::SameDisposition)), Ok(Verdict::Holds));
     let compared = allow.scope(Scope::EachCall).run().unwrap();

@@ -80,9 +80,9 @@ def ret(k):
     return insn(0x06, k)
 
 
-# Leaves 0 in A: three times the low word of the first argument, less that word three times. A bit of it is known only
-# where that bit of the word and all lower ones are, so answers behind a test of it take more splits than the default.
-UNKNOWN_ZERO = load(16) + insn(0x07, 0) + insn(0x24, 3) + insn(0x1C, 0) * 3
+# Leaves 0 in A: the low word of the first argument with its lowest bit set, XOR the word, has no other bit. A bit of it
+# is known only where the word's is, so answers behind a test of it take more splits than the default.
+UNKNOWN_ZERO = load(16) + insn(0x07, 0) + insn(0x44, 1) + insn(0xAC, 0) + insn(0x74, 1)
 
 
 def gate(native, foreign=KILL_PROCESS):
