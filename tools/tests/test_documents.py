@@ -370,6 +370,8 @@ class Names(unittest.TestCase):
 
 # Programs that the pages run as root; another line that begins with `# ` was printed by a tool.
 AS_ROOT = ("apt", "ausearch", "make", "mkdir", "podman", "scf", "systemctl")
+# Where Debian's golang-github-containers-common, which podman recommends, puts the profile of podman.
+PODMANS = "/usr/share/containers/seccomp.json"
 
 
 def console_of(*path):
@@ -410,9 +412,10 @@ class Consoles(Page):
 
     def check_console(self, *path):
         """Runs the commands of a page: how many ran, and how many outputs were compared."""
-        ran = compared = 0
+        ran, compared, unmade = 0, 0, set()
         for is_root, command, lines in console_of(*path):
-            if is_root or not self.can_run(command):
+            if is_root or not self.can_run(command) or any(name in command for name in unmade):
+                unmade.update(re.findall(r">(\S+)", command))
                 continue
             status, out, _ = self.run_words(["sh", "-c", f"exec 2>&1; {command}"], env=self.env)
             self.assertIn(status, (0, 1, 4), f"{command}: {out}")
@@ -426,12 +429,12 @@ class Consoles(Page):
     def test_recipes(self):
         """And the block for continuous integration, which is a script of its own."""
         ran, compared = self.check_console("docs", "RECIPES.md")
-        self.assertGreaterEqual((ran, compared), (10, 4))
+        self.assertGreaterEqual((ran, compared), (10, 4) if os.path.exists(PODMANS) else (7, 1))
         for block, _ in blocks_of(text_of("docs", "RECIPES.md")):
             self.assertEqual(self.run_words(["sh", "-c", block], env=self.env),
                              (0, "allows nothing that the profile denies\n", ""))
 
-    @unittest.skipUnless(os.path.exists("/usr/share/containers/seccomp.json"), "podman's profile isn't here")
+    @unittest.skipUnless(os.path.exists(PODMANS), "podman's profile isn't here")
     def test_runtimes(self):
         self.assertEqual(self.check_console("docs", "RUNTIMES.md"), (2, 0))
 
