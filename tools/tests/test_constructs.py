@@ -5,7 +5,8 @@ import unittest
 from support import constructs
 from support.common import ALLOW, CORE, EPERM, Case, insn, load, part, ret
 from support.constructs import (
-    ADD, AND, DIV, JEQ, JGE, JGT, JSET, LSH, MUL, NEG, OR, RSH, SUB, TAX, X, XOR, FilterPair, ProfilePair)
+    ADD, AND, DIV, JEQ, JGE, JGT, JSET, LD_K, LD_M, LSH, MUL, NEG, OR, RSH, ST, SUB, TAX, WORD, X, XOR, FilterPair,
+    ProfilePair)
 
 # Of each kind of pair: its constructs, how many pairs of each are drawn, the seed, and the construct of a plain test.
 KINDS = {ProfilePair: (constructs.CONSTRUCTS, 16, 30, constructs.by_mask),
@@ -100,6 +101,24 @@ class OneWord(Case):
     def verdict(self, first, second, *more):
         out = self.run_words([*CORE, "compare", "--beside", *more], part("filter", first) + part("beside", second))[1]
         return out.split("\n", maxsplit=1)[0]
+
+    def test_terms_that_are_equal(self):
+        """Each pair computes the same number of a word, or the same bits under a mask, and needs no split."""
+        def shifted(count):
+            return insn(ST, 1) + load(16) + insn(LSH, count) + insn(TAX, 0) + insn(LD_M, 1) + insn(ADD | X, 0)
+
+        word, negated = load(16), load(16) + insn(NEG, 0)
+        for first, second, test in (
+                (word + insn(LSH, 4) + shifted(2) + shifted(3), word + insn(MUL, 28), insn(JGE, 0x1234, 0, 1)),
+                (word + insn(MUL, -20 & WORD) + insn(NEG, 0), word + insn(MUL, 20), insn(JGT, 0x1234, 0, 1)),
+                (negated + insn(MUL, 6), word + insn(MUL, -6 & WORD), insn(JGE, 0x1234, 0, 1)),
+                (word + insn(TAX, 0) + insn(SUB | X, 0), insn(LD_K, 0), insn(JEQ, 0, 0, 1)),
+                (negated + insn(ADD, 9) + insn(MUL, 0xffbfffff) + insn(AND, 0x7000),
+                 word + insn(SUB, 9) + insn(AND, 0x7000), insn(JEQ, 0x5000, 0, 1)),
+                (word + insn(MUL, 0x10001) + insn(AND, 0xffff), word + insn(AND, 0xffff), insn(JEQ, 0x1234, 0, 1))):
+            ends = test + ret(ALLOW) + ret(EPERM)
+            with self.subTest(first=first.hex(), second=second.hex()):
+                self.assertEqual(self.verdict(first + ends, second + ends, "--splits=0"), "same")
 
     def test_two_terms_that_seldom_differ(self):
         """Of a difference and of twice its negation the same bits are tested: one has them, and the other one doesn't,

@@ -2,7 +2,8 @@
 use Rattle.std.specs.Prelude.{not}
 use Rattle.std.specs.Int.Bits.{xor_add_and, xor_assoc, xor_disjoint, xor_zero_r}
 use Rattle.std.specs.Int.Count.{count_leading_zeros}
-use Rattle.std.proofs.Math.Nat.{add-mul, div-div-eq-div-mul, div-le_self, mul-add, mul_assoc, mul-pos}
+use Rattle.std.proofs.Math.Pow.{mod-mod-pow}
+use Rattle.std.proofs.Math.Nat.{add-mul, div-div-eq-div-mul, div-le_self, mul-add, mul-mod_left, mul_assoc, mul-pos}
 use Rattle.std.proofs.lemmas.Nat.{div-mul-add, leading_top, mod-mul-add, mul-mod_first, mul-mod_second, xor_block, xor_mod}
 use Rattle.std.specs.Int.{trailing_zeros}
 use Rattle.std.proofs.lemmas.Nat.Bits.{bit_at-trailing_zeros, ones_shr}
@@ -118,6 +119,56 @@ turned_sum y f k a d fits fits_f fits_k fits_a =
     rw (xor_complement y f fits fits_f, reduced)
     (ap (λ n. n / d)
     (both_signs (x * k) (h * z) (k * z) k a z (ap (λ n. x * k + n) (mul_comm k z) ∙ sum) negative fits_k fits_a))
+
+-- an XOR with a mask adds what the number can't have, where b is what it can have
+xor_parts : (y b f : ℕ) → y < 2 ^ 32 → b < 2 ^ 32 → f < 2 ^ 32 → bit_and y b ≡ y
+    → bit_xor y f ≡ bit_xor y (bit_and f b) + bit_and f (2 ^ 32 - 1 - b)
+xor_parts y b f fits fits_b fits_f among =
+    let p = bit_xor y (bit_and f b) in
+    let q = bit_and f (2 ^ 32 - 1 - b) in
+    let fits_p : p < 2 ^ 32 = xor_lt 32 y (bit_and f b) fits (omega (arith, and_le_l f b)) in
+    let fits_q : q < 2 ^ 32 = omega (arith, and_le_l f (2 ^ 32 - 1 - b)) in
+    let joined : bit_xor y f ≡ bit_xor p q =
+    same_from_bits_below 32 _ _ (xor_lt 32 y f fits fits_f) (xor_lt 32 p q fits_p fits_q)
+    (λ i below. grind (arith, each_bit, at_bit i among, bit_at_not w32 b i fits_b below)) in
+    let apart : bit_and p q ≡ 0 =
+    same_from_bits_below 32 _ _ (omega (arith, and_le_l p q)) (omega arith)
+    (λ i below. grind (arith, each_bit, at_bit i among, bit_at_not w32 b i fits_b below)) in
+    joined ∙ xor_disjoint p q apart
+
+-- a multiple of 2^l times a factor, of which the bits don't matter that a shift by l loses
+lost_bits : (p z k l : ℕ) → l < 32 → p ≡ z * 2 ^ l → p * k % 2 ^ 32 ≡ p * (k * 2 ^ l % 2 ^ 32 / 2 ^ l) % 2 ^ 32
+lost_bits p z k l within is =
+    let s = k * 2 ^ l % 2 ^ 32 in
+    let whole : 32 - l + l ≡ 32 = omega (arith, within) in
+    let none : s % 2 ^ l ≡ 0 =
+    ap (λ n. k * 2 ^ l % 2 ^ n % 2 ^ l) (sym whole) ∙ mod-mod-pow (k * 2 ^ l) (32 - l) l ∙ mul-mod_left k (2 ^ l) in
+    let back : s / 2 ^ l * 2 ^ l ≡ s = omega (arith, div-add-mod' s (2 ^ l), none) in
+    let swapped : (n : ℕ) → p * n ≡ z * (n * 2 ^ l) =
+    λ n. ap (λ m. m * n) is ∙ mul_assoc z (2 ^ l) n ∙ ap (λ m. z * m) (mul_comm (2 ^ l) n) in
+    ap (λ n. n % 2 ^ 32) (swapped k) ∙ sym (mul-mod_second z (k * 2 ^ l) (2 ^ 32))
+    ∙ ap (λ n. z * n % 2 ^ 32) (sym back) ∙ ap (λ n. n % 2 ^ 32) (sym (swapped (s / 2 ^ l)))
+
+-- a number among the bits of a multiple of 2^l is one
+among_multiple : (p b z l : ℕ) → bit_and p b ≡ p → b ≡ z * 2 ^ l → p ≡ p / 2 ^ l * 2 ^ l
+among_multiple p b z l among is =
+    let none : bit_and b (2 ^ l - 1) ≡ 0 = and_mask b l ∙ ap (λ n. n % 2 ^ l) is ∙ mul-mod_left z (2 ^ l) in
+    let low : p % 2 ^ l ≡ 0 =
+    sym (and_mask p l) ∙ same_from_bits _ _ (λ i. grind (arith, each_bit, at_bit i among, at_bit i none)) in
+    omega (arith, div-add-mod' p (2 ^ l), low)
+
+pub reduced_sum : (y b z f k a l d : ℕ) → y < 2 ^ 32 → b < 2 ^ 32 → f < 2 ^ 32 → l < 32 → bit_and y b ≡ y → b ≡ z * 2 ^ l
+    → (bit_xor y f * k % 2 ^ 32 + a) % 2 ^ 32 / d
+    ≡ (bit_xor y (bit_and f b) * (k * 2 ^ l % 2 ^ 32 / 2 ^ l) % 2 ^ 32
+    + (a + bit_and f (2 ^ 32 - 1 - b) * k % 2 ^ 32) % 2 ^ 32) % 2 ^ 32 / d
+reduced_sum y b z f k a l d fits fits_b fits_f within among is =
+    let p = bit_xor y (bit_and f b) in
+    let q = bit_and f (2 ^ 32 - 1 - b) in
+    let of_p : bit_and p b ≡ p = same_from_bits _ _ (λ i. grind (arith, each_bit, at_bit i among)) in
+    let product = lost_bits p (p / 2 ^ l) k l within (among_multiple p b z l of_p is) in
+    let parts : bit_xor y f * k ≡ p * k + q * k =
+    ap (λ n. n * k) (xor_parts y b f fits fits_b fits_f among) ∙ add-mul p q k in
+    ap (λ n. n / d) (rw (parts, ← product) (omega arith))
 
 -- ---- ranges
 
@@ -436,6 +487,15 @@ pub ruleset or_laws = (or_by_xor, quotient_fits)
 pub ruleset reverse_sub_laws = (sum_of_complement, quotient_fits)
 
 pub ruleset mul_laws = (scaled_sum)
+
+-- a range beyond all that an XOR leaves, which turns all bits round that a number may have
+pub beyond_turned : (s b f low high : ℕ) → bit_and s b ≡ s → bit_and b f ≡ b → f < low
+    → is_within low high (bit_xor s f) ≡ false
+beyond_turned s b f low high among all far =
+    let each : bit_and s f ≡ s =
+    ap (λ n. bit_and n f) (sym among) ∙ and_assoc f s b ∙ ap (bit_and s) all ∙ among in
+    let rest : bit_xor s f ≤ f = omega (arith, each, xor_add_and s f, and_le_r s f) in
+    none_between (bit_xor s f) low high (λ least most. omega (arith, least, rest, far))
 
 pub ruleset turned_laws = (turned_sum, number_fits)
 

@@ -365,7 +365,7 @@ impl AffineTerm {
         ensures decides { (words : List ℕ) → IsWords words
             → Decides result words (holds test (affine_value self words) v) }
     {
-        Decision::about(self.term(), test, v)
+        Decision::about(self.normal().term(), test, v)
     }
 
     /// The test of `self` against `v`, as an atom about its word, or else about the term.
@@ -391,7 +391,7 @@ impl AffineTerm {
     {
         match test {
             Test::Equal if v == 0 => self.decide_or_ask(Test::CommonBit, mask).negated(),
-            Test::Equal => Decision::has_bits(self.term(), mask, v),
+            Test::Equal => Decision::has_bits(self.normal().term(), mask, v),
             Test::CommonBit => self.decide_or_ask(Test::CommonBit, mask & v),
             Test::Greater | Test::GreaterOrEqual => Decision::Open(OpenTest::NONE),
         }
@@ -416,18 +416,36 @@ impl AffineTerm {
         })
     }
 
-    /// The same number with an odd factor below 2^31, where bits of the slice remain: so `w * 2 * 3` and `w * 6` are
-    /// one term, and `-w * 3` and `-(w * 3)`.
+    /// The same number with an odd factor of the lesser of both signs, where bits of the slice remain: so `w * 2 * 3`
+    /// and `w * 6` are one term, and `-w * 3` and `-(w * 3)`.
     fn normal(self) -> AffineTerm
         requires { IsAffineTerm self }
         ensures term { IsAffineTerm result }
         ensures number { (words : List ℕ) → affine_value self words ≡ affine_value result words }
     {
-        let term = self.with_odd_factor();
-        if term.factor < 1 << 31 {
+        let term = self.with_odd_factor().reduced();
+        if term.factor << term.bit_slice.left < 1 << 31 {
             return term;
         }
-        term.turned()
+        term.turned().reduced()
+    }
+
+    /// The same number with a XOR of only those bits that the slice may have, and a factor without the bits that its
+    /// left shift loses.
+    fn reduced(self) -> AffineTerm
+        requires { IsAffineTerm self }
+        ensures term { IsAffineTerm result }
+        ensures number { (words : List ℕ) → affine_value self words ≡ affine_value result words }
+    {
+        let bits = self.bit_slice.bits();
+        let left = self.bit_slice.left;
+        let added = (self.xor_mask & !bits).wrapping_mul(self.factor);
+        AffineTerm {
+            xor_mask: self.xor_mask & bits,
+            factor: self.factor << left >> left,
+            addend: self.addend.wrapping_add(added),
+            ..self
+        }
     }
 
     /// The same number, where the XOR doesn't turn the highest bit round.
@@ -568,7 +586,10 @@ impl AffineTerm {
         } else if bits & self.xor_mask == 0 && self.xor_mask <= high {
             self.bit_slice
                 .is_within(low.saturating_sub(self.xor_mask), high - self.xor_mask)
-        } else if bits & self.xor_mask == bits && low <= self.xor_mask {
+        } else if bits & self.xor_mask == bits {
+            if low > self.xor_mask {
+                return Decision::Known(false);
+            }
             self.bit_slice
                 .is_within(self.xor_mask.saturating_sub(high), self.xor_mask - low)
         } else {

@@ -130,7 +130,8 @@ impl BitSlice {
     #[tactic(auto, using(crate::proofs::BitSlices::bits_laws))]
     pub(crate) fn bits(self) -> u32
         requires { IsBitSlice self }
-        ensures { (words : List ℕ) → bit_and (bit_slice_value self words) result ≡ bit_slice_value self words }
+        ensures shifted { result ≡ self.mask / 2 ^ self.right * 2 ^ self.left }
+        ensures all { (words : List ℕ) → bit_and (bit_slice_value self words) result ≡ bit_slice_value self words }
     {
         self.mask >> self.right << self.left
     }
