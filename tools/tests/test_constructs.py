@@ -113,6 +113,8 @@ class OneWord(Case):
                 (word + insn(MUL, -20 & WORD) + insn(NEG, 0), word + insn(MUL, 20), insn(JGT, 0x1234, 0, 1)),
                 (negated + insn(MUL, 6), word + insn(MUL, -6 & WORD), insn(JGE, 0x1234, 0, 1)),
                 (word + insn(TAX, 0) + insn(SUB | X, 0), insn(LD_K, 0), insn(JEQ, 0, 0, 1)),
+                (word + insn(AND, 0xffff) + insn(TAX, 0) + insn(MUL, -3 & WORD) + insn(ADD | X, 0),
+                 word + insn(AND, 0xffff) + insn(MUL, -2 & WORD), insn(JGE, 0xffff1234, 0, 1)),
                 (negated + insn(ADD, 9) + insn(MUL, 0xffbfffff) + insn(AND, 0x7000),
                  word + insn(SUB, 9) + insn(AND, 0x7000), insn(JEQ, 0x5000, 0, 1)),
                 (word + insn(MUL, 0x10001) + insn(AND, 0xffff), word + insn(AND, 0xffff), insn(JEQ, 0x1234, 0, 1))):

@@ -448,16 +448,17 @@ impl AffineTerm {
         }
     }
 
-    /// The same number, where the XOR doesn't turn the highest bit round.
+    /// The same number, where the XOR doesn't turn round the highest bit that the slice may have.
     fn upright(self) -> AffineTerm
         requires { IsAffineTerm self }
         ensures term { IsAffineTerm result }
         ensures number { (words : List ℕ) → affine_value self words ≡ affine_value result words }
     {
-        if self.xor_mask < 1 << 31 {
-            return self;
+        let term = self.reduced();
+        if term.xor_mask <= self.bit_slice.bits() / 2 {
+            return term;
         }
-        self.turned()
+        term.turned().reduced()
     }
 
     /// The same number, where the XOR turns the other bits round, and the factor has the other sign.
