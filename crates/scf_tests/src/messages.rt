@@ -3,7 +3,6 @@
 //! What a message says is in the name of its fault and the fields beside it; its limits are those of the formats: 32768
 //! bytes and 4096 instructions of a filter, 4194304 bytes and 4096 rules of a profile, 127 levels of JSON.
 
-use crate::fixtures::holds_of;
 use scf_compile::CompileFault;
 use scf_insn::{Failed, InputFault, Memory, NumeralFault, ReadFault, WriteFault};
 use scf_machine::{CheckFault, PushFault};
@@ -25,7 +24,7 @@ macro_rules! messages {
 /// That an error prints this.
 fn print_one<E: Display>(rt: &impl Abort, alloc: Global, error: &E, wanted: &str) {
     let shown = format!(in alloc; "{error}").expect(rt, "no fault");
-    holds_of(rt, shown.as_str() == wanted, shown.as_str());
+    assert!(rt; shown.as_str() == wanted, "{wanted}");
 }
 
 /// That each error prints what stands beside it.
@@ -53,19 +52,26 @@ const NUMBERS: &[(NumeralFault, &str)] = messages![
     NumeralFault::TooLarge => "a number past 2^64-1",
 ];
 
+const WRITES: &[(WriteFault, &str)] = messages![
+    WriteFault::Write => "the output can't be written",
+];
+
+const STREAMS: &[(Failed, &str)] = messages![
+    Failed => "a read or a write failed",
+];
+
+const MEMORY: &[(Memory, &str)] = messages![
+    Memory => "out of memory",
+];
+
 #[test]
 fn of_streams_and_numbers(rt: HostRuntime) {
     print(&rt, rt.alloc(), READS);
     print(&rt, rt.alloc(), INPUTS);
     print(&rt, rt.alloc(), NUMBERS);
-    print_one(
-        &rt,
-        rt.alloc(),
-        &WriteFault::Write,
-        "the output can't be written",
-    );
-    print_one(&rt, rt.alloc(), &Failed, "a read or a write failed");
-    print_one(&rt, rt.alloc(), &Memory, "out of memory");
+    print(&rt, rt.alloc(), WRITES);
+    print(&rt, rt.alloc(), STREAMS);
+    print(&rt, rt.alloc(), MEMORY);
 }
 
 const CHECKS: &[(CheckFault, &str)] = messages![
