@@ -1,3 +1,4 @@
 mod AnswerLemmas
 mod ComparisonLemmas
 mod RecordLemmas
+mod Searching

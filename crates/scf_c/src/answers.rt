@@ -34,12 +34,12 @@ ghost use Rattle.scf_c.specs.Questions.{IsAsked, IsNothingAsked};
 ghost use Rattle.scf_c.specs.Statuses.{ok, wrong_argument};
 ghost use Rattle.scf_c.specs.declared.question.Asked.{Asked};
 
-use crate::fault::{no_fault, refuse};
+use crate::fault::{NO_FAULT, refuse};
 use crate::layout::{
     Call, Fault, LeftOutCounts, Listing, Question, RegionNumbers, SideInput, Table, WordFact,
 };
 use crate::memory::hand_out;
-use crate::profile::{entry_of, nothing_left_out, reason_number};
+use crate::profile::{NOTHING_LEFT_OUT, entry_of, reason_number};
 use crate::question::{Asked, asked_of};
 use crate::records::{Records, some_records};
 use crate::refusal::Refusal;
@@ -210,7 +210,7 @@ fn numbers_of_region(region: &Region, fact_count: usize) -> RegionNumbers
     };
     let example = match &region.example {
         Some(call) => Call::of(call),
-        None => Call::none(),
+        None => Call::NONE,
     };
     RegionNumbers {
         answer,
@@ -335,15 +335,11 @@ fn listing_of(is_finished: bool, left_out: LeftOutCounts) -> Listing
 }
 
 /// The listing where nothing is listed: its numbers are 0.
-fn no_listing() -> Listing
-    ensures { result ≡ no_listing }
-{
-    Listing {
-        is_finished: 0,
-        unused: 0,
-        left_out: nothing_left_out(),
-    }
-}
+const NO_LISTING: Listing = Listing {
+    is_finished: 0,
+    unused: 0,
+    left_out: NOTHING_LEFT_OUT,
+};
 
 /// Hands out what a side answers to each record that is asked for, by regions, and what is known of their words.
 #[unsafe(no_mangle)]
@@ -374,10 +370,10 @@ pub extern "C" fn scf_answers(
         × IsNothingHandedOut regions.old regions.new regions_needed.new
         × IsNothingHandedOut facts.old facts.new facts_needed.new }
 {
-    *listing = no_listing();
+    *listing = NO_LISTING;
     *regions_needed = 0;
     *facts_needed = 0;
-    *fault = no_fault();
+    *fault = NO_FAULT;
     let Some(asked) = asked_of(question, side, side, tables) else {
         return WRONG_ARGUMENT;
     };

@@ -12,7 +12,6 @@ ghost use Rattle.scf_c.specs.Comparisons.{
   IsOverNone,
   comparison_of,
   joint_finding,
-  no_finding,
   numbers_of,
   of_each,
   of_records,
@@ -131,10 +130,16 @@ fn holds(finding: &Finding) -> bool
 }
 
 /// The first that holds.
+#[tactic(auto, using(std::proofs::lemmas::Grind::common_steps, crate::proofs::Searching::found_here, crate::proofs::Searching::found_later))]
 fn first_holding(findings: &[Finding]) -> Option<Finding>
     ensures { result ≡ find is_holding findings.now }
 {
-    findings.iter().copied().find(|finding| holds(finding))
+    for finding in findings {
+        if holds(finding) {
+            return Some(*finding);
+        }
+    }
+    None
 }
 
 /// The finding that speaks for several: the worst, else the first that holds.
@@ -153,50 +158,42 @@ fn side_number(side: Which) -> u32
     }
 }
 
-/// A finding of which only the verdict is known.
-fn only(verdict: u32) -> FindingNumbers
-    ensures { result ≡ record no_finding { verdict = verdict } }
-{
-    FindingNumbers {
-        verdict,
-        left: 0,
-        right: 0,
-        side: 0,
-        at: 0,
-        call: Call::none(),
-    }
-}
-
 /// The finding where nothing is compared: its numbers are 0.
-pub(crate) fn no_finding() -> FindingNumbers
-    ensures { result ≡ no_finding }
-{
-    only(0)
-}
+pub(crate) const NO_FINDING: FindingNumbers = FindingNumbers {
+    verdict: 0,
+    left: 0,
+    right: 0,
+    side: 0,
+    at: 0,
+    call: Call::NONE,
+};
 
 /// A finding as numbers.
 fn numbers_of(finding: &Finding) -> FindingNumbers
     ensures { result ≡ numbers_of finding.now }
 {
     match finding {
-        Finding::Holds { .. } => only(1),
+        Finding::Holds { .. } => FindingNumbers {
+            verdict: 1,
+            ..NO_FINDING
+        },
         Finding::Fails { call, left, right } => FindingNumbers {
             verdict: 2,
             left: left.0,
             right: right.0,
-            side: 0,
-            at: 0,
             call: Call::of(call),
+            ..NO_FINDING
         },
         Finding::Undecided { side, at } => FindingNumbers {
             verdict: 3,
-            left: 0,
-            right: 0,
             side: side_number(*side),
             at: *at as u64,
-            call: Call::none(),
+            ..NO_FINDING
         },
-        Finding::Unfinished => only(4),
+        Finding::Unfinished => FindingNumbers {
+            verdict: 4,
+            ..NO_FINDING
+        },
     }
 }
 
@@ -235,7 +232,7 @@ fn comparison_of(findings: &[Finding], left: &ReadSide, right: &ReadSide) -> Com
 {
     let finding = match joint_finding(findings) {
         Some(finding) => numbers_of(&finding),
-        None => no_finding(),
+        None => NO_FINDING,
     };
     Comparison {
         finding,

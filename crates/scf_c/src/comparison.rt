@@ -9,25 +9,21 @@ ghost use Rattle.scf_c.specs.Statuses.{ok, wrong_argument};
 ghost use Rattle.scf_c.specs.declared.comparing.Compared.{Compared};
 ghost use Rattle.scf_c.specs.declared.question.Asked.{Asked};
 
-use crate::comparing::{compare_inputs, no_finding};
-use crate::fault::{no_fault, refuse};
+use crate::comparing::{NO_FINDING, compare_inputs};
+use crate::fault::{NO_FAULT, refuse};
 use crate::layout::{Comparison, Fault, Question, RecordsComparison, SideInput, Table};
 use crate::memory::hand_out;
-use crate::profile::nothing_left_out;
+use crate::profile::NOTHING_LEFT_OUT;
 use crate::question::asked_of;
 use crate::status::{OK, WRONG_ARGUMENT};
 use std::alloc::Global;
 
 /// The comparison where nothing is compared: its numbers are 0.
-fn no_comparison() -> Comparison
-    ensures { result ≡ no_comparison }
-{
-    Comparison {
-        finding: no_finding(),
-        left_out_of_left: nothing_left_out(),
-        left_out_of_right: nothing_left_out(),
-    }
-}
+const NO_COMPARISON: Comparison = Comparison {
+    finding: NO_FINDING,
+    left_out_of_left: NOTHING_LEFT_OUT,
+    left_out_of_right: NOTHING_LEFT_OUT,
+};
 
 /// Compares two sides, each filters or a profile, at once or over several sets of records, and hands out the finding on
 /// all, each finding, and what the program prints of that on all.
@@ -60,10 +56,10 @@ pub extern "C" fn scf_compare(
     ensures nothing { result ≢ ok → (comparison.new ≡ no_comparison)
         × IsNothingHandedOut each.old each.new each_needed.new × IsNothingHandedOut text.old text.new needed.new }
 {
-    *comparison = no_comparison();
+    *comparison = NO_COMPARISON;
     *each_needed = 0;
     *needed = 0;
-    *fault = no_fault();
+    *fault = NO_FAULT;
     let Some(asked) = asked_of(question, left, right, tables) else {
         return WRONG_ARGUMENT;
     };

@@ -11,16 +11,12 @@ use crate::status::{NO_MEMORY, REFUSED};
 use scf_tool::{BesideFault, FaultRow, MEMORY, beside_row, compile_row, text_row, verify_row};
 
 /// The fault where there is none.
-pub(crate) fn no_fault() -> Fault
-    ensures { result ≡ table.no_fault }
-{
-    Fault {
-        source: 0,
-        kind: 0,
-        numbers: [0; 3],
-        reserved: [0; 4],
-    }
-}
+pub(crate) const NO_FAULT: Fault = Fault {
+    source: 0,
+    kind: 0,
+    numbers: [0; 3],
+    reserved: [0; 4],
+};
 
 fn row(why: Refusal) -> FaultRow
     ensures { row_of result ≡ table.refusal_row why }

@@ -12,7 +12,7 @@ ghost use Rattle.scf_c.specs.Layout.{record_of};
 ghost use Rattle.scf_c.specs.HandingOut.{IsHandedOut, IsNothingHandedOut};
 ghost use Rattle.scf_c.specs.Statuses.{ok};
 
-use crate::fault::{no_fault, refuse};
+use crate::fault::{NO_FAULT, refuse};
 use crate::layout::{Call, Fault};
 use crate::memory::{Reader, hand_out};
 use crate::refusal::Refusal;
@@ -47,7 +47,7 @@ pub extern "C" fn scf_check(
     ensures refused { result ≢ ok → IsRefusal (IsFilterRefused filter.now) result fault.new × (count.new ≡ 0) }
 {
     *count = 0;
-    *fault = no_fault();
+    *fault = NO_FAULT;
     match accepted(alloc, filter) {
         Ok(program) => {
             *count = program.len();
@@ -74,7 +74,7 @@ pub extern "C" fn scf_run(
 {
     *answer = 0;
     *steps = 0;
-    *fault = no_fault();
+    *fault = NO_FAULT;
     match accepted(alloc, filter) {
         Ok(program) => {
             let ran = run(&program, &call.record());
@@ -118,7 +118,7 @@ pub extern "C" fn scf_trace(
 {
     *answer = 0;
     *needed = 0;
-    *fault = no_fault();
+    *fault = NO_FAULT;
     match traced(alloc, filter, &call.record()) {
         Ok(trace) => {
             *answer = trace.answer.0;

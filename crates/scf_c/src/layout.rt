@@ -1,7 +1,7 @@
 //! What crosses between C and scf: the structs of scf.h, field by field.
 
 ghost use Rattle.std.specs.Prelude.{◌≡◌};
-ghost use Rattle.scf_c.specs.Layout.{call_of, no_call, record_of};
+ghost use Rattle.scf_c.specs.Layout.{call_of, record_of};
 
 use scf_insn::CallRecord;
 
@@ -44,16 +44,13 @@ impl Call {
         }
     }
 
-    pub(crate) fn none() -> Call
-        ensures { result ≡ no_call }
-    {
-        Call {
-            nr: 0,
-            arch: 0,
-            ip: 0,
-            args: [0; 6],
-        }
-    }
+    /// The call where there is none: its numbers are 0.
+    pub(crate) const NONE: Call = Call {
+        nr: 0,
+        arch: 0,
+        ip: 0,
+        args: [0; 6],
+    };
 }
 
 /// What a stack of filters answers, and the instruction that gives the answer.

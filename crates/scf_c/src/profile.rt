@@ -29,7 +29,7 @@ ghost use Rattle.scf_c.specs.Profiles.{
 };
 ghost use Rattle.scf_c.specs.Statuses.{ok, wrong_argument};
 
-use crate::fault::{no_fault, refuse};
+use crate::fault::{NO_FAULT, refuse};
 use crate::layout::{Call, Fault, LeftOutCounts, ProfileAnswer, ProfileInput, Table};
 use crate::memory::hand_out;
 use crate::refusal::Refusal;
@@ -139,15 +139,12 @@ pub(crate) fn left_out_of(loaded: &LoadedProfiles) -> LeftOutCounts
     }
 }
 
-pub(crate) fn nothing_left_out() -> LeftOutCounts
-    ensures { result ≡ nothing_left_out }
-{
-    LeftOutCounts {
-        not_looked_at: 0,
-        skipped: 0,
-        reserved: [0; 4],
-    }
-}
+/// The counts where nothing is left out: 0.
+pub(crate) const NOTHING_LEFT_OUT: LeftOutCounts = LeftOutCounts {
+    not_looked_at: 0,
+    skipped: 0,
+    reserved: [0; 4],
+};
 
 /// The bytes of a filter, and how much of its profile has no table.
 #[derive(Drop)]
@@ -202,8 +199,8 @@ pub extern "C" fn scf_compile(
         × (left_out.new ≡ nothing_left_out) }
 {
     *needed = 0;
-    *left_out = nothing_left_out();
-    *fault = no_fault();
+    *left_out = NOTHING_LEFT_OUT;
+    *fault = NO_FAULT;
     let Some(reading) = reading_under(profile, tables) else {
         return WRONG_ARGUMENT;
     };
@@ -238,17 +235,13 @@ pub(crate) fn entry_of(reason: Reason) -> u32
 }
 
 /// The answer where there is none: its numbers are 0.
-fn no_answer() -> ProfileAnswer
-    ensures { result ≡ no_answer }
-{
-    ProfileAnswer {
-        answer: 0,
-        reason: 0,
-        entry: 0,
-        unused: 0,
-        left_out: nothing_left_out(),
-    }
-}
+const NO_ANSWER: ProfileAnswer = ProfileAnswer {
+    answer: 0,
+    reason: 0,
+    entry: 0,
+    unused: 0,
+    left_out: NOTHING_LEFT_OUT,
+};
 
 /// What the profile of a call's architecture answers to it, and why.
 fn answer_to(loaded: &LoadedProfiles, call: &CallRecord) -> ProfileAnswer
@@ -288,8 +281,8 @@ pub extern "C" fn scf_ask(
         × IsRefusal (IsProfileRefused profile.now tables.now reading) result fault.new }
     ensures nothing { result ≢ ok → answer.new ≡ no_answer }
 {
-    *answer = no_answer();
-    *fault = no_fault();
+    *answer = NO_ANSWER;
+    *fault = NO_FAULT;
     let Some(reading) = reading_under(profile, tables) else {
         return WRONG_ARGUMENT;
     };

@@ -29,15 +29,12 @@ pub(crate) struct Records {
     pub scope: Scope,
 }
 
-fn all_records() -> Records
-    ensures { result ≡ spec.all_records }
-{
-    Records {
-        architecture: 0,
-        nr: 0,
-        scope: Scope::All,
-    }
-}
+/// All records.
+const ALL_RECORDS: Records = Records {
+    architecture: 0,
+    nr: 0,
+    scope: Scope::All,
+};
 
 fn of_range(range: NumberRange) -> Records
     ensures { result ≡ spec.of_range range }
@@ -169,7 +166,7 @@ fn records_of(alloc: Global, over: Over, tables: &[Table]) -> Result<Vec<Records
     ensures refused { IfErr result (AreRecordsRefused tables.now) }
 {
     match over {
-        Over::All => Ok(Vec::from_slice(alloc, &[all_records()])?),
+        Over::All => Ok(Vec::from_slice(alloc, &[ALL_RECORDS])?),
         Over::Numbers(range) => Ok(Vec::from_slice(alloc, &[of_range(range)])?),
         Over::EachArchitecture => Ok(of_each(alloc, tables)?),
         Over::EachCall => of_calls(alloc, tables),

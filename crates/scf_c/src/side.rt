@@ -14,7 +14,7 @@ ghost use Rattle.scf_c.specs.Sides.{
 ghost use Rattle.scf_c.specs.declared.side.SideKind.{SideKind};
 
 use crate::layout::{LeftOutCounts, SideInput, Table};
-use crate::profile::{left_out_of, loaded, nothing_left_out, reading_of};
+use crate::profile::{NOTHING_LEFT_OUT, left_out_of, loaded, reading_of};
 use crate::refusal::Refusal;
 use crate::stack::stack_of;
 use crate::tables::tables_of;
@@ -98,7 +98,7 @@ impl ReadSide {
     {
         match self {
             ReadSide::Profiles(loaded) => left_out_of(loaded),
-            ReadSide::Filters(_) => nothing_left_out(),
+            ReadSide::Filters(_) => NOTHING_LEFT_OUT,
         }
     }
 }

@@ -12,7 +12,7 @@ ghost use Rattle.scf_c.specs.Layout.{known_bytes, record_of};
 ghost use Rattle.scf_c.specs.Statuses.{ok};
 ghost use Rattle.scf_c.specs.internal.Reading.{unread_of};
 
-use crate::fault::{no_fault, refuse};
+use crate::fault::{NO_FAULT, refuse};
 use crate::layout::{Bytes, Call, DecisionNumbers, Fault};
 use crate::memory::Reader;
 use crate::refusal::Refusal;
@@ -42,17 +42,13 @@ pub(crate) fn stack_of(alloc: Global, filters: &[Bytes]) -> Result<FilterStack, 
 }
 
 /// The decision where nothing is decided: its numbers are 0.
-fn no_decision() -> DecisionNumbers
-    ensures { result ≡ no_decision }
-{
-    DecisionNumbers {
-        answer: 0,
-        has_filter: 0,
-        filter: 0,
-        index: 0,
-        reserved: [0; 4],
-    }
-}
+const NO_DECISION: DecisionNumbers = DecisionNumbers {
+    answer: 0,
+    has_filter: 0,
+    filter: 0,
+    index: 0,
+    reserved: [0; 4],
+};
 
 /// A decision as numbers.
 fn numbers_of(decision: Decision) -> DecisionNumbers
@@ -69,7 +65,7 @@ fn numbers_of(decision: Decision) -> DecisionNumbers
         },
         None => DecisionNumbers {
             answer,
-            ..no_decision()
+            ..NO_DECISION
         },
     }
 }
@@ -91,8 +87,8 @@ pub extern "C" fn scf_decide(
     ensures refused { result ≢ ok → IsRefusal (IsStackRefused filters.now) result fault.new
         × (decision.new ≡ no_decision) }
 {
-    *decision = no_decision();
-    *fault = no_fault();
+    *decision = NO_DECISION;
+    *fault = NO_FAULT;
     match stack_of(alloc, filters) {
         Ok(stack) => {
             *decision = numbers_of(stack.decision(&call.record()));

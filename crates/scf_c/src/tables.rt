@@ -16,11 +16,16 @@ use scf_tool::{Stub, TableReader};
 use std::alloc::{AllocError, Global};
 
 /// The architecture with this number.
+#[tactic(auto, using(std::proofs::lemmas::Grind::common_steps, crate::proofs::Searching::found_here, crate::proofs::Searching::found_later))]
 pub(crate) fn architecture_of(number: u32) -> Option<Architecture>
     ensures { result ≡ architecture_of number }
 {
-    Architecture::all().iter().copied().find(|architecture| architecture_number(*architecture)
-        == number)
+    for architecture in &Architecture::all() {
+        if architecture_number(*architecture) == number {
+            return Some(*architecture);
+        }
+    }
+    None
 }
 
 /// The number of an architecture: its position among all of them, counted from 1.
@@ -41,10 +46,13 @@ fn is_meant(table: &Table) -> bool
 fn count_for(tables: &[Table], number: u32) -> usize
     ensures { result ≡ count_for number tables.now }
 {
-    tables
-        .iter()
-        .filter(|table| table.architecture == number)
-        .count()
+    let mut count = 0;
+    for table in tables {
+        if table.architecture == number {
+            count += 1;
+        }
+    }
+    count
 }
 
 /// Whether a table is the only one for its architecture.
@@ -70,7 +78,12 @@ fn are_single(tables: &[Table]) -> bool
 fn have_meaning(tables: &[Table]) -> bool
     ensures { IsTrue result ↔ All IsMeant tables.now }
 {
-    tables.iter().all(|table| is_meant(table))
+    for table in tables {
+        if !is_meant(table) {
+            return false;
+        }
+    }
+    true
 }
 
 /// Whether the numbers of all tables have a meaning, and no two are for one architecture.
@@ -191,10 +204,16 @@ pub(crate) fn listed_of<'a>(
 }
 
 /// Whether a table is that of an architecture that has one of these profiles.
+#[tactic(auto, using(std::proofs::lemmas::Grind::common_steps, crate::proofs::Searching::any_here, crate::proofs::Searching::any_later))]
 fn has_profile(profiles: &[Profile], table: &Table) -> bool
     ensures { result ≡ spec.has_profile profiles.now table.now }
 {
-    profiles.iter().any(|profile| architecture_number(profile.architecture()) == table.architecture)
+    for profile in profiles {
+        if architecture_number(profile.architecture()) == table.architecture {
+            return true;
+        }
+    }
+    false
 }
 
 /// The tables of architectures that have one of these profiles.

@@ -11,7 +11,7 @@ ghost use Rattle.scf_c.specs.Filters.{IsListRefused, IsTextRefused};
 ghost use Rattle.scf_c.specs.HandingOut.{IsHandedOut, IsNothingHandedOut};
 ghost use Rattle.scf_c.specs.Statuses.{ok};
 
-use crate::fault::{no_fault, refuse};
+use crate::fault::{NO_FAULT, refuse};
 use crate::layout::Fault;
 use crate::memory::{Reader, hand_out};
 use crate::refusal::Refusal;
@@ -52,7 +52,7 @@ pub extern "C" fn scf_assemble(
         × IsNothingHandedOut filter.old filter.new needed.new }
 {
     *needed = 0;
-    *fault = no_fault();
+    *fault = NO_FAULT;
     match assembled(alloc, text) {
         Ok(bytes) => {
             hand_out(bytes.as_slice(), filter, needed);
@@ -90,7 +90,7 @@ pub extern "C" fn scf_list(
         × IsNothingHandedOut text.old text.new needed.new }
 {
     *needed = 0;
-    *fault = no_fault();
+    *fault = NO_FAULT;
     match listed(alloc, filter) {
         Ok(lines) => {
             hand_out(lines.as_slice(), text, needed);

@@ -10,5 +10,5 @@ returns-in-Ok-Some-clause-listed c = λ well. (
   refl,
   rw c.as_slice.ensures.value at c.hand_out.ensures,
   rw c.as_slice-in-Ok-Some.ensures.value at c.hand_out-in-Ok-Some.ensures,
-  c.no_fault.ensures,
+  refl,
 )
