@@ -12,4 +12,5 @@ mod ScopeLemmas
 mod SideLemmas
 pub mod StackLemmas
 pub mod TableLemmas
+pub mod WholeInput
 pub mod WritingLemmas

@@ -12,8 +12,9 @@ use Rattle.scf_profile.specs.Table.{Names, table_of}
 use Rattle.scf_profile.specs.declared.named_call.NamedCall.{NamedCall}
 use Rattle.scf_profile.specs.declared.reading.Reading.{Reading}
 use Rattle.scf_profile.specs.declared.scope.Scope.{Scope}
-use Rattle.scf_request.specs.Bundle.{Held}
+use Rattle.scf_request.specs.Bundle.{Held, IsBundle}
 use Rattle.scf_request.specs.Contents.{rest_of_table}
+use Rattle.scf_request.specs.Interpretations.{interpretation_of}
 use Rattle.scf_request.specs.Requests.{HasRecord}
 use Rattle.scf_request.specs.declared.bundle.BundleFault.TheVariants.{Memory}
 use Rattle.scf_request.specs.declared.bundle.BundleForm.{BundleForm}
@@ -22,13 +23,13 @@ use Rattle.scf_request.specs.declared.contents.TableReader.{TableReader}
 use Rattle.scf_request.specs.declared.request.Comparison.{Comparison}
 use Rattle.scf_request.specs.declared.request.Scopes.{Scopes}
 use Rattle.scf_request.specs.declared.request.Scopes.TheVariants.{AtOnce, EachCall}
-use Rattle.scf_tool.proofs.Common.{Err, Fault, List, Ok, PartReader, [], ap, arith, get_or, inl, inr, length, map, refl, rest_of, sym, ◌∙◌, ◌∷◌, ◌≡◌, ◌⊎◌, ℕ}
+use Rattle.scf_tool.proofs.Common.{Err, Fault, List, Ok, PartReader, Result, [], ap, arith, get_or, inl, inr, length, map, refl, rest_of, sym, ◌∙◌, ◌∷◌, ◌≡◌, ◌⊎◌, ℕ}
 use Rattle.scf_tool.specs.ArchitectureScopes.{HasRecordAmong, NameNoCall, NamesNoCall, scope_of}
-use Rattle.scf_tool.specs.Commands.{Compares, GoesOverNone, HoldsBundle, TakesSides}
-use Rattle.scf_tool.specs.Statuses.{LeavesWhole}
-use Rattle.scf_tool.specs.Verifying.{HasEnded}
+use Rattle.scf_tool.specs.Commands.{AreSidesOf, Compares, ComparesHeld, ComparesSides, GoesOverNone, GoesOverTables, TakesSides, is_native}
+use Rattle.scf_tool.specs.VerifyingSides.{SideBytes}
 use Rattle.scf_tool.specs.declared.fault.Fault.TheVariants as faults
 use Rattle.scf_tool.specs.declared.reply.Reply.{Reply}
+use Rattle.scf_tool.specs.internal.Bytes.{EndsOnBytes}
 
 -- ---- architectures
 
@@ -111,30 +112,34 @@ none_other form EachCall tables faults.Calls is_other none = is_other
 none_other forms.Architectures (AtOnce scope) tables faults.Range is_other none = is_other
 none_other form over tables fault is_other none = none
 
-goes_over_none : (form : BundleForm) (reading : Reading) (comparison : Comparison) (input : Option (List ℕ))
-    (held : Held) (fault : Fault) → HoldsBundle form input held → TakesSides form comparison.scopes held
-    → GoesOverNone form comparison.scopes held.tables fault → Compares form reading comparison input (Err fault)
-goes_over_none form reading comparison input held faults.Calls bundle takes none = (held, bundle, takes, none)
-goes_over_none form reading comparison input held faults.Range bundle takes none = (held, bundle, takes, none)
-goes_over_none form reading comparison input held fault bundle takes none =
+goes_over_none : (form : BundleForm) (reading : Reading) (comparison : Comparison) (bytes : List ℕ)
+    (held : Held) (fault : Fault) → IsBundle form bytes held → TakesSides form comparison.scopes held
+    → GoesOverNone form comparison.scopes held.tables fault
+    → EndsOnBytes (Compares form reading comparison) bytes (Err fault)
+goes_over_none form reading comparison bytes held faults.Calls bundle takes none =
+    λ input read. (held, (bytes, read, bundle), takes, none)
+goes_over_none form reading comparison bytes held faults.Range bundle takes none =
+    λ input read. (held, (bytes, read, bundle), takes, none)
+goes_over_none form reading comparison bytes held fault bundle takes none =
     absurd (none_other form comparison.scopes held.tables fault tt none)
 
 -- a comparison that goes over no record, or for which memory is wanting, ends with the fault
-pub ends_over_none : (form : BundleForm) (reading : Reading) (comparison : Comparison) (input : Option (List ℕ))
-    (held : Held) (fault : Fault) → HoldsBundle form input held → TakesSides form comparison.scopes held
+pub ends_over_none : (form : BundleForm) (reading : Reading) (comparison : Comparison) (bytes : List ℕ)
+    (held : Held) (fault : Fault) → IsBundle form bytes held → TakesSides form comparison.scopes held
     → GoesOverNone form comparison.scopes held.tables fault ⊎ (fault ≡ faults.Bundle Memory)
-    → Compares form reading comparison input (Err fault)
-ends_over_none form reading comparison input held fault bundle takes (inl none) =
-    goes_over_none form reading comparison input held fault bundle takes none
-ends_over_none form reading comparison input held fault bundle takes (inr is) = rw is (bundle.0, bundle.1, tt)
+    → EndsOnBytes (Compares form reading comparison) bytes (Err fault)
+ends_over_none form reading comparison bytes held fault bundle takes (inl none) =
+    goes_over_none form reading comparison bytes held fault bundle takes none
+ends_over_none form reading comparison bytes held fault bundle takes (inr is) =
+    rw is (λ input read. (bytes, read, tt))
 
--- the input has come to its end, since the fault is none of it
-pub ended_over_none : {R : Type 0} (remaining : R → Option (List ℕ)) (failures : R → ℕ) (old new : R)
-    (form : BundleForm) (over : Scopes) (tables : List (Architecture × List ℕ)) (fault : Fault)
-    → HasEnded remaining failures old new
-    → GoesOverNone form over tables fault ⊎ (fault ≡ faults.Bundle Memory)
-    → LeavesWhole {T = Reply} remaining failures old (Err fault) new
-ended_over_none remaining failures old new form over tables (faults.Input fault) ended (inl none) =
-    absurd (none_other form over tables (faults.Input fault) tt none)
-ended_over_none remaining failures old new form over tables (faults.Input fault) ended (inr is) = absurd (cc)
-ended_over_none remaining failures old new form over tables fault ended given = ended
+-- one that goes over a record ends as that of the sides does
+pub ends_over_some : (form : BundleForm) (reading : Reading) (comparison : Comparison) (held : Held)
+    (ending : Result Reply Fault) → GoesOverTables form comparison.scopes held.tables
+    → ((left right : SideBytes) × AreSidesOf form held left right
+    × ComparesSides (is_native form) comparison (interpretation_of reading held) left right held.tables ending)
+    → ComparesHeld form reading comparison held ending
+ends_over_some form reading comparison held (Ok reply) over sides = (over, sides.0, sides.1, sides.2, sides.3)
+ends_over_some form reading comparison held (Err faults.Calls) over sides = absurd sides.3
+ends_over_some form reading comparison held (Err faults.Range) over sides = absurd sides.3
+ends_over_some form reading comparison held (Err fault) over sides = (over, sides.0, sides.1, sides.2, sides.3)

@@ -5,16 +5,21 @@ use Rattle.scf_compare.specs.Sides.{Behavior, behavior_of, profile_behavior, pro
 use Rattle.scf_profile.specs.Profile.{Profile}
 use Rattle.scf_profile.specs.StatedProfile.{Tables}
 use Rattle.scf_request.specs.Interpretations.{Interpretation}
-use Rattle.scf_tool.proofs.Common.{Bool, Insn, List, false, true, [], length, refl, subst, sym, ◌∷◌, ◌≡◌, ◌≢◌}
-use Rattle.scf_tool.specs.VerifyingSides.{HasStackOf, IsSide, SideBytes, behavior_of_input, behavior_of_profiles, fault_of_right}
+use Rattle.scf_insn.specs.declared.input.InputFault.TheVariants.{TooLong}
+use Rattle.scf_profile.specs.Limits.{max_text_len}
+use Rattle.scf_tool.proofs.Common.{Bool, Insn, List, arith, false, true, [], length, map, refl, subst, sym, NoReadFailed, ◌<◌, ◌∷◌, ◌≡◌, ◌≢◌, ℕ}
+use Rattle.scf_tool.specs.VerifyingSides.{HasStackOf, IsNoSide, IsSide, SideBytes, behavior_of_input, behavior_of_profiles, fault_of_either, fault_of_right}
 use Rattle.scf_tool.specs.VerifyingSides.SideBytes.{OfFilters, OfProfile}
+use Rattle.scf_tool.specs.declared.owned_table.OwnedTable.{OwnedTable}
 use Rattle.scf_tool.specs.declared.sides.OpenSide.{OpenSide}
 use Rattle.scf_tool.specs.declared.sides.OpenSide.TheVariants as opens
 use Rattle.scf_tool.specs.declared.sides.SideInput.{SideInput}
 use Rattle.scf_tool.specs.declared.sides.SideInput.TheVariants as inputs
 use Rattle.scf_tool.specs.declared.verify_fault.BesideFault.{BesideFault}
 use Rattle.scf_tool.specs.declared.verify_fault.VerifyFault.{VerifyFault}
+use Rattle.scf_tool.specs.declared.verify_fault.VerifyFault.TheVariants.{ProfileRead}
 use Rattle.scf_tool.specs.internal.Sides.{IsNamed, IsOpen, IsSideOf}
+use Rattle.scf_tool.specs.internal.Verification.{named_of}
 
 module _ (P : Behavior → Type 0) where
   -- several profiles are a side of several
@@ -58,3 +63,18 @@ right_of true by tables (OfProfile profile) (inputs.Stack stack) fault named is 
 right_of false by tables (OfProfile profile) (inputs.Stack stack) fault named is names = absurd is
 right_of native by tables (OfProfile profile) (inputs.Profile loaded) fault named is names = names
 right_of native by tables (OfProfile profile) (inputs.Profiles loaded) fault named is names = names
+
+-- a profile that is too long is none, whatever the tables are
+pub too_long : (native : Bool) (by : Interpretation) (tables : List OwnedTable) (profile : List ℕ)
+    → (native ≡ true → length tables ≡ 1) → max_text_len < length profile
+    → IsNoSide native by (map named_of tables) (OfProfile profile) (ProfileRead TooLong)
+too_long true by [] profile only long = absurd (omega (arith, only refl))
+too_long true by (table ∷ []) profile only long = (named_of table, refl, long)
+too_long true by (table ∷ second ∷ tables) profile only long = absurd (omega (arith, only refl))
+too_long false by tables profile only long = long
+
+-- whose fault that of a profile on the right is says nothing of its reads
+pub right_reads_well : (left : SideBytes) (fault : VerifyFault) → NoReadFailed fault
+    → NoReadFailed (fault_of_either (fault_of_right left fault))
+right_reads_well (OfFilters filters) fault well = well
+right_reads_well (OfProfile profile) fault well = well

@@ -1,6 +1,7 @@
 -- Readers of filters, one after another.
-use Rattle.scf_tool.proofs.Common.{◌≡◌, ℕ, ◌+◌, ◌<◌, ◌≤◌, List, [], ◌∷◌, ◌++◌, length, take, drop, set, get_or, map, Option, Some, Ok, refl, sym, ap, ◌∙◌, arith, add-one, length-drop, drop_more, take_more, take_more_set, set_split, drop-set-lt, take-append-drop, map-append, sum_by_push, AllZip, Insn, max_insns_per_path, IsPush, cost_of, PartReader, HasEnded, IsAcceptedFilter, HasStack, HasNoStack, IsNotPushed, HaveStopped, NoReadFailed, VerifyFault, FilterRead, rest_of}
+use Rattle.scf_tool.proofs.Common.{◌≡◌, ℕ, ◌+◌, ◌<◌, ◌≤◌, List, [], ◌∷◌, ◌++◌, length, take, drop, set, get_or, map, Option, Result, Some, Ok, Err, refl, sym, ap, ◌∙◌, arith, add-one, length-drop, drop_more, take_more, take_more_set, set_split, drop-set-lt, take-append-drop, map-append, sum_by_push, AllZip, Insn, max_insns_per_path, IsPush, cost_of, PartReader, HasEnded, IsAcceptedFilter, HasStack, HasNoStack, IsNotPushed, HaveStopped, NoReadFailed, VerifyFault, FilterRead, rest_of}
 use Rattle.std.proofs.lemmas.Slice.Zip.{all_zipped_more}
+use Rattle.std.specs.Prelude.{IfErr}
 use Rattle.scf_tool.specs.declared.verify_fault.VerifyFault.TheVariants.{ProfileRead, TableRead}
 use Rattle.scf_tool.specs.FilterStacks.{HaveStoppedBy}
 
@@ -134,3 +135,12 @@ module _ {R : Type 0} (remaining : R → Option (List ℕ)) where
   stopped_reads_well texts (TableRead fault) olds news refused stopped = absurd refused.why
   stopped_reads_well texts (ProfileRead fault) olds news refused stopped = absurd refused.why
   stopped_reads_well texts fault olds news refused stopped = tt
+
+  -- so filters are refused for another reason
+  pub refused_well : {T : Type 0} (olds news : List R) (result : Result T VerifyFault)
+      → IfErr result (HasNoStack (map remaining olds))
+      → IfErr result (λ fault. HaveStopped remaining none fault olds news)
+      → IfErr result (λ fault. NoReadFailed fault × HasNoStack (map remaining olds) fault)
+  refused_well olds news (Ok stack) refused stopped = tt
+  refused_well olds news (Err fault) refused stopped =
+      (stopped_reads_well (map remaining olds) fault olds news refused stopped, refused)

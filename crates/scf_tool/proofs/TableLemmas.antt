@@ -1,5 +1,5 @@
 -- Tables of several architectures, one after another.
-use Rattle.scf_tool.proofs.Common.{◌≡◌, ◌≢◌, ℕ, ◌+◌, ◌<◌, Bool, true, false, List, [], ◌∷◌, ◌++◌, length, get_or, set, take, drop, map, Option, Some, Ok, Err, refl, sym, ap, ◌∙◌, arith, drop_more, map-append, take_more, take-append-drop, AllZip, PartReader, VerifyFault}
+use Rattle.scf_tool.proofs.Common.{◌≡◌, ◌≢◌, ℕ, ◌+◌, ◌<◌, Bool, true, false, List, [], ◌∷◌, ◌++◌, length, get_or, take, drop, map, Option, Some, Ok, Err, refl, sym, subst, ap, ◌∙◌, arith, drop_more, map-append, take_more, take-append-drop, AllZip, PartReader, VerifyFault, rest_of}
 use Rattle.std.proofs.lemmas.List.{length-map}
 use Rattle.std.proofs.lemmas.List.Sums.{sum_by-cons}
 use Rattle.std.proofs.lemmas.Slice.Zip.{all_zipped_more}
@@ -18,42 +18,9 @@ use Rattle.scf_insn.specs.declared.architecture.Architecture.{Architecture}
 use Rattle.scf_profile.specs.StatedProfile.{Tables}
 use Rattle.scf_profile.specs.Table.{Names}
 use Rattle.scf_request.specs.declared.contents.TableReader.{TableReader}
-use Rattle.scf_tool.proofs.StackLemmas.{IsReadUpTo, SameFrom, one_more_read, texts_split}
 use Rattle.scf_tool.specs.Verifying.{IsNoTable, IsTable}
-use Rattle.scf_tool.specs.VerifyingArchitectures.{AreTables, HasNoTable, IsTableOf, TableHasEnded, table_text}
+use Rattle.scf_tool.specs.VerifyingArchitectures.{AreTables, HasNoTable, IsTableOf, table_text}
 use Rattle.scf_tool.specs.declared.verify_fault.VerifyFault.TheVariants.{Table}
-
-module _ {R : Type 0} (remaining : R → Option (List ℕ)) (failures : R → ℕ) where
-  -- what is known once the readers before an index had tables
-  abbrev pub AreTablesUpTo : ℕ → List (TableReader R) → List (TableReader R) → Tables → Type 0
-  AreTablesUpTo i olds news tables =
-      IsReadUpTo (table_text remaining) AreTables (TableHasEnded remaining failures) i olds news tables
-
-  module _ (i : ℕ) (olds news : List (TableReader R)) (old new : TableReader R) (tables : Tables)
-      (from : SameFrom i olds news old) (upto : AreTablesUpTo i olds news tables) where
-    -- one more table is read
-    pub tables_grow : (after : Tables) → ((table : Names) × IsTable (remaining old.reader) table
-        × (after ≡ tables ++ (old.architecture, table) ∷ []))
-        → TableHasEnded remaining failures old new → AreTablesUpTo (i + 1) olds (set news i new) after
-    tables_grow after added end =
-        one_more_read (table_text remaining) AreTables (TableHasEnded remaining failures) i olds news old new tables after
-        from upto
-        (rw added.2 (all_zipped_more IsTableOf (map (table_text remaining) (take i olds)) tables (table_text remaining old)
-        (old.architecture, added.0) upto.taken (refl, added.1)))
-        end
-
-    -- one isn't
-    pub no_table : (fault : VerifyFault) → IsNoTable (remaining old.reader) fault
-        → HasNoTable (map (table_text remaining) olds) fault
-    no_table fault refused = record {
-      before = map (table_text remaining) (take i olds);
-      text = table_text remaining old;
-      behind = map (table_text remaining) (drop (i + 1) news);
-      whole = texts_split (table_text remaining) i olds news old from;
-      tables = tables;
-      are_tables = upto.taken;
-      why = refused;
-    }
 
 -- ---- tables in memory
 
@@ -80,45 +47,88 @@ texts_counted architecture (table ∷ tables) =
     by_test true is behind = rw (sum_by-cons, is) (omega (arith, behind))
     by_test false is behind = rw (sum_by-cons, is) (omega (arith, behind))
 
+-- ---- one table after another
+
+module _ {P A : Type 0} (text : P → A) (parts : List P) (i : ℕ) (d : P) (lt : i < length parts) where
+  one_text_more : map text (take (i + 1) parts) ≡ map text (take i parts) ++ text (get_or parts i d) ∷ []
+  one_text_more = ap (map text) (take_more parts i d lt) ∙ map-append text (take i parts) (get_or parts i d ∷ [])
+
+  texts_split : map text parts ≡ map text (take i parts) ++ text (get_or parts i d) ∷ map text (drop (i + 1) parts)
+  texts_split = ap (map text) (sym (take-append-drop i parts)
+      ∙ ap (λ (behind : List P). take i parts ++ behind) (drop_more parts i d lt))
+      ∙ map-append text (take i parts) (get_or parts i d ∷ drop (i + 1) parts)
+
+  -- one more is a table
+  one_table_more : (IsOf : A → Architecture × Names → Type 0) (owned pushed : List OwnedTable) (last : OwnedTable)
+      → AllZip IsOf (map text (take i parts)) (map named_of owned) → pushed ≡ owned ++ last ∷ []
+      → IsOf (text (get_or parts i d)) (named_of last)
+      → AllZip IsOf (map text (take (i + 1) parts)) (map named_of pushed)
+  one_table_more IsOf owned pushed last before added is_table =
+      let names : map named_of pushed ≡ map named_of owned ++ named_of last ∷ [] =
+      ap (map named_of) added ∙ map-append named_of owned (last ∷ []) in
+      rw (one_text_more, names)
+      (all_zipped_more IsOf (map text (take i parts)) (map named_of owned) (text (get_or parts i d)) (named_of last) before
+      is_table)
+
 module _ {R : Type 0} (text : R → List ℕ) (tables : List (TableReader R)) (i : ℕ) (reader : TableReader R)
-    (lt : i < length tables) (is : reader ≡ get_or tables i reader) where
-  one_text_more : map (table_text text) (take (i + 1) tables)
-      ≡ map (table_text text) (take i tables) ++ table_text text reader ∷ []
-  one_text_more = ap (map (table_text text)) (take_more tables i reader lt)
-      ∙ map-append (table_text text) (take i tables) (get_or tables i reader ∷ [])
-      ∙ ap (λ x. map (table_text text) (take i tables) ++ table_text text x ∷ []) (sym is)
+    (lt : i < length tables) (is : reader ≡ get_or tables i reader) (owned : List OwnedTable)
+    (before : AllZip SpellsTable (map (table_text text) (take i tables)) (map named_of owned)) where
+  -- one more is spelled
+  pub spelled_more : (pushed : List OwnedTable) (table : Names)
+      → pushed ≡ owned ++ record { architecture = reader.architecture; table = table } ∷ []
+      → table_of (text reader.reader) ≡ Ok table
+      → AllZip SpellsTable (map (table_text text) (take (i + 1) tables)) (map named_of pushed)
+  spelled_more pushed table added spelled =
+      let last : OwnedTable = record { architecture = reader.architecture; table = table } in
+      one_table_more (table_text text) tables i reader lt SpellsTable owned pushed last before added
+      (subst (λ (own : TableReader R). SpellsTable (table_text text own) (named_of last)) is (refl, spelled))
 
-  module _ (owned : List OwnedTable)
-      (before : AllZip SpellsTable (map (table_text text) (take i tables)) (map named_of owned)) where
-    -- one more is spelled
-    pub spelled_more : (pushed : List OwnedTable) (table : Names)
-        → pushed ≡ owned ++ record { architecture = reader.architecture; table = table } ∷ []
-        → table_of (text reader.reader) ≡ Ok table
-        → AllZip SpellsTable (map (table_text text) (take (i + 1) tables)) (map named_of pushed)
-    spelled_more pushed table added spelled =
-        let last : OwnedTable = record { architecture = reader.architecture; table = table } in
-        let names : map named_of pushed ≡ map named_of owned ++ named_of last ∷ [] =
-        ap (map named_of) added ∙ map-append named_of owned (last ∷ []) in
-        rw (one_text_more, names)
-        (all_zipped_more SpellsTable (map (table_text text) (take i tables)) (map named_of owned)
-        (table_text text reader) (named_of last) before (refl, spelled))
+  -- one isn't
+  pub cant_spell : (by : Interpretation) (profile : List ℕ) (fault : TableFault)
+      → (fault ≢ faults.Memory → table_of (text reader.reader) ≡ Err fault)
+      → CantLoadEach by profile (map (table_text text) tables) (Table fault)
+  cant_spell by profile fault refused = λ no_memory. (
+    map (table_text text) (take i tables),
+    table_text text (get_or tables i reader),
+    map (table_text text) (drop (i + 1) tables),
+    texts_split (table_text text) tables i reader lt,
+    map named_of owned,
+    before,
+    subst (λ (own : TableReader R). table_of (text own.reader) ≡ Err fault) is (refused no_memory),
+  )
 
-    -- one isn't
-    pub cant_spell : (by : Interpretation) (profile : List ℕ) (fault : TableFault)
-        → (fault ≢ faults.Memory → table_of (text reader.reader) ≡ Err fault)
-        → CantLoadEach by profile (map (table_text text) tables) (Table fault)
-    cant_spell by profile fault refused = λ no_memory. (
-      map (table_text text) (take i tables),
-      table_text text reader,
-      map (table_text text) (drop (i + 1) tables),
-      ap (map (table_text text)) (sym (take-append-drop i tables)
-          ∙ ap (λ (behind : List (TableReader R)). take i tables ++ behind) (drop_more tables i reader lt)
-          ∙ ap (λ (x : TableReader R). take i tables ++ x ∷ drop (i + 1) tables) (sym is))
-          ∙ map-append (table_text text) (take i tables) (reader ∷ drop (i + 1) tables),
-      map named_of owned,
-      before,
-      refused no_memory,
-    )
+-- what a part is known to have for its table
+abbrev known : TableReader PartReader → Architecture × Option (List ℕ)
+known = table_text (λ reader. Some (rest_of reader))
+
+module _ (parts : List (TableReader PartReader)) (i : ℕ) (d : TableReader PartReader) (lt : i < length parts)
+    (owned : List OwnedTable)
+    (before : AreTables (map known_text (map rest_of_table (take i parts))) (map named_of owned)) where
+  are_before : AreTables (map known (take i parts)) (map named_of owned)
+  are_before = rw (told_of_tables rest_of (take i parts)) before
+
+  -- one more part is a table
+  pub part_more : (pushed : List OwnedTable) (table : Names)
+      → pushed ≡ owned ++ record { architecture = (get_or parts i d).architecture; table = table } ∷ []
+      → IsTable (Some (rest_of (get_or parts i d).reader)) table
+      → AreTables (map known_text (map rest_of_table (take (i + 1) parts))) (map named_of pushed)
+  part_more pushed table added is_table =
+      rw (told_of_tables rest_of (take (i + 1) parts)) at
+      (one_table_more known parts i d lt IsTableOf owned pushed
+      record { architecture = (get_or parts i d).architecture; table = table } are_before added (refl, is_table))
+
+  -- one isn't
+  pub no_part : (fault : VerifyFault) → IsNoTable (Some (rest_of (get_or parts i d).reader)) fault
+      → HasNoTable (map known_text (map rest_of_table parts)) fault
+  no_part fault refused = record {
+    before = map known (take i parts);
+    text = known (get_or parts i d);
+    behind = map known (drop (i + 1) parts);
+    whole = sym (told_of_tables rest_of parts) ∙ texts_split known parts i d lt;
+    tables = map named_of owned;
+    are_tables = are_before;
+    why = refused;
+  }
 
 -- lists of which one is no table aren't counts of calls
 pub no_counts : (before : List (Architecture × List ℕ)) (own : Architecture × List ℕ)

@@ -1,6 +1,6 @@
 -- Call tables of several architectures and profiles that are read. The bytes of each reader count where the reader
 -- tells them.
-use Rattle.std.specs.Prelude.{◌≡◌, ◌++◌, ℕ, List, ◌∷◌, Option, Err, IfSome}
+use Rattle.std.specs.Prelude.{◌≡◌, ◌++◌, ℕ, List, ◌∷◌, Option, IfSome}
 use Rattle.std.specs.List.{AllZip}
 use Rattle.scf_insn.specs.declared.architecture.Architecture.{Architecture}
 use Rattle.scf_profile.specs.StatedProfile.{Tables}
@@ -9,8 +9,7 @@ use Rattle.scf_profile.specs.declared.loaded.LoadedProfiles.{LoadedProfiles}
 use Rattle.scf_request.specs.declared.contents.TableReader.{TableReader}
 use Rattle.scf_request.specs.Interpretations.{Interpretation, LoadsEachBy}
 use Rattle.scf_tool.specs.declared.verify_fault.VerifyFault.{VerifyFault}
-use Rattle.scf_tool.specs.FilterStacks.{HaveStoppedBy}
-use Rattle.scf_tool.specs.Verifying.{HasEnded, IsNoTable, IsTable, LeavesTableReader}
+use Rattle.scf_tool.specs.Verifying.{IsNoTable, IsTable}
 use Rattle.scf_tool.specs.declared.left_out.LeftOut.{LeftOut}
 
 -- ---- the tables
@@ -45,25 +44,3 @@ AreLoaded by bytes tables loaded = IfSome bytes (λ input. LoadsEachBy by input 
 
 abbrev pub left_out_of_each : LoadedProfiles → LeftOut
 left_out_of_each loaded = record { skipped = loaded.skipped; other_architectures = loaded.other_architectures }
-
--- ---- the readers
-
--- a table's reader came to its end, and didn't fail
-abbrev pub TableHasEnded : {R : Type 0} → (R → Option (List ℕ)) → (R → ℕ) → TableReader R → TableReader R → Type 0
-TableHasEnded remaining failures old new =
-    (new.architecture ≡ old.architecture) × HasEnded remaining failures old.reader new.reader
-
--- it is left so where this is the fault of its table
-abbrev pub TableIsLeft : {R : Type 0} → (R → Option (List ℕ)) → (R → ℕ) → VerifyFault → TableReader R → TableReader R
-    → Type 0
-TableIsLeft remaining failures fault old new = (new.architecture ≡ old.architecture)
-    × LeavesTableReader {T = Names} remaining failures old.reader (Err fault) new.reader
-
-abbrev pub TablesHaveEnded : {R : Type 0} → (R → Option (List ℕ)) → (R → ℕ) → List (TableReader R)
-    → List (TableReader R) → Type 0
-TablesHaveEnded remaining failures olds news = AllZip (TableHasEnded remaining failures) olds news
-
-abbrev pub TablesHaveStopped : {R : Type 0} → (R → Option (List ℕ)) → (R → ℕ) → VerifyFault → List (TableReader R)
-    → List (TableReader R) → Type 0
-TablesHaveStopped remaining failures fault olds news =
-    HaveStoppedBy (TableHasEnded remaining failures) (TableIsLeft remaining failures fault) olds news

@@ -1,3 +1,4 @@
+pub mod Bytes
 pub mod Explaining
 pub mod Gathering
 pub mod Parts

@@ -1,10 +1,11 @@
 //! The program's commands.
 
-ghost use Rattle.std.specs.Prelude.{◌≡◌, ◌≢◌, ◌∷◌, [], length, map, MatchOption, Ok, Err, IfErr, IfOk, OnOk};
+ghost use Rattle.std.specs.Prelude.{◌≡◌, map, Ok, Err, IfErr, IfOk, OnOk};
 ghost use Rattle.scf_tool.specs.Commands.{IsTrueReply, ReadsInput};
 ghost use Rattle.scf_tool.specs.Runs.{Ends, IsRunOfProgram};
 ghost use Rattle.scf_tool.specs.Statuses.{LeavesInput};
 ghost use Rattle.scf_tool.specs.Verifying.{HasEnded, HasFailedWhere};
+ghost use Rattle.scf_tool.specs.internal.Bytes.{EndsOnBytes, TakesWhole};
 
 mod answers;
 mod architectures;
@@ -50,7 +51,57 @@ fn whole_input<R: Source>(alloc: Global, input: &mut R) -> Result<Vec<u8>, Input
     read_input(alloc, input, MAX_INPUT)
 }
 
-/// Runs a request. A profile is read by the reading.
+/// Runs a request on all of standard input. A profile is read by the reading.
+fn answer_bytes(
+    alloc: Global,
+    reading: Reading,
+    request: &Request,
+    bytes: &[u8],
+) -> Result<Reply, Fault>
+    requires { TakesWhole request.now }
+    ensures { EndsOnBytes (IsTrueReply reading request.now) bytes.now result }
+{
+    match request {
+        Request::Answers(exploration) => list_answers(alloc, reading, *exploration, bytes),
+        Request::AnswersOfArchitectures(exploration) => {
+            list_architectures(alloc, reading, *exploration, bytes)
+        }
+        Request::Differences { form, exploration } => {
+            list_differences(alloc, reading, *form, *exploration, bytes)
+        }
+        Request::Ask(call) => ask_profile(alloc, reading, call, bytes),
+        Request::AskArchitectures(call) => ask_architectures(alloc, reading, call, bytes),
+        Request::Assemble => assemble_text(alloc, bytes),
+        Request::Compare(comparison) => {
+            compare_bundle(alloc, reading, BundleForm::Profile, *comparison, bytes)
+        }
+        Request::CompareBeside(comparison) => {
+            let form = BundleForm::Beside(comparison.scopes);
+            compare_bundle(alloc, reading, form, *comparison, bytes)
+        }
+        Request::CompareArchitectures(comparison) => {
+            compare_bundle(
+                alloc,
+                reading,
+                BundleForm::Architectures,
+                *comparison,
+                bytes,
+            )
+        }
+        Request::Compile { has_left_out } => {
+            compile_profile(alloc, reading, *has_left_out, bytes)
+        }
+        Request::CompileArchitectures { has_left_out } => {
+            compile_architectures(alloc, reading, *has_left_out, bytes)
+        }
+        Request::Decide(call) => decide_stack(alloc, call, bytes),
+        Request::DecideBy(call) => decide_stack_at(alloc, call, bytes),
+        Request::DecidePaths(call) => trace_stack(alloc, call, bytes),
+        Request::Check | Request::List | Request::Run(_) | Request::Trace(_) => unreachable!(),
+    }
+}
+
+/// Runs a request on standard input, of which the commands on one filter read no more than that.
 fn answer<R: Source>(
     alloc: Global,
     reading: Reading,
@@ -61,45 +112,14 @@ fn answer<R: Source>(
     ensures input { LeavesInput request.now R.remaining R.failures input.old result input.new }
 {
     match request {
-        Request::Answers(exploration) => list_answers(alloc, reading, *exploration, input),
-        Request::AnswersOfArchitectures(exploration) => {
-            list_architectures(alloc, reading, *exploration, input)
-        }
-        Request::Differences { form, exploration } => {
-            list_differences(alloc, reading, *form, *exploration, input)
-        }
-        Request::Ask(call) => ask_profile(alloc, reading, call, input),
-        Request::AskArchitectures(call) => ask_architectures(alloc, reading, call, input),
-        Request::Assemble => assemble_text(alloc, input),
         Request::Check => check_filter(alloc, input),
-        Request::Compare(comparison) => {
-            compare_bundle(alloc, reading, BundleForm::Profile, *comparison, input)
-        }
-        Request::CompareBeside(comparison) => {
-            let form = BundleForm::Beside(comparison.scopes);
-            compare_bundle(alloc, reading, form, *comparison, input)
-        }
-        Request::CompareArchitectures(comparison) => {
-            compare_bundle(
-                alloc,
-                reading,
-                BundleForm::Architectures,
-                *comparison,
-                input,
-            )
-        }
-        Request::Compile { has_left_out } => {
-            compile_profile(alloc, reading, *has_left_out, input)
-        }
-        Request::CompileArchitectures { has_left_out } => {
-            compile_architectures(alloc, reading, *has_left_out, input)
-        }
-        Request::Decide(call) => decide_stack(alloc, call, input),
-        Request::DecideBy(call) => decide_stack_at(alloc, call, input),
-        Request::DecidePaths(call) => trace_stack(alloc, call, input),
         Request::List => list_filter(alloc, input),
         Request::Run(call) => run_filter(alloc, call, input),
         Request::Trace(call) => trace_filter(alloc, call, input),
+        _ => {
+            let bytes = whole_input(alloc, input)?;
+            answer_bytes(alloc, reading, request, &bytes)
+        }
     }
 }
 

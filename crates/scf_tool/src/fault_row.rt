@@ -93,100 +93,110 @@ fn kind(status: Status, name: FaultName, numbers: [FaultNumber; 3]) -> FaultKind
 fn input_kind(fault: InputFault) -> FaultKind
     ensures { table.kind_of result ≡ table.input_kind fault }
 {
-    match fault {
-        InputFault::Read => kind(Failed, READ, NONE),
-        InputFault::TooLong => kind(Failed, TOO_LONG, NONE),
-        InputFault::Memory => kind(Failed, MEMORY, NONE),
-    }
+    let name = match fault {
+        InputFault::Read => READ,
+        InputFault::TooLong => TOO_LONG,
+        InputFault::Memory => MEMORY,
+    };
+    kind(Failed, name, NONE)
 }
 
 fn bundle_kind(fault: BundleFault) -> FaultKind
     ensures { table.kind_of result ≡ table.bundle_kind fault }
 {
-    match fault {
-        BundleFault::Header { offset } => kind(Failed, ("Header", 0), one("offset", offset)),
-        BundleFault::Short { offset } => kind(Failed, ("Short", 0), one("offset", offset)),
-        BundleFault::Memory => kind(Failed, MEMORY, NONE),
-    }
+    let (name, offset) = match fault {
+        BundleFault::Header { offset } => ("Header", offset),
+        BundleFault::Short { offset } => ("Short", offset),
+        BundleFault::Memory => return kind(Failed, MEMORY, NONE),
+    };
+    kind(Failed, (name, 0), one("offset", offset))
 }
 
 fn read_kind(fault: ReadFault) -> FaultKind
     ensures { table.kind_of result ≡ table.read_kind fault }
 {
-    match fault {
-        ReadFault::Read => kind(Failed, READ, NONE),
-        ReadFault::Truncated { offset } => kind(Failed, ("Truncated", 3), one("offset", offset)),
-        ReadFault::TooLong => kind(Failed, TOO_LONG, NONE),
-        ReadFault::Memory => kind(Failed, MEMORY, NONE),
-    }
+    let name = match fault {
+        ReadFault::Read => READ,
+        ReadFault::Truncated { offset } => {
+            return kind(Failed, ("Truncated", 3), one("offset", offset));
+        }
+        ReadFault::TooLong => TOO_LONG,
+        ReadFault::Memory => MEMORY,
+    };
+    kind(Failed, name, NONE)
 }
 
 fn check_kind(fault: CheckFault) -> FaultKind
     ensures { table.kind_of result ≡ table.check_kind fault }
 {
-    match fault {
-        CheckFault::Empty => kind(Refused, ("Empty", 5), NONE),
-        CheckFault::TooLong => kind(Refused, TOO_LONG, NONE),
-        CheckFault::Code { at } => kind(Refused, ("Code", 6), one("at", at)),
-        CheckFault::Load { at } => kind(Refused, ("Load", 7), one("at", at)),
-        CheckFault::Scratch { at } => kind(Refused, ("Scratch", 8), one("at", at)),
-        CheckFault::Divisor { at } => kind(Refused, ("Divisor", 9), one("at", at)),
-        CheckFault::Shift { at } => kind(Refused, ("Shift", 10), one("at", at)),
-        CheckFault::Jump { at } => kind(Refused, ("Jump", 11), one("at", at)),
-        CheckFault::LastNotReturn => kind(Refused, ("LastNotReturn", 12), NONE),
+    let (name, at) = match fault {
+        CheckFault::Empty => return kind(Refused, ("Empty", 5), NONE),
+        CheckFault::TooLong => return kind(Refused, TOO_LONG, NONE),
+        CheckFault::Code { at } => (("Code", 6), at),
+        CheckFault::Load { at } => (("Load", 7), at),
+        CheckFault::Scratch { at } => (("Scratch", 8), at),
+        CheckFault::Divisor { at } => (("Divisor", 9), at),
+        CheckFault::Shift { at } => (("Shift", 10), at),
+        CheckFault::Jump { at } => (("Jump", 11), at),
+        CheckFault::LastNotReturn => return kind(Refused, ("LastNotReturn", 12), NONE),
         CheckFault::Unset { at, word } => {
             let numbers = [named("at", at), named("word", usize::from(word)), UNUSED];
-            kind(Refused, ("Unset", 13), numbers)
+            return kind(Refused, ("Unset", 13), numbers);
         }
-        CheckFault::Memory => kind(Failed, MEMORY, NONE),
-    }
+        CheckFault::Memory => return kind(Failed, MEMORY, NONE),
+    };
+    kind(Refused, name, one("at", at))
 }
 
 fn text_kind(fault: TextFault) -> FaultKind
     ensures { table.kind_of result ≡ table.text_kind fault }
 {
-    match fault {
-        TextFault::NotAscii { line } => kind(Refused, ("NotAscii", 14), one("line", line)),
-        TextFault::Mnemonic { line } => kind(Refused, ("Mnemonic", 15), one("line", line)),
-        TextFault::Operand { line } => kind(Refused, ("Operand", 16), one("line", line)),
-        TextFault::NumberRange { line } => kind(Refused, ("NumberRange", 17), one("line", line)),
-        TextFault::Label { line } => kind(Refused, ("Label", 18), one("line", line)),
-        TextFault::JumpTooFar { line } => kind(Refused, ("JumpTooFar", 19), one("line", line)),
-        TextFault::TooLong { line } => kind(Refused, TOO_LONG, one("line", line)),
-        TextFault::Memory => kind(Failed, MEMORY, NONE),
-    }
+    let (name, line) = match fault {
+        TextFault::NotAscii { line } => (("NotAscii", 14), line),
+        TextFault::Mnemonic { line } => (("Mnemonic", 15), line),
+        TextFault::Operand { line } => (("Operand", 16), line),
+        TextFault::NumberRange { line } => (("NumberRange", 17), line),
+        TextFault::Label { line } => (("Label", 18), line),
+        TextFault::JumpTooFar { line } => (("JumpTooFar", 19), line),
+        TextFault::TooLong { line } => (TOO_LONG, line),
+        TextFault::Memory => return kind(Failed, MEMORY, NONE),
+    };
+    kind(Refused, name, one("line", line))
 }
 
 fn table_kind(fault: TableFault) -> FaultKind
     ensures { table.kind_of result ≡ table.table_kind fault }
 {
-    match fault {
-        TableFault::Form { line } => kind(Refused, ("Form", 20), one("line", line)),
-        TableFault::Name { line } => kind(Refused, ("Name", 21), one("line", line)),
-        TableFault::Number { line } => kind(Refused, ("Number", 22), one("line", line)),
-        TableFault::Repeated { line } => kind(Refused, ("Repeated", 23), one("line", line)),
-        TableFault::Memory => kind(Failed, MEMORY, NONE),
-    }
+    let (name, line) = match fault {
+        TableFault::Form { line } => (("Form", 20), line),
+        TableFault::Name { line } => (("Name", 21), line),
+        TableFault::Number { line } => (("Number", 22), line),
+        TableFault::Repeated { line } => (("Repeated", 23), line),
+        TableFault::Memory => return kind(Failed, MEMORY, NONE),
+    };
+    kind(Refused, name, one("line", line))
 }
 
 fn load_kind(fault: LoadFault) -> FaultKind
     ensures { table.kind_of result ≡ table.load_kind fault }
 {
-    match fault {
-        LoadFault::Json => kind(Refused, ("Json", 24), NONE),
-        LoadFault::Missing { entry } => kind(Refused, ("Missing", 25), in_entry(entry)),
-        LoadFault::Kind { entry } => kind(Refused, ("Kind", 26), in_entry(entry)),
-        LoadFault::Action { entry } => kind(Refused, ("Action", 27), in_entry(entry)),
-        LoadFault::Operator { entry } => kind(Refused, ("Operator", 28), in_entry(entry)),
-        LoadFault::EmptyNames { entry } => kind(Refused, ("EmptyNames", 29), in_entry(entry)),
-        LoadFault::Index { entry } => kind(Refused, ("Index", 30), in_entry(entry)),
-        LoadFault::RepeatedIndex { entry } => kind(Refused, ("RepeatedIndex", 31), in_entry(entry)),
-        LoadFault::Errno { entry } => kind(Refused, ("Errno", 32), in_entry(entry)),
-        LoadFault::ErrnoRange { entry } => kind(Refused, ("ErrnoRange", 33), in_entry(entry)),
-        LoadFault::NoX8664 { entry } => kind(Refused, ("NoX8664", 34), in_entry(entry)),
-        LoadFault::NotListed { table } => kind(Refused, ("NotListed", 39), one("table", table)),
-        LoadFault::EngineForm { entry } => kind(Refused, ("EngineForm", 35), in_entry(entry)),
-        LoadFault::TooMany => kind(Refused, TOO_MANY, NONE),
+    let (name, entry) = match fault {
+        LoadFault::Json => return kind(Refused, ("Json", 24), NONE),
+        LoadFault::Missing { entry } => (("Missing", 25), entry),
+        LoadFault::Kind { entry } => (("Kind", 26), entry),
+        LoadFault::Action { entry } => (("Action", 27), entry),
+        LoadFault::Operator { entry } => (("Operator", 28), entry),
+        LoadFault::EmptyNames { entry } => (("EmptyNames", 29), entry),
+        LoadFault::Index { entry } => (("Index", 30), entry),
+        LoadFault::RepeatedIndex { entry } => (("RepeatedIndex", 31), entry),
+        LoadFault::Errno { entry } => (("Errno", 32), entry),
+        LoadFault::ErrnoRange { entry } => (("ErrnoRange", 33), entry),
+        LoadFault::NoX8664 { entry } => (("NoX8664", 34), entry),
+        LoadFault::NotListed { table } => {
+            return kind(Refused, ("NotListed", 39), one("table", table));
+        }
+        LoadFault::EngineForm { entry } => (("EngineForm", 35), entry),
+        LoadFault::TooMany => return kind(Refused, TOO_MANY, NONE),
         LoadFault::Conflict {
             number,
             first,
@@ -197,10 +207,11 @@ fn load_kind(fault: LoadFault) -> FaultKind
                 named("first", first as usize),
                 named("second", second as usize),
             ];
-            kind(Refused, ("Conflict", 37), numbers)
+            return kind(Refused, ("Conflict", 37), numbers);
         }
-        LoadFault::Memory => kind(Failed, MEMORY, NONE),
-    }
+        LoadFault::Memory => return kind(Failed, MEMORY, NONE),
+    };
+    kind(Refused, name, in_entry(entry))
 }
 
 fn compile_kind(fault: CompileFault) -> FaultKind
@@ -243,16 +254,17 @@ pub fn compile_row(fault: CompileFault) -> FaultRow
 pub fn verify_row(fault: VerifyFault) -> FaultRow
     ensures { table.row_of result ≡ table.verify_row fault }
 {
-    match fault {
-        VerifyFault::FilterRead(fault) => row(OF_FILTER, read_kind(fault)),
-        VerifyFault::Check(fault) => row(OF_FILTER, check_kind(fault)),
-        VerifyFault::Stack(fault) => row(("stack", 7), push_kind(fault)),
-        VerifyFault::TableRead(fault) => row(OF_TABLE, input_kind(fault)),
-        VerifyFault::Table(fault) => row(OF_TABLE, table_kind(fault)),
-        VerifyFault::ProfileRead(fault) => row(OF_PROFILE, input_kind(fault)),
-        VerifyFault::Profile(fault) => row(OF_PROFILE, load_kind(fault)),
-        VerifyFault::Memory => row(("compare", 8), kind(Failed, MEMORY, NONE)),
-    }
+    let (source, kind) = match fault {
+        VerifyFault::FilterRead(fault) => (OF_FILTER, read_kind(fault)),
+        VerifyFault::Check(fault) => (OF_FILTER, check_kind(fault)),
+        VerifyFault::Stack(fault) => (("stack", 7), push_kind(fault)),
+        VerifyFault::TableRead(fault) => (OF_TABLE, input_kind(fault)),
+        VerifyFault::Table(fault) => (OF_TABLE, table_kind(fault)),
+        VerifyFault::ProfileRead(fault) => (OF_PROFILE, input_kind(fault)),
+        VerifyFault::Profile(fault) => (OF_PROFILE, load_kind(fault)),
+        VerifyFault::Memory => (("compare", 8), kind(Failed, MEMORY, NONE)),
+    };
+    row(source, kind)
 }
 
 /// The row of what stops a comparison of two sides.
@@ -268,33 +280,35 @@ pub fn beside_row(fault: BesideFault) -> FaultRow
 fn request_row(fault: RequestFault) -> FaultRow
     ensures { table.row_of result ≡ table.request_row fault }
 {
-    match fault {
-        RequestFault::NoCommand => row(("command", 0), kind(CommandLine, ("NoCommand", 0), NONE)),
-        RequestFault::Number(fault) => row(("number", 0), kind(CommandLine, (fault.name, 0), NONE)),
-        RequestFault::Flags => row(("command", 0), kind(CommandLine, ("Flags", 0), NONE)),
-        RequestFault::Reading => row(("command", 0), kind(CommandLine, ("Reading", 0), NONE)),
-        RequestFault::Range => row(("command", 0), kind(CommandLine, ("Range", 0), NONE)),
-    }
+    let (source, name) = match fault {
+        RequestFault::NoCommand => ("command", "NoCommand"),
+        RequestFault::Number(fault) => ("number", fault.name),
+        RequestFault::Flags => ("command", "Flags"),
+        RequestFault::Reading => ("command", "Reading"),
+        RequestFault::Range => ("command", "Range"),
+    };
+    row((source, 0), kind(CommandLine, (name, 0), NONE))
 }
 
 impl Fault {
     pub(crate) fn row(self) -> FaultRow
         ensures { table.row_of result ≡ table.fault_row self }
     {
-        match self {
-            Fault::CommandLine => row(("command", 0), kind(Failed, MEMORY, NONE)),
-            Fault::Request(fault) => request_row(fault),
-            Fault::Input(fault) => row(("input", 0), input_kind(fault)),
-            Fault::Bundle(fault) => row(("bundle", 0), bundle_kind(fault)),
-            Fault::Parts => row(("bundle", 0), kind(Failed, ("Parts", 0), NONE)),
-            Fault::Text(fault) => text_row(fault),
-            Fault::Compile(fault) => compile_row(fault),
-            Fault::Verify(fault) => verify_row(fault),
-            Fault::Sides(fault) => beside_row(fault),
-            Fault::Answers => row(("answers", 0), kind(Failed, MEMORY, NONE)),
-            Fault::Range => row(("command", 0), kind(CommandLine, ("Range", 0), NONE)),
-            Fault::Calls => row(("command", 0), kind(CommandLine, ("Calls", 0), NONE)),
-        }
+        let (source, kind) = match self {
+            Fault::CommandLine => ("command", kind(Failed, MEMORY, NONE)),
+            Fault::Request(fault) => return request_row(fault),
+            Fault::Input(fault) => ("input", input_kind(fault)),
+            Fault::Bundle(fault) => ("bundle", bundle_kind(fault)),
+            Fault::Parts => ("bundle", kind(Failed, ("Parts", 0), NONE)),
+            Fault::Text(fault) => return text_row(fault),
+            Fault::Compile(fault) => return compile_row(fault),
+            Fault::Verify(fault) => return verify_row(fault),
+            Fault::Sides(fault) => return beside_row(fault),
+            Fault::Answers => ("answers", kind(Failed, MEMORY, NONE)),
+            Fault::Range => ("command", kind(CommandLine, ("Range", 0), NONE)),
+            Fault::Calls => ("command", kind(CommandLine, ("Calls", 0), NONE)),
+        };
+        row((source, 0), kind)
     }
 
     /// The fault's exit status.

@@ -55,8 +55,8 @@ pub(crate) fn stack_of(
     filters: &mut [PartReader<'_>],
 ) -> Result<FilterStack, VerifyFault>
     ensures stack { IfOk result (HasStack (map Some (map rest_of filters.old))) }
-    ensures fault { IfErr result (HasNoStack (map Some (map rest_of filters.old))) }
-    ensures read { IfErr result NoReadFailed }
+    ensures fault { IfErr result (λ fault. NoReadFailed fault
+        × HasNoStack (map Some (map rest_of filters.old)) fault) }
 {
     read_stack(alloc, filters)
 }

@@ -148,16 +148,16 @@ pub(crate) fn verify_sides(
     native: bool,
     left: SideParts<'_>,
     right: SideParts<'_>,
-    tables: &mut [TableReader<PartReader<'_>>],
+    tables: &[TableReader<PartReader<'_>>],
     comparison: Comparison,
 ) -> Result<SidesOutcome, BesideFault>
-    requires profile { native ≡ true → length tables.old ≡ 1 }
-    requires calls { comparison.scopes ≡ Scopes.EachCall → length tables.old ≡ 1 }
+    requires profile { native ≡ true → length tables.now ≡ 1 }
+    requires calls { comparison.scopes ≡ Scopes.EachCall → length tables.now ≡ 1 }
     ensures verified { IfOk result (AreVerified native by.now comparison
-        (side_bytes left.entry) (side_bytes right.entry) (map known_text (map rest_of_table tables.old))) }
-    ensures refused { IfErr result (AreRefused native by.now
-        (side_bytes left.entry) (side_bytes right.entry) (map known_text (map rest_of_table tables.old))) }
-    ensures read { IfErr result (λ fault. NoReadFailed (fault_of_either fault)) }
+        (side_bytes left.entry) (side_bytes right.entry) (map known_text (map rest_of_table tables.now))) }
+    ensures refused { IfErr result (λ fault. NoReadFailed (fault_of_either fault)
+        × AreRefused native by.now (side_bytes left.entry) (side_bytes right.entry)
+        (map known_text (map rest_of_table tables.now)) fault) }
 {
     let input = read_sides(alloc, by, native, left, right, tables)?;
     let findings = findings_of(alloc, &input, comparison)?;

@@ -1,9 +1,8 @@
 //! The sides of a comparison: filters or a profile, read from the parts of a bundle.
 
 ghost use Rattle.std.specs.Prelude.{◌≡◌, true, length, map, IfErr, IfOk};
-ghost use Rattle.scf_request.specs.Contents.{rest_of, rest_of_table};
+ghost use Rattle.scf_request.specs.Contents.{rest_of_table};
 ghost use Rattle.scf_tool.specs.Commands.{NoReadFailed, known_text};
-ghost use Rattle.scf_tool.specs.VerifyingArchitectures.{AreTables, HasNoTable};
 ghost use Rattle.scf_tool.specs.VerifyingSides.{
   AreRefused,
   AreSides,
@@ -20,12 +19,12 @@ ghost use Rattle.scf_tool.specs.internal.Verification.{named_of};
 use crate::filter_stack::stack_of;
 use crate::findings::ComparisonOutcome;
 use crate::left_out::LeftOut;
-use crate::owned_table::{OwnedTable, read_profiles, read_tables};
-use crate::verification::read_profile;
+use crate::owned_table::{OwnedTable, load_under, read_tables};
 use crate::verify_fault::{BesideFault, VerifyFault};
 use scf_compare::Side;
+use scf_insn::InputFault;
 use scf_machine::FilterStack;
-use scf_profile::{Loaded, LoadedProfiles, Profiles};
+use scf_profile::{Loaded, LoadedProfiles, MAX_TEXT_LEN, Profiles};
 use scf_request::{Interpretation, PartReader, TableReader};
 use std::alloc::Global;
 
@@ -116,8 +115,7 @@ impl SideInput {
 /// Reads the filters of a side.
 fn read_filters<'a>(alloc: Global, side: SideParts<'a>) -> Result<OpenSide<'a>, VerifyFault>
     ensures filters { IfOk result (IsOpen (side_bytes side.entry)) }
-    ensures refused { IfErr result (HasNoStackOf (side_bytes side.entry)) }
-    ensures read { IfErr result NoReadFailed }
+    ensures refused { IfErr result (λ fault. NoReadFailed fault × HasNoStackOf (side_bytes side.entry) fault) }
 {
     match side {
         SideParts::Filters(filters) => {
@@ -128,41 +126,28 @@ fn read_filters<'a>(alloc: Global, side: SideParts<'a>) -> Result<OpenSide<'a>, 
     }
 }
 
-/// Reads the tables of a bundle.
-fn tables_of(
-    alloc: Global,
-    readers: &mut [TableReader<PartReader<'_>>],
-) -> Result<Vec<OwnedTable>, VerifyFault>
-    ensures tables { IfOk result (λ tables.
-        AreTables (map known_text (map rest_of_table readers.old)) (map named_of tables.items)) }
-    ensures refused { IfErr result (HasNoTable (map known_text (map rest_of_table readers.old))) }
-    ensures read { IfErr result NoReadFailed }
-{
-    let tables = read_tables(alloc, readers)?;
-    Ok(tables)
-}
-
-/// Reads a profile for x86-64 alone under the only table, else for each architecture that has one.
+/// Loads a profile of at most `MAX_TEXT_LEN` bytes: for x86-64 alone under the only table, else for each architecture
+/// that has one.
 fn load(
     alloc: Global,
     by: &Interpretation,
     native: bool,
     tables: &[OwnedTable],
-    reader: &mut PartReader<'_>,
+    text: &[u8],
 ) -> Result<SideInput, VerifyFault>
     requires { native ≡ true → length tables.now ≡ 1 }
-    ensures side { IfOk result
-        (IsSide native by.now (map named_of tables.now) (SideBytes.OfProfile (rest_of reader.old))) }
-    ensures refused { IfErr result
-        (IsNoSide native by.now (map named_of tables.now) (SideBytes.OfProfile (rest_of reader.old))) }
-    ensures read { IfErr result NoReadFailed }
+    ensures side { IfOk result (IsSide native by.now (map named_of tables.now) (SideBytes.OfProfile text.now)) }
+    ensures refused { IfErr result (λ fault. NoReadFailed fault
+        × IsNoSide native by.now (map named_of tables.now) (SideBytes.OfProfile text.now) fault) }
 {
+    if text.len() > MAX_TEXT_LEN {
+        return Err(VerifyFault::ProfileRead(InputFault::TooLong));
+    }
     if native {
-        let only = &tables[0];
-        let loaded = read_profile(alloc, by, reader, &only.table)?;
+        let loaded = by.load(alloc, text, &tables[0].table)?;
         Ok(SideInput::Profile(loaded))
     } else {
-        let loaded = read_profiles(alloc, by, reader, tables)?;
+        let loaded = load_under(alloc, by, text, tables)?;
         Ok(SideInput::Profiles(loaded))
     }
 }
@@ -179,15 +164,11 @@ fn read_side(
     ensures side { (bytes : SideBytes) → IsOpen bytes side.entry
         → IfOk result (IsSide native by.now (map named_of tables.now) bytes) }
     ensures refused { (bytes : SideBytes) → IsOpen bytes side.entry
-        → IfErr result (IsNoSide native by.now (map named_of tables.now) bytes) }
-    ensures read { IfErr result NoReadFailed }
+        → IfErr result (λ fault. NoReadFailed fault × IsNoSide native by.now (map named_of tables.now) bytes fault) }
 {
     match side {
         OpenSide::Stack(stack) => Ok(SideInput::Stack(stack)),
-        OpenSide::Profile(profile) => {
-            let mut profile = profile;
-            load(alloc, by, native, tables, &mut profile)
-        }
+        OpenSide::Profile(profile) => load(alloc, by, native, tables, profile.rest()),
     }
 }
 
@@ -209,21 +190,21 @@ pub(crate) fn read_sides(
     native: bool,
     left: SideParts<'_>,
     right: SideParts<'_>,
-    tables: &mut [TableReader<PartReader<'_>>],
+    tables: &[TableReader<PartReader<'_>>],
 ) -> Result<SidesInput, BesideFault>
-    requires { native ≡ true → length tables.old ≡ 1 }
+    requires { native ≡ true → length tables.now ≡ 1 }
     ensures sides { IfOk result (λ input. AreSides native by.now (side_bytes left.entry) (side_bytes right.entry)
-        (map known_text (map rest_of_table tables.old)) (map named_of input.tables.items) input.left input.right) }
-    ensures refused { IfErr result (AreRefused native by.now (side_bytes left.entry) (side_bytes right.entry)
-        (map known_text (map rest_of_table tables.old))) }
-    ensures read { IfErr result (λ fault. NoReadFailed (fault_of_either fault)) }
+        (map known_text (map rest_of_table tables.now)) (map named_of input.tables.items) input.left input.right) }
+    ensures refused { IfErr result (λ fault. NoReadFailed (fault_of_either fault)
+        × AreRefused native by.now (side_bytes left.entry) (side_bytes right.entry)
+        (map known_text (map rest_of_table tables.now)) fault) }
 {
     let open_left = read_filters(alloc, left)?;
     let open_right = match read_filters(alloc, right) {
         Ok(side) => side,
         Err(fault) => return Err(BesideFault::Beside(fault)),
     };
-    let tables = tables_of(alloc, tables)?;
+    let tables = read_tables(alloc, tables)?;
     let left = read_side(alloc, by, native, &tables, open_left)?;
     match read_side(alloc, by, native, &tables, open_right) {
         Ok(right) => Ok(SidesInput {

@@ -7,10 +7,11 @@ ghost use Rattle.scf_tool.specs.declared.verify_fault.VerifyFault.TheVariants as
 use scf_insn::{InputFault, Memory, ReadFault};
 use scf_machine::{CheckFault, PushFault};
 use scf_profile::{LoadFault, TableFault};
+use std::fmt;
 use thiserror::Error;
 
 /// Why inputs weren't compared.
-#[derive(Clone, Copy, Debug, Error)]
+#[derive(Clone, Copy, Error)]
 pub enum VerifyFault {
     #[error("filter: {0}")]
     FilterRead(ReadFault),
@@ -29,6 +30,12 @@ pub enum VerifyFault {
     Profile(LoadFault),
     #[error("out of memory")]
     Memory,
+}
+
+impl fmt::Debug for VerifyFault {
+    fn fmt<W: fmt::Write>(&self, f: &mut fmt::Formatter<W>) -> fmt::Result {
+        fmt::Display::fmt(self, f)
+    }
 }
 
 impl From<ReadFault> for VerifyFault {
@@ -64,7 +71,7 @@ impl From<Memory> for VerifyFault {
 }
 
 /// Why two sides weren't compared.
-#[derive(Clone, Copy, Debug, Error)]
+#[derive(Clone, Copy, Error)]
 pub enum BesideFault {
     /// A filter on the left is refused, or a table, or the first profile, or memory ran out during the comparison.
     #[error("{0}")]
@@ -72,6 +79,12 @@ pub enum BesideFault {
     /// A filter or a profile of the side beside it is refused.
     #[error("beside: {0}")]
     Beside(VerifyFault),
+}
+
+impl fmt::Debug for BesideFault {
+    fn fmt<W: fmt::Write>(&self, f: &mut fmt::Formatter<W>) -> fmt::Result {
+        fmt::Display::fmt(self, f)
+    }
 }
 
 impl From<VerifyFault> for BesideFault {

@@ -3,18 +3,16 @@
 ghost use Rattle.std.specs.Prelude.{map};
 ghost use Rattle.scf_request.specs.Contents.{rest_of, rest_of_table};
 ghost use Rattle.scf_tool.specs.Commands.{EndsOnTables, ListsAnswers, ListsProfile, ListsProfiles, ListsStack};
-ghost use Rattle.scf_tool.specs.Statuses.{LeavesWhole};
+ghost use Rattle.scf_tool.specs.internal.Bytes.{EndsOnBytes};
 
 use crate::architecture_scope::has_record_among;
-use crate::commands::parts::{BesideProfile, are_filters, profile_parts};
-use crate::commands::whole_input;
+use crate::commands::parts::{BesideProfile, are_filters, open_profile, profile_parts};
 use crate::exploration::{list_each, list_side};
 use crate::fault::Fault;
 use crate::filter_stack::stack_of;
 use crate::loading::{load_with_table, load_with_tables};
 use crate::reply::Reply;
 use scf_compare::Side;
-use scf_insn::Source;
 use scf_profile::Reading;
 use scf_request::{BundleForm, Contents, Exploration, Interpretation, PartReader, TableReader};
 use std::alloc::Global;
@@ -72,17 +70,15 @@ fn list_profiles(
 }
 
 /// `answers`: what filters or a profile answer to the records of a scope.
-pub(super) fn list_answers<R: Source>(
+pub(super) fn list_answers(
     alloc: Global,
     reading: Reading,
     exploration: Exploration,
-    input: &mut R,
+    bytes: &[u8],
 ) -> Result<Reply, Fault>
-    ensures answer { ListsAnswers reading exploration (R.remaining input.old) result }
-    ensures input { LeavesWhole R.remaining R.failures input.old result input.new }
+    ensures { EndsOnBytes (ListsAnswers reading exploration) bytes.now result }
 {
-    let bytes = whole_input(alloc, input)?;
-    let contents = Contents::of(alloc, BundleForm::Profile, &bytes)?;
+    let contents = Contents::of(alloc, BundleForm::Profile, bytes)?;
     if are_filters(&contents) {
         let mut filters = contents.filters;
         return list_stack(alloc, &mut filters, exploration);
@@ -95,20 +91,15 @@ pub(super) fn list_answers<R: Source>(
 }
 
 /// `answers --architectures`: what a profile answers to the records of each architecture that has a table.
-pub(super) fn list_architectures<R: Source>(
+pub(super) fn list_architectures(
     alloc: Global,
     reading: Reading,
     exploration: Exploration,
-    input: &mut R,
+    bytes: &[u8],
 ) -> Result<Reply, Fault>
-    ensures answer { EndsOnTables reading (R.remaining input.old) (ListsProfiles exploration) result }
-    ensures input { LeavesWhole R.remaining R.failures input.old result input.new }
+    ensures { EndsOnBytes (λ input. EndsOnTables reading input (ListsProfiles exploration)) bytes.now result }
 {
-    let bytes = whole_input(alloc, input)?;
-    let contents = Contents::of(alloc, BundleForm::Architectures, &bytes)?;
-    let Some(parts) = profile_parts(alloc, reading, contents, BesideProfile::Nothing, false)? else {
-        return Err(Fault::Parts);
-    };
+    let parts = open_profile(alloc, reading, BundleForm::Architectures, false, bytes)?;
     list_profiles(
         alloc,
         &parts.by,

@@ -3,19 +3,18 @@
 ghost use Rattle.std.specs.Prelude.{map};
 ghost use Rattle.scf_request.specs.Contents.{rest_of_table};
 ghost use Rattle.scf_tool.specs.Commands.{CompilesEach, EndsOnTables, GivesReasonAmong};
-ghost use Rattle.scf_tool.specs.Statuses.{LeavesWhole};
+ghost use Rattle.scf_tool.specs.internal.Bytes.{EndsOnBytes};
 
-use crate::commands::parts::{BesideProfile, profile_parts};
-use crate::commands::whole_input;
+use crate::commands::parts::open_profile;
 use crate::compilation::{behind_left_out, filter_of_each};
 use crate::fault::Fault;
 use crate::left_out::LeftOut;
 use crate::loading::{call_counts, load_with_tables, tables_and_profiles};
 use crate::owned_table::OwnedTable;
 use crate::reply::Reply;
-use scf_insn::{CallRecord, Source};
+use scf_insn::CallRecord;
 use scf_profile::Reading;
-use scf_request::{BundleForm, Contents, Interpretation, PartReader, TableReader};
+use scf_request::{BundleForm, Interpretation, PartReader, TableReader};
 use std::alloc::Global;
 
 /// The filter of a profile and tables, behind what is left out of the profile, if that is asked for.
@@ -57,20 +56,15 @@ fn asked(
 }
 
 /// `compile --architectures`: the filter that answers as a profile does, for each architecture that has a table.
-pub(super) fn compile_architectures<R: Source>(
+pub(super) fn compile_architectures(
     alloc: Global,
     reading: Reading,
     has_left_out: bool,
-    input: &mut R,
+    bytes: &[u8],
 ) -> Result<Reply, Fault>
-    ensures answer { EndsOnTables reading (R.remaining input.old) (CompilesEach has_left_out) result }
-    ensures left { LeavesWhole R.remaining R.failures input.old result input.new }
+    ensures { EndsOnBytes (λ input. EndsOnTables reading input (CompilesEach has_left_out)) bytes.now result }
 {
-    let bytes = whole_input(alloc, input)?;
-    let contents = Contents::of(alloc, BundleForm::Architectures, &bytes)?;
-    let Some(parts) = profile_parts(alloc, reading, contents, BesideProfile::Nothing, false)? else {
-        return Err(Fault::Parts);
-    };
+    let parts = open_profile(alloc, reading, BundleForm::Architectures, false, bytes)?;
     compiled(
         alloc,
         has_left_out,
@@ -82,19 +76,14 @@ pub(super) fn compile_architectures<R: Source>(
 }
 
 /// `ask --architectures`: what the profile of a call's architecture answers to it, and why.
-pub(super) fn ask_architectures<R: Source>(
+pub(super) fn ask_architectures(
     alloc: Global,
     reading: Reading,
     call: &CallRecord,
-    input: &mut R,
+    bytes: &[u8],
 ) -> Result<Reply, Fault>
-    ensures answer { EndsOnTables reading (R.remaining input.old) (GivesReasonAmong call.now) result }
-    ensures left { LeavesWhole R.remaining R.failures input.old result input.new }
+    ensures { EndsOnBytes (λ input. EndsOnTables reading input (GivesReasonAmong call.now)) bytes.now result }
 {
-    let bytes = whole_input(alloc, input)?;
-    let contents = Contents::of(alloc, BundleForm::Architectures, &bytes)?;
-    let Some(parts) = profile_parts(alloc, reading, contents, BesideProfile::Nothing, false)? else {
-        return Err(Fault::Parts);
-    };
+    let parts = open_profile(alloc, reading, BundleForm::Architectures, false, bytes)?;
     asked(alloc, &parts.by, parts.profile.rest(), &parts.tables, call)
 }

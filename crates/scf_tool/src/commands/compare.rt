@@ -1,16 +1,15 @@
 //! The comparison of two sides.
 
-ghost use Rattle.std.specs.Prelude.{◌≡◌, ◌↔◌, ◌⊎◌, true, length, map, IfOk, IfErr, IsTrue, Ok, Err};
+ghost use Rattle.std.specs.Prelude.{◌≡◌, ◌↔◌, ◌⊎◌, true, length, map, IfOk, IfErr, IsTrue};
 ghost use Rattle.scf_request.specs.Contents.{rest_of_table};
 ghost use Rattle.scf_tool.specs.Commands.{Compares, ComparesSides, GoesOverNone, GoesOverTables, IsReport};
 ghost use Rattle.scf_tool.specs.Reports.{finding_status, findings_status};
-ghost use Rattle.scf_tool.specs.Statuses.{LeavesWhole};
+ghost use Rattle.scf_tool.specs.internal.Bytes.{EndsOnBytes};
 ghost use Rattle.scf_tool.specs.internal.Sides.{side_bytes};
 
 use crate::architecture_scope::{has_record_among, names_no_call};
 use crate::call_reporting::worst_of_calls;
-use crate::commands::comparison_parts::{ComparisonParts, comparison_parts, is_native};
-use crate::commands::whole_input;
+use crate::commands::comparison_parts::{ComparisonParts, is_native, open_sides};
 use crate::fault::Fault;
 use crate::findings::Findings;
 use crate::reply::Reply;
@@ -18,11 +17,11 @@ use crate::reporting::report_sides;
 use crate::side_verification::verify_sides;
 use crate::sides::SidesOutcome;
 use crate::status::Status;
-use crate::verify_fault::BesideFault;
+use crate::verify_fault::{BesideFault, VerifyFault};
 use scf_compare::Finding;
-use scf_insn::{Memory, Source};
+use scf_insn::Memory;
 use scf_profile::{Reading, Relation, Scope};
-use scf_request::{BundleFault, BundleForm, Comparison, Contents, PartReader, Scopes, TableReader};
+use scf_request::{BundleFault, BundleForm, Comparison, PartReader, Scopes, TableReader};
 use std::alloc::Global;
 
 /// The exit status that goes with a finding.
@@ -102,41 +101,35 @@ fn compare_parts(
     native: bool,
     parts: ComparisonParts<'_>,
     comparison: Comparison,
-) -> Result<Reply, BesideFault>
+) -> Result<Reply, Fault>
     requires profile { native ≡ true → length parts.tables.items ≡ 1 }
     requires calls { comparison.scopes ≡ Scopes.EachCall → length parts.tables.items ≡ 1 }
-    ensures reply { IfOk result (λ reply. ComparesSides native comparison parts.entry.by
+    ensures { ComparesSides native comparison parts.entry.by
         (side_bytes parts.entry.left) (side_bytes parts.entry.right)
-        (map rest_of_table parts.entry.tables.items) (Ok reply)) }
-    ensures fault { IfErr result (λ fault. ComparesSides native comparison parts.entry.by
-        (side_bytes parts.entry.left) (side_bytes parts.entry.right)
-        (map rest_of_table parts.entry.tables.items) (Err (Fault.Sides fault))) }
+        (map rest_of_table parts.entry.tables.items) result }
 {
     let by = parts.by;
     let left = parts.left;
     let right = parts.right;
-    let mut tables = parts.tables;
-    let verified = verify_sides(alloc, &by, native, left, right, &mut tables, comparison)?;
-    Ok(report_of(alloc, comparison.relation, &verified)?)
+    let verified = verify_sides(alloc, &by, native, left, right, &parts.tables, comparison)?;
+    match report_of(alloc, comparison.relation, &verified) {
+        Ok(reply) => Ok(reply),
+        Err(_) => Err(Fault::Sides(BesideFault::Verify(VerifyFault::Memory))),
+    }
 }
 
 /// `compare`: whether the sides that a bundle of this form holds are answered alike, or the left one is no more or no
 /// less permissive.
-pub(super) fn compare_bundle<R: Source>(
+pub(super) fn compare_bundle(
     alloc: Global,
     reading: Reading,
     form: BundleForm,
     comparison: Comparison,
-    input: &mut R,
+    bytes: &[u8],
 ) -> Result<Reply, Fault>
-    ensures answer { Compares form reading comparison (R.remaining input.old) result }
-    ensures input { LeavesWhole R.remaining R.failures input.old result input.new }
+    ensures { EndsOnBytes (Compares form reading comparison) bytes.now result }
 {
-    let bytes = whole_input(alloc, input)?;
-    let contents = Contents::of(alloc, form, &bytes)?;
-    let Some(parts) = comparison_parts(alloc, reading, form, comparison.scopes, contents)? else {
-        return Err(Fault::Parts);
-    };
+    let parts = open_sides(alloc, reading, form, comparison.scopes, bytes)?;
     over_record(alloc, form, comparison.scopes, &parts.tables)?;
-    Ok(compare_parts(alloc, is_native(form), parts, comparison)?)
+    compare_parts(alloc, is_native(form), parts, comparison)
 }

@@ -4,9 +4,11 @@ ghost use Rattle.std.specs.Prelude.{◌≡◌, length, IfOk, IfErr, MatchOption}
 ghost use Rattle.scf_request.specs.Contents.{held_by};
 ghost use Rattle.scf_tool.specs.Commands.{AreSidesOf, AreWithProfile, TakesProfile, TakesSides};
 ghost use Rattle.scf_tool.specs.Commands as spec;
+ghost use Rattle.scf_tool.specs.internal.Bytes.{AreOfSides, IsNotTaken};
 ghost use Rattle.scf_tool.specs.internal.Parts.{AreComparisonParts};
 
 use crate::commands::parts::{BesideProfile, only, profile_parts};
+use crate::fault::Fault;
 use crate::sides::SideParts;
 use scf_profile::Reading;
 use scf_request::{
@@ -102,7 +104,7 @@ fn two_stacks<'a>(
 }
 
 /// The two sides that a bundle holds, with their tables, where they are what a comparison takes.
-pub(super) fn comparison_parts<'a>(
+fn comparison_parts<'a>(
     alloc: Global,
     reading: Reading,
     form: BundleForm,
@@ -121,5 +123,23 @@ pub(super) fn comparison_parts<'a>(
             with_profile(alloc, reading, is_call_by_call(over), contents)
         }
         BundleForm::Beside(_) => two_stacks(alloc, reading, over, form, contents),
+    }
+}
+
+/// The two sides that a bundle of this form holds, with their tables.
+pub(super) fn open_sides<'a>(
+    alloc: Global,
+    reading: Reading,
+    form: BundleForm,
+    over: Scopes,
+    bytes: &'a [u8],
+) -> Result<ComparisonParts<'a>, Fault>
+    ensures parts { IfOk result (AreOfSides form over reading bytes.now) }
+    ensures fault { IfErr result (IsNotTaken form bytes.now (TakesSides form over)) }
+{
+    let contents = Contents::of(alloc, form, bytes)?;
+    match comparison_parts(alloc, reading, form, over, contents)? {
+        Some(parts) => Ok(parts),
+        None => Err(Fault::Parts),
     }
 }

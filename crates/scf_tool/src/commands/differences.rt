@@ -3,18 +3,16 @@
 ghost use Rattle.std.specs.Prelude.{◌≡◌, true, length, map};
 ghost use Rattle.scf_request.specs.Contents.{rest_of_table};
 ghost use Rattle.scf_tool.specs.Commands.{ListsDifferences, ListsSides};
-ghost use Rattle.scf_tool.specs.Statuses.{LeavesWhole};
+ghost use Rattle.scf_tool.specs.internal.Bytes.{EndsOnBytes};
 ghost use Rattle.scf_tool.specs.internal.Sides.{side_bytes};
 
-use crate::commands::comparison_parts::{ComparisonParts, comparison_parts, is_native};
-use crate::commands::whole_input;
+use crate::commands::comparison_parts::{ComparisonParts, is_native, open_sides};
 use crate::exploration::list_differing;
 use crate::fault::Fault;
 use crate::reply::Reply;
 use crate::sides::read_sides;
-use scf_insn::Source;
 use scf_profile::Reading;
-use scf_request::{BundleForm, Contents, Exploration, Scopes};
+use scf_request::{BundleForm, Exploration, Scopes};
 use std::alloc::Global;
 
 /// Lists what two sides aren't known to answer alike.
@@ -32,8 +30,7 @@ fn list_sides(
     let by = parts.by;
     let left = parts.left;
     let right = parts.right;
-    let mut tables = parts.tables;
-    let sides = read_sides(alloc, &by, native, left, right, &mut tables)?;
+    let sides = read_sides(alloc, &by, native, left, right, &parts.tables)?;
     match list_differing(alloc, &sides.left.side(), &sides.right.side(), exploration) {
         Ok(reply) => Ok(reply),
         Err(_) => Err(Fault::Answers),
@@ -41,21 +38,16 @@ fn list_sides(
 }
 
 /// `answers --differences`: what the two sides that a bundle of this form holds aren't known to answer alike.
-pub(super) fn list_differences<R: Source>(
+pub(super) fn list_differences(
     alloc: Global,
     reading: Reading,
     form: BundleForm,
     exploration: Exploration,
-    input: &mut R,
+    bytes: &[u8],
 ) -> Result<Reply, Fault>
-    ensures answer { ListsDifferences form reading exploration (R.remaining input.old) result }
-    ensures input { LeavesWhole R.remaining R.failures input.old result input.new }
+    ensures { EndsOnBytes (ListsDifferences form reading exploration) bytes.now result }
 {
-    let bytes = whole_input(alloc, input)?;
-    let contents = Contents::of(alloc, form, &bytes)?;
     let over = Scopes::AtOnce(exploration.scope);
-    let Some(parts) = comparison_parts(alloc, reading, form, over, contents)? else {
-        return Err(Fault::Parts);
-    };
+    let parts = open_sides(alloc, reading, form, over, bytes)?;
     list_sides(alloc, is_native(form), parts, exploration)
 }

@@ -15,8 +15,10 @@ ghost use Rattle.scf_tool.specs.Commands.{
   IsProfileCount,
   IsTableCount,
 };
+ghost use Rattle.scf_tool.specs.internal.Bytes.{AreOfProfile, IsNotTaken};
 ghost use Rattle.scf_tool.specs.internal.Parts.{AreParts};
 
+use crate::fault::Fault;
 use crate::loading::owned_tables;
 use crate::owned_table::OwnedTable;
 use scf_insn::Architecture;
@@ -196,6 +198,24 @@ pub(super) fn profile_parts<'a>(
             counts,
         })),
         None => Ok(None),
+    }
+}
+
+/// The parts that a command on a profile takes from a bundle of this form.
+pub(super) fn open_profile<'a>(
+    alloc: Global,
+    reading: Reading,
+    form: BundleForm,
+    only_one: bool,
+    bytes: &'a [u8],
+) -> Result<ProfileParts<'a>, Fault>
+    ensures parts { IfOk result (AreOfProfile form only_one reading bytes.now) }
+    ensures fault { IfErr result (IsNotTaken form bytes.now (AreTaken BesideProfile.Nothing only_one)) }
+{
+    let contents = Contents::of(alloc, form, bytes)?;
+    match profile_parts(alloc, reading, contents, BesideProfile::Nothing, only_one)? {
+        Some(parts) => Ok(parts),
+        None => Err(Fault::Parts),
     }
 }
 

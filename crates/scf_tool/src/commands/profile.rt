@@ -1,19 +1,18 @@
 //! Commands on a profile and its call table.
 
 ghost use Rattle.scf_tool.specs.Commands.{Compiles, EndsOnTable, GivesReason};
-ghost use Rattle.scf_tool.specs.Statuses.{LeavesWhole};
+ghost use Rattle.scf_tool.specs.internal.Bytes.{EndsOnBytes};
 
-use crate::commands::parts::{BesideProfile, profile_parts};
-use crate::commands::whole_input;
+use crate::commands::parts::open_profile;
 use crate::compilation::{behind_left_out, filter_of};
 use crate::fault::Fault;
 use crate::left_out::LeftOut;
 use crate::loading::{call_counts, load_with_table, table_and_profile};
 use crate::owned_table::OwnedTable;
 use crate::reply::Reply;
-use scf_insn::{CallRecord, Source};
+use scf_insn::CallRecord;
 use scf_profile::Reading;
-use scf_request::{BundleForm, Contents, Interpretation};
+use scf_request::{BundleForm, Interpretation};
 use std::alloc::Global;
 
 /// The filter of a profile and a table, behind what is left out of the profile, if that is asked for.
@@ -55,20 +54,15 @@ fn asked(
 }
 
 /// `compile`: the filter that answers as a profile does.
-pub(super) fn compile_profile<R: Source>(
+pub(super) fn compile_profile(
     alloc: Global,
     reading: Reading,
     has_left_out: bool,
-    input: &mut R,
+    bytes: &[u8],
 ) -> Result<Reply, Fault>
-    ensures answer { EndsOnTable reading (R.remaining input.old) (Compiles has_left_out) result }
-    ensures left { LeavesWhole R.remaining R.failures input.old result input.new }
+    ensures { EndsOnBytes (λ input. EndsOnTable reading input (Compiles has_left_out)) bytes.now result }
 {
-    let bytes = whole_input(alloc, input)?;
-    let contents = Contents::of(alloc, BundleForm::Profile, &bytes)?;
-    let Some(parts) = profile_parts(alloc, reading, contents, BesideProfile::Nothing, true)? else {
-        return Err(Fault::Parts);
-    };
+    let parts = open_profile(alloc, reading, BundleForm::Profile, true, bytes)?;
     let table = parts.tables[0].reader.rest();
     compiled(
         alloc,
@@ -81,20 +75,15 @@ pub(super) fn compile_profile<R: Source>(
 }
 
 /// `ask`: what a profile answers to a call, and why.
-pub(super) fn ask_profile<R: Source>(
+pub(super) fn ask_profile(
     alloc: Global,
     reading: Reading,
     call: &CallRecord,
-    input: &mut R,
+    bytes: &[u8],
 ) -> Result<Reply, Fault>
-    ensures answer { EndsOnTable reading (R.remaining input.old) (GivesReason call.now) result }
-    ensures left { LeavesWhole R.remaining R.failures input.old result input.new }
+    ensures { EndsOnBytes (λ input. EndsOnTable reading input (GivesReason call.now)) bytes.now result }
 {
-    let bytes = whole_input(alloc, input)?;
-    let contents = Contents::of(alloc, BundleForm::Profile, &bytes)?;
-    let Some(parts) = profile_parts(alloc, reading, contents, BesideProfile::Nothing, true)? else {
-        return Err(Fault::Parts);
-    };
+    let parts = open_profile(alloc, reading, BundleForm::Profile, true, bytes)?;
     let table = parts.tables[0].reader.rest();
     asked(alloc, &parts.by, parts.profile.rest(), table, call)
 }

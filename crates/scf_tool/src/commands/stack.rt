@@ -4,38 +4,35 @@ ghost use Rattle.std.specs.Prelude.{◌≡◌, ◌++◌, ℕ, List, map, Err, If
 ghost use Rattle.scf_insn.specs.Words.{words_of};
 ghost use Rattle.scf_machine.specs.Path.{IsPathOf};
 ghost use Rattle.scf_machine.specs.Precedence.{IsDecidedBy};
-ghost use Rattle.scf_request.specs.Bundle.{Held};
+ghost use Rattle.scf_request.specs.Bundle.{Held, IsBundle};
 ghost use Rattle.scf_request.specs.declared.bundle.BundleForm.TheVariants as forms;
 ghost use Rattle.scf_request.specs.declared.request.Request.{Request};
 ghost use Rattle.scf_request.specs.declared.request.Request.TheVariants as requests;
-ghost use Rattle.scf_tool.specs.Commands.{AreFilters, Decides, HoldsBundle, ShowsRuns};
+ghost use Rattle.scf_tool.specs.Commands.{AreFilters, Decides, ShowsRuns};
 ghost use Rattle.scf_tool.specs.FilterStacks.{HasStack};
 ghost use Rattle.scf_tool.specs.Lines.{decision_text, traced_text};
-ghost use Rattle.scf_tool.specs.Statuses.{LeavesWhole};
+ghost use Rattle.scf_tool.specs.internal.Bytes.{EndsOnBytes};
 ghost use Rattle.scf_tool.specs.internal.Gathering.{buffered};
 
 use crate::buffer::Buffer;
 use crate::commands::parts::are_filters;
-use crate::commands::whole_input;
 use crate::fault::Fault;
 use crate::filter_stack::stack_of;
 use crate::lines::{add_decision, add_trace};
 use crate::reply::Reply;
-use scf_insn::{CallRecord, Memory, Source};
+use scf_insn::{CallRecord, Memory};
 use scf_machine::{Decision, FilterStack, Program, trace};
 use scf_request::{BundleForm, Contents};
 use std::alloc::Global;
 
 /// The stack of the filters that a bundle holds.
-fn read_filters<R: Source>(alloc: Global, input: &mut R) -> Result<FilterStack, Fault>
-    ensures stack { IfOk result (λ stack. (held : Held) × HoldsBundle forms.Profile (R.remaining input.old) held
+fn read_filters(alloc: Global, bytes: &[u8]) -> Result<FilterStack, Fault>
+    ensures stack { IfOk result (λ stack. (held : Held) × IsBundle forms.Profile bytes.now held
         × AreFilters held × HasStack (map Some held.filters) stack) }
     ensures fault { IfErr result (λ fault. (request : Request)
-        → Decides request (R.remaining input.old) (Err fault)) }
-    ensures input { LeavesWhole R.remaining R.failures input.old result input.new }
+        → EndsOnBytes (Decides request) bytes.now (Err fault)) }
 {
-    let bytes = whole_input(alloc, input)?;
-    let contents = Contents::of(alloc, BundleForm::Profile, &bytes)?;
+    let contents = Contents::of(alloc, BundleForm::Profile, bytes)?;
     if !are_filters(&contents) {
         return Err(Fault::Parts);
     }
@@ -44,28 +41,22 @@ fn read_filters<R: Source>(alloc: Global, input: &mut R) -> Result<FilterStack, 
 }
 
 /// `decide`: what a stack of filters answers to a call.
-pub(super) fn decide_stack<R: Source>(
-    alloc: Global,
-    call: &CallRecord,
-    input: &mut R,
-) -> Result<Reply, Fault>
-    ensures answer { Decides (requests.Decide call.now) (R.remaining input.old) result }
-    ensures input { LeavesWhole R.remaining R.failures input.old result input.new }
+pub(super) fn decide_stack(alloc: Global, call: &CallRecord, bytes: &[u8]) -> Result<Reply, Fault>
+    ensures { EndsOnBytes (Decides (requests.Decide call.now)) bytes.now result }
 {
-    let stack = read_filters(alloc, input)?;
+    let stack = read_filters(alloc, bytes)?;
     Ok(Reply::Decided(stack.decide(call)))
 }
 
 /// `decide --at`: what it answers, and which instruction gives the answer.
-pub(super) fn decide_stack_at<R: Source>(
+pub(super) fn decide_stack_at(
     alloc: Global,
     call: &CallRecord,
-    input: &mut R,
+    bytes: &[u8],
 ) -> Result<Reply, Fault>
-    ensures answer { Decides (requests.DecideBy call.now) (R.remaining input.old) result }
-    ensures input { LeavesWhole R.remaining R.failures input.old result input.new }
+    ensures { EndsOnBytes (Decides (requests.DecideBy call.now)) bytes.now result }
 {
-    let stack = read_filters(alloc, input)?;
+    let stack = read_filters(alloc, bytes)?;
     Ok(Reply::DecidedBy(stack.decision(call)))
 }
 
@@ -114,15 +105,10 @@ fn lines_of_runs(alloc: Global, stack: &FilterStack, call: &CallRecord) -> Resul
 }
 
 /// `decide --path`: what it answers, which instruction gives the answer, and how each filter runs.
-pub(super) fn trace_stack<R: Source>(
-    alloc: Global,
-    call: &CallRecord,
-    input: &mut R,
-) -> Result<Reply, Fault>
-    ensures answer { Decides (requests.DecidePaths call.now) (R.remaining input.old) result }
-    ensures input { LeavesWhole R.remaining R.failures input.old result input.new }
+pub(super) fn trace_stack(alloc: Global, call: &CallRecord, bytes: &[u8]) -> Result<Reply, Fault>
+    ensures { EndsOnBytes (Decides (requests.DecidePaths call.now)) bytes.now result }
 {
-    let stack = read_filters(alloc, input)?;
+    let stack = read_filters(alloc, bytes)?;
     match lines_of_runs(alloc, &stack, call) {
         Ok(lines) => Ok(Reply::Bytes(lines)),
         Err(_) => Err(Fault::Answers),

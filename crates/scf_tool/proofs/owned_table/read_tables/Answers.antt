@@ -1,26 +1,29 @@
-use Rattle.scf_tool.proofs.Common.{arith, err_from_is_err_and}
-use Rattle.scf_tool.proofs.StackLemmas.{readers_stop, same_from}
-use Rattle.scf_tool.proofs.TableLemmas.{no_table, tables_grow}
+use Rattle.scf_profile.specs.declared.table_fault.TableFault.TheVariants.{Memory}
+use Rattle.scf_tool.proofs.Common.{err_from_is_err_and, refl}
+use Rattle.scf_tool.proofs.TableLemmas.{no_part, part_more}
+use Rattle.scf_tool.specs.declared.verify_fault.VerifyFault.TheVariants.{Table}
 use Rattle.scf_tool.proofs.owned_table.read_tables.Goals as goal
 
-pub loop-reader-preserved : goal.loop-reader-preserved
-loop-reader-preserved g c =
-    let from = same_from c.loop-reader.reader-index c.args.readers.now c.loop-reader.readers c.reader-item.result
-    (omega (arith, c.loop-reader-test.true, c.loop-reader.auto.readers)) c.reader-item.is c.loop-reader.invariant.same in
-    tables_grow g.R.Source.remaining g.R.Source.failures _ _ _ _ _ _ from c.loop-reader.invariant _
-    c.in_ok-add_table.ensures.added c.in_ok-add_table.ensures.ended
+pub loop-part-preserved : goal.loop-part-preserved
+loop-part-preserved c =
+    part_more c.args.parts.now c.loop-part.part-index _ c.loop-part-test.true c.loop-part.tables.items
+    c.loop-part.invariant _ c.in_ok-table.table c.in-Ok.ensures.items
+    (rw c.rest.ensures at c.in_ok-table.ensures.table)
 
-pub returns-in_err-add_table-clause-refused : goal.returns-in_err-add_table-clause-refused
-returns-in_err-add_table-clause-refused g c =
-    let from = same_from c.loop-reader.reader-index c.args.readers.now c.loop-reader.readers c.reader-item.result
-    (omega (arith, c.loop-reader-test.true, c.loop-reader.auto.readers)) c.reader-item.is c.loop-reader.invariant.same in
+pub returns-in_err-table-clause-refused : goal.returns-in_err-table-clause-refused
+returns-in_err-table-clause-refused c =
     let p = err_from_is_err_and c.from_residual.result c.from_residual.ensures.1 in
-    rw (p.1, p.2) (no_table g.R.Source.remaining g.R.Source.failures _ _ _ _ c.add_table.new.reader _ from
-    c.loop-reader.invariant c.in_err-add_table.field-0.0 c.in_err-add_table.ensures.refused)
+    let refused = rw c.rest.ensures at c.in_err-table.ensures.refused in
+    rw (p.1, p.2) (
+      refused.0,
+      no_part c.args.parts.now c.loop-part.part-index _ c.loop-part-test.true c.loop-part.tables.items
+          c.loop-part.invariant c.in_err-table.field-0.0 refused.1,
+    )
 
-pub returns-in_err-add_table-clause-stopped : goal.returns-in_err-add_table-clause-stopped
-returns-in_err-add_table-clause-stopped g c =
-    let from = same_from c.loop-reader.reader-index c.args.readers.now c.loop-reader.readers c.reader-item.result
-    (omega (arith, c.loop-reader-test.true, c.loop-reader.auto.readers)) c.reader-item.is c.loop-reader.invariant.same in
-    let p = err_from_is_err_and c.from_residual.result c.from_residual.ensures.1 in
-    rw (p.1, p.2) (readers_stop _ _ _ _ _ _ _ _ _ _ from c.loop-reader.invariant c.in_err-add_table.ensures.reader)
+pub returns-in-Err-clause-refused : goal.returns-in-Err-clause-refused
+returns-in-Err-clause-refused c =
+    let is_table = rw c.rest.ensures at c.in_ok-table.ensures.table in (
+      tt,
+      no_part c.args.parts.now c.loop-part.part-index _ c.loop-part-test.true c.loop-part.tables.items
+          c.loop-part.invariant (Table Memory) (is_table.0, λ other. absurd (other refl)),
+    )

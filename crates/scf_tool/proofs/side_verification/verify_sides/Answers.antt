@@ -11,13 +11,11 @@ findings_of-requires c = λ is.
 pub returns-in_err-findings-clause-refused : goal.returns-in_err-findings-clause-refused
 returns-in_err-findings-clause-refused c =
     let p = err_from_is_err_and c.from_residual-in_err-findings.result c.from_residual-in_err-findings.ensures.1 in
-    rw (p.1, p.2) (by_memory (map named_of c.in_ok-input.input.tables.items) c.in_ok-input.input.left c.in_ok-input.input.right
-    c.in_ok-input.ensures.sides)
-
-pub returns-in_err-findings-clause-read : goal.returns-in_err-findings-clause-read
-returns-in_err-findings-clause-read c =
-    let p = err_from_is_err_and c.from_residual-in_err-findings.result c.from_residual-in_err-findings.ensures.1 in
-    rw (p.1, p.2) tt
+    rw (p.1, p.2) (
+      tt,
+      by_memory (map named_of c.in_ok-input.input.tables.items) c.in_ok-input.input.left
+          c.in_ok-input.input.right c.in_ok-input.ensures.sides,
+    )
 
 pub returns-clause-verified : goal.returns-clause-verified
 returns-clause-verified c = record {
