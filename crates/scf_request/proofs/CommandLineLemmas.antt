@@ -1,21 +1,32 @@
 -- The command line, as its reader sees it.
-use Rattle.scf_request.proofs.Common.{◌≡◌, ◌&&◌, ◌∙◌, Bool, codes, true, false, not, List, [], ◌∷◌, ◌++◌, Option, Some, ◌<◌, Answers, append-nil, append_assoc, arith, get_or, length, map, option_map, refl, sym, ap, ap₂, and_parts, not-true, find, fold, is_some, option_map_or, built_fault, check_fault, defaults_fault, entered_fault, level_fault, settle_fault, turn_fault, walk_fault, Kinds, or_else, built, entered, inherited, built_leaf, label_of, marked_built, names_of, rows_at, with_leaf_noted, Rule, Walk, answers_to, finished, idle, nothing_held, settled, stop_after, walk, walk_from, walked, AddsSubcommand, App, Shape, app_of, is_simple_and_free, new_app, with_subcommand, Command, clap_on_literals, Asked, command_word, scf, scf_shape, shape_for, ReadsAsProgram, scf_with}
+use Rattle.scf_request.proofs.Common.{◌≡◌, ◌&&◌, ◌∙◌, Bool, codes, true, false, not, List, [], ◌∷◌, ◌++◌, Option, Some, ◌<◌, Answers, append-nil, append_assoc, arith, get_or, length, map, option_map, refl, sym, ap, ap₂, and_parts, not-true, find, fold, is_some, option_map_or, built_fault, check_fault, defaults_fault, entered_fault, level_fault, settle_fault, turn_fault, walk_fault, Kinds, or_else, built, entered, inherited, built_leaf, label_of, marked_built, names_of, rows_at, with_leaf_noted, Rule, Walk, answers_to, finished, idle, nothing_held, settled, stop_after, walk, walk_from, walked, AddsSubcommand, App, Shape, app_of, is_simple_and_free, new_app, with_subcommand, Command, clap_on_literals, Asked, command_word, scf, scf_shape, shape_for, ReadsAsProgram, scf_with, All, take, ◌+◌, ℕ, Asm, Ask, Check, Compare, Compile, Decide, Dis, Run, IsNamed, bare, program_of, shape_of, map_more}
+use Rattle.std.proofs.lemmas.List.Sums.{fold_push}
+use Rattle.scf_request.specs.declared.command_line.Definition.{Definition}
 use Rattle.clap.specs.Walk.{Names, Text}
 
 third : (a b g further : Bool) → (a && (not b && (not g && further))) ≡ true → g ≡ false
 third a b g further h = grind (arith, and_parts, not-true)
 
-abbrev pub program_alone : Shape → App
-program_alone shape = record { top = shape; subs = [] }
-
 -- one more command
 pub one_more_command : (old sub new : Command) (before : App) (shape : Shape) → AddsSubcommand old sub new
-    → app_of old ≡ before → app_of sub ≡ program_alone shape → shape.is_plain ≡ true → app_of new ≡ with_subcommand before shape
+    → app_of old ≡ before → app_of sub ≡ record { top = shape; subs = [] } → shape.is_plain ≡ true
+    → app_of new ≡ with_subcommand before shape
 one_more_command old sub new before shape h1 h2 h3 h4 = grind (arith, third)
 
--- the program without its commands
-abbrev pub bare : App
-bare = program_alone (record (new_app (codes "scf")).top { has_version = true; subcommand_required = true })
+-- the command of the next definition
+pub program_more : (definitions : List Definition) (i : ℕ) (d : Definition) → i < length definitions
+    → (before : App) → before ≡ program_of (take i definitions)
+    → with_subcommand before (shape_of (get_or definitions i d)) ≡ program_of (take (i + 1) definitions)
+program_more definitions i d lt before is =
+    let shape = shape_of (get_or definitions i d) in
+    ap (λ (app : App). with_subcommand app shape) is
+    ∙ sym (ap (λ (shapes : List Shape). fold with_subcommand bare shapes) (map_more shape_of definitions i d lt)
+    ∙ fold_push with_subcommand bare (map shape_of (take i definitions)) shape)
+
+-- the program with one command
+pub alone : (command : Asked) (definition : Definition) → shape_of definition ≡ shape_for command
+    → program_of (definition ∷ []) ≡ scf_with command
+alone command definition is = ap (λ (shape : Shape). with_subcommand bare shape) is
 
 scf_is_free : is_simple_and_free scf ≡ true
 unfolding clap_on_literals

@@ -43,4 +43,4 @@ pub use Rattle.scf_request.specs.Contents.{held_by, rest_of_table}
 pub use Rattle.scf_request.specs.declared.contents.PartReader.{PartReader}
 pub use Rattle.scf_request.specs.declared.contents.TableReader.{TableReader}
 pub use Rattle.scf_request.specs.internal.Contents.{with_part}
-pub use Rattle.scf_request.specs.internal.Parsing.{MakesNamed, ReadsAsProgram, command_of, flags_in, names_of_flags, option_of, options_kept, scf_with}
+pub use Rattle.scf_request.specs.internal.Parsing.{IsNamed, ReadsAsProgram, bare, command_of, flags_in, names_of_flags, option_of, options_kept, program_of, scf_with, shape_of}

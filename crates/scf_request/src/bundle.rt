@@ -21,6 +21,7 @@ ghost use Rattle.scf_request.specs.Bundle.{
 use crate::request::Scopes;
 use scf_insn::{ARCHITECTURES, Architecture, parse_numeral};
 use std::alloc::{AllocError, AllocFailed, Global};
+use std::fmt;
 use thiserror::Error;
 
 /// The kind of a part.
@@ -61,7 +62,7 @@ pub enum BundleForm {
 }
 
 /// Why bytes aren't a bundle.
-#[derive(Clone, Copy, Debug, Error)]
+#[derive(Clone, Copy, Error)]
 pub enum BundleFault {
     #[error("no header stands at byte {offset}")]
     Header { offset: usize },
@@ -69,6 +70,12 @@ pub enum BundleFault {
     Short { offset: usize },
     #[error("out of memory")]
     Memory,
+}
+
+impl fmt::Debug for BundleFault {
+    fn fmt<W: fmt::Write>(&self, f: &mut fmt::Formatter<W>) -> fmt::Result {
+        fmt::Display::fmt(self, f)
+    }
 }
 
 impl From<AllocError> for BundleFault {
@@ -263,13 +270,23 @@ pub fn split(alloc: Global, bytes: &[u8]) -> Result<Vec<Part>, BundleFault>
 const SPLIT_KINDS: [PartKind; 3] = [PartKind::Filter, PartKind::Profile, PartKind::Table];
 
 /// The kinds of parts of a bundle with a profile.
-pub(crate) const PROFILE_KINDS: [PartKind; 6] = [
+const PROFILE_KINDS: [PartKind; 6] = [
     PartKind::Filter,
     PartKind::Profile,
     PartKind::BesideProfile,
     PartKind::Table,
     PartKind::StubOf(Architecture::X8664),
     PartKind::CountsOf(Architecture::X8664),
+];
+
+/// The kinds of parts of a bundle with other filters.
+const BESIDE_KINDS: [PartKind; 2] = [PartKind::Filter, PartKind::Beside];
+
+/// Those with the table of a comparison call by call.
+const BESIDE_KINDS_WITH_TABLE: [PartKind; 3] = [
+    PartKind::Filter,
+    PartKind::Beside,
+    PartKind::Table,
 ];
 
 /// How many kinds of parts a bundle with a profile of several architectures has.
@@ -289,6 +306,21 @@ pub(crate) fn architecture_kinds() -> [PartKind; ARCHITECTURE_KINDS]
         kinds[3 + 2 * ARCHITECTURES + i] = PartKind::CountsOf(all[i]);
     }
     kinds
+}
+
+impl BundleForm {
+    /// The kinds of parts; `architectures` are those with a profile of several architectures.
+    pub(crate) fn kinds(self, architectures: &[PartKind; ARCHITECTURE_KINDS]) -> &[PartKind]
+        requires { architectures.now ≡ spec.architecture_kinds }
+        ensures { result.now ≡ spec.kinds_of self }
+    {
+        match self {
+            BundleForm::Profile => &PROFILE_KINDS,
+            BundleForm::Architectures => architectures,
+            BundleForm::Beside(Scopes::AtOnce(_)) => &BESIDE_KINDS,
+            BundleForm::Beside(Scopes::EachCall) => &BESIDE_KINDS_WITH_TABLE,
+        }
+    }
 }
 
 /// Splits a bundle into its parts, each of one of these kinds, as `split` does with its own.

@@ -1,15 +1,15 @@
 //! The command line, defined for `clap`.
 
-ghost use Rattle.std.specs.Prelude.{◌≡◌, ◌++◌, [], codes, false, true, map, IfOk, IfSome};
-ghost use Rattle.clap.specs.Words.{App, FailsBy, Shape, app_of, fault_of, new_app, rule_of, subcommand_of, subcommand_rows_of, with_subcommand};
+ghost use Rattle.std.specs.Prelude.{◌≡◌, [], Contains, false, map, IfOk, IfSome};
+ghost use Rattle.std.specs.List.{AllByRecursion};
+ghost use Rattle.clap.specs.Words.{FailsBy, app_of, fault_of, rule_of, subcommand_of, subcommand_rows_of, with_subcommand};
 ghost use Rattle.scf_request.specs.CommandLine.{flag_rule, option_rule, reading_rule, rules_of_options, scf};
-ghost use Rattle.scf_request.specs.Requests.Command.{Answers, Ask, Asm, Check, Compare, Compile, Decide, Dis, Run};
-ghost use Rattle.scf_request.specs.internal.Parsing.{MakesNamed, ReadsAsProgram, command_of, definition_of, names_of_flags, option_of, options_kept, scf_of_filters};
+ghost use Rattle.scf_request.specs.internal.Parsing.{IsNamed, ReadsAsProgram, bare, command_of, option_of, options_kept, program_of, shape_of};
 
 use crate::options::{
-    ARCHITECTURES_FLAG, AT_FLAG, BESIDE_FLAG, CALLS_FLAG, DIFFERENCES_FLAG, DISPOSITION_FLAG,
-    EXAMPLES_FLAG, LEFT_OUT_FLAG, NATIVE_FLAG, NO_LESS_FLAG, NO_MORE_FLAG, NumberOption, PATH_FLAG,
-    READING_OPTION, call_options, comparison_options, exploration_options,
+    ARCHITECTURES_FLAG, AT_FLAG, BESIDE_FLAG, CALL_OPTIONS, CALLS_FLAG, COMPARISON_OPTIONS,
+    DIFFERENCES_FLAG, DISPOSITION_FLAG, EXAMPLES_FLAG, EXPLORATION_OPTIONS, LEFT_OUT_FLAG,
+    NATIVE_FLAG, NO_LESS_FLAG, NO_MORE_FLAG, NumberOption, PATH_FLAG, READING_OPTION,
 };
 use clap::{Arg, ArgAction, ArgMatches, Command, Error};
 use std::alloc::{AllocError, Global};
@@ -55,23 +55,6 @@ fn reading_argument<'a>(alloc: Global) -> Arg<'a>
         .help(READING_HELP)
 }
 
-/// A command with options that take numbers.
-fn command_with<'a>(
-    alloc: Global,
-    name: &'a str,
-    about: &'a str,
-    options: &[NumberOption],
-) -> Result<Command<'a>, AllocError>
-    ensures { IfOk result (λ command. app_of command
-        ≡ command_of name.now (map option_rule (options_kept options.now))) }
-{
-    let mut command = Command::new(alloc, name).about(about);
-    for option in options {
-        command = command.arg(argument_of(alloc, *option))?;
-    }
-    Ok(command)
-}
-
 /// A flag, for `clap`.
 fn flag_argument<'a>(alloc: Global, name: &'a str, help: &'a str) -> Arg<'a>
     ensures rule { rule_of result ≡ flag_rule name.now }
@@ -83,49 +66,16 @@ fn flag_argument<'a>(alloc: Global, name: &'a str, help: &'a str) -> Arg<'a>
         .help(help)
 }
 
-/// A command with options that take numbers, and that of a reading, if it takes one.
-fn command_reading<'a>(
-    alloc: Global,
-    name: &'a str,
-    about: &'a str,
-    options: &[NumberOption],
+/// What defines a command.
+#[derive(Clone, Copy)]
+struct Definition {
+    name: &'static str,
+    /// What the help says about it.
+    about: &'static str,
+    options: &'static [NumberOption],
     takes_reading: bool,
-) -> Result<Command<'a>, AllocError>
-    ensures { IfOk result (λ command. app_of command
-        ≡ command_of name.now (rules_of_options (options_kept options.now) takes_reading)) }
-{
-    let command = command_with(alloc, name, about, options)?;
-    if takes_reading {
-        command.arg(reading_argument(alloc))
-    } else {
-        Ok(command)
-    }
-}
-
-/// A command with these options and flags, each flag with its name and its help.
-fn define<'a>(
-    alloc: Global,
-    name: &'a str,
-    about: &'a str,
-    options: &[NumberOption],
-    takes_reading: bool,
-    flags: &[(&'a str, &'a str)],
-) -> Result<Command<'a>, AllocError>
-    ensures { IfOk result (λ command. app_of command ≡ command_of name.now
-        (rules_of_options (options_kept options.now) takes_reading ++ map flag_rule (names_of_flags flags.now))) }
-{
-    let mut command = command_reading(alloc, name, about, options, takes_reading)?;
-    for flag in flags {
-        command = command.arg(flag_argument(alloc, flag.0, flag.1))?;
-    }
-    Ok(command)
-}
-
-/// The command `check`.
-fn define_check<'a>(alloc: Global) -> Result<Command<'a>, AllocError>
-    ensures { IfOk result (λ command. app_of command ≡ definition_of Check) }
-{
-    define(alloc, "check", "Checks a filter", &[], false, &[])
+    /// Its flags, each with its name and its help.
+    flags: &'static [(&'static str, &'static str)],
 }
 
 /// The flags of `run`, each with its help.
@@ -133,14 +83,6 @@ const RUN_FLAGS: [(&str, &str); 1] = [(
     PATH_FLAG,
     "Also the indices of the instructions on the way",
 )];
-
-/// The command `run`.
-fn define_run<'a>(alloc: Global) -> Result<Command<'a>, AllocError>
-    ensures { IfOk result (λ command. app_of command ≡ definition_of Run) }
-{
-    let about = "Runs a filter on a call";
-    define(alloc, "run", about, &call_options(), false, &RUN_FLAGS)
-}
 
 /// The flags of `decide`, each with its help.
 const DECIDE_FLAGS: [(&str, &str); 2] = [
@@ -154,37 +96,6 @@ const DECIDE_FLAGS: [(&str, &str); 2] = [
     ),
 ];
 
-/// The command `decide`.
-fn define_decide<'a>(alloc: Global) -> Result<Command<'a>, AllocError>
-    ensures { IfOk result (λ command. app_of command ≡ definition_of Decide) }
-{
-    let about = "Runs a bundle of filters on a call";
-    define(
-        alloc,
-        "decide",
-        about,
-        &call_options(),
-        false,
-        &DECIDE_FLAGS,
-    )
-}
-
-/// The command `dis`.
-fn define_dis<'a>(alloc: Global) -> Result<Command<'a>, AllocError>
-    ensures { IfOk result (λ command. app_of command ≡ definition_of Dis) }
-{
-    let about = "Lists a filter, which isn't checked";
-    define(alloc, "dis", about, &[], false, &[])
-}
-
-/// The command `asm`.
-fn define_asm<'a>(alloc: Global) -> Result<Command<'a>, AllocError>
-    ensures { IfOk result (λ command. app_of command ≡ definition_of Asm) }
-{
-    let about = "Assembles a text, which isn't checked";
-    define(alloc, "asm", about, &[], false, &[])
-}
-
 /// The flags of `compile`, each with its help.
 const COMPILE_FLAGS: [(&str, &str); 2] = [
     (ARCHITECTURES_FLAG, TABLES_HELP),
@@ -193,14 +104,6 @@ const COMPILE_FLAGS: [(&str, &str); 2] = [
         "First the skipped names and the other architectures, as `compare` prints them, and a line that ends them",
     ),
 ];
-
-/// The command `compile`.
-fn define_compile<'a>(alloc: Global) -> Result<Command<'a>, AllocError>
-    ensures { IfOk result (λ command. app_of command ≡ definition_of Compile) }
-{
-    let about = "Compiles a bundle of a profile and a table";
-    define(alloc, "compile", about, &[], true, &COMPILE_FLAGS)
-}
 
 /// The flags of `compare`, each with its help.
 const COMPARE_FLAGS: [(&str, &str); 7] = [
@@ -231,31 +134,8 @@ const COMPARE_FLAGS: [(&str, &str); 7] = [
     ),
 ];
 
-/// The command `compare`.
-fn define_compare<'a>(alloc: Global) -> Result<Command<'a>, AllocError>
-    ensures { IfOk result (λ command. app_of command ≡ definition_of Compare) }
-{
-    let about = "Compares a bundle of filters, a profile and a table";
-    define(
-        alloc,
-        "compare",
-        about,
-        &comparison_options(),
-        true,
-        &COMPARE_FLAGS,
-    )
-}
-
 /// The flags of `ask`, each with its help.
 const ASK_FLAGS: [(&str, &str); 1] = [(ARCHITECTURES_FLAG, TABLES_HELP)];
-
-/// The command `ask`.
-fn define_ask<'a>(alloc: Global) -> Result<Command<'a>, AllocError>
-    ensures { IfOk result (λ command. app_of command ≡ definition_of Ask) }
-{
-    let about = "Says what a profile answers to a call, and why, of a bundle with a table";
-    define(alloc, "ask", about, &call_options(), true, &ASK_FLAGS)
-}
 
 /// The flags of `answers`, each with its help.
 const ANSWERS_FLAGS: [(&str, &str); 5] = [
@@ -275,28 +155,112 @@ const ANSWERS_FLAGS: [(&str, &str); 5] = [
     (EXAMPLES_FLAG, "Also a call of each region"),
 ];
 
-/// The command `answers`.
-fn define_answers<'a>(alloc: Global) -> Result<Command<'a>, AllocError>
-    ensures { IfOk result (λ command. app_of command ≡ definition_of Answers) }
+/// The commands, in the order of the help.
+static COMMANDS: [Definition; 9] = [
+    Definition {
+        name: "check",
+        about: "Checks a filter",
+        options: &[],
+        takes_reading: false,
+        flags: &[],
+    },
+    Definition {
+        name: "run",
+        about: "Runs a filter on a call",
+        options: &CALL_OPTIONS,
+        takes_reading: false,
+        flags: &RUN_FLAGS,
+    },
+    Definition {
+        name: "decide",
+        about: "Runs a bundle of filters on a call",
+        options: &CALL_OPTIONS,
+        takes_reading: false,
+        flags: &DECIDE_FLAGS,
+    },
+    Definition {
+        name: "dis",
+        about: "Lists a filter, which isn't checked",
+        options: &[],
+        takes_reading: false,
+        flags: &[],
+    },
+    Definition {
+        name: "asm",
+        about: "Assembles a text, which isn't checked",
+        options: &[],
+        takes_reading: false,
+        flags: &[],
+    },
+    Definition {
+        name: "compile",
+        about: "Compiles a bundle of a profile and a table",
+        options: &[],
+        takes_reading: true,
+        flags: &COMPILE_FLAGS,
+    },
+    Definition {
+        name: "compare",
+        about: "Compares a bundle of filters, a profile and a table",
+        options: &COMPARISON_OPTIONS,
+        takes_reading: true,
+        flags: &COMPARE_FLAGS,
+    },
+    Definition {
+        name: "ask",
+        about: "Says what a profile answers to a call, and why, of a bundle with a table",
+        options: &CALL_OPTIONS,
+        takes_reading: true,
+        flags: &ASK_FLAGS,
+    },
+    Definition {
+        name: "answers",
+        about: "Lists what filters, or a profile with a table, answer to every call, by regions of calls",
+        options: &EXPLORATION_OPTIONS,
+        takes_reading: true,
+        flags: &ANSWERS_FLAGS,
+    },
+];
+
+/// A command with its options that take numbers.
+fn command_with<'a>(alloc: Global, definition: &Definition) -> Result<Command<'a>, AllocError>
+    ensures { IfOk result (λ command. app_of command
+        ≡ command_of definition.now.name.now (map option_rule (options_kept definition.now.options.now))) }
 {
-    let about =
-        "Lists what filters, or a profile with a table, answer to every call, by regions of calls";
-    define(
-        alloc,
-        "answers",
-        about,
-        &exploration_options(),
-        true,
-        &ANSWERS_FLAGS,
-    )
+    let mut command = Command::new(alloc, definition.name).about(definition.about);
+    for option in definition.options {
+        command = command.arg(argument_of(alloc, *option))?;
+    }
+    Ok(command)
+}
+
+/// A command with these, and that of a reading, if it takes one.
+fn command_reading<'a>(alloc: Global, definition: &Definition) -> Result<Command<'a>, AllocError>
+    ensures { IfOk result (λ command. app_of command ≡ command_of definition.now.name.now
+        (rules_of_options (options_kept definition.now.options.now) definition.now.takes_reading)) }
+{
+    let command = command_with(alloc, definition)?;
+    if definition.takes_reading {
+        command.arg(reading_argument(alloc))
+    } else {
+        Ok(command)
+    }
+}
+
+/// A command with all its options and flags.
+fn define<'a>(alloc: Global, definition: &Definition) -> Result<Command<'a>, AllocError>
+    ensures { IfOk result (λ command. app_of command ≡ record { top = shape_of definition.now; subs = [] }) }
+{
+    let mut command = command_reading(alloc, definition)?;
+    for flag in definition.flags {
+        command = command.arg(flag_argument(alloc, flag.0, flag.1))?;
+    }
+    Ok(command)
 }
 
 /// The program without commands.
 fn program_alone<'a>(alloc: Global) -> Command<'a>
-    ensures { app_of result ≡ record {
-      top = record (new_app (codes "scf")).top { has_version = true; subcommand_required = true };
-      subs = [];
-    } }
+    ensures { app_of result ≡ bare }
 {
     Command::new(alloc, "scf")
         .version(VERSION)
@@ -304,73 +268,60 @@ fn program_alone<'a>(alloc: Global) -> Command<'a>
         .subcommand_required(true)
 }
 
-/// The program with one more command, if both could be allocated.
-fn with<'a>(
-    program: Result<Command<'a>, AllocError>,
-    command: Result<Command<'a>, AllocError>,
+/// The program with one more command.
+fn with_command<'a>(
+    alloc: Global,
+    program: Command<'a>,
+    definition: &Definition,
 ) -> Result<Command<'a>, AllocError>
-    ensures { (before : App) (shape : Shape) → IfOk program.entry (λ p. app_of p ≡ before)
-        → IfOk command.entry (λ c. app_of c ≡ record { top = shape; subs = [] }) → shape.is_plain ≡ true
-        → IfOk result (λ whole. app_of whole ≡ with_subcommand before shape) }
+    ensures { IfOk result (λ whole. app_of whole ≡ with_subcommand (app_of program.entry) (shape_of definition.now)) }
 {
-    let Ok(program) = program else {
-        return Err(AllocError);
-    };
-    let Ok(command) = command else {
-        return Err(AllocError);
-    };
+    let command = define(alloc, definition)?;
     program.subcommand(command)
 }
 
-/// The program with the commands that take no profile.
-fn program_of_filters<'a>(alloc: Global) -> Result<Command<'a>, AllocError>
-    ensures { IfOk result (λ command. app_of command ≡ scf_of_filters) }
+/// The program with these commands.
+fn program<'a>(alloc: Global, definitions: &[Definition]) -> Result<Command<'a>, AllocError>
+    ensures { IfOk result (λ program. app_of program ≡ program_of definitions.now) }
 {
-    let program = with(Ok(program_alone(alloc)), define_check(alloc));
-    let program = with(program, define_run(alloc));
-    let program = with(program, define_decide(alloc));
-    let program = with(program, define_dis(alloc));
-    with(program, define_asm(alloc))
+    let mut program = program_alone(alloc);
+    for definition in definitions {
+        program = with_command(alloc, program, definition)?;
+    }
+    Ok(program)
 }
 
-/// The program with all its commands.
-fn program<'a>(alloc: Global) -> Result<Command<'a>, AllocError>
-    ensures { IfOk result (λ command. app_of command ≡ scf) }
+/// The definitions of the commands.
+fn commands() -> &'static [Definition]
+    ensures whole { program_of result.now ≡ scf }
+    ensures each { AllByRecursion (λ definition. IsNamed definition.name.now definition) result.now }
 {
-    let program = with(program_of_filters(alloc), define_compile(alloc));
-    let program = with(program, define_compare(alloc));
-    let program = with(program, define_ask(alloc));
-    with(program, define_answers(alloc))
+    &COMMANDS
 }
 
-/// The command with this name.
-fn command_named<'a>(alloc: Global, word: &str) -> Option<Result<Command<'a>, AllocError>>
-    ensures { IfSome result (MakesNamed word.now) }
+/// The definition with this name.
+fn definition_named(definitions: &[Definition], name: &str) -> Option<Definition>
+    ensures { IfSome result (λ definition. Contains definitions.now definition × (name.now ≡ definition.name.now)) }
 {
-    Some(match word {
-        "answers" => define_answers(alloc),
-        "ask" => define_ask(alloc),
-        "asm" => define_asm(alloc),
-        "check" => define_check(alloc),
-        "compare" => define_compare(alloc),
-        "compile" => define_compile(alloc),
-        "decide" => define_decide(alloc),
-        "dis" => define_dis(alloc),
-        "run" => define_run(alloc),
-        _ => return None,
-    })
+    for definition in definitions {
+        if name == definition.name {
+            return Some(*definition);
+        }
+    }
+    None
 }
 
 /// The program with the command that the arguments name, or with all: defining a command costs more than running one.
 fn program_for<'a, T: AsStr>(alloc: Global, words: &[T]) -> Result<Command<'a>, AllocError>
     ensures { IfOk result (λ command. ReadsAsProgram (app_of command) (map T.text words.now)) }
 {
+    let definitions = commands();
     if let Some(word) = words.get(1) {
-        if let Some(command) = command_named(alloc, word.as_str()) {
-            return with(Ok(program_alone(alloc)), command);
+        if let Some(definition) = definition_named(definitions, word.as_str()) {
+            return program(alloc, &[definition]);
         }
     }
-    program(alloc)
+    program(alloc, definitions)
 }
 
 /// Parses the arguments, the first being the program's name. The error is help, the version, a usage error or out of

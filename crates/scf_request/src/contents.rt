@@ -3,12 +3,9 @@
 ghost use Rattle.std.specs.Prelude.{◌≡◌, ◌++◌, ◌∷◌, [], Err, IfOk, IfErr, OnOk};
 ghost use Rattle.scf_request.specs.Bundle.{AreNoParts, IsPartFault, kinds_of};
 ghost use Rattle.scf_request.specs.Contents.{IsHeldBy, rest_of};
-ghost use Rattle.scf_request.specs.internal.Contents.{AddsPart, HoldParts};
+ghost use Rattle.scf_request.specs.internal.Contents.{AddsPart};
 
-use crate::bundle::{
-    BundleFault, BundleForm, PROFILE_KINDS, PartKind, architecture_kinds, content_of, split_by,
-};
-use crate::request::Scopes;
+use crate::bundle::{BundleFault, BundleForm, PartKind, architecture_kinds, content_of, split_by};
 use scf_insn::{Architecture, Failed, Source};
 use std::alloc::Global;
 
@@ -61,49 +58,15 @@ impl<'a> Contents<'a> {
 
     /// The contents of the bundle of this form that the bytes spell. Errors are those of `split`, where the kinds of
     /// parts are those of the form.
+    #[tactic(auto, using(crate::proofs::BundleLemmas::part_inside))]
     pub fn of(alloc: Global, form: BundleForm, bytes: &'a [u8]) -> Result<Contents<'a>, BundleFault>
         ensures bundle { IfOk result (IsHeldBy form bytes.now) }
         ensures fault { IfErr result (AreNoParts (kinds_of form) bytes.now) }
         ensures first { (fault : BundleFault) → IsPartFault (kinds_of form) bytes.now 0 fault
             → result ≡ Err fault }
     {
-        match form {
-            BundleForm::Profile => Contents::of_kinds(alloc, bytes, &PROFILE_KINDS),
-            BundleForm::Architectures => Contents::of_kinds(alloc, bytes, &architecture_kinds()),
-            BundleForm::Beside(over) => Contents::beside(alloc, over, bytes),
-        }
-    }
-
-    /// The contents of the bundle of a comparison over these calls with other filters.
-    fn beside(alloc: Global, over: Scopes, bytes: &'a [u8]) -> Result<Contents<'a>, BundleFault>
-        ensures bundle { IfOk result (HoldParts (kinds_of (BundleForm.Beside over)) bytes.now) }
-        ensures fault { IfErr result (AreNoParts (kinds_of (BundleForm.Beside over)) bytes.now) }
-        ensures first { (fault : BundleFault) → IsPartFault (kinds_of (BundleForm.Beside over)) bytes.now 0 fault
-            → result ≡ Err fault }
-    {
-        match over {
-            Scopes::EachCall => {
-                let kinds = [PartKind::Filter, PartKind::Beside, PartKind::Table];
-                Contents::of_kinds(alloc, bytes, &kinds)
-            }
-            Scopes::AtOnce(_) => {
-                Contents::of_kinds(alloc, bytes, &[PartKind::Filter, PartKind::Beside])
-            }
-        }
-    }
-
-    /// The contents of the bundle that the bytes spell, with parts of these kinds.
-    #[tactic(auto, using(crate::proofs::BundleLemmas::part_inside))]
-    fn of_kinds(
-        alloc: Global,
-        bytes: &'a [u8],
-        kinds: &[PartKind],
-    ) -> Result<Contents<'a>, BundleFault>
-        ensures bundle { IfOk result (HoldParts kinds.now bytes.now) }
-        ensures fault { IfErr result (AreNoParts kinds.now bytes.now) }
-        ensures first { (fault : BundleFault) → IsPartFault kinds.now bytes.now 0 fault → result ≡ Err fault }
-    {
-        let parts = split_by(alloc, bytes, kinds)?;
+        let architectures = architecture_kinds();
+        let parts = split_by(alloc, bytes, form.kinds(&architectures))?;
         let mut contents = Contents {
             filters: Vec::new(alloc),
             profiles: Vec::new(alloc),

@@ -12,13 +12,20 @@ use clap::ArgMatches;
 use scf_insn::kernel::AUDIT_ARCH_X86_64;
 use scf_insn::{CallRecord, parse_number};
 use scf_profile::{Reading, Relation, Scope};
+use std::fmt;
 use thiserror::Error;
 
 /// An option whose text isn't a number in its range.
-#[derive(Clone, Copy, Debug, Error)]
+#[derive(Clone, Copy, Error)]
 #[error("the option {name} is no number in its range")]
 pub struct NumberFault {
     pub name: &'static str,
+}
+
+impl fmt::Debug for NumberFault {
+    fn fmt<W: fmt::Write>(&self, f: &mut fmt::Formatter<W>) -> fmt::Result {
+        fmt::Display::fmt(self, f)
+    }
 }
 
 /// An option that takes a number.
@@ -36,48 +43,46 @@ pub(crate) struct NumberOption {
 /// The greatest 32-bit number.
 const MAX_WORD: u64 = 0xffff_ffff;
 
-/// A 32-bit option.
-fn word(name: &'static str, default: u64, help: &'static str) -> NumberOption
-    ensures { option_of result ≡ table.word_option name.now default }
-{
-    NumberOption {
-        name,
-        default,
-        most: MAX_WORD,
-        help,
-    }
+/// A 32-bit option: its name, its value if it isn't given, and its help.
+macro_rules! word {
+    ($name:expr, $default:expr, $help:expr) => {
+        NumberOption {
+            name: $name,
+            default: $default,
+            most: MAX_WORD,
+            help: $help,
+        }
+    };
 }
 
 /// A 64-bit option.
-fn long(name: &'static str, default: u64, help: &'static str) -> NumberOption
-    ensures { option_of result ≡ table.long_option name.now default }
-{
-    NumberOption {
-        name,
-        default,
-        most: u64::MAX,
-        help,
-    }
+macro_rules! long {
+    ($name:expr, $default:expr, $help:expr) => {
+        NumberOption {
+            name: $name,
+            default: $default,
+            most: u64::MAX,
+            help: $help,
+        }
+    };
 }
 
 /// The options that describe a call record.
-pub(crate) fn call_options() -> [NumberOption; 9]
-    ensures options { options_kept result ≡ table.call_options }
-    ensures fair { AllByRecursion (λ o. o.default ≤ o.most) result }
-{
-    let arch = "The architecture [default: 0xc000003e, x86-64]";
-    [
-        word("nr", 0, "The number of the call [default: 0]"),
-        word("arch", u64::from(AUDIT_ARCH_X86_64), arch),
-        long("ip", 0, "The instruction pointer [default: 0]"),
-        long("a0", 0, "Argument 0 [default: 0]"),
-        long("a1", 0, "Argument 1 [default: 0]"),
-        long("a2", 0, "Argument 2 [default: 0]"),
-        long("a3", 0, "Argument 3 [default: 0]"),
-        long("a4", 0, "Argument 4 [default: 0]"),
-        long("a5", 0, "Argument 5 [default: 0]"),
-    ]
-}
+pub(crate) const CALL_OPTIONS: [NumberOption; 9] = [
+    word!("nr", 0, "The number of the call [default: 0]"),
+    word!(
+        "arch",
+        AUDIT_ARCH_X86_64 as u64,
+        "The architecture [default: 0xc000003e, x86-64]"
+    ),
+    long!("ip", 0, "The instruction pointer [default: 0]"),
+    long!("a0", 0, "Argument 0 [default: 0]"),
+    long!("a1", 0, "Argument 1 [default: 0]"),
+    long!("a2", 0, "Argument 2 [default: 0]"),
+    long!("a3", 0, "Argument 3 [default: 0]"),
+    long!("a4", 0, "Argument 4 [default: 0]"),
+    long!("a5", 0, "Argument 5 [default: 0]"),
+];
 
 /// The option of the first number of a range.
 const FIRST_NUMBER: &str = "nr-from";
@@ -87,41 +92,48 @@ const LAST_NUMBER: &str = "nr-to";
 
 /// The options of a comparison: its most steps, those of all comparisons of `--calls` together, its most splits, and
 /// the ends of a range of numbers.
-pub(crate) fn comparison_options() -> [NumberOption; 5]
-    ensures options { options_kept result ≡ table.comparison_options }
-    ensures fair { AllByRecursion (λ o. o.default ≤ o.most) result }
-{
-    let each = "The most steps of a comparison [default: 1000000]";
-    let total = "With --calls, the most steps of all its comparisons together [default: 10000000]";
-    let splits =
-        "The most splits of a comparison that tests leave undecided; 2^64-1 for no limit [default: 10000]";
-    let first =
-        "Only calls of x86-64, or of each of --architectures, with at least this number; not with --calls";
-    let last =
-        "Only calls of x86-64, or of each of --architectures, with at most this number; not with --calls";
-    [
-        long("limit", 1_000_000, each),
-        long("total-limit", 10_000_000, total),
-        long("splits", 10_000, splits),
-        word(FIRST_NUMBER, 0, first),
-        word(LAST_NUMBER, MAX_WORD, last),
-    ]
-}
+pub(crate) const COMPARISON_OPTIONS: [NumberOption; 5] = [
+    long!(
+        "limit",
+        1_000_000,
+        "The most steps of a comparison [default: 1000000]"
+    ),
+    long!(
+        "total-limit",
+        10_000_000,
+        "With --calls, the most steps of all its comparisons together [default: 10000000]"
+    ),
+    long!(
+        "splits",
+        10_000,
+        "The most splits of a comparison that tests leave undecided; 2^64-1 for no limit [default: 10000]"
+    ),
+    word!(
+        FIRST_NUMBER,
+        0,
+        "Only calls of x86-64, or of each of --architectures, with at least this number; not with --calls"
+    ),
+    word!(
+        LAST_NUMBER,
+        MAX_WORD,
+        "Only calls of x86-64, or of each of --architectures, with at most this number; not with --calls"
+    ),
+];
 
 /// The options of a walk over the records of a scope: its most steps, and the ends of a range of numbers.
-pub(crate) fn exploration_options() -> [NumberOption; 3]
-    ensures options { options_kept result ≡ table.exploration_options }
-    ensures fair { AllByRecursion (λ o. o.default ≤ o.most) result }
-{
-    let limit = "The most steps [default: 1000000]";
-    let first = "Only calls of x86-64, or of each of --architectures, with at least this number";
-    let last = "Only calls of x86-64, or of each of --architectures, with at most this number";
-    [
-        long("limit", 1_000_000, limit),
-        word(FIRST_NUMBER, 0, first),
-        word(LAST_NUMBER, MAX_WORD, last),
-    ]
-}
+pub(crate) const EXPLORATION_OPTIONS: [NumberOption; 3] = [
+    long!("limit", 1_000_000, "The most steps [default: 1000000]"),
+    word!(
+        FIRST_NUMBER,
+        0,
+        "Only calls of x86-64, or of each of --architectures, with at least this number"
+    ),
+    word!(
+        LAST_NUMBER,
+        MAX_WORD,
+        "Only calls of x86-64, or of each of --architectures, with at most this number"
+    ),
+];
 
 /// The option of the reading of a profile.
 pub(crate) const READING_OPTION: &str = "reading";
@@ -283,7 +295,7 @@ pub fn record_of(matches: &ArgMatches<'_>) -> Result<CallRecord, NumberFault>
     ensures { table.SpellsCall (rows_of (found_of matches.now)) result }
 {
     let mut numbers = [0; 9];
-    numbers_in(matches, &call_options(), &mut numbers)?;
+    numbers_in(matches, &CALL_OPTIONS, &mut numbers)?;
     let [nr, arch, ip, a0, a1, a2, a3, a4, a5] = numbers;
     Ok(CallRecord {
         nr: nr as u32,
@@ -313,7 +325,7 @@ pub(crate) fn comparison_numbers(matches: &ArgMatches<'_>) -> Result<ComparisonN
         table.first_wrong table.comparison_options (rows_of (found_of matches.now)) ≡ Some fault.name.now) }
 {
     let mut numbers = [0; 5];
-    numbers_in(matches, &comparison_options(), &mut numbers)?;
+    numbers_in(matches, &COMPARISON_OPTIONS, &mut numbers)?;
     let [each, total, splits, first, last] = numbers;
     Ok(ComparisonNumbers {
         limits: Limits {
@@ -335,7 +347,7 @@ pub(crate) fn exploration_numbers(matches: &ArgMatches<'_>) -> Result<(u64, u32,
         table.first_wrong table.exploration_options (rows_of (found_of matches.now)) ≡ Some fault.name.now) }
 {
     let mut numbers = [0; 3];
-    numbers_in(matches, &exploration_options(), &mut numbers)?;
+    numbers_in(matches, &EXPLORATION_OPTIONS, &mut numbers)?;
     let [limit, first, last] = numbers;
     Ok((limit, first as u32, last as u32))
 }
@@ -344,10 +356,7 @@ pub(crate) fn exploration_numbers(matches: &ArgMatches<'_>) -> Result<(u64, u32,
 fn has_text(matches: &ArgMatches<'_>, name: &str) -> bool
     ensures { result ≡ is_some (first_of name.now (rows_of (found_of matches.now))) }
 {
-    match matches.get_str(name) {
-        Some(_) => true,
-        None => false,
-    }
+    matches.get_str(name).is_some()
 }
 
 /// Whether an end of a range of numbers is given.

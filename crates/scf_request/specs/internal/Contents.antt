@@ -3,11 +3,10 @@ use Rattle.std.specs.Prelude.{◌≡◌, ℕ, List, [], ◌∷◌, ◌++◌, Res
 use Rattle.scf_insn.specs.declared.architecture.Architecture.TheVariants.{X8664}
 use Rattle.scf_request.specs.declared.bundle.BundleFault.{BundleFault}
 use Rattle.scf_request.specs.declared.bundle.BundleFault.TheVariants.{Memory}
-use Rattle.scf_request.specs.declared.bundle.Part.{Part}
 use Rattle.scf_request.specs.declared.bundle.PartKind.{PartKind}
 use Rattle.scf_request.specs.declared.bundle.PartKind.TheVariants.{Beside, BesideProfile, CountsOf, Filter, Profile, StubOf, Table, TableOf}
 use Rattle.scf_request.specs.declared.contents.Contents.{Contents}
-use Rattle.scf_request.specs.Bundle.{Held, SpellsParts, held_of}
+use Rattle.scf_request.specs.Bundle.{Held}
 use Rattle.scf_request.specs.Contents.{held_by}
 
 -- one more part is held, behind those of its kind
@@ -24,9 +23,3 @@ with_part (CountsOf architecture) bytes held = record held { counts = held.count
 abbrev pub AddsPart : PartKind → List ℕ → Contents → Result (Unit {0}) BundleFault → Contents → Type 0
 AddsPart added bytes old (Ok done) new = held_by new ≡ with_part added bytes (held_by old)
 AddsPart added bytes old (Err fault) new = fault ≡ Memory
-
--- Bytes spell parts of these kinds, which hold this.
-pub record HoldParts (kinds : List PartKind) (bytes : List ℕ) (contents : Contents) : Type 0 where
-  pub parts : List Part
-  pub spelled : SpellsParts kinds 0 bytes parts
-  pub is_held : held_by contents ≡ held_of bytes parts

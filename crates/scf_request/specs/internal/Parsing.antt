@@ -1,14 +1,12 @@
 -- The program's options and commands, as it defines them.
-use Rattle.std.specs.Prelude.{◌≡◌, ℕ, List, [], ◌∷◌, map, true, Result, IfOk}
-use Rattle.std.specs.declared.alloc.AllocError.{AllocError}
+use Rattle.std.specs.Prelude.{◌≡◌, ℕ, List, [], ◌∷◌, ◌++◌, codes, fold, map, true}
 use Rattle.std.specs.Borrow.{Bor}
-use Rattle.clap.specs.declared.builder.command.Command.{Command as Definition}
-use Rattle.clap.specs.Words.{App, Rule, Text, app_of, fault_of, is_simple_and_free, new_app, subcommand_of}
+use Rattle.clap.specs.Words.{App, Rule, Shape, Text, fault_of, is_simple_and_free, new_app, subcommand_of, with_subcommand}
+use Rattle.scf_request.specs.declared.command_line.Definition.{Definition}
 use Rattle.scf_request.specs.declared.options.NumberOption.{NumberOption as Kept}
 use Rattle.scf_request.specs.Options.{NumberOption}
-use Rattle.scf_request.specs.CommandLine.{scf, scf_shape, shape_for}
+use Rattle.scf_request.specs.CommandLine.{flag_rule, rules_of_options, scf, scf_shape, shape_for}
 use Rattle.scf_request.specs.Requests.{Command, command_word}
-use Rattle.scf_request.specs.Requests.Command.{Asm, Check, Decide, Dis, Run}
 
 abbrev pub option_of : Kept → NumberOption
 option_of o = record { name = o.name.now; default = o.default; most = o.most }
@@ -28,25 +26,31 @@ command_of name rules = record { top = record (new_app name).top { rules = rules
 abbrev pub names_of_flags : List (Bor (List ℕ) × Bor (List ℕ)) → List (List ℕ)
 names_of_flags = map (λ flag. flag.0.now)
 
--- a command by itself
-abbrev pub definition_of : Command → App
-definition_of command = record { top = shape_for command; subs = [] }
-
--- the program with its commands that take no profile
-abbrev pub scf_of_filters : App
-scf_of_filters = record {
-  top = scf_shape;
-  subs = map shape_for (Check ∷ Run ∷ Decide ∷ Dis ∷ Asm ∷ []);
+-- what a definition of a command comes to
+abbrev pub shape_of : Definition → Shape
+shape_of d = record (new_app d.name.now).top {
+  rules = rules_of_options (options_kept d.options.now) d.takes_reading ++ map flag_rule (names_of_flags d.flags.now);
 }
+
+-- the program without its commands
+abbrev pub bare : App
+bare = record {
+  top = record (new_app (codes "scf")).top { has_version = true; subcommand_required = true };
+  subs = [];
+}
+
+-- the program with the commands of these definitions
+abbrev pub program_of : List Definition → App
+program_of definitions = fold with_subcommand bare (map shape_of definitions)
 
 -- the program with one of its commands
 abbrev pub scf_with : Command → App
 scf_with command = record { top = scf_shape; subs = shape_for command ∷ [] }
 
--- the word names a command, and what is made, unless memory is wanting, is its definition
-abbrev pub MakesNamed : Text → Result Definition AllocError → Type 0
-MakesNamed word made =
-    (command : Command) × (word ≡ command_word command) × IfOk made (λ d. app_of d ≡ definition_of command)
+-- the word names a command, and this is its definition
+abbrev pub IsNamed : Text → Definition → Type 0
+IsNamed word definition =
+    (command : Command) × (word ≡ command_word command) × (shape_of definition ≡ shape_for command)
 
 -- The words come to the same by this definition as by the program's.
 pub record ReadsAsProgram (app : App) (words : List Text) : Type 0 where

@@ -6,8 +6,8 @@ pub loop-option-preserved : goal.loop-option-preserved
 loop-option-preserved c =
     c.in_ok-command.ensures.shape c.argument_of.ensures.local
     ∙ ap₂ with_rule c.loop-option.invariant c.argument_of.ensures.rule
-    ∙ sym (rules_more option_rule option_of c.args.name.now [] c.args.options.now c.loop-option.option-index _
-    c.loop-option-test.true)
+    ∙ sym (rules_more option_rule option_of c.args.definition.now.name.now [] c.args.definition.now.options.now
+    c.loop-option.option-index _ c.loop-option-test.true)
 
 pub returns : goal.returns
 returns c = rw (take_all _ _ c.loop-option-test.false) at c.loop-option.invariant

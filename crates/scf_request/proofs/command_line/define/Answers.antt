@@ -6,9 +6,9 @@ pub loop-flag-preserved : goal.loop-flag-preserved
 loop-flag-preserved c =
     c.in_ok-command-2.ensures.shape c.flag_argument.ensures.local
     ∙ ap₂ with_rule c.loop-flag.invariant c.flag_argument.ensures.rule
-    ∙ sym (rules_more flag_rule (λ flag. flag.0.now) c.args.name.now
-    (rules_of_options (options_kept c.args.options.now) c.args.takes_reading) c.args.flags.now
-    c.loop-flag.flag-index _ c.loop-flag-test.true)
+    ∙ sym (rules_more flag_rule (λ flag. flag.0.now) c.args.definition.now.name.now
+    (rules_of_options (options_kept c.args.definition.now.options.now) c.args.definition.now.takes_reading)
+    c.args.definition.now.flags.now c.loop-flag.flag-index _ c.loop-flag-test.true)
 
 pub returns : goal.returns
 returns c = rw (take_all _ _ c.loop-flag-test.false) at c.loop-flag.invariant

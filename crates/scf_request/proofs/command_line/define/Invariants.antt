@@ -2,6 +2,6 @@ use Rattle.scf_request.proofs.Common.{◌≡◌, ◌++◌, app_of, command_of, f
 use Rattle.scf_request.proofs.command_line.define.Given as goal
 
 abbrev pub invariant-loop-flag : goal.invariant-loop-flag
-invariant-loop-flag l = app_of l.command ≡ command_of l.name
-    (rules_of_options (options_kept l.options) l.takes_reading
-    ++ map flag_rule (names_of_flags (take l.flag-index l.flags)))
+invariant-loop-flag l = app_of l.command ≡ command_of l.definition.name.now
+    (rules_of_options (options_kept l.definition.options.now) l.definition.takes_reading
+    ++ map flag_rule (names_of_flags (take l.flag-index l.definition.flags.now)))

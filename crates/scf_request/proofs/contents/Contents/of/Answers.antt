@@ -1,19 +1,15 @@
+use Rattle.scf_request.proofs.Common.{take_all}
+use Rattle.scf_request.proofs.ContentLemmas.{held_more}
 use Rattle.scf_request.proofs.contents.Contents.of.Goals as goal
 
-pub returns-in-Profile-clause-fault : goal.returns-in-Profile-clause-fault
-returns-in-Profile-clause-fault c = rw c.in-Profile.is c.of_kinds.ensures.fault
+pub loop-part-preserved : goal.loop-part-preserved
+loop-part-preserved c =
+    held_more c.args.bytes.now _ c.deref-part-items.result.now c.loop-part.part-index _ _ _ c.loop-part-test.true
+    c.content_of.ensures c.loop-part.invariant c.in_ok-add.ensures
 
-pub returns-in-Profile-clause-first : goal.returns-in-Profile-clause-first
-returns-in-Profile-clause-first c = rw c.in-Profile.is c.of_kinds.ensures.first
-
-pub returns-in-Architectures-clause-fault : goal.returns-in-Architectures-clause-fault
-returns-in-Architectures-clause-fault c = rw c.in-Architectures.is (rw c.architecture_kinds.ensures at c.of_kinds-in-Architectures.ensures.fault)
-
-pub returns-in-Architectures-clause-first : goal.returns-in-Architectures-clause-first
-returns-in-Architectures-clause-first c = rw c.in-Architectures.is (rw c.architecture_kinds.ensures at c.of_kinds-in-Architectures.ensures.first)
-
-pub returns-in-Beside-clause-fault : goal.returns-in-Beside-clause-fault
-returns-in-Beside-clause-fault c = rw c.in-Beside.is c.beside.ensures.fault
-
-pub returns-in-Beside-clause-first : goal.returns-in-Beside-clause-first
-returns-in-Beside-clause-first c = rw c.in-Beside.is c.beside.ensures.first
+pub returns-clause-bundle : goal.returns-clause-bundle
+returns-clause-bundle c = record {
+  parts = c.in_ok-parts.parts.items;
+  spelled = rw c.kinds.ensures at c.in_ok-parts.ensures.parts;
+  is_held = rw (take_all _ _ c.loop-part-test.false, c.deref-part-items.ensures.value) at c.loop-part.invariant;
+}
