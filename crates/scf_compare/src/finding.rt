@@ -8,14 +8,14 @@ use crate::verdict::Verdict;
 use scf_insn::{Answer, CallRecord};
 
 /// One of the two sides of a comparison.
-#[derive(Clone, Copy, Debug)]
+#[derive(Clone, Copy)]
 pub enum Which {
     Left,
     Right,
 }
 
 /// What a comparison of two sides comes to.
-#[derive(Clone, Copy, Debug)]
+#[derive(Clone, Copy)]
 pub enum Finding {
     /// The relation holds of the answers to every record of the scope. `steps` were taken.
     Holds {

@@ -49,6 +49,16 @@ pub(crate) fn known_result(arithmetic: Arithmetic, first: Bits, second: Bits) ->
             value: compute(arithmetic, first.value, second.value),
         };
     }
+    result_by_bits(arithmetic, first, second)
+}
+
+/// The bits that `first op second` is known to have, bit by bit.
+#[tactic(auto, using(crate::proofs::KnownBits::result_laws))]
+fn result_by_bits(arithmetic: Arithmetic, first: Bits, second: Bits) -> Bits
+    ensures within { bit_and result.value result.mask ≡ result.value }
+    ensures stands { (x y : ℕ) → x < 2 ^ 32 → y < 2 ^ 32 → HasBits first x → HasBits second y
+        → HasBits result (value_computed arithmetic x y) }
+{
     match arithmetic {
         Arithmetic::Add => sum_bits(first, second),
         Arithmetic::Sub => inverted(sum_bits(inverted(first), second)),

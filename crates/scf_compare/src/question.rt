@@ -68,17 +68,6 @@ impl Question {
     }
 }
 
-/// A question, and where its two answers lead.
-fn ask(atom: Atom, if_true: Successor, if_false: Successor) -> Question
-    ensures { result ≡ record { atom = atom; if_true = if_true; if_false = if_false } }
-{
-    Question {
-        atom,
-        if_true,
-        if_false,
-    }
-}
-
 /// The question of one part of a condition.
 #[tactic(auto, using(crate::proofs::MaskedSides::masked_test))]
 pub(crate) fn question_of(condition: Condition, part: ConditionPart) -> Question
@@ -95,52 +84,56 @@ pub(crate) fn question_of(condition: Condition, part: ConditionPart) -> Question
     let low = 2 * condition.index + 4;
     let high = low + 1;
     let (met, unmet) = (Decided(expected), Decided(!expected));
-    match (part, test) {
-        (ConditionPart::High, NumberTest::Masked { mask, value }) => {
-            let mask = high_half(mask);
-            let value = high_half(value);
-            ask(
-                Atom::Eq {
+    match part {
+        ConditionPart::High => match test {
+            NumberTest::Masked { mask, value } => Question {
+                atom: Atom::Eq {
                     word: high,
-                    mask,
-                    value,
+                    mask: high_half(mask),
+                    value: high_half(value),
                 },
-                Then(Low),
-                unmet,
-            )
-        }
-        (ConditionPart::High, NumberTest::Greater(value) | NumberTest::GreaterOrEqual(value)) => {
-            ask(word_is(high, high_half(value)), Then(Low), Then(Above))
-        }
-        (
-            ConditionPart::Above,
+                if_true: Then(Low),
+                if_false: unmet,
+            },
+            NumberTest::Greater(value) | NumberTest::GreaterOrEqual(value) => Question {
+                atom: word_is(high, high_half(value)),
+                if_true: Then(Low),
+                if_false: Then(Above),
+            },
+        },
+        ConditionPart::Above => match test {
             NumberTest::Masked { value, .. }
             | NumberTest::Greater(value)
-            | NumberTest::GreaterOrEqual(value),
-        ) => {
-            let value = high_half(value);
-            ask(Atom::Gt { word: high, value }, met, unmet)
-        }
-        (ConditionPart::Low, NumberTest::Masked { mask, value }) => {
-            let mask = low_half(mask);
-            let value = low_half(value);
-            ask(
-                Atom::Eq {
-                    word: low,
-                    mask,
-                    value,
+            | NumberTest::GreaterOrEqual(value) => Question {
+                atom: Atom::Gt {
+                    word: high,
+                    value: high_half(value),
                 },
-                met,
-                unmet,
-            )
-        }
-        (ConditionPart::Low, NumberTest::Greater(value)) => {
-            let value = low_half(value);
-            ask(Atom::Gt { word: low, value }, met, unmet)
-        }
-        (ConditionPart::Low, NumberTest::GreaterOrEqual(value)) => {
-            let value = low_half(value);
-            ask(Atom::Ge { word: low, value }, met, unmet)
+                if_true: met,
+                if_false: unmet,
+            },
+        },
+        ConditionPart::Low => {
+            let atom = match test {
+                NumberTest::Masked { mask, value } => Atom::Eq {
+                    word: low,
+                    mask: low_half(mask),
+                    value: low_half(value),
+                },
+                NumberTest::Greater(value) => Atom::Gt {
+                    word: low,
+                    value: low_half(value),
+                },
+                NumberTest::GreaterOrEqual(value) => Atom::Ge {
+                    word: low,
+                    value: low_half(value),
+                },
+            };
+            Question {
+                atom,
+                if_true: met,
+                if_false: unmet,
+            }
         }
     }
 }

@@ -3,9 +3,9 @@
 ghost use Rattle.std.specs.Prelude.{◌≡◌};
 
 use scf_facts::Atom;
+use std::alloc::AllocError;
 
 /// A step from a node of a tree of questions about words. `E` is the type of its leaves.
-#[derive(Clone, Copy)]
 pub(crate) enum Step<N, E> {
     /// To the only next node.
     Next(N),
@@ -15,14 +15,33 @@ pub(crate) enum Step<N, E> {
     Leaf(E),
 }
 
+impl<N: Copy, E: Copy> Copy for Step<N, E> {}
+
+impl<N: Copy, E: Copy> Clone for Step<N, E> {
+    ghost is_clone = { λ step copy. copy ≡ step };
+
+    fn clone(&self) -> Result<Step<N, E>, AllocError> {
+        Ok(*self)
+    }
+}
+
 /// A later node of a tree of questions, and what was passed on the way to it.
-#[derive(Clone, Copy)]
 pub(crate) struct Passed<N> {
     pub(crate) node: N,
     /// How many steps were taken.
     pub(crate) steps: u64,
     /// How many of them ask what the store knows.
     pub(crate) asked: u64,
+}
+
+impl<N: Copy> Copy for Passed<N> {}
+
+impl<N: Copy> Clone for Passed<N> {
+    ghost is_clone = { λ passed copy. copy ≡ passed };
+
+    fn clone(&self) -> Result<Passed<N>, AllocError> {
+        Ok(*self)
+    }
 }
 
 impl<N: Copy> Passed<N> {

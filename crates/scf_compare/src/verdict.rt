@@ -3,7 +3,7 @@
 use scf_insn::{Answer, CallRecord};
 
 /// The verdict of a comparison of a filter (or a stack) with a profile.
-#[derive(Clone, Copy, Debug, PartialEq, Eq)]
+#[derive(Clone, Copy)]
 pub enum Verdict {
     /// The relation holds of the answers to every record of the scope. `steps` were taken.
     Same {
