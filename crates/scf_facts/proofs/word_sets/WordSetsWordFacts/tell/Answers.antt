@@ -1,0 +1,48 @@
+use Rattle.scf_facts.specs.declared.atom.Tell.{Tell}
+use Rattle.scf_facts.specs.declared.atom.Tell.TheVariants.{Always, Maybe, Never}
+use Rattle.scf_facts.proofs.Common.{◌≡◌, ℕ, List, Atom, atom_answer, refl, true, false}
+use Rattle.scf_facts.proofs.Levels.{now}
+use Rattle.scf_facts.proofs.word_sets.WordSetsWordFacts.tell.Goals as goal
+
+-- what is known where the answer is true of some allowed words, and false of some, if it isn't known
+module _ (tell : Tell) (atom : Atom) (Allowed : List ℕ → Type 0)
+    (always : tell ≡ Always → (words : List ℕ) → Allowed words → atom_answer atom words ≡ true)
+    (never : tell ≡ Never → (words : List ℕ) → Allowed words → atom_answer atom words ≡ false)
+    (maybe : tell ≡ Maybe → ((words : List ℕ) × Allowed words × (atom_answer atom words ≡ true))
+    × ((words : List ℕ) × Allowed words × (atom_answer atom words ≡ false)))
+    (some : List ℕ) (allowed : Allowed some) where
+  told_always : ((words : List ℕ) → Allowed words → atom_answer atom words ≡ true) → tell ≡ Always
+  told_always all = by_tell tell refl
+    where
+      by_tell : (told : Tell) → tell ≡ told → tell ≡ Always
+      by_tell Always is = is
+      by_tell Never is = absurd (let no = never is some allowed in let yes = all some allowed in cc)
+      by_tell Maybe is =
+          let one = (maybe is).1 in absurd (let no = one.2 in let yes = all one.0 one.1 in cc)
+
+  told_never : ((words : List ℕ) → Allowed words → atom_answer atom words ≡ false) → tell ≡ Never
+  told_never all = by_tell tell refl
+    where
+      by_tell : (told : Tell) → tell ≡ told → tell ≡ Never
+      by_tell Never is = is
+      by_tell Always is = absurd (let yes = always is some allowed in let no = all some allowed in cc)
+      by_tell Maybe is =
+          let one = (maybe is).0 in absurd (let yes = one.2 in let no = all one.0 one.1 in cc)
+
+pub returns-clause-law_always : goal.returns-clause-law_always
+returns-clause-law_always c = simp now c.tell.ensures.always
+
+pub returns-clause-law_never : goal.returns-clause-law_never
+returns-clause-law_never c = simp now c.tell.ensures.never
+
+pub returns-clause-told_always : goal.returns-clause-told_always
+returns-clause-told_always c =
+    simp now (λ of_word exact some allowed all.
+    told_always c.tell.result c.args.atom _ c.tell.ensures.always c.tell.ensures.never
+    (λ maybe. c.tell.ensures.both of_word maybe exact some allowed) some allowed all)
+
+pub returns-clause-told_never : goal.returns-clause-told_never
+returns-clause-told_never c =
+    simp now (λ of_word exact some allowed all.
+    told_never c.tell.result c.args.atom _ c.tell.ensures.always c.tell.ensures.never
+    (λ maybe. c.tell.ensures.both of_word maybe exact some allowed) some allowed all)
