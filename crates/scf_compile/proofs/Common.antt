@@ -1,12 +1,9 @@
 -- The names that proofs of this crate cite, passed on from one place. Declares nothing.
-pub use Rattle.std.proofs.Common.{All, AllPairs, Bool, Contains, IsTrue, List, Some, [], ap, append_assoc, arith, rules as auto_rules, bit_and, cond, drop, eqb, false, get_or, inl, inr, leb, length, length-append, length-take, ltb, map, max, min, not, Option, None, refl, rules, slice_get, slice_index, subst, suc, sum_by, sym, take, tests, true, zero, ℕ, ◌%◌, ◌*◌, ◌++◌, ◌+◌, ◌-◌, ◌/◌, ◌<◌, ◌^◌, ◌∙◌, ◌∷◌, ◌≡◌, ◌≢◌, ◌≤◌, ◌⊎◌}
+pub use Rattle.std.proofs.Common.{All, AllPairs, Bool, Contains, IsTrue, List, Some, [], ap, append_assoc, arith, rules as auto_rules, bit_and, cond, drop, eqb, false, get_or, inl, inr, leb, length, length-append, ltb, map, max, min, not, Option, None, refl, rules, slice_get, slice_index, subst, suc, sum_by, sym, take, tests, true, zero, ℕ, ◌%◌, ◌*◌, ◌++◌, ◌+◌, ◌-◌, ◌/◌, ◌<◌, ◌^◌, ◌∙◌, ◌∷◌, ◌≡◌, ◌≢◌, ◌≤◌, ◌⊎◌}
 pub use Rattle.std.proofs.Math.Seq.{drop-append-add}
 pub use Rattle.std.proofs.lemmas.List.{get_or-append-add, get_or_append_left, get_or_default, nil_from_length}
 pub use Rattle.std.proofs.lemmas.Fn.{filter_same}
-pub use Rattle.std.proofs.lemmas.Iterator.{IsFirst-from_position, YieldsList-from_take, YieldsList-from_zip}
-pub use Rattle.std.proofs.lemmas.Iterator.Adapters.{YieldsList-from_skip}
-pub use Rattle.std.proofs.lemmas.Iterator.Consumers.{YieldsList-from_deque}
-pub use Rattle.std.proofs.lemmas.List.Elements.{All-cons, All-from_all_within, All-head, All-tail}
+pub use Rattle.std.proofs.lemmas.List.Elements.{All-cons, All-head, All-tail}
 pub use Rattle.std.proofs.lemmas.List.Filters.{length-filter_both, sum_by-filter_both}
 pub use Rattle.std.proofs.lemmas.List.Sums.{sum_by-append, sum_by-cons, sum_by-le, sum_by_more}
 pub use Rattle.std.proofs.lemmas.Map.Steps.{length-le_from_distinct_below}
@@ -14,7 +11,7 @@ pub use Rattle.std.proofs.lemmas.Nat.{and_mask}
 pub use Rattle.std.proofs.lemmas.Nat.Bits.{and_pow, bit_at-lt}
 pub use Rattle.std.proofs.lemmas.Option.{same_Some, slice_get-get_or}
 pub use Rattle.std.specs.Int.Bits.{and_zero_l, and_zero_r}
-pub use Rattle.std.specs.List.{filter, find, zip}
+pub use Rattle.std.specs.List.{filter, find}
 pub use lib.Pointwise.{pointwise, pointwise_decides}
 pub use Rattle.scf_insn.proofs.Codes.{asks_for}
 pub use Rattle.scf_insn.proofs.Common.{IsPowerOfTwo, IsRecord, IsSimpleMask, and_mod, and_shr, argument, bpf_maxinsns, drop_more, high, low, mask_kind, seccomp_ret_kill_process, words_of}
@@ -39,7 +36,7 @@ pub use Rattle.scf_insn.specs.declared.record.CallRecord.{CallRecord}
 pub use Rattle.scf_machine.proofs.Chains.{answer_of_part, chain_of_part, part_between, run_behind}
 pub use Rattle.scf_machine.proofs.Common.{All-push, Goes, IsFine, IsFineAt, IsPart, IsPlainOperation, IsPlainProgram, IsReturn, IsRunFrom, IsValidList, KeepsScratchRule, RunAnswers, Stands, gets, holds, moved, slice_get_read, slice_get_within, step, take_more, test_holds}
 pub use Rattle.scf_machine.proofs.Meets.{run_once}
-pub use Rattle.scf_profile.proofs.Common.{All-contains, All-contains_itself, All-filter, All-from_recursion, All-map, AllByRecursion, AreConditions, AreNumbersOf, Contains-permutation, HaveDistinctIndices, IfOk-weaker, IsCondition, IsPlainCondition, IsPlainProfile, IsPlainRule, IsProfile, IsRule, Profile, ProfileAnswers, SameAnswers, YieldsList-from_slice, all_hold, and_assoc, and_self, bit_at, cases_from_all, cases_Bool, cases_eq, cases_lt, common_steps, eq-eqb, eqb-false, eqb-true, foreign, get_or-map, get_or-take, le-leb, length-drop, length-map, list_any, lt-ltb, meets, nat_tests, ne_eqb, numbers_of, recursion_from_All, rules_of, take_all}
+pub use Rattle.scf_profile.proofs.Common.{All-contains, All-contains_itself, All-filter, All-from_recursion, All-map, AllByRecursion, AreConditions, AreNumbersOf, Contains-permutation, HaveDistinctIndices, IfOk-weaker, IsCondition, IsPlainCondition, IsPlainProfile, IsPlainRule, IsProfile, IsRule, Profile, ProfileAnswers, SameAnswers, all_hold, and_assoc, and_self, bit_at, cases_Bool, cases_eq, cases_lt, common_steps, eq-eqb, eqb-false, eqb-true, foreign, get_or-map, le-leb, length-drop, length-map, list_any, lt-ltb, meets, nat_tests, ne_eqb, numbers_of, recursion_from_All, rules_of, take_all}
 pub use Rattle.scf_profile.proofs.NumberLists.{count_of_numbers, each_number, number_in, own_some, rises, sum_of_rules}
 pub use Rattle.scf_profile.proofs.Numbers.{number_there}
 pub use Rattle.scf_profile.specs.Profile.{AreOfApart}

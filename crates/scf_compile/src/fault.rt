@@ -1,18 +1,31 @@
 //! Why a profile isn't compiled.
 
 use scf_insn::Memory;
-use scf_insn::kernel::BPF_MAXINSNS;
+use std::fmt;
 use thiserror::Error;
 
 /// Why a profile isn't compiled.
-#[derive(Clone, Copy, Debug, Error)]
+#[derive(Clone, Copy, Error)]
 pub enum CompileFault {
     /// The filter would have more than `BPF_MAXINSNS` (4096) instructions. This can happen only if `size_bound` exceeds
     /// that.
-    #[error("the filter would have more than {most} instructions", most = BPF_MAXINSNS)]
     TooLarge,
-    #[error("out of memory")]
     Memory,
+}
+
+impl fmt::Display for CompileFault {
+    fn fmt<W: fmt::Write>(&self, f: &mut fmt::Formatter<W>) -> fmt::Result {
+        f.write_str(match self {
+            CompileFault::TooLarge => "the filter would have more than 4096 instructions",
+            CompileFault::Memory => "out of memory",
+        })
+    }
+}
+
+impl fmt::Debug for CompileFault {
+    fn fmt<W: fmt::Write>(&self, f: &mut fmt::Formatter<W>) -> fmt::Result {
+        fmt::Display::fmt(self, f)
+    }
 }
 
 impl From<Memory> for CompileFault {

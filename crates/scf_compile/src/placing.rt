@@ -21,8 +21,12 @@ fn find(code: &VecDeque<Insn>, wanted: Insn) -> Option<Position>
     ensures some { IfSome result (IsPut (wanted ∷ []) code.now.items code.now.items) }
     ensures none { IfNone result (IsOutOfReach wanted code.now.items) }
 {
-    let passed = code.iter().take(MAX_SKIP).position(|insn| *insn == wanted)?;
-    Some(Position(code.len() - passed))
+    for passed in 0..code.len().min(MAX_SKIP) {
+        if code.get(passed) == Some(&wanted) {
+            return Some(Position(code.len() - passed));
+        }
+    }
+    None
 }
 
 /// Puts instructions in front of the code.
@@ -54,11 +58,15 @@ fn stands_behind(code: &VecDeque<Insn>, passed: usize, block: &[Insn]) -> bool
     requires { passed ≤ length code.now.items }
     ensures { IsTrue result → StandsBehind passed block.now code.now.items }
 {
-    block.len() <= code.len() - passed
-        && block
-            .iter()
-            .zip(code.iter().skip(passed))
-            .all(|(wanted, insn)| wanted == insn)
+    if block.len() > code.len() - passed {
+        return false;
+    }
+    for (i, insn) in block.iter().enumerate() {
+        if code.get(passed + i) != Some(insn) {
+            return false;
+        }
+    }
+    true
 }
 
 /// The nearest position of a block, from `earlier` on, that a conditional jump, put in front of the code, can reach.

@@ -22,10 +22,18 @@ pub(crate) struct NrRange<'a> {
 fn are_alike(rules: &[Rule], others: &[Rule]) -> bool
     ensures { IsTrue result → (default : Answer) → StandsFor default rules.now others.now }
 {
-    rules.len() == others.len()
-        && rules.iter().zip(others).all(|(left, right)| {
-            left.answer == right.answer && left.conditions.as_slice() == right.conditions.as_slice()
-        })
+    if rules.len() != others.len() {
+        return false;
+    }
+    for (i, rule) in rules.iter().enumerate() {
+        let other = &others[i];
+        if rule.answer != other.answer
+            || rule.conditions.as_slice() != other.conditions.as_slice()
+        {
+            return false;
+        }
+    }
+    true
 }
 
 /// The rules of a syscall number, or none if all of them give the default answer.

@@ -29,10 +29,11 @@ fn bound_of_rules(rules: &[Rule]) -> u64
     requires { sum_by rule_bound rules.now < 2 ^ 31 }
     ensures { result ≡ sum_by rule_bound rules.now }
 {
-    rules
-        .iter()
-        .map(|rule| 2 + 8 * rule.conditions.as_slice().len() as u64)
-        .sum()
+    let mut bound = 0;
+    for rule in rules {
+        bound += 2 + 8 * rule.conditions.as_slice().len() as u64;
+    }
+    bound
 }
 
 /// The size bound of a profile's filter, in instructions: 8, plus 4 for each distinct syscall number, plus 2 for each

@@ -118,7 +118,10 @@ fn split_by_low(
 fn median(alloc: Global, values: &[ArgumentValue]) -> Result<u32, AllocError>
     requires { 0 < length values.now }
 {
-    let mut sorted: Vec<u32> = values.iter().map(|v| low_half(v.value)).collect(alloc)?;
+    let mut sorted = Vec::new(alloc);
+    for value in values {
+        sorted.push(low_half(value.value))?;
+    }
     sorted.sort()?;
     Ok(sorted[values.len() / 2])
 }

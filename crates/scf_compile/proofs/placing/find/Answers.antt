@@ -1,27 +1,28 @@
-use Rattle.scf_compile.proofs.Common.{rules, tests, ◌≡◌, ◌≢◌, ◌+◌, ◌-◌, ◌<◌, ◌∷◌, [], drop, length, get_or, refl, sym, ap, ◌∙◌, arith, inl, drop_more, get_or-take, length-take, All-from_all_within, IsFirst-from_position, YieldsList-from_deque, YieldsList-from_take, Insn}
+use Rattle.scf_compile.proofs.Common.{rules, tests, ◌≡◌, ◌≢◌, ◌+◌, ◌-◌, ◌<◌, ◌≤◌, ◌∷◌, [], List, ℕ, min, cases_lt, inr, drop, length, take, get_or, refl, sym, ap, ◌∙◌, arith, inl, drop_more, take_all, Insn}
+use Rattle.std.proofs.lemmas.List.Elements.{All-more, All-same}
 use Rattle.scf_compile.proofs.placing.find.Goals as goal
 
-pub returns-in_err-passed-clause-none : goal.returns-in_err-passed-clause-none
-returns-in_err-passed-clause-none c =
-    let wanted = c.args.wanted in
-    let told = IsFirst-from_position c.position.new.self _ _ (λ insn. insn ≡ wanted) (λ insn. insn ≢ wanted)
-    c.position.ensures.ran (YieldsList-from_take 255 (YieldsList-from_deque c.args.code.now.items cc) cc)
-    (λ x q k. search (rules, tests)) (λ x q k. search (rules, tests)) in
-    rw c.from_residual.ensures (All-from_all_within (λ insn. insn ≢ wanted) _ (rw c.in_err-passed.was at told))
+-- the instructions within reach are all where they are fewer
+near : (code : List Insn) (i : ℕ) → min (length code) 255 ≤ i → i ≤ 255 → take i code ≡ take 255 code
+near code i all few = elim (cases_lt i 255) [
+  | inl lt ↦ take_all i code (omega arith) ∙ sym (take_all 255 code (omega arith))
+  | inr le ↦
+      let same : i ≡ 255 = omega arith in
+      ap (λ (n : ℕ). take n code) same
+]
 
-pub returns-clause-some : goal.returns-clause-some
-returns-clause-some c =
+pub returns-then-eq-clause-some : goal.returns-then-eq-clause-some
+returns-then-eq-clause-some c =
     let code = c.args.code.now.items in
     let wanted = c.args.wanted in
-    let i = c.in_ok-passed.passed in
-    let told = rw c.in_ok-passed.was at (IsFirst-from_position c.position.new.self _ _ (λ insn. insn ≡ wanted)
-    (λ insn. insn ≢ wanted) c.position.ensures.ran (YieldsList-from_take 255 (YieldsList-from_deque code cc) cc)
-    (λ x q k. search (rules, tests)) (λ x q k. search (rules, tests))) in
-    let inside : i < length code = omega (arith, told.0, length-take 255 code) in
-    let reached : i < 255 = omega (arith, told.0, length-take 255 code) in
-    let len : c.len.result ≡ length code = search rules in
-    let here : get_or code i wanted ≡ wanted = sym (get_or-take 255 code i wanted reached) ∙ told.1 wanted in
-    let passed : length code - (c.len.result - i) ≡ i = omega arith in
+    let i = c.loop-passed.passed in
+    let whole : c.len.result ≡ length code = search rules in
+    let len : c.len-then-eq.result ≡ length code = search rules in
+    let end = c.min-passed-end.ensures in
+    let inside : i < length code = omega arith in
+    let reached : i < 255 = omega arith in
+    let here : get_or code i wanted ≡ wanted = search (rules, tests) in
+    let passed : length code - (c.len-then-eq.result - i) ≡ i = omega arith in
     record {
       front = [];
       whole = refl;
@@ -33,3 +34,22 @@ returns-clause-some c =
       near = record { stands = omega arith; near = omega arith };
       once = λ insn is. inl refl;
     }
+
+pub loop-passed-preserved : goal.loop-passed-preserved
+loop-passed-preserved c =
+    let code = c.args.code.now.items in
+    let i = c.loop-passed.passed in
+    let whole : c.len.result ≡ length code = search rules in
+    let end = c.min-passed-end.ensures in
+    let inside : i < length code = omega arith in
+    let other : get_or code i c.args.wanted ≢ c.args.wanted = search (rules, tests) in
+    All-more (λ (insn : Insn). insn ≢ c.args.wanted) code i c.args.wanted inside c.loop-passed.invariant other
+
+pub returns-clause-none : goal.returns-clause-none
+returns-clause-none c =
+    let code = c.args.code.now.items in
+    let whole : c.len.result ≡ length code = search rules in
+    let end = c.min-passed-end.ensures in
+    let all : take c.loop-passed.passed code ≡ take 255 code = near code c.loop-passed.passed (omega arith) (omega arith) in
+    All-same (λ (insn : Insn). insn ≢ c.args.wanted) (take 255 code) (take c.loop-passed.passed code) (sym all)
+    c.loop-passed.invariant
