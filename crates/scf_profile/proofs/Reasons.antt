@@ -1,5 +1,6 @@
 -- The reason of an answer.
-use Rattle.scf_profile.proofs.Common.{◌≡◌, ℕ, zero, suc, ◌≤◌, ◌<◌, inl, inr, List, [], ◌∷◌, Some, refl, ap, arith, min, All, length, Contains, filter, fold, reduce, AllByRecursion, Architecture, cases_lt, false, false_from_ne_true, length-map, All-from_recursion, CallRecord, IsRecord, Reason, Foreign, Stub, Entry, Default, Rule, meets, Profile, HaveNoConflict, ProfileAnswers, entries_met, IsReason, IsAnswerOf}
+use Rattle.scf_profile.proofs.Common.{◌≡◌, ℕ, zero, suc, ◌≤◌, ◌<◌, inl, inr, List, [], ◌∷◌, Option, Some, None, common_steps, refl, ap, arith, min, All, length, Contains, filter, fold, reduce, AllByRecursion, Architecture, cases_lt, false, false_from_ne_true, length-map, All-from_recursion, CallRecord, IsRecord, Reason, Foreign, Stub, Entry, Default, Rule, meets, Profile, HaveNoConflict, ProfileAnswers, entries_met, IsReason, IsAnswerOf}
+use Rattle.std.specs.Option.{unwrap_or}
 use Rattle.scf_profile.proofs.Answering.{only_default, only_foreign, only_rule, only_stub}
 use Rattle.scf_profile.proofs.Numbers.{contains_filtered}
 
@@ -26,6 +27,24 @@ least_of (n ∷ numbers) least e =
     let same : fold min n numbers ≡ least = cc in
     let least_number = least_of_fold n numbers in
     rw (← same) (least_number.0, All-from_recursion (λ number. fold min n numbers ≤ number) (n ∷ numbers) least_number.1)
+
+-- the least of numbers, and of one before them if there is one
+abbrev pub least_with : Option ℕ → List ℕ → Option ℕ
+least_with None numbers = reduce min numbers
+least_with (Some least) numbers = Some (fold min least numbers)
+
+pub least_with_next : (least : Option ℕ) (n : ℕ) (numbers : List ℕ)
+    → least_with least (n ∷ numbers) ≡ least_with (Some (min (unwrap_or least n) n)) numbers
+least_with_next None n numbers =
+    let same : min n n ≡ n = omega arith in
+    rw same refl
+least_with_next (Some least) n numbers = refl
+
+pub least_with_none : (least : Option ℕ) → least_with least [] ≡ least
+least_with_none None = refl
+least_with_none (Some least) = refl
+
+pub ruleset least_steps = (common_steps, least_with_next, least_with_none)
 
 -- where no entry has a rule that is met, no rule is
 unmet_by_none : (a : Architecture) (rules : List Rule) (call : CallRecord) → entries_met a rules call ≡ []

@@ -51,8 +51,12 @@ fn find_action(entry: Option<u32>, name: &str, object: &Value) -> Result<Action,
     ensures { result ≡ and_then (required entry name.now as_str (view object.now))
         (λ text. ok_or (action_named text) (faults.Action entry)) }
 {
-    let member = member_of(object, name).ok_or(LoadFault::Missing { entry })?;
-    let text = member.as_str().ok_or(LoadFault::Kind { entry })?;
+    let Some(member) = member_of(object, name) else {
+        return Err(LoadFault::Missing { entry });
+    };
+    let Some(text) = member.as_str() else {
+        return Err(LoadFault::Kind { entry });
+    };
     action_of(text).ok_or(LoadFault::Action { entry })
 }
 

@@ -22,9 +22,12 @@ pub(crate) fn table_named<'a, 't>(
 ) -> Option<&'a ArchitectureTable<'t>>
     ensures { option_map (λ t. t.now) result ≡ find (λ t. named name.now t.architecture) tables.now }
 {
-    tables
-        .iter()
-        .find(|table| is_named(name, table.architecture))
+    for table in tables {
+        if is_named(name, table.architecture) {
+            return Some(table);
+        }
+    }
+    None
 }
 
 /// The first table of an architecture.

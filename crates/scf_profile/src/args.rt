@@ -46,7 +46,9 @@ fn find_index(entry: Option<u32>, object: &Value) -> Result<u8, LoadFault>
         (λ number. ok_or (number_below seccomp_data_args number) (faults.Index entry)) }
     ensures range { IfOk result (λ index. index < seccomp_data_args) }
 {
-    let member = member_of(object, "index").ok_or(LoadFault::Missing { entry })?;
+    let Some(member) = member_of(object, "index") else {
+        return Err(LoadFault::Missing { entry });
+    };
     if let Some(index) = member.as_u64() {
         return if index < u64::from(ARGUMENTS) {
             Ok(index as u8)
@@ -64,15 +66,21 @@ fn find_operator(entry: Option<u32>, object: &Value) -> Result<Operator, LoadFau
     ensures { result ≡ and_then (required entry (codes "op") as_str (view object.now))
         (λ text. ok_or (operator_named text) (faults.Operator entry)) }
 {
-    let member = member_of(object, "op").ok_or(LoadFault::Missing { entry })?;
-    let name = member.as_str().ok_or(LoadFault::Kind { entry })?;
+    let Some(member) = member_of(object, "op") else {
+        return Err(LoadFault::Missing { entry });
+    };
+    let Some(name) = member.as_str() else {
+        return Err(LoadFault::Kind { entry });
+    };
     operator_of(name).ok_or(LoadFault::Operator { entry })
 }
 
 fn find_value(entry: Option<u32>, object: &Value) -> Result<u64, LoadFault>
     ensures { result ≡ required entry (codes "value") unsigned_number (view object.now) }
 {
-    let member = member_of(object, "value").ok_or(LoadFault::Missing { entry })?;
+    let Some(member) = member_of(object, "value") else {
+        return Err(LoadFault::Missing { entry });
+    };
     member.as_u64().ok_or(LoadFault::Kind { entry })
 }
 

@@ -114,7 +114,7 @@ impl Condition {
         let value = self.value;
         match self.op {
             Operator::NotEqual => Some(NumberSet::AllBut(value)),
-            Operator::Less => value.checked_sub(1).map(NumberSet::AtMost),
+            Operator::Less => Some(NumberSet::AtMost(value.checked_sub(1)?)),
             Operator::LessOrEqual => Some(NumberSet::AtMost(value)),
             Operator::Equal => NumberSet::masked(bits, u64::MAX, value),
             Operator::GreaterOrEqual => NumberSet::at_least(bits, value),
@@ -160,14 +160,24 @@ impl Conditions {
     pub(crate) fn are_plain(&self) -> bool
         ensures { IsTrue result ↔ All IsPlainCondition self.now }
     {
-        self.list.iter().all(Condition::is_plain)
+        for condition in &self.list {
+            if !condition.is_plain() {
+                return false;
+            }
+        }
+        true
     }
 
     /// Whether none of them compares anything.
     pub(crate) fn compare_nothing(&self, bits: ArgumentBits) -> bool
         ensures { result ≡ list_all (nothing_compared bits) self.now }
     {
-        self.list.iter().all(|c| c.compares_nothing(bits))
+        for condition in &self.list {
+            if !condition.compares_nothing(bits) {
+                return false;
+            }
+        }
+        true
     }
 
     /// The conditions, in order.

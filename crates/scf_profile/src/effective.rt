@@ -13,7 +13,12 @@ use std::alloc::{AllocError, Global};
 fn first_unconditional(architecture: Architecture, number: u32, rules: &[Rule]) -> Option<&Rule>
     ensures { option_map (λ r. r.now) result ≡ first_stated architecture number rules.now }
 {
-    rules.iter().find(|rule| rule.number == number && rule.is_unconditional(architecture))
+    for rule in rules {
+        if rule.number == number && rule.is_unconditional(architecture) {
+            return Some(rule);
+        }
+    }
+    None
 }
 
 /// Whether a rule answers as the first one of its number without conditions, if there is one.

@@ -165,9 +165,12 @@ pub(crate) fn rules_under(
 fn is_in_none(tables: &[ArchitectureTable], name: &str) -> bool
     ensures { result ≡ list_all (λ t. is_none (get t.1 name.now)) (tables_of tables.now) }
 {
-    tables
-        .iter()
-        .all(|table| table.table.number_of(name).is_none())
+    for table in tables {
+        if table.table.number_of(name).is_some() {
+            return false;
+        }
+    }
+    true
 }
 
 /// Adds the names of an entry that no table has.

@@ -58,14 +58,11 @@ pub(crate) fn find_items<'v>(
 {
     match member_of(object, name) {
         None => Ok(&[]),
-        Some(member) => Ok(member.as_array().ok_or(LoadFault::Kind { entry })?),
+        Some(member) => match member.as_array() {
+            Some(items) => Ok(items),
+            None => Err(LoadFault::Kind { entry }),
+        },
     }
-}
-
-fn string_of(entry: Option<u32>, value: &Value) -> Result<&str, LoadFault>
-    ensures { result_map (λ s. s.now) result ≡ ok_or (as_str (view value.now)) (Kind entry) }
-{
-    value.as_str().ok_or(LoadFault::Kind { entry })
 }
 
 /// The strings of an array.
@@ -78,7 +75,9 @@ pub(crate) fn strings_of<'v>(
 {
     let mut texts = BorrowedTexts::new(alloc);
     for item in items {
-        let text = string_of(entry, item)?;
+        let Some(text) = item.as_str() else {
+            return Err(LoadFault::Kind { entry });
+        };
         texts.push(text)?;
     }
     Ok(texts)
@@ -94,8 +93,12 @@ pub(crate) fn find_names<'v>(
     ensures { Gives Memory result (and_then (required entry (codes "names") as_array (view object.now)) (λ items.
         and_then (refused_if (items_len items == 0) (EmptyNames entry)) (λ _. strings_stated entry items))) }
 {
-    let member = member_of(object, "names").ok_or(LoadFault::Missing { entry })?;
-    let names = member.as_array().ok_or(LoadFault::Kind { entry })?;
+    let Some(member) = member_of(object, "names") else {
+        return Err(LoadFault::Missing { entry });
+    };
+    let Some(names) = member.as_array() else {
+        return Err(LoadFault::Kind { entry });
+    };
     if names.is_empty() {
         return Err(LoadFault::EmptyNames { entry });
     }

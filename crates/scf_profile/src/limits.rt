@@ -8,9 +8,6 @@ pub const MAX_TEXT_LEN: usize = 4_194_304;
 /// The most rules of a profile.
 pub const MAX_RULES: usize = 4096;
 
-/// The deepest nesting of arrays and objects that is parsed (serde_json, `max_depth`).
-pub(crate) const MAX_DEPTH: u8 = 127;
-
 /// How many arguments a syscall has.
 pub(crate) const ARGUMENTS: u8 = SECCOMP_DATA_ARGS as u8;
 

@@ -55,10 +55,11 @@ fn calls_of(
     ensures calls { IfOk result (λ calls. calls.items ≡ map named_call named.entry.entries) }
     ensures ordered { IsOrdered nat_cmp named.entry }
 {
-    named
-        .into_iter()
-        .map(|(number, names)| NamedCall { number, names })
-        .collect(alloc)
+    let mut calls = Vec::new(alloc);
+    for (number, names) in named {
+        calls.push(NamedCall { number, names })?;
+    }
+    Ok(calls)
 }
 
 /// The entries of a table, by syscall number.

@@ -52,10 +52,11 @@ fn numbers_of_tree(
     ensures numbers { IfOk result (λ numbers. numbers.items ≡ map number_rules under.entries) }
     ensures ordered { IsOrdered nat_cmp under }
 {
-    under
-        .into_iter()
-        .map(|(number, rules)| NumberRules { number, rules })
-        .collect(alloc)
+    let mut numbers = Vec::new(alloc);
+    for (number, rules) in under {
+        numbers.push(NumberRules { number, rules })?;
+    }
+    Ok(numbers)
 }
 
 /// The distinct syscall numbers of rules in rising order, each with its rules in their order. `Err`: an allocation

@@ -46,7 +46,10 @@ fn find_object<'v>(object: &'v Value, name: &str) -> Result<&'v Value, LoadFault
     ensures { result_map (λ v. view v.now) result
         ≡ required None name.now object_stated (view object.now) }
 {
-    object_of(member_of(object, name).ok_or(LoadFault::Missing { entry: None })?)
+    match member_of(object, name) {
+        Some(member) => object_of(member),
+        None => Err(LoadFault::Missing { entry: None }),
+    }
 }
 
 /// The seccomp object: the root itself, or its `linux.seccomp`.
@@ -71,7 +74,12 @@ pub(crate) fn is_named(name: &str, architecture: Architecture) -> bool
 fn is_listed(names: &[&str], architecture: Architecture) -> bool
     ensures { result ≡ list_any (λ name. named name architecture) (texts_at names.now) }
 {
-    names.iter().any(|name| is_named(name, architecture))
+    for name in names {
+        if is_named(name, architecture) {
+            return true;
+        }
+    }
+    false
 }
 
 /// Refuses architectures without x86-64, unless there are none or a runtime adds it.

@@ -204,7 +204,12 @@ impl Profile {
 fn are_plain(rules: &[Rule]) -> bool
     ensures { IsTrue result ↔ All IsPlainRule rules.now }
 {
-    rules.iter().all(Rule::is_plain)
+    for rule in rules {
+        if !rule.is_plain() {
+            return false;
+        }
+    }
+    true
 }
 
 /// The first rule that a record of an architecture meets.
@@ -216,17 +221,25 @@ fn first_met<'r>(
     requires { All (λ r. All (λ c. c.index < seccomp_data_args) r.conditions) rules.now }
     ensures { option_map (λ r. r.now) result ≡ find (λ r. meets architecture r call.now) rules.now }
 {
-    rules.iter().find(|rule| rule.is_met(architecture, call))
+    for rule in rules {
+        if rule.is_met(architecture, call) {
+            return Some(rule);
+        }
+    }
+    None
 }
 
 /// The least index of an entry of which a record of an architecture meets a rule.
+#[tactic(auto, using(crate::proofs::Reasons::least_steps))]
 fn first_entry_met(architecture: Architecture, rules: &[Rule], call: &CallRecord) -> Option<u32>
     requires { All (λ r. All (λ c. c.index < seccomp_data_args) r.conditions) rules.now }
     ensures { result ≡ reduce min (entries_met architecture rules.now call.now) }
 {
-    rules
-        .iter()
-        .filter(|rule| rule.is_met(architecture, call))
-        .map(|rule| rule.entry)
-        .min()
+    let mut least: Option<u32> = None;
+    for rule in rules {
+        if rule.is_met(architecture, call) {
+            least = Some(least.unwrap_or(rule.entry).min(rule.entry));
+        }
+    }
+    least
 }

@@ -235,8 +235,10 @@ pub fn load_as(
     // A text that is too long is refused before anything is allocated.
     ensures long { max_text_len < length text.now → result ≡ Err TooMany }
 {
-    let value = parse(alloc, text)?;
-    let stated = read_root(alloc, reading, table, &value)?;
+    let stated = {
+        let value = parse(alloc, text)?;
+        read_root(alloc, reading, table, &value)?
+    };
     Ok(Loaded {
         profile: effective_profile(alloc, reading, stated.default_answer, stated.rules)?,
         skipped: stated.skipped,
@@ -385,8 +387,10 @@ pub fn load_profiles_as(
     // A text that is too long is refused before anything is allocated.
     ensures long { max_text_len < length text.now → result ≡ Err TooMany }
 {
-    let value = parse(alloc, text)?;
-    let stated = read_root_for(alloc, reading, tables, &value)?;
+    let stated = {
+        let value = parse(alloc, text)?;
+        read_root_for(alloc, reading, tables, &value)?
+    };
     Ok(LoadedProfiles {
         profiles: all_without_conflict(alloc, reading, stated.default_answer, stated.rules)?,
         skipped: stated.skipped,

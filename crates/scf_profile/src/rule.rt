@@ -94,5 +94,10 @@ fn all_hold(architecture: Architecture, conditions: &[Condition], call: &CallRec
     ensures { result ≡ all_conditions_hold architecture call.now conditions.now }
 {
     let bits = architecture.argument_bits();
-    conditions.iter().all(|c| c.holds_of(bits.taken(call.args[usize::from(c.index)])))
+    for condition in conditions {
+        if !condition.holds_of(bits.taken(call.args[usize::from(condition.index)])) {
+            return false;
+        }
+    }
+    true
 }

@@ -83,7 +83,12 @@ fn is_in_name(byte: u8) -> bool
 fn are_in_name(text: &[u8]) -> bool
     ensures { result ≡ list_all in_name text.now }
 {
-    text.iter().all(|byte| is_in_name(*byte))
+    for byte in text {
+        if !is_in_name(*byte) {
+            return false;
+        }
+    }
+    true
 }
 
 /// Letters, digits and underscores, of which the first is no digit.
@@ -125,7 +130,9 @@ pub(crate) fn entry_on(line: usize, text: &[u8]) -> Result<Option<(&str, u32)>, 
     if !is_name(name) {
         return Err(TableFault::Name { line });
     }
-    let number = call_number(digits).ok_or(TableFault::Number { line })?;
+    let Some(number) = call_number(digits) else {
+        return Err(TableFault::Number { line });
+    };
     let Ok(name) = str::from_utf8(name) else {
         unreachable!()
     };

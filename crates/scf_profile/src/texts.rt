@@ -7,7 +7,7 @@ use std::alloc::{AllocError, Global};
 use std::marker::Model;
 
 /// A list of texts, as bytes.
-#[derive(Debug, Drop)]
+#[derive(Drop)]
 pub struct Texts {
     list: Vec<String>,
 }

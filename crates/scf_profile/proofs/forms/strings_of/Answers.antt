@@ -6,9 +6,9 @@ pub loop-item-preserved : goal.loop-item-preserved
 unfolding each
 loop-item-preserved c = grind (arith, items_left)
 
-pub returns-in_err-text : goal.returns-in_err-text
+pub returns-in_default : goal.returns-in_default
 unfolding each
-returns-in_err-text c = grind (arith, items_at)
+returns-in_default c = grind (arith, items_at)
 
 pub returns : goal.returns
 unfolding each

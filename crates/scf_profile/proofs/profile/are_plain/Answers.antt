@@ -1,11 +1,21 @@
-use Rattle.scf_profile.proofs.Common.{rules, tests, arith, false≢true, YieldsList-from_slice, cases_from_all, true_from_All, IsPlainRule}
+use Rattle.scf_profile.proofs.Common.{rules, tests, sym, subst, take_all, both_ways, All-more, All-same, IsPlainRule}
 use Rattle.scf_profile.proofs.profile.are_plain.Goals as goal
 
+pub returns-then-not-is_plain : goal.returns-then-not-is_plain
+returns-then-not-is_plain c = (
+  λ no. absurd (cc),
+  λ all. absurd (both_ways _ c.if-not-is_plain.true
+      (c.is_plain.ensures.1
+      (subst IsPlainRule (sym c.rule-item.is) (all c.loop-rule.rule-index c.rule-item.result c.loop-rule-test.true)))),
+)
+
+pub loop-rule-preserved : goal.loop-rule-preserved
+loop-rule-preserved c =
+    All-more IsPlainRule c.args.rules.now c.loop-rule.rule-index c.rule-item.result c.loop-rule-test.true
+    c.loop-rule.invariant (subst IsPlainRule c.rule-item.is (c.is_plain.ensures.0 (search (rules, tests))))
+
 pub returns : goal.returns
-returns c =
-    let cases = cases_from_all _ _ _ IsPlainRule (λ r. IsPlainRule r → ⊥) c.all.ensures.ran
-    (YieldsList-from_slice c.args.rules.now cc) (λ x q k. search (rules, tests))
-    (λ x q k. search (rules, tests, false≢true)) in (
-      λ yes k d lt. (rw yes at cases) k d (omega arith) lt,
-      λ all. true_from_All IsPlainRule (λ r. IsPlainRule r → ⊥) _ c.args.rules.now (λ r is not. not is) cases all,
-    )
+returns c = (
+  λ yes. All-same IsPlainRule c.args.rules.now _ (sym (take_all _ _ c.loop-rule-test.false)) c.loop-rule.invariant,
+  λ all. search (rules, tests),
+)
