@@ -1,5 +1,5 @@
 -- Reading one statement after another.
-use Rattle.scf_text.proofs.Common.{◌≡◌, ◌≢◌, ℕ, ◌+◌, ◌-◌, ◌<◌, ◌≤◌, Bool, List, [], ◌∷◌, ◌++◌, length, map, Option, Some, None, Result, Ok, Err, refl, sym, ap, subst, ◌∙◌, append_assoc, append-nil, arith, inl, inr, zero-add, ltb, flat_map, lookup, is_some, option_or, option_to_list, unwrap_or, IsSome, IfOk, option_and, option_map, bytes_eq, OnErr, cond, true, false, prefix_len, nat_eq, nat_eq_equiv, length-append, length-map, map-append, All, All-append, All-contains, All-head, All-map, All-nil, All-push, All-tail, all_pairs_push, Contains-append_cases, Contains-append_left, Contains-append_right, Contains-push, Contains-push_cases, IsDistinct, IsDistinct-IsPermutation, IsDistinct-from_apart, IsNonDecreasing, IsPermutation, IsPermutation-append_left, IsPermutation-refl, IsPermutation-trans, cases_Bool, same_from_decides, nat_tests, bytes_eq-Decides, flat_map-append, TextFault, before_comment, lines_of, Statement, NumberedInsn, index_of, label_in, instruction_in, parsed_insns_in, label_at, labels_from, statements_from, IsFault, label_fault, instruction_fault, statements_fault, IsFirstRepeat, Labels, labels_at, repeat_fault, IsLinePart, line_at, name_at, AreKept, IsEnded, IsLeft, Leaves, HaveTokens, begins_of, part_statements, AddsInstruction, AddsLabel}
+use Rattle.scf_text.proofs.Common.{◌≡◌, ◌≢◌, ℕ, ◌+◌, ◌-◌, ◌<◌, ◌≤◌, Bool, List, [], ◌∷◌, ◌++◌, length, map, Option, Some, None, Result, Ok, Err, refl, sym, ap, subst, ◌∙◌, append_assoc, append-nil, arith, inl, inr, zero-add, ltb, flat_map, lookup, is_some, option_or, option_to_list, unwrap_or, IsSome, IfOk, option_and, option_map, bytes_eq, OnErr, cond, true, false, prefix_len, nat_eq, nat_eq_equiv, length-append, length-map, map-append, All, All-append, All-contains, All-head, All-map, All-nil, All-push, All-tail, all_pairs_push, Contains-append_cases, Contains-append_left, Contains-append_right, Contains-push, Contains-push_cases, IsDistinct, IsDistinct-IsPermutation, IsDistinct-from_apart, IsNonDecreasing, IsPermutation, IsPermutation-append_left, IsPermutation-refl, IsPermutation-trans, cases_Bool, same_from_decides, nat_tests, bytes_eq-Decides, flat_map-append, TextFault, before_comment, lines_of, Statement, NumberedInsn, index_of, label_in, instruction_in, parsed_insns_in, label_at, labels_from, statements_from, IsFault, label_fault, instruction_fault, statements_fault, IsFirstRepeat, TellsRepeat, Labels, labels_at, repeat_fault, IsLinePart, line_at, name_at, AreKept, IsEnded, IsLeft, Leaves, HaveTokens, begins_of, part_statements, AddsInstruction, AddsLabel}
 use Rattle.scf_text.specs.declared.fault.TextFault.TheVariants as fault
 use Rattle.std.proofs.lemmas.List.Sorted.{IsNonDecreasingBy-push}
 use Rattle.scf_text.proofs.IndexLemmas.{line_of_part, name_of_part}
@@ -336,6 +336,13 @@ pub some_refused : {T E : Type 0} (r : Result T E) (ts us : List (List ℕ)) →
     → OnErr r (ts ≢ [])
 some_refused (Ok x) ts us e some = tt
 some_refused (Err x) ts us e some = λ none. some (e ∙ rw none refl)
+
+-- the label is kept, and the labels were searched for repeats
+pub label_checked : {T : Type 0} (text old : List ℕ) (label : Option ℕ) (r : Result T TextFault) (new : List ℕ)
+    → IsPermutation (old ++ option_to_list label) new → (IsDistinct nat_eq new → TellsRepeat text new r)
+    → AddsLabel text old label r new
+label_checked text old label (Ok x) new kept tells = kept
+label_checked text old label (Err e) new kept tells = inr (kept, tells)
 
 -- a line is read before the lines behind it
 pub next_line : (n : ℕ) (text line bytes : List ℕ) (lines : List (List ℕ)) → lines_of text ≡ line ∷ lines

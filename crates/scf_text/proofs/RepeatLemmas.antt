@@ -2,9 +2,10 @@
 use Rattle.std.proofs.lemmas.List.{drop_more}
 use Rattle.std.proofs.lemmas.List.Sums.{take_while-cons}
 use Rattle.std.specs.List.{take_while}
-use Rattle.scf_text.specs.internal.Labels.{word_order}
+use Rattle.std.specs.Option.{option_cmp}
+use Rattle.scf_text.specs.internal.Labels.{front_byte, word_byte, word_order}
 use Rattle.scf_text.proofs.Common.{is_word_byte, drop, cond, [], ◌∷◌}
-use Rattle.scf_text.proofs.Common.{◌≡◌, ◌≢◌, ◌⊎◌, ℕ, ◌+◌, ◌-◌, ◌<◌, ◌≤◌, Bool, true, false, List, length, length-take-le, get_or, get_or-take, get_or_default, take, take_more, Decides, Option, Some, None, refl, sym, ap, ◌∙◌, min, arith, inl, inr, IsDistinct, IsPermutation, IsSortedBy, bytes_eq, bytes_eq-Decides, slice_cmp, nat_cmp, nat_tests, cases_lt, IsTotalOrder, Ordering, Less, Equal, Greater, is_lt, is_eq, ordering_then, ordering_reverse, nat_list_cmp_total, nat_cmp_total, on_total, then_total, ranks_by, sorted_far, is_eq-slice_cmp, apart_from_distinct, Contains-append_left, Contains-permutation, Contains-push, Contains-push_cases, Contains, MatchBool, cond, [], ◌∷◌, ◌++◌, IsPermutation-sym, nat_eq, unwrap_or, All, All-contains, option_or, cases_Bool, name_at, compared, is_before, IsRepeat, IsFirstRepeat, least}
+use Rattle.scf_text.proofs.Common.{◌≡◌, ◌≢◌, ◌⊎◌, ℕ, ◌+◌, ◌-◌, ◌<◌, ◌≤◌, Bool, true, false, List, length, length-drop, length-take-le, get_or, get_or-take, get_or_default, take, take_more, Decides, Option, Some, None, refl, sym, ap, ◌∙◌, min, arith, inl, inr, IsDistinct, IsPermutation, IsSortedBy, bytes_eq, bytes_eq-Decides, slice_cmp, nat_cmp, nat_tests, cases_lt, IsTotalOrder, Ordering, Less, Equal, Greater, is_lt, is_eq, ordering_then, ordering_reverse, nat_list_cmp_total, nat_cmp_total, on_total, then_total, ranks_by, sorted_far, is_eq-slice_cmp, apart_from_distinct, Contains-append_left, Contains-permutation, Contains-push, Contains-push_cases, Contains, MatchBool, cond, [], ◌∷◌, ◌++◌, IsPermutation-sym, nat_eq, unwrap_or, All, All-contains, option_or, cases_Bool, name_at, compared, is_before, IsRepeat, IsFirstRepeat, least}
 
 pub compared_total : (text : List ℕ) → IsTotalOrder (compared text)
 compared_total text = then_total (on_total (name_at text) nat_list_cmp_total) nat_cmp_total
@@ -239,6 +240,81 @@ drop_same p xs ys i lt below same passes =
     drop_more ys i 0 below ∙ ap (λ y. y ∷ drop (i + 1) ys) (sym same) in
     sym ((λ j. slice_cmp nat_cmp (take_while p (left j)) (take_while p (right j)))
     ∙ same_front p x (drop (i + 1) xs) (drop (i + 1) ys) passes)
+
+-- A byte of a word in front of one of them alone, or two that differ, decide how they compare.
+order_apart : (o later : Ordering) → (o ≡ Equal → ⊥) → o ≡ ordering_then o later
+order_apart Less later apart = refl
+order_apart Equal later apart = absurd (apart refl)
+order_apart Greater later apart = refl
+
+front_refused : (p : ℕ → Bool) (x : ℕ) (xs : List ℕ) → p x ≡ false → take_while p (x ∷ xs) ≡ []
+front_refused p x xs fails = take_while-cons p x xs ∙ ap (λ b. cond b (x ∷ take_while p xs) []) fails
+
+fronts_decide : (p : ℕ → Bool) (x y : ℕ) (xs ys : List ℕ) → (p x ≡ true → x ≢ y)
+    → option_cmp nat_cmp (front_byte p (x ∷ xs)) (front_byte p (y ∷ ys)) ≡ ordered_by p (x ∷ xs) (y ∷ ys)
+unfolding ordered_by
+fronts_decide p x y xs ys apart =
+    let byte : ℕ → Bool → Option ℕ = λ b passes. cond passes (Some b) None in
+    elim (cases_Bool (p x)) [
+      | inl px ↦ elim (cases_Bool (p y)) [
+        | inl py ↦
+            let left = front_taken p x xs px in
+            let right = front_taken p y ys py in
+            (λ i. option_cmp nat_cmp (byte x (px i)) (byte y (py i)))
+            ∙ order_apart (nat_cmp x y) (slice_cmp nat_cmp (take_while p xs) (take_while p ys))
+            (λ e. apart px (grind (arith, nat_tests, e)))
+            ∙ sym (λ i. slice_cmp nat_cmp (left i) (right i))
+        | inr py ↦
+            let left = front_taken p x xs px in
+            let right = front_refused p y ys py in
+            (λ i. option_cmp nat_cmp (byte x (px i)) (byte y (py i))) ∙ sym (λ i. slice_cmp nat_cmp (left i) (right i))
+      ]
+      | inr px ↦ elim (cases_Bool (p y)) [
+        | inl py ↦
+            let left = front_refused p x xs px in
+            let right = front_taken p y ys py in
+            (λ i. option_cmp nat_cmp (byte x (px i)) (byte y (py i))) ∙ sym (λ i. slice_cmp nat_cmp (left i) (right i))
+        | inr py ↦
+            let left = front_refused p x xs px in
+            let right = front_refused p y ys py in
+            (λ i. option_cmp nat_cmp (byte x (px i)) (byte y (py i))) ∙ sym (λ i. slice_cmp nat_cmp (left i) (right i))
+      ]
+    ]
+
+end_decides : (p : ℕ → Bool) (xs ys : List ℕ) → min (length xs) (length ys) ≡ 0
+    → option_cmp nat_cmp (front_byte p xs) (front_byte p ys) ≡ ordered_by p xs ys
+unfolding ordered_by
+end_decides p [] [] none = refl
+end_decides p [] (y ∷ ys) none = elim (cases_Bool (p y)) [
+  | inl py ↦ let right = front_taken p y ys py in
+      (λ i. option_cmp nat_cmp None (cond (py i) (Some y) None)) ∙ sym (λ i. slice_cmp nat_cmp [] (right i))
+  | inr py ↦ let right = front_refused p y ys py in
+      (λ i. option_cmp nat_cmp None (cond (py i) (Some y) None)) ∙ sym (λ i. slice_cmp nat_cmp [] (right i))
+]
+end_decides p (x ∷ xs) [] none = elim (cases_Bool (p x)) [
+  | inl px ↦ let left = front_taken p x xs px in
+      (λ i. option_cmp nat_cmp (cond (px i) (Some x) None) None) ∙ sym (λ i. slice_cmp nat_cmp (left i) [])
+  | inr px ↦ let left = front_refused p x xs px in
+      (λ i. option_cmp nat_cmp (cond (px i) (Some x) None) None) ∙ sym (λ i. slice_cmp nat_cmp (left i) [])
+]
+end_decides p (x ∷ xs) (y ∷ ys) none = absurd (omega (arith, none))
+
+pub word_order-fronts : (xs ys : List ℕ) (i : ℕ) → i < length xs → i < length ys
+    → (is_word_byte (get_or xs i 0) ≡ true → get_or xs i 0 ≢ get_or ys i 0)
+    → option_cmp nat_cmp (word_byte (drop i xs)) (word_byte (drop i ys)) ≡ word_order (drop i xs) (drop i ys)
+unfolding ordered_by
+word_order-fronts xs ys i lt below apart =
+    let left = drop_more xs i 0 lt in
+    let right = drop_more ys i 0 below in
+    (λ j. option_cmp nat_cmp (front_byte is_word_byte (left j)) (front_byte is_word_byte (right j)))
+    ∙ fronts_decide is_word_byte (get_or xs i 0) (get_or ys i 0) (drop (i + 1) xs) (drop (i + 1) ys) apart
+    ∙ sym (λ j. ordered_by is_word_byte (left j) (right j))
+
+pub word_order-ends : (xs ys : List ℕ) (i : ℕ) → i ≡ min (length xs) (length ys)
+    → option_cmp nat_cmp (word_byte (drop i xs)) (word_byte (drop i ys)) ≡ word_order (drop i xs) (drop i ys)
+unfolding ordered_by
+word_order-ends xs ys i end =
+    end_decides is_word_byte (drop i xs) (drop i ys) (simp length-drop (omega (arith, end)))
 
 -- nor does one at one index of both behind alike ones
 pub word_order-drop_more : (xs ys : List ℕ) (i : ℕ) → i < length xs → i < length ys → get_or xs i 0 ≡ get_or ys i 0

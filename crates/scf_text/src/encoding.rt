@@ -200,7 +200,12 @@ impl OperandFormat {
     fn names(self, field: Field) -> bool
         ensures { result ≡ list_any (names field) (pieces_of self) }
     {
-        self.pieces().iter().any(|piece| piece.names(field))
+        for piece in self.pieces() {
+            if piece.names(field) {
+                return true;
+            }
+        }
+        false
     }
 
     /// The pieces, in order.

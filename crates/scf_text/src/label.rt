@@ -2,13 +2,14 @@
 ghost use Rattle.std.specs.Prelude.{◌≡◌, ◌≤◌, nat_eq, drop, length};
 ghost use Rattle.std.specs.Cmp.Lexicographic.{slice_cmp};
 ghost use Rattle.std.specs.List.{IsDistinct};
+ghost use Rattle.std.specs.Option.{option_cmp};
 ghost use Rattle.std.specs.List.Sorted.{IsPermutation, IsSortedBy};
 ghost use Rattle.std.specs.Ordering.{nat_cmp};
-ghost use Rattle.scf_text.specs.internal.Labels.{compared, is_before, word_order, IsFirstRepeat, TellsRepeat};
+ghost use Rattle.scf_text.specs.internal.Labels.{compared, is_before, word_byte, word_order, IsFirstRepeat, TellsRepeat};
 ghost use Rattle.scf_text.specs.internal.Symbols.{name_at, line_at};
 
 use crate::fault::TextFault;
-use crate::token::{is_in_word, is_of_word, leading_word};
+use crate::token::{is_of_word, leading_word};
 use std::cmp::Ordering;
 
 /// The text from an offset on.
@@ -18,10 +19,11 @@ fn text_from(text: &[u8], index: usize) -> &[u8]
     text.get(index..).unwrap_or_default()
 }
 
-/// The length of the common prefix of the leading words of two texts.
+/// The length of the common prefix of the leading words of two texts: the bytes behind it decide how they compare.
 fn common_len(left: &[u8], right: &[u8]) -> usize
     ensures within { (result ≤ length left.now) × (result ≤ length right.now) }
-    ensures order { word_order (drop result left.now) (drop result right.now) ≡ word_order left.now right.now }
+    ensures order { option_cmp nat_cmp (word_byte (drop result left.now)) (word_byte (drop result right.now))
+        ≡ word_order left.now right.now }
 {
     let len = left.len().min(right.len());
     for at in 0..len {
@@ -32,23 +34,24 @@ fn common_len(left: &[u8], right: &[u8]) -> usize
     len
 }
 
-/// Compares the leading words of two texts.
-fn compare_fronts(left: &[u8], right: &[u8]) -> Ordering
-    ensures { result ≡ word_order left.now right.now }
+/// The first byte of a text, if it is a word's.
+fn word_byte(text: &[u8]) -> Option<u8>
+    ensures { result ≡ word_byte text.now }
 {
-    let left = left.iter().take_while(is_in_word);
-    let right = right.iter().take_while(is_in_word);
-    left.cmp(right)
+    match text {
+        [byte, ..] if is_of_word(*byte) => Some(*byte),
+        _ => None,
+    }
 }
 
-/// Compares the words at two offsets. The loop over their common prefix takes a quarter of the time of iterators.
+/// Compares the words at two offsets.
 fn compare_words(text: &[u8], left: usize, right: usize) -> Ordering
     ensures { result ≡ slice_cmp nat_cmp (name_at text.now left) (name_at text.now right) }
 {
     let left = text_from(text, left);
     let right = text_from(text, right);
     let len = common_len(left, right);
-    compare_fronts(&left[len..], &right[len..])
+    word_byte(&left[len..]).cmp(&word_byte(&right[len..]))
 }
 
 /// Compares the word at an offset with another.
@@ -70,7 +73,13 @@ fn line_at(text: &[u8], index: usize) -> usize
     ensures { result ≡ line_at text.now index }
 {
     let before = text.get(..index).unwrap_or(text);
-    1 + before.iter().filter(|byte| **byte == b'\n').count()
+    let mut line = 1;
+    for byte in before {
+        if *byte == b'\n' {
+            line += 1;
+        }
+    }
+    line
 }
 
 /// The first label, by offset, that repeats an earlier one, given sorted labels.

@@ -6,9 +6,8 @@ ghost use Rattle.scf_insn.specs.Streams.{Writes};
 ghost use Rattle.scf_text.specs.Encodings.{field_of};
 ghost use Rattle.scf_text.specs.Listing.{number_text, piece_text, operands_text, line_of, text_of};
 ghost use Rattle.scf_text.specs.declared.encoding.Style.TheVariants.{FourDigits};
-ghost use Rattle.scf_text.specs.internal.Mnemonics.{mnemonic_text};
 
-use crate::encoding::{Encoding, Field, Mnemonic, Piece, Style};
+use crate::encoding::{Encoding, Field, Piece, Style};
 use scf_insn::{Insn, Sink, WriteFault, digit_byte, write_numeral, write_whole};
 
 /// Writes `0x` and the last four hexadecimal digits.
@@ -61,16 +60,17 @@ fn value_of(insn: &Insn, field: Field) -> u32
 fn write_piece<S: Sink>(sink: &mut S, insn: &Insn, piece: Piece) -> Result<(), WriteFault>
     ensures { Writes S.contents S.failures sink.old (piece_text insn.now piece) result sink.new }
 {
-    match piece {
-        Piece::Mark(b',') => write_whole(sink, ", ".as_bytes()),
-        Piece::Mark(byte) => write_whole(sink, &[byte]),
-        Piece::Len => write_whole(sink, "len".as_bytes()),
-        Piece::Memory => write_whole(sink, "M".as_bytes()),
-        Piece::Accumulator => write_whole(sink, "a".as_bytes()),
-        Piece::Index => write_whole(sink, "x".as_bytes()),
-        Piece::Number(field, style) => write_number(sink, style, value_of(insn, field)),
-        Piece::Target(field) => write_numeral(sink, u64::from(value_of(insn, field)), 10),
-    }
+    let text = match piece {
+        Piece::Mark(b',') => ", ",
+        Piece::Mark(byte) => return write_whole(sink, &[byte]),
+        Piece::Len => "len",
+        Piece::Memory => "M",
+        Piece::Accumulator => "a",
+        Piece::Index => "x",
+        Piece::Number(field, style) => return write_number(sink, style, value_of(insn, field)),
+        Piece::Target(field) => return write_number(sink, Style::Decimal, value_of(insn, field)),
+    };
+    write_whole(sink, text.as_bytes())
 }
 
 /// Writes the pieces of an operand format.
@@ -95,13 +95,6 @@ fn write_operands<S: Sink>(sink: &mut S, insn: &Insn, pieces: &[Piece]) -> Resul
     write_pieces(sink, insn, pieces)
 }
 
-/// Writes the mnemonic.
-fn write_mnemonic<S: Sink>(sink: &mut S, mnemonic: Mnemonic) -> Result<(), WriteFault>
-    ensures { Writes S.contents S.failures sink.old (mnemonic_text mnemonic) result sink.new }
-{
-    write_whole(sink, mnemonic.text().as_bytes())
-}
-
 /// Writes the operands, and the end of the line.
 #[tactic(auto, using(scf_insn::proofs::Written::fails_first, scf_insn::proofs::Written::writes_then))]
 fn write_rest<S: Sink>(sink: &mut S, insn: &Insn, pieces: &[Piece]) -> Result<(), WriteFault>
@@ -117,7 +110,7 @@ fn write_line<S: Sink>(sink: &mut S, insn: &Insn) -> Result<(), WriteFault>
     ensures { Writes S.contents S.failures sink.old (line_of insn.now) result sink.new }
 {
     let encoding = Encoding::of(insn);
-    write_mnemonic(sink, encoding.mnemonic)?;
+    write_whole(sink, encoding.mnemonic.text().as_bytes())?;
     write_rest(sink, insn, encoding.operand_format.pieces())
 }
 

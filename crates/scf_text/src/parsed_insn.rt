@@ -108,9 +108,9 @@ fn is_spelling(piece: Piece, token: &[u8]) -> bool
     match piece {
         Piece::Mark(byte) => token == [byte].as_slice(),
         Piece::Len => token == b"len".as_slice(),
-        Piece::Memory => token == b"M".as_slice(),
-        Piece::Accumulator => token == b"a".as_slice() || token == b"A".as_slice(),
-        Piece::Index => token == b"x".as_slice() || token == b"X".as_slice(),
+        Piece::Memory => matches!(token, [b'M']),
+        Piece::Accumulator => matches!(token, [b'a' | b'A']),
+        Piece::Index => matches!(token, [b'x' | b'X']),
         Piece::Number(..) | Piece::Target(_) => false,
     }
 }

@@ -77,9 +77,10 @@ fn add_label(text: &[u8], labels: &mut Vec<usize>, label: Option<usize>) -> Resu
     };
     labels.push(start)?;
     if labels.len() == CHECKED_FIRST {
-        check_labels(text, labels)?;
+        check_labels(text, labels)
+    } else {
+        Ok(())
     }
-    Ok(())
 }
 
 /// Adds the instruction of a statement that begins at this offset, if it has one, and returns the text behind it.

@@ -19,10 +19,10 @@ pub struct Token<'a> {
     pub text: &'a [u8],
 }
 
-fn is_blank_byte(byte: &&u8) -> bool
-    ensures { result ≡ is_blank byte.now.now }
+fn is_blank_byte(byte: u8) -> bool
+    ensures { result ≡ is_blank byte }
 {
-    matches!(**byte, b' ' | b'\t' | b'\r')
+    matches!(byte, b' ' | b'\t' | b'\r')
 }
 
 pub(crate) fn is_of_word(byte: u8) -> bool
@@ -31,18 +31,16 @@ pub(crate) fn is_of_word(byte: u8) -> bool
     byte.is_ascii_alphanumeric() || byte == b'_'
 }
 
-/// `is_of_word`, as an iterator over references asks it.
-pub(crate) fn is_in_word(byte: &&u8) -> bool
-    ensures { result ≡ is_word_byte byte.now.now }
-{
-    is_of_word(**byte)
-}
-
 /// The count of bytes before the first line end.
 fn line_len(text: &[u8]) -> usize
     ensures { result ≡ prefix_len (λ b. not (is_line_end b)) text.now }
 {
-    text.iter().take_while(|byte| **byte != b'\n').count()
+    for at in 0..text.len() {
+        if text[at] == b'\n' {
+            return at;
+        }
+    }
+    text.len()
 }
 
 /// The first line, and the text behind its end.
@@ -92,7 +90,12 @@ fn blanks_len(bytes: &[u8]) -> usize
     ensures value { result ≡ prefix_len is_blank bytes.now }
     ensures within { result ≤ length bytes.now }
 {
-    bytes.iter().take_while(is_blank_byte).count()
+    for at in 0..bytes.len() {
+        if !is_blank_byte(bytes[at]) {
+            return at;
+        }
+    }
+    bytes.len()
 }
 
 /// The count of leading bytes of a word.
@@ -100,7 +103,12 @@ fn word_len(bytes: &[u8]) -> usize
     ensures value { result ≡ prefix_len is_word_byte bytes.now }
     ensures within { result ≤ length bytes.now }
 {
-    bytes.iter().take_while(is_in_word).count()
+    for at in 0..bytes.len() {
+        if !is_of_word(bytes[at]) {
+            return at;
+        }
+    }
+    bytes.len()
 }
 
 /// The word in front of a text, which may be empty.
