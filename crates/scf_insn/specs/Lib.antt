@@ -2,7 +2,6 @@ pub mod Answers
 pub mod Architectures
 pub mod Codes
 pub mod Counted
-pub mod Faults
 pub mod Insn
 pub mod Kernel
 pub mod Masks

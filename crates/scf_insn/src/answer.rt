@@ -25,7 +25,7 @@ const ALLOW: u16 = (kernel::SECCOMP_RET_ALLOW >> 16) as u16;
 
 /// A filter's answer, 32 bits: the action in the high half (`SECCOMP_RET_ACTION_FULL`), its data in the low half
 /// (`SECCOMP_RET_DATA`).
-#[derive(Clone, Copy, Debug, PartialEq, Eq)]
+#[derive(Clone, Copy, PartialEq, Eq)]
 pub struct Answer(pub u32);
 
 /// The action of an answer, in the order of precedence.

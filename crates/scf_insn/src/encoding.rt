@@ -13,19 +13,36 @@ use crate::insn::Insn;
 use crate::kernel::{MAX_FILTER_LEN, SOCK_FILTER_LEN};
 use crate::stream::{Sink, Source, WriteFault, write_whole};
 use std::alloc::{AllocFailed, Global};
+use std::fmt;
 use thiserror::Error;
 
 /// Why a filter file wasn't read.
-#[derive(Clone, Copy, Debug, PartialEq, Eq, Error)]
+#[derive(Clone, Copy, Error)]
 pub enum ReadFault {
-    #[error("the input can't be read")]
     Read,
-    #[error("the instruction at byte {offset} is cut")]
     Truncated { offset: usize },
-    #[error("the input has more than {most} bytes", most = MAX_FILTER_LEN)]
     TooLong,
-    #[error("out of memory")]
     Memory,
+}
+
+impl fmt::Display for ReadFault {
+    fn fmt<W: fmt::Write>(&self, f: &mut fmt::Formatter<W>) -> fmt::Result {
+        let text = match self {
+            ReadFault::Read => "the input can't be read",
+            ReadFault::Truncated { offset } => {
+                return write!(f, "the instruction at byte {offset} is cut");
+            }
+            ReadFault::TooLong => "the input has more than 32768 bytes",
+            ReadFault::Memory => "out of memory",
+        };
+        f.write_str(text)
+    }
+}
+
+impl fmt::Debug for ReadFault {
+    fn fmt<W: fmt::Write>(&self, f: &mut fmt::Formatter<W>) -> fmt::Result {
+        fmt::Display::fmt(self, f)
+    }
 }
 
 impl<T: Drop> From<AllocFailed<T>> for ReadFault {
@@ -64,8 +81,8 @@ fn decode(alloc: Global, bytes: &[u8]) -> Result<Vec<Insn>, ReadFault>
 {
     let mut insns = Vec::new(alloc);
     let mut remaining = bytes;
-    while let [b0, b1, b2, b3, b4, b5, b6, b7, behind @ ..] = remaining {
-        let insn = Insn::from_bytes([*b0, *b1, *b2, *b3, *b4, *b5, *b6, *b7]);
+    while let Some((first, behind)) = remaining.split_first_chunk() {
+        let insn = Insn::from_bytes(*first);
         insn.within_widths();
         insns.push(insn)?;
         remaining = behind;

@@ -5,7 +5,6 @@ mod answer;
 mod architecture;
 mod digits;
 mod encoding;
-pub mod faults;
 mod input;
 mod insn;
 pub mod kernel;

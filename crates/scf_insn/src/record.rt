@@ -9,7 +9,7 @@ use crate::kernel::{SECCOMP_DATA_ARGS, SECCOMP_DATA_LEN};
 /// A syscall as a filter sees it, 64 bytes: the syscall number `nr`, the audit architecture `arch`, the instruction
 /// pointer `ip`, and six 64-bit arguments `args`. The sixteen 32-bit words that a filter loads are `nr`, `arch`, and
 /// the halves of the others, low half first.
-#[derive(Clone, Copy, Debug, PartialEq, Eq)]
+#[derive(Clone, Copy)]
 pub struct CallRecord {
     pub nr: u32,
     pub arch: u32,
