@@ -14,6 +14,7 @@ from dataclasses import dataclass
 TOP = os.path.dirname(os.path.dirname(os.path.realpath(__file__)))
 ITEM = re.compile(r'^(?P<indent> *)(?P<public>pub )?(?:const |extern "C" )?fn (?P<name>\w+)', re.M)
 BLOCK = re.compile(r"^(?P<kind>impl|(?:pub )?trait)\b(?P<head>[^{;]*)\{", re.M)
+BRACE = re.compile("[{}]")
 CLAUSE = re.compile(r"\b(?:requires|ensures)(?:[ \t]+(?P<name>\w+))?\s*(?=\{)")
 NAME = r"[^\s(){}\[\],.;:]+"
 QUALIFIED = re.compile(rf"{NAME}(?:\.{NAME})*")
@@ -47,10 +48,10 @@ def line_of(text: str, at: int) -> int:
 def closing(text: str, at: int) -> int:
     """Behind the brace that closes the one at this place."""
     depth = 0
-    for place in range(at, len(text)):
-        depth += {"{": 1, "}": -1}.get(text[place], 0)
+    for brace in BRACE.finditer(text, at):
+        depth += 1 if brace[0] == "{" else -1
         if depth == 0:
-            return place + 1
+            return brace.end()
     return len(text)
 
 

@@ -142,14 +142,6 @@ class Parser(argparse.ArgumentParser):
                           help="whether verdicts are coloured [default: auto, at a terminal unless NO_COLOR is set]")
 
     def parse_args(self, *given: Any, **named: Any) -> Any:
-        """The given words; for what makes completions of the options, these are printed instead."""
-        if sys._xoptions.get("scf") == "options":  # pylint: disable=protected-access
-            output.put_json({"options": [
-                {"names": action.option_strings, "help": (action.help or "").split(" [default")[0],
-                 "value": None if action.nargs == 0 else action.metavar or "",
-                 "choices": action.choices and [*action.choices]}
-                for action in self._actions if action.help != argparse.SUPPRESS]})
-            program.finish(program.SUCCESS)
         for argument in self._actions if self.command is not None else ():
             # (argparse would ask for files)
             argument.required = argument.required and bool(argument.option_strings)

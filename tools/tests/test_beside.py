@@ -5,12 +5,13 @@ import json
 import os
 import random
 
-from support.common import (ALLOW, CORE, ENOSYS, EPERM, KILL_PROCESS, LOG, TRACE, USER_NOTIF, X32, X86_64, Case,
+from support.common import (ALLOW, ENOSYS, EPERM, KILL_PROCESS, LOG, PROGRAM, TRACE, USER_NOTIF, X32, X86_64, Case,
                             filter_of, insn, jeq, jge, load, part, ret)
 from support.confined import NEWEST, OLDEST, Confined, here
-from support.stand_in import StandIn
-from scftools import answers, calls
+from support.stand_in import StandIn, unpacked
+from scftools import calls
 
+MACHINE = StandIn()
 READ, WRITE, SOCKET, CLONE = 0, 1, 41, 56
 NUMBERS, ARCHITECTURES = (0, 1, 2, 41, 42, 43, X32 - 1, X32, 0xFFFFFFFF), (X86_64, 0x40000003, 0)
 ARGUMENTS = (0, 1, 2, 3, 6, 40, 41, 42, 1 << 32, (1 << 32) + 41, (1 << 64) - 1)
@@ -39,7 +40,7 @@ def degree(answer):
 
 def decided(filters, call):
     """The answer of a stack; of an empty one ALLOW, as in the kernel."""
-    return answers.Answer.read(StandIn().decide(filters, call)).word if filters else ALLOW
+    return MACHINE.decision(filters, call) if filters else ALLOW
 
 
 def drawn(dice):
@@ -86,7 +87,7 @@ class Drawn(Case):
         """The word of a verdict that agrees with the other machine."""
         holds, fails, related = RELATIONS[relation]
         data = b"".join([*(part("filter", data) for data in left), *(part("beside", data) for data in right)])
-        status, out, err = self.run_words([*CORE, "compare", "--beside", *f"{scope} {relation}".split(), *words], data)
+        status, out, err = self.run_words([PROGRAM, "compare", "--beside", *f"{scope} {relation}".split(), *words], data)
         lines, both = out.split("\n"), [left, right]
         self.assertEqual(err, "")
         if status == 0:
@@ -95,7 +96,7 @@ class Drawn(Case):
             call = calls.Call.read(lines[1])
             self.assertTrue(SCOPES[scope](call), lines)
             shown = [decided(side, call) for side in both]
-            printed = [StandIn().printed(word) for word in shown]
+            printed = [MACHINE.printed(word) for word in shown]
             self.assertEqual(lines[2:4], [f"filter {printed[0]}", f"beside {printed[1]}"])
             self.assertEqual((lines[0], related(*shown)), (fails, False))
         else:
@@ -108,7 +109,7 @@ class Drawn(Case):
         while len(status) < self.COUNT:
             actual = [drawn(dice) for _ in range(dice.choice((0, 1, 1, 2)))]
             right = [mutated(dice, data) for data in actual] if dice.randrange(2) else [drawn(dice)]
-            if any(StandIn().fault(unpacked(data)) for data in actual + right):
+            if any(MACHINE.fault(unpacked(data)) for data in actual + right):
                 continue
             status.append(self.judge(actual, right, dice.choice(list(SCOPES)), dice.choice(list(RELATIONS))))
         without, by_splits = zip(*status)
@@ -116,11 +117,6 @@ class Drawn(Case):
             self.assertGreater(without.count(word), 5, word)
         # those of the default decide most of these
         self.assertLess(2 * by_splits.count("undecided"), without.count("undecided"))
-
-
-def unpacked(data):
-    return [(int.from_bytes(data[at:at + 2], "little"), data[at + 2], data[at + 3],
-             int.from_bytes(data[at + 4:at + 8], "little")) for at in range(0, len(data), 8)]
 
 
 def clone_of(flags, answer=EPERM, otherwise=ALLOW):
@@ -200,14 +196,16 @@ class Tools(Case):
 
     def test_more_splits_and_steps(self):
         """Two halves are added, in one order and in the other."""
-        first, second = (self.file(f"{at}.bpf", load(item[0]) + insn(0x54, 0xFFFF) + insn(0x07, 0) + load(item[1])
-                                   + insn(0x54, 0xFFFF) + insn(0x0C, 0) + jeq(0x1234, 0, 1) + ret(ALLOW) + ret(EPERM))
+        first, second = (self.file(f"{at}.bpf", load(item[0]) + insn(0x54, 0x3FFF) + insn(0x07, 0) + load(item[1])
+                                   + insn(0x54, 0x3FFF) + insn(0x0C, 0) + jeq(0x1234, 0, 1) + ret(ALLOW) + ret(EPERM))
                          for at, item in enumerate(((16, 24), (24, 16))))
         status, lines = self.said("diff", first, second)
         self.assertEqual((status, lines[0], lines[-1]), (
             4, "undecided at 7", "# not known: allow more splits and steps, --splits N --limit N"))
-        self.assertEqual(self.said("diff", "--splits=10000000", first, second)[0], 4)
-        self.assertEqual(self.said("diff", "--splits=10000000", "--limit=100000000", first, second), (0, ["same"]))
+        few = "--limit=100000"
+        self.assertEqual(self.said("diff", few, first, second)[0], 4)
+        self.assertEqual(self.said("diff", few, "--splits=10000000", first, second)[0], 4)
+        self.assertEqual(self.said("diff", "--limit=100000000", "--splits=10000000", first, second), (0, ["same"]))
 
     def test_json(self):
         first, second = self.file("1.bpf", filter_of([READ])), self.file("2.bpf", filter_of([WRITE]))

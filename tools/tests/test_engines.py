@@ -1,9 +1,11 @@
 """tools/resolve-profile on inputs made to hurt: bytes of a stranger, endless ones, profiles that take long to read."""
 import json
 import os
-import subprocess
+import re
+import resource
 
-from support.common import PATIENCE, Case, limited, tool
+from support.common import tool
+from support.measured import MeasuredCase
 
 ALLOW, ERRNO = "SCMP_ACT_ALLOW", "SCMP_ACT_ERRNO"
 # What any of these runs may take: seconds of a processor, of which two are measured, and address space. What grows with
@@ -16,34 +18,23 @@ def engine(*entries, **members):
     return json.dumps({"defaultAction": ERRNO, **members, "syscalls": list(entries)}).encode()
 
 
-class Hostile(Case):
+class Hostile(MeasuredCase):
+    LIMITS = ((resource.RLIMIT_CPU, SECONDS), (resource.RLIMIT_AS, MEMORY))
+
     def pieces(self, *pieces):
-        """A file of pieces, each some bytes and how often they stand: so this process itself stays small."""
-        path = self.file("given", b"")
-        with open(path, "wb") as file:
-            for data, count in pieces:
-                some = data * min(count, 10000)
-                for _ in range(count // 10000):
-                    file.write(some)
-                file.write(data * (count if count < 10000 else count % 10000))
-        return path
+        """A file of pieces, each some bytes and how often they stand."""
+        return self.file("given", b"".join(data * count for data, count in pieces))
 
     def ends(self, path, status, says, words=("--keep-first",)):
-        """Ends so within the time, in bounded memory, without a traceback, and says no control character.
-
-        What is said last is looked at; what is printed stands in the file that is answered.
-        """
-        out = os.path.join(self.folder, "out")
-        with open(path, "rb") as given, open(out, "wb") as printed, open(f"{out}.said", "w+b") as messages:
-            done = subprocess.run([tool("resolve-profile"), *words, "-"], stdin=given, stdout=printed,
-                                  stderr=messages, timeout=PATIENCE, check=False, preexec_fn=limited(SECONDS, MEMORY))
-            messages.seek(max(messages.seek(0, os.SEEK_END) - 20000, 0))
-            text = messages.read().decode()
-        self.assertIn(done.returncode, status if isinstance(status, tuple) else (status,), text[-300:])
+        """Ends so within the time, in bounded memory, without a traceback, and says no control character; what it
+        printed and said."""
+        done = self.measured([tool("resolve-profile"), *words, "-"], path)
+        text = done.err.decode()
+        self.assertIn(done.status, status if isinstance(status, tuple) else (status,), text[-300:])
         self.assertTrue(says in text, text[-300:])
         self.assertNotIn("Traceback", text)
-        self.assertFalse([letter for letter in text if letter != "\n" and not letter.isprintable()])
-        return out
+        self.assertTrue(text.replace("\n", "").isprintable())
+        return done.out, done.err
 
     def test_endless_ones(self):
         self.ends("/dev/zero", 2, "has more than 4194304 bytes")
@@ -90,11 +81,9 @@ class Hostile(Case):
         between = b'"b"],"action":"SCMP_ACT_ALLOW"},{"names":['
         given = self.pieces((b'{"defaultAction":"SCMP_ACT_ERRNO","syscalls":[{"names":[', 1), (b'"a",', count),
                             (between, 1), (b'"a",', count), (b'"b"],"action":"SCMP_ACT_LOG"}]}', 1))
-        out = self.ends(given, 0, f"resolve-profile: {count + 1 - 1000} more such lines\n")
-        with open(f"{out}.said", "rb") as file:
-            self.assertEqual(sum(1 for _ in file), 1001)
-        with open(out, "rb") as file:
-            self.assertEqual(sum(line.strip() == b'"a",' for line in file), count)
+        out, err = self.ends(given, 0, f"resolve-profile: {count + 1 - 1000} more such lines\n")
+        self.assertEqual(err.count(b"\n"), 1001)
+        self.assertEqual(len(re.findall(rb'(?m)^ *"a",$', out)), count)
 
     def test_many_conditions_of_a_runtime(self):
         condition = b'{"index":0,"op":"SCMP_CMP_EQ","value":1},'
@@ -110,10 +99,8 @@ class Hostile(Case):
         given = engine({"names": [bad], "action": ALLOW, "includes": {"caps": [bad]}},
                        {"names": ["b"], "action": ALLOW, "includes": {"arches": [bad] * 100}},
                        {"names": [bad, "\ud800"], "action": ALLOW}, {"names": [bad], "action": bad})
-        out = self.ends(self.file("given", given), 0,
-                        "left out: only with \\x1b[2J\\x0d\\x0aresolve-profile: all is well\\x0a")
-        with open(out, "rb") as file:
-            data = file.read()
+        data, _ = self.ends(self.file("given", given), 0,
+                            "left out: only with \\x1b[2J\\x0d\\x0aresolve-profile: all is well\\x0a")
         self.assertEqual(json.loads(data)["syscalls"], [{"names": [bad, "\ud800"], "action": ALLOW}])
         self.assertNotIn(b"\x1b", data)
         for given, says in ((engine(**{bad: 0, "Syscalls": 0}), "which programs in Go read as 'syscalls'"),

@@ -218,16 +218,6 @@ class Tools(Case):
                 self.assertIn(f"{words[0]}: '{path}' ", err)
                 self.assertIn(says, err)
 
-    def test_hostile_texts_end(self):
-        for data in (b"{" * 1048576, b"(" * 1048576, b"{ 0," * 262144, b"0x00," * 209715, b"a:" * 524288,
-                     b";" * 1048577, b"BPF_STMT(" * 100000, b"00000000: 00 00\n" * 65536, b"0 0 0 0\n" * 131072,
-                     b"/*" * 500000,
-                     b"{ 0, 0, 0, " + b"1+" * 400000 + b"1 },", b"\\x00" * 262144, b"ld [0]\n" * 140000):
-            path = self.file("x", data)
-            status, _, err = self.run_tool("check", path, seconds=30)
-            self.assertIn(status, (1, 2, 3), data[:20])
-            self.assertNotIn("Traceback", err)
-
 
 class Expressions(unittest.TestCase):
     def test_values(self):

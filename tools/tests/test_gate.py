@@ -51,11 +51,11 @@ class Gate(Case):
     def environment(self, **more):
         return {**os.environ, "PATH": f"{self.folder}/bin:{os.environ['PATH']}", "TMPDIR": self.room, **more}
 
-    def gate(self, first=WELL, second=WELL, ci="7 passed, 0 failed", injection="print('4 passed, 0 failed')\n", **more):
+    def gate(self, first=WELL, second=WELL, ci="7 passed, 0 failed", injection="echo '4 passed, 0 failed'\n", **more):
         """The status and the lines of ./test, with these modules of tests."""
         self.file("tree/conformance/test_first.py", first)
         self.file("tree/tools/tests/test_second.py", second)
-        self.script("tree/dev/fault-injection", f"#!/usr/bin/env python3\n{injection}")
+        self.script("tree/dev/fault-injection", f"#!/bin/sh\n{injection}")
         status, out, _ = self.run_words([os.path.join(self.tree, "test")], env=self.environment(CI=ci, **more))
         return status, out.splitlines()
 
@@ -120,7 +120,7 @@ class Gate(Case):
     def test_failures_of_each_step_are_counted(self):
         status, lines = self.gate(ci="5 passed, 2 failed", CI_STATUS="1")
         self.assertEqual((status, lines[-1]), (1, "5 passed, 2 failed"))
-        status, lines = self.gate(injection="import sys\nprint('1 passed, 2 failed')\nsys.exit(1)\n")
+        status, lines = self.gate(injection="echo '1 passed, 2 failed'\nexit 1\n")
         self.assertEqual((status, lines[-1]), (1, "15 passed, 2 failed"))
         self.script("tree/dev/must-fail", "#!/bin/sh\necho '2 passed, 1 failed'\nexit 1\n")
         self.assertEqual(self.gate()[1][-1], "17 passed, 1 failed")
@@ -138,7 +138,7 @@ class Gate(Case):
                                 ("nothing", "0", "0 passed, 1 failed"), ("", "2", "0 passed, 1 failed")):
             status, lines = self.gate(ci=ci, CI_STATUS=ended)
             self.assertEqual((status, lines[-1]), (1, last), ci)
-        self.assertEqual(self.gate(injection="import sys\nsys.exit(1)\n")[1][-1], "14 passed, 1 failed")
+        self.assertEqual(self.gate(injection="exit 1\n")[1][-1], "14 passed, 1 failed")
 
     def test_a_folder_for_temporary_files_with_another_name(self):
         for name in (b"a\xff", b"a\nb", b"a b:c"):

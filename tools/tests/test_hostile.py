@@ -6,13 +6,11 @@ bounds on time and memory leave room for slow machines; what grows with the squa
 import itertools
 import json
 import random
+import resource
 import string
-import subprocess
-import sys
-import tempfile
 
-from support.common import (ALLOW, CORE, GATE, KILL_PROCESS, X86_64, Case, insn, jeq, jge, jset, limited, load, part,
-                            ret)
+from support.common import ALLOW, CORE, GATE, KILL_PROCESS, X86_64, insn, jeq, jge, jset, load, part, ret
+from support.measured import MeasuredCase
 
 LIMIT_OF_FILTER, LIMIT_OF_TEXT, LIMIT_OF_INPUT = 32768, 4194304, 16777216
 # Seconds of a processor: 3 are measured of a text of many labels in no order, and 0.9 of a million steps.
@@ -30,36 +28,17 @@ def beside(value):
     return b'{"defaultAction":"SCMP_ACT_ALLOW","x":%s}' % value
 
 
-# Runs words and tells what their process took. It is small, since a process counts what the one had that began it.
-MEASURE = """
-import resource, subprocess, sys
-status = subprocess.run(sys.argv[1:], stderr=subprocess.DEVNULL).returncode
-used = resource.getrusage(resource.RUSAGE_CHILDREN)
-print(status, used.ru_utime + used.ru_stime, used.ru_maxrss / 1024, file=sys.stderr)
-"""
+class Hostile(MeasuredCase):
+    LIMITS = ((resource.RLIMIT_CPU, SECONDS),)
 
+    def run_core(self, words, data):
+        return self.measured([*CORE, *words], self.file("given", data))
 
-def run(words, data):
-    """The status, what was printed, the seconds of a processor and the megabytes that it took."""
-    with tempfile.TemporaryFile() as given:
-        given.write(data)
-        given.seek(0)
-        measured = subprocess.run([sys.executable, "-IS", "-c", MEASURE, *CORE, *words], stdin=given,
-                                  capture_output=True, preexec_fn=limited(SECONDS), check=True)
-    status, seconds, megabytes = measured.stderr.split()
-    return int(status), measured.stdout, float(seconds), float(megabytes)
-
-
-class Hostile(Case):
-    @classmethod
-    def setUpClass(cls):
-        subprocess.run([*CORE, "--version"], stdin=subprocess.DEVNULL, stdout=subprocess.DEVNULL, check=True)
-
-    def ends(self, words, data, *expected, most=MEGABYTES):
+    def ends(self, words, data, *expected, most=MEGABYTES, within=SECONDS):
         """It ends soon, in little memory, with one of these statuses and outputs; an output of None may be any."""
-        status, out, seconds, megabytes = run(words, data)
+        status, out, _, seconds, megabytes = self.run_core(words, data)
         self.assertIn((status, out), [(want, out if text is None else text) for want, text in expected], out[:200])
-        self.assertLess(seconds, SECONDS)
+        self.assertLess(seconds, within)
         self.assertLess(megabytes, most)
         return out
 
@@ -139,9 +118,9 @@ class Hostile(Case):
         table = b"".join(b"c%d %d\n" % (number, number) for number in range(0, 3600, 3))
         entries = b",".join(b'{"names":["c%d"],"action":"SCMP_ACT_ALLOW"}' % number for number in range(0, 3600, 3))
         both = with_table(b'{"defaultAction":"SCMP_ACT_KILL","syscalls":[%s]}' % entries, table)
-        status, compiled, _, _ = run(["compile"], both)
-        self.assertEqual(status, 0)
-        self.ends(["compare", "--limit", "20000"], part("filter", compiled) + both, (0, b"same\n"))
+        compiled = self.run_core(["compile"], both)
+        self.assertEqual(compiled.status, 0)
+        self.ends(["compare", "--limit", "20000"], part("filter", compiled.out) + both, (0, b"same\n"))
 
     def test_rules_that_nearly_conflict(self):
         """Of one number, with two answers by turns, each pair apart on one argument: every pair is looked at."""
@@ -219,7 +198,8 @@ class Hostile(Case):
         self.compares(cuts + ret(ALLOW), same, unfinished)
 
     def test_many_facts(self):
-        """Tests that split what is known thousands of times, before a profile whose rules split it again."""
+        """Tests that split what is known thousands of times, before a profile whose rules split it again; by a fifth of
+        the steps that a comparison has, in a fifth of the time."""
         bits = load(16) + b"".join(jset(1 << bit, 0, 1) + load(16) for bit in range(14))
         wide = load(24) + b"".join(jset(at * 2654435761 % 2**32 | 3, 0, 1) + load(24) for at in range(14))
         joined = b"".join(
@@ -241,8 +221,9 @@ class Hostile(Case):
                        for name, conditions in rules]
             profile = json.dumps({"defaultAction": "SCMP_ACT_ALLOW", "syscalls": entries}).encode()
             with self.subTest(what):
-                self.ends(["compare"], part("filter", GATE + tests + ret(ALLOW)) + with_table(profile, table),
-                          (0, b"same\n"), (4, b"unfinished\n"))
+                self.ends(["compare", "--limit", "200000"],
+                          part("filter", GATE + tests + ret(ALLOW)) + with_table(profile, table),
+                          (0, b"same\n"), (4, b"unfinished\n"), within=SECONDS / 5)
 
     def test_a_test_behind_the_other(self):
         both = jset(1, 0, 2) + jset(1, 1, 0) + ret(0) + ret(ALLOW)

@@ -5,11 +5,12 @@ an end, blanks and digits without number, what a pattern could be tried on at ea
 square of such a length takes minutes.
 """
 import os
+import resource
 import struct
 import subprocess
-import sys
 
-from support.common import ALLOW, CORE, PATIENCE, TOP, Case, limited, profile_of, ret, tool
+from support.common import ALLOW, CORE, TOP, profile_of, ret, tool
+from support.measured import MeasuredCase
 
 PROGRAM = "crates/scf/out/scf"
 # Seconds of a processor and megabytes that a tool and all that it runs may take.
@@ -17,14 +18,6 @@ SECONDS, MEGABYTES = 10, 300
 LENGTH, LONGEST_LINE, LONGEST_PROFILE = 1 << 18, 1 << 16, 1 << 22
 # How many logs are one, so that not each takes the start of a tool.
 LOGS_AT_ONCE = 4
-# Runs words, and says what they took. It is small, since a process counts what the one had that began it.
-MEASURE = """
-import resource, subprocess, sys
-status = subprocess.run(sys.argv[1:]).returncode
-used = resource.getrusage(resource.RUSAGE_CHILDREN)
-print()
-print(status, used.ru_utime + used.ru_stime, used.ru_maxrss / 1024)
-"""
 ALLOWS = b'{"defaultAction":"SCMP_ACT_ALLOW","syscalls":[%s]}'
 # A profile whose conditions make `needs` look at the arguments of some syscalls.
 ASKS = b"".join((b'{"defaultAction":"SCMP_ACT_ERRNO","syscalls":[{"names":["socket","openat"],"action":"SCMP_ACT_ALLOW",',
@@ -59,7 +52,9 @@ FILTERS = {
     "short comments": repeated(b"/**/", behind=b"{6,0,0,0}"),
     "comments of a line": repeated(b"//\n", behind=b"{6,0,0,0}"),
     "rows": repeated(b"{0x06,0,0,0x7fff0000},\n"),
+    "instructions in braces": repeated(b"{ 0,"),
     "macros": repeated(b"BPF_STMT(0,0),"),
+    "macros in each other": repeated(b"BPF_STMT("),
     "a macro that doesn't end": repeated(b"))", before=b"BPF_STMT("),
     "bytes": repeated(b"0x06,"),
     "brackets": repeated(b"(", before=b"{0,0,0,"),
@@ -76,15 +71,18 @@ FILTERS = {
     "labels with blanks": repeated(b"a   :"),
     "empty statements": repeated(b";", behind=b"ret"),
     "comments of an assembler": repeated(b"//\n", behind=b"ret"),
+    "instructions of an assembler": repeated(b"ld [0]\n"),
     "blanks": repeated(b" ", behind=b"x"),
     "a word": repeated(b"_"),
     "a listing": repeated(b" ", behind=b"0  ld"),
     "JSON that isn't": repeated(b" ", before=b"{"),
     "more than a text may have": repeated(b"1 ", 3 << 20),
 }
+# What stands before and behind the items of a list that nothing reads.
+BESIDE_ITEMS = b'{"defaultAction":"SCMP_ACT_ALLOW","x":[', b"0]}"
 PROFILES = {
-    "objects": repeated(b'{"":0},', LONGEST_PROFILE, b'{"defaultAction":"SCMP_ACT_ALLOW","x":[', b"0]}"),
-    "lists": repeated(b"[],", LONGEST_PROFILE, b'{"defaultAction":"SCMP_ACT_ALLOW","x":[', b"0]}"),
+    "objects": repeated(b'{"":0},', LONGEST_PROFILE, *BESIDE_ITEMS),
+    "lists": repeated(b"[],", LONGEST_PROFILE, *BESIDE_ITEMS),
     "members": repeated(b'"a":1,', LENGTH, b'{"defaultAction":"SCMP_ACT_ALLOW",', b'"x":1}'),
     "numbers that end nowhere": repeated(b"0,", LENGTH, b"["),
     "strings": repeated(b'"\\u0041",', LENGTH, b"[", b'"\\ud800"]'),
@@ -100,7 +98,7 @@ PROFILES = {
     "members that nothing reads": ALLOWS % b"".join((b'{"names":["read"],"action":"SCMP_ACT_LOG",', b",".join(
         b'"a%06x":1' % at for at in range(100000)), b"}")),
     "blanks": repeated(b" ", LENGTH, b"{"),
-    "a YAML of a list": repeated(b"a,", LENGTH, b"apiVersion: a\nkind: SeccompProfile\nspec:\n  a: [", b"]"),
+    "a YAML of a list": repeated(b"a,", LENGTH // 4, b"apiVersion: a\nkind: SeccompProfile\nspec:\n  a: [", b"]"),
     "a YAML of objects": repeated(b"{a: b},", LENGTH, b"apiVersion: a\nkind: SeccompProfile\nspec:\n  a: [", b"]"),
     "a YAML that is too long": repeated(b"a: b\n", LONGEST_PROFILE, b"apiVersion: a\nkind: SeccompProfile\n"),
     "an object of Kubernetes": repeated(b'{"":0},', LONGEST_PROFILE,
@@ -185,20 +183,18 @@ def core(count):
 CORES = {"many headers": core(60000), "no note": core(1), "zeros": b"\x7fELF" + bytes(LENGTH)}
 
 
-class Texts(Case):
+class Texts(MeasuredCase):
+    LIMITS = ((resource.RLIMIT_CPU, 2 * SECONDS),)
+
     def ends(self, what, *words, given=None):
         """It ends soon and in little memory, with a status of its own, and says what it doesn't take."""
-        with open(given or os.devnull, "rb") as file:
-            done = subprocess.run([sys.executable, "-IS", "-c", MEASURE, *words], stdin=file, stdout=subprocess.PIPE,
-                                  stderr=subprocess.PIPE, timeout=PATIENCE, check=False, cwd=self.folder,
-                                  preexec_fn=limited(2 * SECONDS))
-        status, seconds, megabytes = done.stdout.split()[-3:] if done.stdout else (b"-1", b"inf", b"inf")
+        done = self.measured(words, given or os.devnull)
         with self.subTest(what, tool=os.path.basename(words[0])):
-            self.assertNotIn(b"Traceback", done.stderr, done.stderr[-300:])
-            self.assertIn(int(status), (0, 1, 2, 3, 4), done.stderr[-300:])
-            self.assertLess(float(seconds), SECONDS)
-            self.assertLess(float(megabytes), MEGABYTES)
-        return int(status)
+            self.assertNotIn(b"Traceback", done.err, done.err[-300:])
+            self.assertIn(done.status, (0, 1, 2, 3, 4), done.err[-300:])
+            self.assertLess(done.seconds, SECONDS)
+            self.assertLess(done.megabytes, MEGABYTES)
+        return done.status
 
     def test_filters(self):
         for what, text in FILTERS.items():
@@ -215,8 +211,9 @@ class Texts(Case):
             self.ends(what, tool("ask"), "--nr=0", self.file("p.json", text))
 
     def test_every_reader_of_profiles(self):
+        """With objects that scf has memory for, so that each reads on."""
         allows, second = self.file("f.bpf", ret(ALLOW)), self.file("other.json", profile_of("read"))
-        name = self.file("p.json", PROFILES["objects"])
+        name = self.file("p.json", repeated(b'{"":0},', LONGEST_PROFILE // 4, *BESIDE_ITEMS))
         for words in (("compile",), ("lint",), ("compare", allows), ("compare-profiles", second),
                       ("resolve-profile", "--caps=none"), ("why", "type=1326 audit(1.000:1): x"),
                       ("needs", self.file("log", b"read() = 0\n"))):

@@ -2,13 +2,13 @@
 import itertools
 import os
 import random
+import resource
 import shutil
 import subprocess
-import sys
-import tempfile
 import unittest
 
-from support.common import ALLOW, EPERM, PATIENCE, TABLE, Case, filter_of, jeq, limited, profile_of, ret, taken, tool
+from support.common import ALLOW, EPERM, TABLE, Case, filter_of, jeq, profile_of, ret, tool
+from support.measured import MeasuredCase
 
 # Of a tool that reads an endless input: seconds of a processor, and megabytes. A third of a second is measured on a
 # machine that does nothing else; most of it goes to the starts of processes, which may take fifty times as long on one
@@ -17,29 +17,22 @@ SECONDS, MEGABYTES, SPACE = 60, 128, 2 << 30
 FILTER, TEXT = 32768, 4194304
 
 
-# Runs a tool and tells the most memory that it took. A process begins with the memory of the one that starts it, which
-# here would be that of all tests so far; so a small one stands between.
-SMALL = """import resource, subprocess, sys
-status = subprocess.run(sys.argv[2:], check=False).returncode
-with open(sys.argv[1], "w") as file:
-    file.write(f"{status} {resource.getrusage(resource.RUSAGE_CHILDREN).ru_maxrss}")
-"""
+class Measured(MeasuredCase):
+    """Tools that are ended if they take too much, or refused it."""
+
+    LIMITS = ((resource.RLIMIT_CPU, SECONDS), (resource.RLIMIT_AS, SPACE))
+
+    def run_measured(self, words, given=os.devnull, most=MEGABYTES):
+        """The status, what was printed and what was said by a tool, which ends soon and in little memory."""
+        done = self.measured([tool(words[0]), *words[1:]], given)
+        err = done.err.decode()
+        self.assertNotIn("Traceback", err)
+        self.assertLess(done.seconds, SECONDS, words)
+        self.assertLess(done.megabytes, most, words)
+        return done.status, done.out, err
 
 
-def run(words, **settings):
-    """The status, what was printed, what was said, the seconds and the megabytes that a tool took."""
-    with tempfile.TemporaryFile() as out, tempfile.TemporaryFile() as err, tempfile.NamedTemporaryFile() as text:
-        before = taken()
-        subprocess.run([sys.executable, "-ISc", SMALL, text.name, tool(words[0]), *words[1:]], stdout=out, stderr=err,
-                       check=True, timeout=PATIENCE, preexec_fn=limited(SECONDS, SPACE), **settings)
-        spent = taken() - before
-        status, kilobytes = map(int, text.read().split())
-        out.seek(0)
-        err.seek(0)
-        return status, out.read(), err.read().decode(), spent, kilobytes / 1024
-
-
-class Limits(Case):
+class Limits(Measured):
     def setUp(self):
         super().setUp()
         self.filter, self.profile = self.file("f.bpf", filter_of([0])), self.file("p.json", profile_of("read"))
@@ -47,13 +40,10 @@ class Limits(Case):
         os.truncate(self.huge, 10 * 10**9)
 
     def ends(self, words, status, says):
-        """It ends soon and in little memory, with this status and a text that holds this."""
-        actual, out, err, seconds, megabytes = run(words)
+        """It ends with this status and a text that holds this."""
+        actual, out, err = self.run_measured(words)
         self.assertEqual(actual, status, (words, out[:200], err))
         self.assertIn(says, out.decode() + err)
-        self.assertNotIn("Traceback", err)
-        self.assertLess(seconds, SECONDS, words)
-        self.assertLess(megabytes, MEGABYTES, words)
 
     def test_endless_inputs_of_each_tool(self):
         too_long, table = "fault filter TooLong\n", f"has more than {TEXT} bytes"
@@ -87,11 +77,7 @@ class Limits(Case):
         for words, status in ((("compare", "-", self.profile), 3), (("list", "-"), 3), (("check", "-"), 3),
                               (("compile", "-"), 1), (("check",), 3), (("decide",), 3), (("asm", "-"), 3), (("dis", "-"), 3),
                               (("explain",), 2)):
-            with open("/dev/zero", "rb") as zero:
-                actual, _, err, seconds, megabytes = run(words, stdin=zero)
-            self.assertEqual((actual, "Traceback" in err), (status, False), words)
-            self.assertLess(seconds, SECONDS, words)
-            self.assertLess(megabytes, MEGABYTES, words)
+            self.assertEqual(self.run_measured(words, "/dev/zero")[0], status, words)
 
     def test_many_long_filters(self):
         """Of more filters than scf reads no more are kept than show it."""
@@ -116,9 +102,9 @@ class Limits(Case):
         self.assertEqual(self.run_tool("compare", "--table", longer, self.filter, self.profile)[:2], (0, "same\n"))
 
 
-def filled(head, item_of, tail):
-    """A text of just the most bytes that a profile may have: as many items as there is room for."""
-    room, status = TEXT - len(head) - len(tail), []
+def filled(head, item_of, tail, size=TEXT // 2):
+    """A text of just half the bytes that a profile may have, or of so many: as many items as there is room for."""
+    room, status = size - len(head) - len(tail), []
     for at in itertools.count():
         item = item_of(at)
         room -= len(item) + 1
@@ -127,21 +113,21 @@ def filled(head, item_of, tail):
         status.append(item)
 
 
-class Profiles(Case):
-    """Profiles at the limit, of each awkward shape: the tools end soon, and within 300 megabytes."""
+class Profiles(Measured):
+    """Profiles at the limit, or half as long, of each awkward shape: the tools end soon, and within 300 megabytes or
+    200."""
 
-    MEGABYTES = 300  # 210 is measured, in 4 seconds of a processor
+    # (240 and 150 are measured, in 4 seconds of a processor)
+    MEGABYTES, OF_HALF = 300, 200
     ALLOWS, DENIES = b'{"defaultAction":"SCMP_ACT_ALLOW",', b'{"defaultAction":"SCMP_ACT_ERRNO",'
     NAMES = DENIES + b'"syscalls":[{"names":['
 
     def ends(self, name, text):
         path = self.file("p.json", text)
         self.assertLessEqual(len(text), TEXT)
-        status, out, err, seconds, megabytes = run((name, path))
+        most = self.OF_HALF if len(text) <= TEXT // 2 else self.MEGABYTES
+        status, out, err = self.run_measured((name, path), most=most)
         self.assertIn(status, (0, 1), (out[:200], err[:200]))
-        self.assertNotIn("Traceback", err)
-        self.assertLess(seconds, SECONDS)
-        self.assertLess(megabytes, self.MEGABYTES)
         return out
 
     def test_a_name_of_two_million_line_ends(self):
@@ -160,16 +146,14 @@ class Profiles(Case):
 
     def test_many_objects(self):
         """Of nothing in them: each was an object of Python with several others."""
-        self.ends("lint", filled(self.ALLOWS + b'"x":[', lambda at: b"{}", b"]}"))
+        self.ends("lint", filled(self.ALLOWS + b'"x":[', lambda at: b"{}", b"]}", TEXT))
 
     def test_more_objects_than_scf_has_memory_for(self):
         """The tools give scf 256 MiB; it says that this isn't enough, and nothing of the profile."""
-        path = self.file("p.json", filled(self.ALLOWS + b'"x":[', lambda at: b'{"":0}', b"]}"))
-        status, out, err, seconds, megabytes = run(("compile", path))
+        path = self.file("p.json", filled(self.ALLOWS + b'"x":[', lambda at: b'{"":0}', b"]}", TEXT))
+        status, out, err = self.run_measured(("compile", path), most=self.MEGABYTES)
         self.assertEqual((status, out), (3, b""), err[:200])
         self.assertIn("fault profile Memory\n", err)
-        self.assertLess(seconds, SECONDS)
-        self.assertLess(megabytes, self.MEGABYTES)
 
     def test_many_entries_of_names_that_no_call_has(self):
         text = filled(self.DENIES + b'"syscalls":[', lambda at: b'{"names":["x%d"],"action":"SCMP_ACT_LOG"}' % at, b"]}")
@@ -177,8 +161,7 @@ class Profiles(Case):
 
     def test_arrays_as_deep_as_may_be(self):
         """In half of a profile: 4 MiB of them would take scf more memory than the tools give it."""
-        self.ends("lint", filled(self.ALLOWS + b" " * (TEXT // 2) + b'"x":[', lambda at: b"[" * 120 + b"]" * 120,
-                                 b"]}"))
+        self.ends("lint", filled(self.ALLOWS + b'"x":[', lambda at: b"[" * 120 + b"]" * 120, b"]}"))
 
 
 class Words(Case):
@@ -254,7 +237,7 @@ class Words(Case):
         self.assertTrue(err.endswith("/odd\\xff\\x1b[2J.bpf\\x0a'\n"), err)
 
 
-class Garbage(Case):
+class Garbage(Measured):
     """Made bytes as each input: an answer or a fault, and never a traceback."""
 
     def test_bytes(self):
@@ -273,6 +256,5 @@ class Garbage(Case):
                           ("compile", name), ("decide", "--calls-from", name, good), ("list", name),
                           ("run", "--json", name), ("check", name, good), ("run", "--table", name, "--nr=read", good)):
                 with self.subTest(text=text[:40], words=words):
-                    done = subprocess.run([tool(words[0]), *words[1:]], capture_output=True, check=False)
-                    self.assertIn(done.returncode, (0, 1, 2, 3, 4))
-                    self.assertNotIn(b"Traceback", done.stderr)
+                    status, _, err = self.run_measured(words)
+                    self.assertIn(status, (0, 1, 2, 3, 4))

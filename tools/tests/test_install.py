@@ -21,11 +21,12 @@ DOCUMENTS = ["LICENSE", "README.md", "scf.schema.json",
 class Install(Case):
     @classmethod
     def setUpClass(cls):
-        """Installs it once, for the tests that don't ask how it is installed."""
+        """Installs it once, by a user whose files nobody else reads."""
         folder = tempfile.mkdtemp()
         cls.addClassCleanup(shutil.rmtree, folder)
         cls.once = os.path.join(folder, "once")
-        subprocess.run(["make", "-s", "-C", TOP, "install", f"PREFIX={cls.once}"], check=True)
+        subprocess.run(["sh", "-c", 'umask 077; exec "$@"', "sh", "make", "-s", "-C", TOP, "install",
+                        f"PREFIX={cls.once}"], check=True)
 
     def setUp(self):
         super().setUp()
@@ -35,9 +36,8 @@ class Install(Case):
         """Copies what is installed, which may be moved."""
         shutil.copytree(self.once, self.prefix, symlinks=True)
 
-    def make(self, goal, *words, mask="022"):
-        done = self.run_words(["sh", "-c", 'umask "$1"; shift; exec "$@"', "sh", mask, "make", "-s", "-C", TOP, goal,
-                               *(words or (f"PREFIX={self.prefix}",))])
+    def make(self, goal, *words):
+        done = self.run_words(["make", "-s", "-C", TOP, goal, *(words or (f"PREFIX={self.prefix}",))])
         self.assertEqual(done[0], 0, done)
 
     def files(self):
@@ -71,10 +71,15 @@ class Install(Case):
         self.assertIn("JSON.md", named)
         self.assertEqual(named - {*DOCUMENTS, "FAULTS.md", "TRUST.md"}, set())
 
-    def test_installed_twice_moved_and_used_from_any_folder(self):
+    def test_an_older_installation_is_replaced_whole_moved_and_used_from_any_folder(self):
         self.installed()
+        self.file("a prefix/lib/scf/tools/former", b"")
+        self.file("a prefix/lib/scf/tools/scftools/former.py", b"")
+        self.file("a prefix/lib/scf/tools/list", b"older\n")
+        os.symlink("../lib/scf/tools/former", os.path.join(self.prefix, "bin/scf-former"))
         self.make("install")
         self.assertEqual(self.files(), self.whole())
+        self.assertEqual(self.run_installed("scf-list", "--version")[0], 0)
         moved = os.path.join(self.folder, "moved")
         os.rename(self.prefix, moved)
         self.prefix = moved
@@ -117,17 +122,21 @@ class Install(Case):
         status, out, err = self.run_installed("scf", "core", "--version")
         self.assertEqual((status, out), (125, ""), err)
 
-    def test_the_unit_and_the_hook_name_what_is_installed(self):
-        for prefix in ("/usr", "/opt/a&b|c"):
-            stage = os.path.join(self.folder, prefix.replace("/", "_"))
-            self.make("install", f"PREFIX={prefix}", f"DESTDIR={stage}")
-            with open(f"{stage}{prefix}/lib/systemd/system/scf-audit.service", encoding="ascii") as file:
-                unit = re.findall(r"(?m)^ExecStart=(\S+)", file.read())
-            with open(f"{stage}{prefix}/share/scf/hooks.d/scf.json", encoding="ascii") as file:
-                hook = json.load(file)["hook"]
-            self.assertEqual((unit, hook["path"]), ([f"{prefix}/bin/scf-audit"], f"{prefix}/bin/scf-oci-hook"))
-            for path in (*unit, hook["path"]):
-                self.assertTrue(os.access(f"{stage}{path}", os.X_OK), path)
+    def staged(self, prefix):
+        """The folder below which it is installed for a prefix; its unit and hook name what is installed."""
+        stage = os.path.join(self.folder, "stage")
+        self.make("install", f"PREFIX={prefix}", f"DESTDIR={stage}")
+        with open(f"{stage}{prefix}/lib/systemd/system/scf-audit.service", encoding="ascii") as file:
+            unit = re.findall(r"(?m)^ExecStart=(\S+)", file.read())
+        with open(f"{stage}{prefix}/share/scf/hooks.d/scf.json", encoding="ascii") as file:
+            hook = json.load(file)["hook"]
+        self.assertEqual((unit, hook["path"]), ([f"{prefix}/bin/scf-audit"], f"{prefix}/bin/scf-oci-hook"))
+        for path in (*unit, hook["path"]):
+            self.assertTrue(os.access(f"{stage}{path}", os.X_OK), path)
+        return stage
+
+    def test_a_prefix_of_odd_letters(self):
+        self.staged("/opt/a&b|c")
 
     def test_the_daemon_set_starts_on_nodes_without_some_of_its_folders(self):
         """Kubernetes mounts a folder that isn't there only if it may make it; /run is on each."""
@@ -139,7 +148,7 @@ class Install(Case):
 
     def test_the_hook_is_what_the_tool_prints(self):
         """But for the place that it is installed at."""
-        self.make("install")
+        self.prefix = self.once
         with open(f"{self.prefix}/share/scf/hooks.d/scf.json", encoding="utf-8") as file:
             hook = json.load(file)
         printed = self.run_installed("scf-oci-hook", "--print-hook", *hook["hook"]["args"][1:])[1]
@@ -154,11 +163,10 @@ class Install(Case):
             self.assertEqual(done.returncode, 0, done.stderr)
 
     def test_every_user_may_use_it_whatever_the_umask(self):
-        self.make("install", mask="077")
-        for at, folders, names in os.walk(os.path.join(self.prefix, "lib")):
+        for at, folders, names in os.walk(os.path.join(self.once, "lib")):
             for name in (*folders, *names):
                 mode = stat.S_IMODE(os.lstat(os.path.join(at, name)).st_mode)
-                place = os.path.relpath(os.path.join(at, name), self.prefix)
+                place = os.path.relpath(os.path.join(at, name), self.once)
                 is_program = place == "lib/scf/program/scf" or os.path.dirname(place) == "lib/scf/tools"
                 self.assertEqual(mode, 0o755 if name in folders or is_program else 0o644, place)
 
@@ -183,19 +191,8 @@ class Install(Case):
         for name in ("lib/scf", "share/doc/scf", "share/scf"):
             self.assertFalse(os.path.exists(os.path.join(self.prefix, name)))
 
-    def test_an_older_installation_is_replaced_whole(self):
-        self.installed()
-        self.file("a prefix/lib/scf/tools/former", b"")
-        self.file("a prefix/lib/scf/tools/scftools/former.py", b"")
-        self.file("a prefix/lib/scf/tools/list", b"older\n")
-        os.symlink("../lib/scf/tools/former", os.path.join(self.prefix, "bin/scf-former"))
-        self.make("install")
-        self.assertEqual(self.files(), self.whole())
-        self.assertEqual(self.run_installed("scf-list", "--version")[0], 0)
-
     def test_below_another_folder_for_a_package(self):
-        stage = os.path.join(self.folder, "stage")
-        self.make("install", "PREFIX=/usr", f"DESTDIR={stage}")
+        stage = self.staged("/usr")
         self.assertEqual(os.listdir(stage), ["usr"])
         self.prefix = os.path.join(stage, "usr")
         self.assertEqual(self.files(), self.whole("vendor-completions"))

@@ -10,6 +10,7 @@ import shlex
 import shutil
 import subprocess
 import sys
+import tempfile
 import unittest
 import zipfile
 from unittest import mock
@@ -109,14 +110,33 @@ def fault_lines():
 
 
 class Built(Case):
-    """A test that compiles programs in its folder, over the archive or the shared object."""
+    """A test that makes programs in its folder, over the archive or the shared object."""
 
     ARCHIVE, SHARED = [os.path.join(OUT, "libscf.a")], [f"-L{OUT}", "-lscf"]
+    # The objects that were compiled, by how.
+    objects = {}
 
-    def compiled(self, name, *words, compiler=("gcc", "-std=c99"), flags=STRICT, out=None):
-        out = os.path.join(self.folder, out or os.path.splitext(os.path.basename(name))[0])
-        done = self.run_words([*compiler, *flags, "-O1", "-g", f"-I{LIBRARY}", "-o", out, os.path.join(LIBRARY, name),
-                               *words])
+    @classmethod
+    def setUpClass(cls):
+        cls.objects_folder = tempfile.mkdtemp()
+        cls.addClassCleanup(shutil.rmtree, cls.objects_folder)
+        cls.addClassCleanup(cls.objects.clear)
+
+    def compiled(self, name, compiler, flags):
+        """The object of a file, which is compiled once."""
+        key = name, *compiler, *flags
+        if key not in self.objects:
+            made = os.path.join(self.objects_folder, f"{len(self.objects)}.o")
+            done = self.run_words([*compiler, *STRICT, *flags, "-O1", "-g", f"-I{LIBRARY}", "-c", "-o", made,
+                                   os.path.join(LIBRARY, name)])
+            self.assertEqual(done, (0, "", ""), name)
+            self.objects[key] = made
+        return self.objects[key]
+
+    def linked(self, name, *words, compiler=("gcc", "-std=c99"), flags=()):
+        """A program of a file."""
+        out = os.path.join(self.folder, os.path.splitext(os.path.basename(name))[0])
+        done = self.run_words([compiler[0], *flags, "-o", out, self.compiled(name, compiler, flags), *words])
         self.assertEqual(done, (0, "", ""), name)
         return out
 
@@ -163,7 +183,7 @@ class Interface(Built):
 
     def test_layouts(self):
         module = python_module()
-        lines = self.runs(self.compiled("tests/layout.c", compiler=["gcc", "-std=c99"])).strip().split("\n")
+        lines = self.runs(self.linked("tests/layout.c")).strip().split("\n")
         for line in lines:
             name, size, *fields = line.split()
             kind = getattr(module, "_" + "".join(it.title() for it in name.split("_")))
@@ -224,8 +244,7 @@ class Interface(Built):
             self.assertEqual(scf.table(architecture), read(TOP, "tables", f"{name}.table").encode(), name)
 
     def test_a_loaded_filter(self):
-        program = self.compiled("tests/load.c", os.path.join(OUT, "libscf.a"), "-pthread",
-                                compiler=["gcc", "-std=gnu99"])
+        program = self.linked("tests/load.c", *self.ARCHIVE, "-pthread", compiler=["gcc", "-std=gnu99"])
         self.assertEqual(self.runs(program), "loaded\n")
 
     def test_the_compiler_warns(self):
@@ -285,7 +304,7 @@ class Interface(Built):
 
     def test_the_example(self):
         """A config.json that no reading but a runtime's takes, since two entries have one syscall; a changed filter."""
-        program = self.compiled("example/runtime.c", *self.ARCHIVE, compiler=["gcc", "-std=gnu11"])
+        program = self.linked("example/runtime.c", *self.ARCHIVE, compiler=["gcc", "-std=gnu11"])
         allowed = {"defaultAction": "SCMP_ACT_ALLOW", "architectures": ["SCMP_ARCH_X86_64", "SCMP_ARCH_X86"],
                    "syscalls": [{"names": ["socket"], "action": "SCMP_ACT_ERRNO"},
                                 {"names": ["socket"], "action": "SCMP_ACT_ALLOW"}]}
@@ -311,13 +330,11 @@ class Languages(Built):
                 continue
             for kind, linked in (("archive", self.ARCHIVE), ("shared", self.SHARED)):
                 with self.subTest(compiler=compiler[0], linked=kind):
-                    before = ["-x", "none"] if compiler[0] == "g++" else []
-                    program = self.compiled("tests/calls.c", *before, *linked, compiler=compiler,
-                                            out=f"{compiler[0]}-{kind}")
+                    program = self.linked("tests/calls.c", *linked, compiler=compiler)
                     self.assertRegex(self.runs(program), r"^\d{3} checks\n$")
 
     def test_by_the_kits_own_compiler(self):
-        program = self.compiled("tests/calls.c", os.path.join(OUT, "rattle", "libscf.a"))
+        program = self.linked("tests/calls.c", os.path.join(OUT, "rattle", "libscf.a"))
         self.assertRegex(self.runs(program), r"^\d{3} checks\n$")
 
     @unittest.skipUnless(shutil.which("clang"), "there is no clang here")
@@ -326,14 +343,14 @@ class Languages(Built):
         empty = self.file("empty.c", "int main(void) { return 0; }\n")
         if self.run_words(["clang", *flags, "-o", os.path.join(self.folder, "empty"), empty])[0]:
             self.skipTest("clang has no sanitizers here")
-        program = self.compiled("tests/calls.c", *self.ARCHIVE, compiler=["clang", "-std=c99", *flags])
+        program = self.linked("tests/calls.c", *self.ARCHIVE, compiler=["clang", "-std=c99"], flags=flags)
         self.assertRegex(self.runs(program), r"^\d{3} checks\n$")
 
     def test_cpp_20(self):
         for compiler in ("g++", "clang++"):
             if shutil.which(compiler) is not None:
-                program = self.compiled("tests/calls.cpp", *self.ARCHIVE, out=compiler,
-                                        compiler=[compiler, "-std=c++20", "-fno-exceptions"])
+                program = self.linked("tests/calls.cpp", *self.ARCHIVE,
+                                      compiler=[compiler, "-std=c++20", "-fno-exceptions"])
                 self.assertRegex(self.runs(program), r"^\d{2} checks\n$")
 
 
@@ -460,8 +477,8 @@ class Memory(Built):
         wraps = [f"-Wl,--wrap={name}" for name in ("malloc", "realloc", "free")]
         for folder in (OUT, os.path.join(OUT, "rattle")):
             with self.subTest(folder):
-                program = self.compiled("tests/memory.c", os.path.join(folder, "libscf.a"), "-pthread", *wraps,
-                                        compiler=["gcc", "-std=gnu99"])
+                program = self.linked("tests/memory.c", os.path.join(folder, "libscf.a"), "-pthread", *wraps,
+                                      compiler=["gcc", "-std=gnu99"])
                 self.assertRegex(self.runs(program, *self.parties()), r"^\d{4,} checks\n$")
 
 
@@ -542,7 +559,7 @@ def region_line(scf, region, is_of_profile):
 class Alike(Case):
     """What the library answers to inputs that were changed at random, and what the program prints of them."""
 
-    COUNT = 4000
+    COUNT = 2000
 
     def setUp(self):
         super().setUp()

@@ -183,7 +183,7 @@ class Profiles(Case):
     def is_judged(self, filters, profile, holds, records):
         """The relation between the words of the filters and of the profile, at each record."""
         for name, call in records:
-            ours = answers.Answer.read(StandIn().decide(filters, call)).word
+            ours = StandIn().decision(filters, call)
             theirs = answer_of_profile(profile, name, call.arguments)
             self.assertTrue(holds(ours, theirs), (name, call, hex(ours), hex(theirs), profile))
 
@@ -193,7 +193,7 @@ class Profiles(Case):
         for seed in range(16):
             drawn = Drawn(seed)
             filters = drawn.filters()
-            status, out, err = self.run_on(filters, "--limit", "1000000")
+            status, out, err = self.run_on(filters, "--limit", "100000")
             counts[status] += 1
             profiles, records = profiles_in(out), list(drawn.records(filters))
             self.assertEqual(err, SAID if status == 0 and has_trap_data(profiles[0]) else "")
@@ -582,7 +582,7 @@ class OtherArchitectures(Case):
         """A filter answers records as a profile does for these architectures, beside the second reading."""
         reading = several.Reading(profile, judged)
         for arch, number, values in records:
-            ours = answers.Answer.read(StandIn().decide([data], Call(number, arch, 0, tuple(values)))).word
+            ours = StandIn().decision([data], Call(number, arch, 0, tuple(values)))
             theirs, _ = reading.answer(arch, number, values)
             self.assertEqual(ours, theirs, (profile, hex(arch), number, values))
 

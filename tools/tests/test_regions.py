@@ -9,7 +9,6 @@ from support.common import ALLOW, CORE, EPERM, UNKNOWN_ZERO, X86_64, filter_of, 
 
 import kernel_programs
 from support import several
-from support import symbolic
 from support.stand_in import StandIn, unpacked
 
 WORD = (1 << 32) - 1
@@ -84,17 +83,17 @@ def drawn_records(dice, programs, count):
 
 
 class Regions(unittest.TestCase):
-    """Those of the second implementation."""
-
-    # what is known of an answer of two low bits
-    OF_LOW_BITS = {f"ERRNO {number}" for number in range(4)}
+    """What the program prints, judged by another machine, another reading of profiles, and by hand."""
 
     def printed(self, bundle, **words):
-        """What is printed of a bundle with examples; None if it is unfinished."""
-        try:
-            return symbolic.printed(bundle, {"examples": True, **words}, STEPS)
-        except symbolic.Unfinished:
+        flags = [f"--{name}" if value is True else f"--{name}={value}" for name, value in words.items()]
+        done = subprocess.run([*CORE, "answers", "--examples", f"--limit={10 * STEPS}", *flags], input=bundle,
+                              stdout=subprocess.PIPE, check=False)
+        if done.returncode == 4:
+            self.assertEqual(done.stdout, b"unfinished\n")
             return None
+        self.assertEqual(done.returncode, 0, done.stdout[:99])
+        return done.stdout.decode()
 
     def lies(self, regions, record, answer):
         """The region of a record with this answer."""
@@ -114,8 +113,7 @@ class Regions(unittest.TestCase):
             return 0
         regions, programs, machine = regions_of(text), [unpacked(data) for data in filters], StandIn()
         for record in (*records, *(shown for _, shown in regions if shown)):
-            answers = [machine.answer(program, record) for program in reversed(programs)]
-            answer = min(answers, key=symbolic.rank)
+            answer = machine.decision_of(programs, record)
             region = self.lies(regions, record, machine.printed(answer))
             if region is not None and region.answer != "unknown":
                 at, index = region.place
@@ -167,15 +165,12 @@ class Regions(unittest.TestCase):
             self.of_stack([several.compile_filter(reading)[0]], records[:10])
 
     def test_computed(self):
-        """What isn't followed leaves regions open; an answer of a few bits is known."""
+        """What isn't followed leaves regions open, or an answer unknown."""
         self.of_stack([UNKNOWN_ZERO + jeq(0, 0, 1) + ret(ALLOW) + ret(EPERM)],
                       list(drawn_records(random.Random(1), [], 9)))
-        low_bits = load(16) + insn(0x54, 0x3) + insn(0x44, 0x50000) + insn(0x16, 0)
-        self.assertEqual({region.answer for region, _ in regions_of(self.printed(part("filter", low_bits)))},
-                         self.OF_LOW_BITS)
-        self.assertEqual({region.answer
-                          for region, _ in regions_of(self.printed(part("filter", load(16) + insn(0x16, 0))))},
-                         {"unknown"})
+        for code in (load(16) + insn(0x54, 0x3) + insn(0x44, 0x50000), load(16)):
+            regions = regions_of(self.printed(part("filter", code + insn(0x16, 0))))
+            self.assertEqual({region.answer for region, _ in regions}, {"unknown"})
 
     def test_scopes(self):
         """The records of x86-64, and of some of its numbers."""
@@ -214,19 +209,3 @@ class Regions(unittest.TestCase):
         self.assertEqual(sorted(line for line in text.splitlines() if line.startswith(("ALLOW", "ERRNO"))), [
             "ALLOW 0 at 0:4 w0 0x0-0x9", "ALLOW 0 at 0:4 w0 0xa-0xffffffff!0x6=0x0",
             "ERRNO 1 at 0:3 w0 0xa-0xffffffff&0x6=0x0"])
-
-
-class OfProgram(Regions):
-    """Those of the proved program, by the same judges."""
-
-    OF_LOW_BITS = {"unknown"}
-
-    def printed(self, bundle, **words):
-        flags = [f"--{name}" if value is True else f"--{name}={value}" for name, value in words.items()]
-        done = subprocess.run([*CORE, "answers", "--examples", f"--limit={10 * STEPS}", *flags], input=bundle,
-                              stdout=subprocess.PIPE, check=False)
-        if done.returncode == 4:
-            self.assertEqual(done.stdout, b"unfinished\n")
-            return None
-        self.assertEqual(done.returncode, 0, done.stdout[:99])
-        return done.stdout.decode()

@@ -25,7 +25,7 @@ from scftools.filters import Filter
 
 # How many profiles are drawn to be held against libscf, against the program, and to be counted by kinds; and how many
 # records are tried of a syscall that has conditions.
-PROFILES, BY_PROGRAM, DRAWS, RECORDS = int(os.environ.get("SCF_SEVERAL_PROFILES", "2000")), 60, 4000, 12
+PROFILES, BY_PROGRAM, DRAWS, RECORDS = int(os.environ.get("SCF_SEVERAL_PROFILES", "1000")), 60, 4000, 12
 IN_PROCESS = unittest.skipUnless(os.path.exists(os.path.join(OUT, "libscf.so.0")), "libscf isn't built: library/build")
 ALLOW = 0x7FFF0000
 X86_64, I386, X32 = 0xC000003E, 0x40000003, 0x40000000

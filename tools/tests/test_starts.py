@@ -1,12 +1,12 @@
 """How often a tool starts scf where all is well."""
 import json
 import os
-import shutil
+from unittest import mock
 
 from support.common import (ALLOW, EPERM, I386, PROGRAM, TABLE, X86_64, Case, filter_of, insn, jeq, jge, load,
                             profile_of, ret, stub)
 from support.confined import Confined, here
-from scftools import tables
+from scftools import client, tables
 
 # What `lint` finds nothing of.
 NAMES = ("read write exit exit_group rt_sigaction rt_sigreturn nanosleep restart_syscall mmap munmap faccessat "
@@ -17,10 +17,12 @@ class Counting(Case):
     def starts(self, name, *words, status=0, said=""):
         """How often a tool starts scf, but for its version; what it says on standard error."""
         log = self.file("log", "")
-        tree = self.made_tree(f'#!/bin/sh\n[ "$1" = --version ] || echo "$@" >>{log}\nexec {PROGRAM} "$@"\n')
-        actual, out, err = self.run_words([os.path.join(tree, "tools", name), *words])
+        program = self.file("program",
+                            f'#!/bin/sh\n[ "$1" = --version ] || echo "$@" >>{log}\nexec {PROGRAM} "$@"\n')
+        os.chmod(program, 0o755)
+        with mock.patch.object(client, "PROGRAMS", [program]):
+            actual, out, err = self.run_tool(name, *words)
         self.assertEqual((actual, err), (status, said), out)
-        shutil.rmtree(tree)
         with open(log, encoding="utf-8") as file:
             return len(file.readlines())
 
@@ -147,12 +149,14 @@ class Starts(Counting):
 
 
 class OfProcesses(Confined, Counting):
+    """The first start answers the syscall in which the process waits."""
+
     @here
     def test_verify_process(self):
         data, path = self.compiled(json.dumps({"defaultAction": "SCMP_ACT_ALLOW", "syscalls": [
             {"names": ["mount"], "action": "SCMP_ACT_ERRNO"}]}))
         child = self.child([data])
-        self.assertEqual(self.starts("verify-process", str(child.pid), path), 2)
+        self.assertEqual(self.starts("verify-process", str(child.pid), path), 3)
 
     @here
     def test_one_of_runc(self):
@@ -165,4 +169,4 @@ class OfProcesses(Confined, Counting):
             "defaultAction": "SCMP_ACT_ERRNO", "architectures": ["SCMP_ARCH_X86_64"],
             "syscalls": [{"names": names, "action": "SCMP_ACT_ALLOW"}]}))
         child = self.child([stub(436) + insn(0, 0) + data])
-        self.assertEqual(self.starts("verify-process", "--runtime", "runc", str(child.pid), path), 2)
+        self.assertEqual(self.starts("verify-process", "--runtime", "runc", str(child.pid), path), 3)

@@ -102,7 +102,7 @@ def disposition(answer):
 
 
 def disposition_by_hand(filters, call):
-    return disposition(answers.Answer.read(StandIn().decide(filters, call)).word)
+    return disposition(StandIn().decision(filters, call))
 
 
 def dispositions_by_hand(filters, number):
@@ -112,9 +112,10 @@ def dispositions_by_hand(filters, number):
     return {disposition_by_hand(filters, call) for call in calls}
 
 
-def answers_by_hand(filters, number):
-    """The answers to the calls of a number, at the same corners."""
-    return [StandIn().decide(filters, Call(number, X86_64, pointer, (argument, high, 0, 0, 0, 0)))
+@functools.lru_cache(None)
+def answers_by_hand(name, number):
+    """The answers of known filters to the calls of a number, at the same corners."""
+    return [StandIn().decide(KNOWN[name][0], Call(number, X86_64, pointer, (argument, high, 0, 0, 0, 0)))
             for argument, high, pointer in itertools.product(ARGUMENTS, (0, 4), POINTERS)]
 
 
@@ -439,7 +440,7 @@ class Program(Case):
                     self.assertEqual(StandIn().decide(filters, call), "{action} {data}".format(**example["answer"]))
                     self.assertIn(f"args {' '.join(example['arguments'])} ", lines[number])
                 self.assertEqual({"{action} {data}".format(**example["answer"]) for example in shown},
-                                 set(answers_by_hand(filters, number)))
+                                 set(answers_by_hand(name, number)))
         self.assertEqual(self.run_tool("surface", "--examples", "--conditions", "f")[0], 2)
 
     def test_names_that_no_group_has(self):
@@ -607,8 +608,7 @@ class Beside(Case):
             with self.subTest(one=name, other=name_beside):
                 status, text, beside = self.pairs(name, name_beside)
                 expected = [row for row in zip(NUMBERS, KNOWN[name][1], KNOWN[name_beside][1])
-                            if answers_by_hand(KNOWN[name][0], row[0]) != answers_by_hand(KNOWN[name_beside][0],
-                                                                                          row[0])]
+                            if answers_by_hand(name, row[0]) != answers_by_hand(name_beside, row[0])]
                 self.assertEqual(text, expected)
                 self.assertTrue(all(pair.is_decided for pair in beside.pairs))
                 if text:

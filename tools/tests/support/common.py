@@ -10,7 +10,9 @@ import subprocess
 import sys
 import tempfile
 import time
+import traceback
 import unittest
+import warnings
 
 from . import json_schema
 
@@ -50,6 +52,29 @@ def source_of(name):
 def module(name):
     """A tool, imported."""
     return importlib.import_module(f"scftools.tool_{name.replace('-', '_')}")
+
+
+def forked(words, prepare=None):
+    """What a child does in place of the start of a tool, whose words these are: it prepares itself, runs the tool's
+    module, as this process imported it, and ends. That takes a tenth of the time of a start."""
+    main, stdio = module(os.path.basename(words[0])).main, sys.__stdout__
+
+    def run():
+        try:
+            if prepare is not None:
+                prepare()
+            os.closerange(3, os.sysconf("SC_OPEN_MAX"))
+            warnings.simplefilter("ignore")
+            sys.argv = list(map(os.fsdecode, words))
+            sys.stdin, sys.stdout, sys.stderr = (
+                open(file, mode, encoding=stdio.encoding, errors=errors, closefd=False) for file, mode, errors in (
+                    (0, "r", stdio.errors), (1, "w", stdio.errors), (2, "w", "backslashreplace")))
+            importlib.import_module("scftools.program").start(main)
+        except BaseException:
+            traceback.print_exc()
+        finally:
+            os._exit(1)
+    return run
 
 
 def insn(code, k, jt=0, jf=0):
@@ -193,7 +218,8 @@ class Case(unittest.TestCase):
     def run_words(self, words, given=b"", seconds=None, **settings):
         """The status, what was printed, and what was said on standard error.
 
-        With `seconds` it fails where it and all that it runs take more of them from the processors.
+        With `seconds` it fails where it and all that it runs take more of them from the processors. A tool isn't
+        started but forked, unless it is to have another environment or more files.
         """
         if isinstance(given, bytes):
             settings["input"] = given
@@ -201,6 +227,8 @@ class Case(unittest.TestCase):
             settings["stdin"] = given
         if seconds is not None:
             settings["preexec_fn"] = limited(seconds + 1)
+        if os.path.dirname(words[0]) == os.path.join(TOP, "tools") and not settings.keys() & {"env", "pass_fds"}:
+            settings.update(preexec_fn=forked(words, settings.get("preexec_fn")), restore_signals=False)
         before = taken()
         done = subprocess.run(words, stdout=settings.pop("stdout", subprocess.PIPE), stderr=subprocess.PIPE,
                               timeout=PATIENCE, check=False,
@@ -220,8 +248,11 @@ class Case(unittest.TestCase):
             return self.run_tool(name, *words, given=given, stdout=full)
 
     def says_usage(self, name, *without):
-        """--help is printed with status 0; too few words, and an unknown option, are status 2 on standard error."""
-        status, out, err = self.run_tool(name, "--help")
+        """--help is printed with status 0; too few words, and an unknown option, are status 2 on standard error.
+
+        For --help it is started, as a user does.
+        """
+        status, out, err = self.run_words(["env", tool(name), "--help"])
         self.assertEqual((status, err), (0, ""))
         self.assertIn("usage", out.lower())
         for words in (without, ("--no-such-option",)):
@@ -234,7 +265,7 @@ class Case(unittest.TestCase):
         tree = tempfile.mkdtemp(dir=self.folder)
         for name in ("tools", "conformance", "tables", "docs"):
             shutil.copytree(os.path.join(TOP, name), os.path.join(tree, name),
-                            ignore=shutil.ignore_patterns("tests", "__pycache__"))
+                            ignore=shutil.ignore_patterns("tests"))
         with open(os.path.join(tree, "scf"), "w", encoding="utf-8") as file:
             # (the tools call it as `scf core`)
             file.write(scf.replace("\n", "\nshift\n", 1))

@@ -48,7 +48,7 @@ OTHER = load(0) + jeq(0x0FFFFFFE, 0, 1) + ret(EPERM) + ret(ALLOW)
 
 def started(names, **settings):
     """A child under the filters of these files, and the numbers of its threads."""
-    child = subprocess.Popen([sys.executable, "-c", CHILD, json.dumps(names)], stdin=subprocess.PIPE,
+    child = subprocess.Popen([sys.executable, "-IS", "-c", CHILD, json.dumps(names)], stdin=subprocess.PIPE,
                              stdout=subprocess.PIPE, text=True, **settings)
     words = child.stdout.readline().split()
     return child, [int(word) for word in words] if words and words[0].isdigit() else words

@@ -26,6 +26,7 @@ from .stand_in import StandIn
 
 # The program itself, which is asked many times; `build_program` has the launcher build it where there is none.
 LONG, WORD = (1 << 64) - 1, (1 << 32) - 1
+MACHINE = StandIn()
 LD, LDX, TAX, TXA, NEG, ST, RET, RET_A = 0x20, 0x01, 0x07, 0x87, 0x84, 0x02, 0x06, 0x16
 # Loads of a constant, and of scratch words to A and to X.
 LD_K, LD_M, LDX_M = 0x00, 0x60, 0x61
@@ -851,7 +852,7 @@ def with_changed_constant(dice, program, first=0):
         if code in (LSH, RSH):
             new %= 32
         changed[index] = code, jt, jf, new
-        if new != k and StandIn().fault(changed) is None:
+        if new != k and MACHINE.fault(changed) is None:
             return changed
 
 
@@ -902,7 +903,7 @@ class ProfilePair:
     def differs_at(self, number, argument):
         words = [number, X86_64, 0, 0] + 12 * [0]
         words[4 + 2 * self.index:6 + 2 * self.index] = argument & WORD, argument >> 32
-        return StandIn().answer(self.program, words) != self.profile_answer(number, argument)
+        return MACHINE.answer(self.program, words) != self.profile_answer(number, argument)
 
     def difference(self, dice):
         """A call that is answered differently, or None."""
@@ -962,7 +963,7 @@ class FilterPair:
         return part("filter", packed(self.programs[0])) + part("beside", packed(self.programs[1]))
 
     def answers(self, record):
-        return [StandIn().answer(program, record) for program in self.programs]
+        return [MACHINE.answer(program, record) for program in self.programs]
 
     def difference(self, dice):
         """A record that is answered differently, or None."""
@@ -994,7 +995,7 @@ class FilterPair:
         for number in (shown[3], *shown[4].split()):
             record += [int(number, 16) & WORD, int(number, 16) >> 32]
         answers = self.answers(record)
-        printed = [f"{side} {StandIn().printed(answer)}" for side, answer in zip(("filter", "beside"), answers)]
+        printed = [f"{side} {MACHINE.printed(answer)}" for side, answer in zip(("filter", "beside"), answers)]
         return answers[0] != answers[1] and lines[2:4] == printed
 
 
@@ -1056,12 +1057,12 @@ def measured(kind, construct, dice, pairs):
     """Draws pairs of a class by a construct or a rewrite, every other one changed, and compares them."""
     measurement = Measured()
     for count in range(pairs):
-        pair = kind.drawn(dice, construct)
-        if pair.difference(dice):
-            raise Wrong(f"the pair isn't what it is made for: {pair}")
-        if count % 2:
+        pair, is_changed = kind.drawn(dice, construct), count % 2 == 1
+        if is_changed:
             pair = pair.changed(dice)
         difference = pair.difference(dice)
+        if difference and not is_changed:
+            raise Wrong(f"the pair isn't what it is made for: {pair}")
         printed, seconds, memory = compared(pair)
         measurement.count(difference, verdict(pair, difference, printed), seconds, memory)
     return measurement

@@ -2,17 +2,27 @@
 
 It is written from filter.h, seccomp(2) and the kernel's checker, and takes its answers from none of scf's code.
 """
+import functools
+import operator
 import struct
 
 ACTIONS = {0x80000000: "KILL_PROCESS", 0: "KILL_THREAD", 0x30000: "TRAP", 0x50000: "ERRNO", 0x7FC00000: "USER_NOTIF",
            0x7FF00000: "TRACE", 0x7FFC0000: "LOG", 0x7FFF0000: "ALLOW"}
-WORD = (1 << 32) - 1
+WORD, SIGN = (1 << 32) - 1, 1 << 31
 COMPUTES = {
-    0x00: lambda a, v: a + v, 0x10: lambda a, v: a - v, 0x20: lambda a, v: a * v, 0x30: lambda a, v: a // v,
-    0x40: lambda a, v: a | v, 0x50: lambda a, v: a & v, 0x60: lambda a, v: a << (v & 31),
-    0x70: lambda a, v: a >> (v & 31), 0xA0: lambda a, v: a ^ v,
+    0x00: lambda a, v: a + v & WORD, 0x10: lambda a, v: a - v & WORD, 0x20: lambda a, v: a * v & WORD,
+    0x30: lambda a, v: a // v if v else a, 0x40: operator.or_, 0x50: operator.and_,
+    0x60: lambda a, v: a << (v & 31) & WORD, 0x70: lambda a, v: a >> (v & 31), 0xA0: operator.xor,
 }
-TESTS = {0x10: lambda a, v: a == v, 0x20: lambda a, v: a > v, 0x30: lambda a, v: a >= v, 0x40: lambda a, v: a & v != 0}
+TESTS = {0x10: operator.eq, 0x20: operator.gt, 0x30: operator.ge, 0x40: operator.and_}
+# What a planted change makes of some of these.
+PLANTED_COMPUTES = {
+    "or is xor": {0x40: operator.xor},
+    "rsh keeps the sign": {0x70: lambda a, v: (a ^ SIGN) - SIGN >> (v & 31) & WORD},
+    "a shift by 32 gives 0": {op: lambda a, v, shifts=COMPUTES[op]: 0 if v >= 32 else shifts(a, v)
+                              for op in (0x60, 0x70)},
+}
+PLANTED_TESTS = {"jgt is signed": {0x20: lambda a, v: a ^ SIGN > v ^ SIGN}}
 CODES = {0x20, 0x80, 0x81, 0x00, 0x01, 0x60, 0x61, 0x02, 0x03, 0x84, 0x05, 0x06, 0x16, 0x07, 0x87,
          *(0x04 | op | x for op in COMPUTES for x in (0, 8)), *(0x05 | op | x for op in TESTS for x in (0, 8))}
 
@@ -29,6 +39,8 @@ class StandIn:
     def __init__(self, plant=None):
         assert plant in (None, *OF_ANSWERS, *OF_CHECKER)
         self.plant = plant
+        self.computes = {**COMPUTES, **PLANTED_COMPUTES.get(plant, {})}
+        self.tests = {**TESTS, **PLANTED_TESTS.get(plant, {})}
 
     def fault(self, program):
         """The kind of the first fault, or None."""
@@ -88,47 +100,34 @@ class StandIn:
             if path is not None:
                 path.append(place)
             place += 1
-            v = x if code & 8 else k
             kind = code & 7
-            if code == 0x16:
-                return a
-            if kind == 6:
-                return k
-            if code == 5:
-                place += k
-            elif kind == 5:
-                place += jt if self.holds(code & 0xF0, a, v) else jf
-            elif kind == 4 and code != 0x84:
+            if kind == 5:
+                if code == 5:
+                    place += k
+                else:
+                    place += jt if self.tests[code & 0xF0](a, x if code & 8 else k) else jf
+            elif kind == 4:
+                v = x if code & 8 else k
                 if code == 0x3C and v == 0 and self.plant != "a division by 0 goes on":
                     return 0
-                a = self.computed(code & 0xF0, a, v)
-            elif code == 0x84:
-                a = -a & WORD
-            elif code in (2, 3):
-                scratch[k] = a if code == 2 else x
-            elif code in (7, 0x87):
+                a = -a & WORD if code == 0x84 else self.computes[code & 0xF0](a, v)
+            elif kind == 6:
+                return a if code == 0x16 else k
+            elif kind == 7:
                 a, x = (a, a) if code == 7 else (x, x)
+            elif kind > 1:
+                scratch[k] = a if code == 2 else x
             else:
-                loaded = {0x20: words[k // 4 % 16], 0x80: 64, 0x60: scratch.get(k), 0x40: None}.get(code & 0xFE, k)
-                if code == 0x81 and self.plant == "ldx len is 0":
-                    loaded = 0
-                a, x = (a, loaded) if code & 1 else (loaded, x)
-
-    def holds(self, op, a, v):
-        if op == 0x20 and self.plant == "jgt is signed":
-            a, v = a ^ 0x80000000, v ^ 0x80000000
-        return TESTS[op](a, v)
-
-    def computed(self, op, a, v):
-        if op == 0x40 and self.plant == "or is xor":
-            return a ^ v
-        if op in (0x60, 0x70) and v >= 32 and self.plant == "a shift by 32 gives 0":
-            return 0
-        if op == 0x70 and a >> 31 and self.plant == "rsh keeps the sign":
-            return a >> (v & 31) | WORD << (32 - (v & 31)) & WORD
-        if op == 0x30 and v == 0:
-            return a
-        return COMPUTES[op](a, v) & WORD
+                mode = code & 0xE0
+                if mode == 0x20:
+                    loaded = words[k // 4 % 16]
+                elif mode == 0x60:
+                    loaded = scratch.get(k)
+                elif mode == 0x80:
+                    loaded = 0 if kind and self.plant == "ldx len is 0" else 64
+                else:
+                    loaded = k
+                a, x = (a, loaded) if kind else (loaded, x)
 
     def printed(self, answer):
         name = ACTIONS.get(answer & 0xFFFF0000)
@@ -151,18 +150,27 @@ class StandIn:
         self.answer(unpacked(data), words_of(call), path)
         return path
 
-    def decide(self, filters, call):
+    def decision(self, filters, call):
+        """The answer of a stack."""
+        return self.decision_of(map(unpacked, filters), words_of(call))
+
+    def decision_of(self, programs, words):
+        """The answer of a stack as instructions to the words of a record."""
         def rank(answer):
             return answer >> 16 if self.plant == "ranks have no sign" or not answer >> 31 else (answer >> 16) - 0x10000
 
-        answers = [self.answer(unpacked(data), words_of(call)) for data in reversed(filters)]
-        if self.plant == "the oldest of equal ranks":
+        answers = [self.answer(program, words) for program in programs]
+        if self.plant != "the oldest of equal ranks":
             answers.reverse()
-        return self.printed(min(answers, key=rank))
+        return min(answers, key=rank)
+
+    def decide(self, filters, call):
+        return self.printed(self.decision(filters, call))
 
 
+@functools.lru_cache
 def unpacked(data):
-    return [(code, jt, jf, k) for code, jt, jf, k in struct.iter_unpack("<HBBI", data)]
+    return tuple(struct.iter_unpack("<HBBI", data))
 
 
 def words_of(call):
