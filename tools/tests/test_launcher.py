@@ -44,7 +44,7 @@ class Launcher(Case):
     def test_scf_is_built_where_it_never_was(self):
         status, out, err = self.run_here("scf", "core", "check", "--b c")
         self.assertEqual((status, out), (0, "one check --b c\n"))
-        self.assertEqual(err, "build: proving and building scf; the first time this may take half an hour\n")
+        self.assertEqual(err, "build: proving and building scf; the first time this may take an hour\n")
         self.assertEqual(self.run_here("scf", "dis"), (0, "one dis\n", ""))
         self.assertEqual(self.asked(), ["low lib", "middle lib", "scf run -- --help"])
 
@@ -52,7 +52,7 @@ class Launcher(Case):
         status, out, err = self.run_here("build", "middle", PROVES="low", PRINTS=self.PRINTED)
         self.assertEqual((status, out), (0, ""))
         self.assertEqual(re.sub(r"\([0-9]+ s\)", "(N s)", err).splitlines(), [
-            "build: proving and building middle; the first time this may take half an hour",
+            "build: proving and building middle; the first time this may take an hour",
             "build: low: proved: crate 1 of 2 (N s)"])
         self.assertEqual(self.asked(), ["low lib"])
 
@@ -77,7 +77,7 @@ logic=proved functions=2 sum=dac8208d650f15bf incremental=trusted
         status, out, err = self.run_here("build", PROVES="[ls]*", PRINTS=self.PRINTED)
         self.assertEqual((status, out), (0, ""))
         self.assertEqual(re.sub(r"\([0-9]+ s\)", "(N s)", err).splitlines(), [
-            "build: proving and building scf; the first time this may take half an hour",
+            "build: proving and building scf; the first time this may take an hour",
             "build: low: proved: crate 1 of 3 (N s)", "build: scf: proved: crate 3 of 3 (N s)"])
         self.assertEqual(os.listdir(self.room), [])
         refused = "fn middle::third: not proved\nlogic=not-proved\n"
