@@ -12,7 +12,8 @@
 PREFIX = /usr/local
 DESTDIR =
 
-TOOLS := $(filter-out scftools tests __pycache__,$(notdir $(wildcard tools/*)))
+TOOLS := $(filter-out scftools scfhost tests __pycache__,$(notdir $(wildcard tools/*)))
+PACKAGES := $(patsubst tools/%/__init__.py,%,$(wildcard $(foreach depth,* */* */*/*,tools/scf$(depth)/__init__.py)))
 PROGRAM = crates/scf/out/scf
 TO = $(DESTDIR)$(PREFIX)
 BIN = $(TO)/bin
@@ -53,11 +54,12 @@ check:
 	./test
 
 install: $(PROGRAM) uninstall
-	install -d "$(BIN)" "$(LIB)/program" "$(LIB)/tools/scftools" "$(LIB)/tables" "$(LIB)/docs" "$(MAN)" "$(DOC)" \
+	install -d "$(BIN)" "$(LIB)/program" "$(LIB)/tools" "$(LIB)/tables" "$(LIB)/docs" "$(MAN)" "$(DOC)" \
 	    "$(BASH)" "$(ZSH)" "$(FISH)" "$(UNITS)" "$(SHARE)/hooks.d" "$(SHARE)/prometheus"
 	install $(PROGRAM) "$(LIB)/program"
 	install $(TOOLS:%=tools/%) "$(LIB)/tools"
-	install -m 644 tools/scftools/*.py "$(LIB)/tools/scftools"
+	for package in $(PACKAGES); do install -d "$(LIB)/tools/$$package" && \
+	    install -m 644 tools/$$package/*.py "$(LIB)/tools/$$package" || exit 1; done
 	install -m 644 tables/* "$(LIB)/tables"
 	install -m 644 docs/FAULTS.md "$(LIB)/docs"
 	install -m 644 docs/scf.1 "$(MAN)"
@@ -69,7 +71,7 @@ install: $(PROGRAM) uninstall
 	umask 022; $(HERE) contrib/systemd/scf-audit.service >"$(UNITS)/scf-audit.service" && \
 	    $(HERE) contrib/hooks.d/scf.json >"$(SHARE)/hooks.d/scf.json"
 	umask 022; python3 -m compileall -q --invalidation-mode checked-hash $(if $(DESTDIR),-s "$(DESTDIR)") \
-	    "$(LIB)/tools/scftools"
+	    "$(LIB)/tools/scftools" "$(LIB)/tools/scfhost"
 	sed 's|^beside=$$|beside=/../lib/scf|' scf >"$(BIN)/scf"
 	chmod 755 "$(BIN)/scf"
 	for tool in $(TOOLS); do ln -sf "../lib/scf/tools/$$tool" "$(BIN)/scf-$$tool" || exit 1; done

@@ -13,9 +13,10 @@ import kernel_child
 import kernel_profiles
 from kernel_child import Kernel, Setting
 from kernel_programs import HARMLESS, Calls
-from scftools import bundles, client, tables
-from scftools.answers import I386_NUMBER, MAX_ERRNO, X86_64, Answer
-from scftools.calls import Call
+from scftools.model import bundles, tables
+from scftools.model.answers import I386_NUMBER, MAX_ERRNO, X86_64, Answer
+from scftools.model.calls import Call
+from scftools.ask import client
 
 # So many programs that scf refuses are handed to one child: none of them leaves anything behind.
 TOGETHER = 32

@@ -19,8 +19,8 @@ import time
 from collections.abc import Sequence
 from typing import NamedTuple
 
-from scftools.answers import I386_NUMBER, X86_64
-from scftools.calls import Call
+from scftools.model.answers import I386_NUMBER, X86_64
+from scftools.model.calls import Call
 
 # asm/unistd_64.h, linux/sched.h, linux/prctl.h, linux/seccomp.h, sys/ptrace.h
 NR_RT_SIGACTION, NR_PTRACE, NR_PRCTL, NR_SET_TID_ADDRESS, NR_SECCOMP = 13, 101, 157, 218, 317

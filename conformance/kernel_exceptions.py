@@ -8,7 +8,7 @@ from kernel_cases import Asking
 from kernel_child import GATE, PROCESS_ENDS, SITE, Setting, call_at, returns
 from kernel_programs import (ALLOW, DIV, ERRNO, HARMLESS, JEQ, LD_WORD, LETS_INSTALL, MOST, RET, TRACE, UNNAMED,
                               USER_NOTIF, Insn, X, packed)
-from scftools.answers import X86_64
+from scftools.model.answers import X86_64
 
 OWN = HARMLESS[X86_64]["getpid"]
 # asm/unistd_64.h

@@ -8,8 +8,8 @@ from typing import Any
 
 from kernel_child import SITE, call_at
 from kernel_programs import Calls
-from scftools.answers import FIRST_X32, X86_64, Answer
-from scftools.calls import Call
+from scftools.model.answers import FIRST_X32, X86_64, Answer
+from scftools.model.calls import Call
 
 # Numbers that no kernel has, and calls that do nothing.
 TABLE = {**{f"t{number}": number for number in (*range(400000, 400012), 500000, 0x10000, FIRST_X32 - 1, 1000)},

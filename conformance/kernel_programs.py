@@ -7,9 +7,9 @@ from collections.abc import Iterator, Sequence
 from typing import NamedTuple
 
 from kernel_child import NR_SECCOMP, SITE, SITES, call_at, is_gate
-from scftools.answers import I386_NUMBER, X86_64
-from scftools.calls import Call
-from scftools.values import replace
+from scftools.base.values import replace
+from scftools.model.answers import I386_NUMBER, X86_64
+from scftools.model.calls import Call
 
 WORD = 1 << 32
 MOST, MOST_OF_HEADER = 4096, 65535

@@ -13,10 +13,10 @@ import kernel_child
 from kernel_child import MOST_RECORDS, NR_SECCOMP, SITES, Kernel, Setting
 from kernel_exceptions import NR_UPROBE, NR_URETPROBE
 from kernel_programs import ALLOW, JEQ, LD_WORD, RET, TRACE, Insn, packed
-from scftools import regions
-from scftools.answers import I386_NUMBER, MAX_ERRNO, X86_64, Answer
-from scftools.calls import NO_CALL, Call
-from scftools.regions import POINTER, Region
+from scftools.model.answers import I386_NUMBER, MAX_ERRNO, X86_64, Answer
+from scftools.model.calls import NO_CALL, Call
+from scftools.ask import regions
+from scftools.ask.regions import POINTER, Region
 
 # What the tracer is told of a call that the filters allow: data that no profile gives.
 ALLOWED = 0x5CF1

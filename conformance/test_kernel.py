@@ -24,10 +24,11 @@ import kernel_profiles  # noqa: E402
 import kernel_programs as programs  # noqa: E402
 import kernel_regions  # noqa: E402
 from kernel_child import Setting  # noqa: E402
-from scftools import filter_loads, regions, strace  # noqa: E402
-from scftools.answers import ALLOW as ALLOWED, DENIED, I386_NUMBER, X86_64, Answer  # noqa: E402
-from scftools.calls import Call  # noqa: E402
-from scftools.values import replace  # noqa: E402
+from scftools.base.values import replace  # noqa: E402
+from scftools.model.answers import ALLOW as ALLOWED, DENIED, I386_NUMBER, X86_64, Answer  # noqa: E402
+from scftools.model.calls import Call  # noqa: E402
+from scftools.ask import regions  # noqa: E402
+from scftools.logs import filter_loads, strace  # noqa: E402
 from support.common import ALLOW, Case, insn, jeq, load, ret, taken  # noqa: E402
 from support.stand_in import OF_ANSWERS, OF_CHECKER, StandIn  # noqa: E402
 

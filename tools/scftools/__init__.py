@@ -1,10 +1,10 @@
-"""The modules that scf's tools share: a module for each subject, each fact once, and only Python's standard library.
+"""The tools on files: a package for each room, a module for each subject, and only Python's standard library.
 
-A program tools/NAME has launch.py start the module tool_NAME: its docstring is the tool's manual, it parses the command
-line, and it combines the other modules, which import each other without a cycle. The first line of each says what it
-has:
+A program tools/NAME has launch.py start the module commands/NAME.py: its docstring is the tool's manual, it parses the
+command line, and it combines modules of the other packages. Each package uses only those before it: base, model, ask,
+cli, forms, report, lint, logs, commands. The first line of a module says what it has:
 
-    head -n 1 tools/scftools/*.py
+    head -n 1 tools/scftools/*/*.py
 
 One word for one thing. A *plain* filter or profile is what the theorem calls so (docs/TRUST.md). A
 *resolved* profile is what an engine makes of its own profile for one container, without `includes`, `excludes` and the

@@ -7,8 +7,9 @@ from support.oci import ALLOW, ERRNO, NATIVE, X32, X86, condition, entry, profil
 from support.seccomp_library import NEEDED, Library, answer_of
 from support.stand_in import StandIn, unpacked, words_of
 import kernel_profiles
-from scftools import architecture_findings, entries, tables
-from scftools.calls import Call
+from scftools.model import entries, tables
+from scftools.model.calls import Call
+from scftools.lint import architecture_findings
 
 AARCH64, ARM, S390 = map("SCMP_ARCH_{}".format, ("AARCH64", "ARM", "S390"))
 OPERATORS = ("NE", "LT", "LE", "EQ", "GE", "GT", "MASKED_EQ")

@@ -5,7 +5,8 @@ import re
 import unittest
 
 from support.common import ALLOW, EPERM, I386, TOP, X32, X86_64, Case, jeq, load, ret
-from scftools import architectures, program
+from scftools.base import program
+from scftools.model import architectures
 
 AUDIT, MACHINES = "/usr/include/linux/audit.h", "/usr/include/linux/elf-em.h"
 # Each answers ERRNO 1 to one architecture, and allows all else.

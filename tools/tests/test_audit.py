@@ -13,8 +13,10 @@ from support.common import ALLOW, EPERM, LOADER, TOP, Case, filter_of, gate, jeq
 from support import json_schema
 from support.confined import processes
 from support.own_machine import OwnMachine, Systemd, podman_settings
-from scftools import audit, audit_output, container_files, machine, output, sandbox_programs, tables
-from scftools.values import replace
+from scftools.base import output
+from scftools.base.values import replace
+from scftools.model import tables
+from scfhost import audit, audit_output, container_files, machine, sandbox_programs
 
 # What is configured for containers, the same with another errno, and with one syscall more that is denied.
 STATED = {"defaultAction": "SCMP_ACT_ALLOW", "architectures": ["SCMP_ARCH_X86_64"],

@@ -10,7 +10,10 @@ import unittest
 
 from support.common import Case, filter_of, profile_of
 from test_audit import process
-from scftools import audit, audit_output, audit_page, compare, container_files, machine, processes, tables, verdicts
+from scftools.model import tables
+from scftools.ask import verdicts
+from scftools.report import compare
+from scfhost import audit, audit_output, audit_page, container_files, machine, processes
 
 # The elements that a page has, and their attributes.
 TAGS = {"html": {"lang"}, "head": set(), "meta": {"charset", "http-equiv", "content", "name"}, "title": set(),

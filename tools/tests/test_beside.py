@@ -9,7 +9,7 @@ from support.common import (ALLOW, ENOSYS, EPERM, KILL_PROCESS, LOG, PROGRAM, TR
                             filter_of, insn, jeq, jge, load, part, ret)
 from support.confined import NEWEST, OLDEST, Confined, here
 from support.stand_in import StandIn, unpacked
-from scftools import calls
+from scftools.model import calls
 
 MACHINE = StandIn()
 READ, WRITE, SOCKET, CLONE = 0, 1, 41, 56

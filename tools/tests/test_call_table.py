@@ -6,7 +6,7 @@ import re
 import unittest
 
 from support.common import I386, TABLE, TOP, Case, limited, part, tool
-from scftools import architectures, tables
+from scftools.model import architectures, tables
 
 HEADER = """#ifndef _ASM_UNISTD_64_H
 /* #define __NR_commented 9 */

@@ -14,8 +14,10 @@ import unittest.mock
 
 from support.common import (ALLOW, I386, KILL_PROCESS, KILL_THREAD, LOADER, LOG, PATIENCE, TOP, TRACE, TRAP,
                             USER_NOTIF, X86_64, Case, jeq, module, profile_of, ret)
-from scftools import audit_records, cores, events, filters, tables
-from scftools.diagnosis import AnsweringStack
+from scftools.model import tables
+from scftools.forms import filters
+from scftools.logs import audit_records, cores, events
+from scftools.logs.diagnosis import AnsweringStack
 
 TABLE = tables.read(None)
 SOCKET, AF_NETLINK, NETLINK_AUDIT = 41, 16, 9

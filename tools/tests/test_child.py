@@ -1,4 +1,4 @@
-"""scftools.child: what a function in a child process returns and raises, and that it ends in time."""
+"""scftools/base/child.py: what a function in a child process returns and raises, and that it ends in time."""
 import fcntl
 import os
 import signal
@@ -6,7 +6,7 @@ import time
 from unittest import mock
 
 from support.common import Case, comes
-from scftools import child, program
+from scftools.base import child, program
 
 
 class Child(Case):

@@ -5,7 +5,9 @@ import re
 
 from support.common import (ALLOW, CORE, EPERM, I386, KILL_PROCESS, KILL_THREAD, TABLE, UNKNOWN_ZERO, X86_64, Case,
                             filter_of, insn, jeq, jge, load, needs, part, profile_of, ret)
-from scftools import bundles, client, compare, profiles, tables
+from scftools.model import bundles, profiles, tables
+from scftools.ask import client
+from scftools.report import compare
 
 READ, WRITE, EXIT_GROUP = 0, 1, 231
 # Goes on for x86-64 syscalls alone.

@@ -9,9 +9,10 @@ from support.confined import ended, started
 from test_why import reading
 import kernel_profiles
 from kernel_profiles import answer_of
-from scftools import changes, tables
-from scftools.calls import Call
-from scftools.profile_inputs import ProfileInput
+from scftools.model import tables
+from scftools.model.calls import Call
+from scftools.forms.profile_inputs import ProfileInput
+from scftools.report import changes
 
 ALLOW, ERRNO = "SCMP_ACT_ALLOW", "SCMP_ACT_ERRNO"
 NOT_40 = [{"index": 0, "value": 40, "op": "SCMP_CMP_NE"}]

@@ -9,7 +9,7 @@ from support.on_parts import (CLONE, CLONE_TABLE, DEFAULT_ALLOW, ONE_CALL, READ_
                               a_profile, a_table, bundle, ran)
 from support.worked import (EXTREMES, FAILS, KILLS, MADE, MOST, SOCKET_NOT_40, SOCKET_RULES, SOCKET_TABLE, WHOLE_CONFIG,
                             allowing, effort, refusing)
-from scftools import verdicts
+from scftools.ask import verdicts
 
 BIT_32, LAST = 1 << 32, X32 - 1
 # The most instructions that a conditional jump passes.

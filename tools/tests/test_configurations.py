@@ -7,7 +7,7 @@ from unittest import mock
 
 from support.confined import FakeKernel, here
 from test_filters_of import MOUNT, Confined, comments, refuses, refusing
-from scftools import verify
+from scfhost import verify
 
 ONE, TWO = "01" * 32, "ef" * 32
 BY_CONFIGURATION, THOUGH = "unconfined by configuration", "unconfined though configured"

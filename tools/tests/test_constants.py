@@ -13,7 +13,8 @@ import unittest
 
 from support.common import (ALLOW, EPERM, I386, LOADER, TABLE, TOP, X86_64, Case, for_developers, insn, jeq, load,
                             ret)
-from scftools import constants, strace
+from scftools.model import constants
+from scftools.logs import strace
 
 X32, ALL_ONES = 0x40000000, (1 << 64) - 1
 

@@ -1,10 +1,10 @@
-"""scftools.containers: the container's own control group, as runtimes and systemd name and mount it."""
+"""scfhost.containers: the container's own control group, as runtimes and systemd name and mount it."""
 import unittest
 import unittest.mock
 
 from support.common import Case
 from support.confined import FakeKernel, processes, ptrace
-from scftools import containers
+from scfhost import containers
 
 IDENTIFIER = "0123456789abcdef" * 4
 # The group of a process, and the container's: as the documents of the runtimes show them (podman-run(1) --cgroups,

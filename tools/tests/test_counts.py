@@ -5,8 +5,8 @@ import os
 from support.common import X86_64, Case, filter_of, part, profile_of
 from support.on_parts import OnProgram, a_profile, a_table, bundle, ran
 from support.worked import allowing
-from scftools import tables
-from scftools.architectures import AARCH64, I386, JUDGED, NATIVE
+from scftools.model import tables
+from scftools.model.architectures import AARCH64, I386, JUDGED, NATIVE
 
 # Blocks of four numbers, each block a range, and so is the number between two.
 NUMBERS = [number for number in range(300) if number % 5]

@@ -7,16 +7,16 @@ import unittest
 from support.common import ALLOW, KILL_PROCESS, KILL_THREAD, X32, X86_64, gate, ret
 from support.stand_in import StandIn
 from test_beside import CORNERS, decided, degree, drawn, mutated
-from scftools import architectures, differences, regions, tables
-from scftools.answers import Answer
-from scftools.calls import Call
-from scftools.compare import Comparison
-from scftools.differences import EVERY_RECORD, Differences, span_of
-from scftools.filters import Filter
-from scftools.program import ToolError
-from scftools.stack_comparison import StackComparison
-from scftools.verdicts import (ALL, CALLS, NATIVE_SCOPE, NO_LESS, NO_MORE, SAME, SAME_DISPOSITION, UNDECIDED,
-                               Verdict)
+from scftools.base.program import ToolError
+from scftools.model import architectures, tables
+from scftools.model.answers import Answer
+from scftools.model.calls import Call
+from scftools.ask import differences, regions
+from scftools.ask.differences import EVERY_RECORD, Differences, span_of
+from scftools.ask.verdicts import ALL, CALLS, NATIVE_SCOPE, NO_LESS, NO_MORE, SAME, SAME_DISPOSITION, UNDECIDED, Verdict
+from scftools.forms.filters import Filter
+from scftools.report.compare import Comparison
+from scftools.report.stack_comparison import StackComparison
 
 NATIVE, HOLDS = architectures.NATIVE, {
     SAME: lambda left, right: left == right, NO_MORE: lambda left, right: degree(left) <= degree(right),

@@ -345,11 +345,11 @@ class Names(unittest.TestCase):
     def test_what_is_touched_for_an_architecture_an_action_and_a_fault(self):
         """Each file that names the example stands in the item, and each file of the item is there."""
         page, places = text_of("docs", "ARCHITECTURE.md"), ("crates", "tools", "library", "")
-        paths = [path for pattern in ("tools/scftools/*.py", "library/*.[ch]*", "library/go/*.go", "library/*/scf/*.py",
+        paths = [path for pattern in ("tools/scf*/**/*.py", "library/*.[ch]*", "library/go/*.go", "library/*/scf/*.py",
                                       "library/rust/src/*.rs", "docs/*.json", "crates/*/src/**/*.rt",
                                       "crates/*/specs/**/*.antt", "crates/*/proofs/**/*.antt")
                  for path in glob.glob(os.path.join(TOP, pattern), recursive=True)]
-        sources = {path: text_of(path) for path in paths if not re.search("_tests?[/.]|/tool_", path)}
+        sources = {path: text_of(path) for path in paths if not re.search("_tests?[/.]|/commands/", path)}
         for what, pattern in self.ADDED.items():
             item = re.search(rf"^\*\*{what}\*\*.*?(?=^\*\*)", page, re.M | re.S)[0]
             listed = set()

@@ -3,7 +3,8 @@ import json
 
 from support.common import (ALLOW, EPERM, GATE, TABLE, Case, filter_of, insn, jeq, jge, limited, load, part, profile_of,
                             ret, taken)
-from scftools import client, program
+from scftools.base import program
+from scftools.ask import client
 
 # Seconds of a processor, and bytes of address space, that a tool and all that it runs may take.
 SECONDS, MEMORY = 30, 500 << 20

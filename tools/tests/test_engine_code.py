@@ -6,7 +6,8 @@ import random
 from support import engine_code
 from support.common import Case
 from support.oci import ALLOW, ERRNO
-from scftools import engines, profiles
+from scftools.model import profiles
+from scftools.forms import engines
 
 # Each member of a profile by a text in which a mark stands for its name, and what is found by the path of the right
 # member in what an engine makes of it.

@@ -5,7 +5,7 @@ import random
 from support.common import ALLOW, EPERM, I386, KILL_PROCESS, X86_64, filter_of, insn, jeq, load, ret
 from support.stand_in import StandIn
 from test_starts import Counting
-from scftools.calls import Call
+from scftools.model.calls import Call
 
 # socket of AF_NETLINK is denied, another architecture's syscalls kill.
 DATA = (load(4) + jeq(X86_64, 1, 0) + ret(KILL_PROCESS) + load(0) + jeq(41, 0, 2) + load(16) + jeq(16, 1, 0)

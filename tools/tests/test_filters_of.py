@@ -14,7 +14,8 @@ from support.common import (ALLOW, EPERM, I386, KILL_PROCESS, PATIENCE, TOP, X86
                             profile_of, ret, tool)
 from support.confined import CHILD, NEWEST, OLDEST, OTHER, Confined, ended, here, processes, status_of
 from support.own_machine import remove_groups
-from scftools import containers, filters
+from scftools.forms import filters
+from scfhost import containers
 
 filters_of = module("filters-of")
 ALLOWS_ALL = b'{"defaultAction":"SCMP_ACT_ALLOW"}'

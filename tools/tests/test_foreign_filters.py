@@ -7,7 +7,7 @@ from support import seccomp_library
 from support.common import CORE, Case, part
 from support.oci import condition
 from support.seccomp_library import NEEDED, Library
-from scftools import architectures
+from scftools.model import architectures
 
 NATIVE = "SCMP_ARCH_X86_64"
 # (libseccomp 2.5.4 knows no loongarch64)

@@ -6,7 +6,8 @@ import subprocess
 import unittest
 
 from support.common import ALLOW, CORE, EPERM, Case, filter_of, insn, jeq, load, part, profile_of, ret
-from scftools import c_arrays, forms, program
+from scftools.base import program
+from scftools.forms import c_arrays, forms
 
 FILTER = filter_of([0, 1, 231])
 ROWS = list(struct.iter_unpack("<HBBI", FILTER))

@@ -16,7 +16,7 @@ from test_filters_of import ROOT, refuses
 from test_oci_hook import Hook, processes
 from test_processes import EXECUTE
 from test_runtimes import MOBY, PODMAN
-from scftools import ptrace
+from scfhost import ptrace
 
 BUSYBOX = shutil.which("busybox")
 LOADED = {"defaultAction": "SCMP_ACT_ALLOW", "architectures": ["SCMP_ARCH_X86_64"],

@@ -1,4 +1,5 @@
 """make install and make uninstall."""
+import glob
 import json
 import os
 import re
@@ -12,7 +13,8 @@ from support.common import TOP, Case, filter_of, profile_of
 
 TOOLS = sorted(name for name in os.listdir(os.path.join(TOP, "tools"))
                if os.path.isfile(os.path.join(TOP, "tools", name)))
-MODULES = sorted(name for name in os.listdir(os.path.join(TOP, "tools", "scftools")) if name.endswith(".py"))
+MODULES = sorted(os.path.relpath(path, os.path.join(TOP, "tools"))
+                 for path in glob.glob(os.path.join(TOP, "tools", "scf*", "**", "*.py"), recursive=True))
 TABLES = os.listdir(os.path.join(TOP, "tables"))
 DOCUMENTS = ["LICENSE", "README.md", "scf.schema.json",
              *(f"{name}.md" for name in ("TUTORIAL", "RECIPES", "RUNTIMES", "OPERATIONS", "JSON", "LICENCES"))]
@@ -51,7 +53,7 @@ class Install(Case):
                        *(f"share/fish/vendor_completions.d/scf{name}.fish" for name in ["", *map("-{}".format, TOOLS)]),
                        f"share/zsh/{zsh}/_scf",
                        *(f"lib/scf/tools/{name}" for name in TOOLS),
-                       *(f"lib/scf/tools/scftools/{name}" for name in MODULES),
+                       *(f"lib/scf/tools/{name}" for name in MODULES),
                        *(f"lib/scf/tables/{name}" for name in TABLES), "lib/scf/docs/FAULTS.md",
                        *(f"share/doc/scf/{item}" for item in DOCUMENTS), "share/man/man1/scf.1",
                        "share/scf/hooks.d/scf.json", "share/scf/prometheus/scf.rules.yml",
@@ -66,7 +68,7 @@ class Install(Case):
         """But for the page on the proofs."""
         named = set()
         for name in MODULES:
-            with open(os.path.join(TOP, "tools", "scftools", name), encoding="utf-8") as file:
+            with open(os.path.join(TOP, "tools", name), encoding="utf-8") as file:
                 named.update(re.findall(r"[A-Z]+\.md", file.read()))
         self.assertIn("JSON.md", named)
         self.assertEqual(named - {*DOCUMENTS, "FAULTS.md", "TRUST.md"}, set())
@@ -172,17 +174,20 @@ class Install(Case):
 
     def test_python_need_not_compile_the_modules_again(self):
         self.installed()
-        folder = os.path.join(self.prefix, "lib/scf/tools/scftools/__pycache__")
-        names = sorted(os.listdir(folder))
-        self.assertEqual([f"{name.split('.')[0]}.py" for name in names], MODULES)
-        times = [os.stat(os.path.join(folder, name)).st_mtime_ns for name in names]
+        folder = os.path.join(self.prefix, "lib/scf/tools")
+
+        def compiled():
+            return {path: os.stat(path).st_mtime_ns for path in glob.glob(f"{folder}/**/*.pyc", recursive=True)}
+
+        before = compiled()
+        self.assertEqual(sorted(os.path.relpath(re.sub(r"__pycache__/(\w+)\..*", r"\1.py", path), folder)
+                                for path in before), MODULES)
         self.run_installed("scf-check", self.file("f", filter_of([])))
-        self.assertEqual([os.stat(os.path.join(folder, name)).st_mtime_ns for name in sorted(os.listdir(folder))],
-                         times)
+        self.assertEqual(compiled(), before)
 
     def test_uninstall_leaves_what_is_not_ours_and_nothing_else(self):
         self.installed()
-        self.file("a prefix/lib/scf/tools/scftools/__pycache__/program.cpython-399.pyc", b"x")
+        self.file("a prefix/lib/scf/tools/scftools/base/__pycache__/program.cpython-399.pyc", b"x")
         self.file("a prefix/bin/scf-mine", b"")
         self.file("a prefix/share/man/man1/other.1", b"")
         for _ in range(2):

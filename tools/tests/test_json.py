@@ -9,7 +9,7 @@ import subprocess
 
 from support import json_schema
 from support.common import ALLOW, EPERM, SCF, TOP, Case, jeq, load, ret, tool
-from scftools import output
+from scftools.base import output
 
 with open(os.path.join(TOP, "docs", "JSON.md"), encoding="utf-8") as page:
     PAGE = page.read()

@@ -3,8 +3,8 @@ import json
 import unittest
 
 from support.common import Case, filter_of
-from scftools import engines, kubernetes
-from scftools.words import is_object_name
+from scftools.cli.words import is_object_name
+from scftools.forms import engines, kubernetes
 from test_profile_inputs import HAS_YAML, OBJECT, SPEC, YAML
 
 READS = {"defaultAction": "SCMP_ACT_ERRNO", "syscalls": [{"names": ["read"], "action": "SCMP_ACT_ALLOW"}]}

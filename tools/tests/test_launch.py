@@ -1,7 +1,7 @@
 """scftools/launch.py: a tool that fails by an error of its own ends with no verdict's status, and says so in a line."""
 import os
 
-from support.common import TOP, Case
+from support.common import TOP, Case, source_of
 
 TOOLS = sorted(name for name in os.listdir(os.path.join(TOP, "tools"))
                if os.path.isfile(os.path.join(TOP, "tools", name)))
@@ -14,8 +14,7 @@ class Failing(Case):
 
     def fails(self, name, text):
         """What a tool prints and says whose module is this text; the status is that of an internal error."""
-        module = f"tool_{name.replace('-', '_')}.py"
-        with open(os.path.join(self.tree, "tools", "scftools", module), "w", encoding="utf-8") as file:
+        with open(os.path.join(self.tree, os.path.relpath(source_of(name), TOP)), "w", encoding="utf-8") as file:
             file.write(text)
         status, out, err = self.run_words([os.path.join(self.tree, "tools", name)])
         self.assertEqual(status, 70, err)
@@ -26,12 +25,12 @@ class Failing(Case):
     def test_each_tool(self):
         for name in TOOLS:
             _, err = self.fails(name, "def main():\n    {}['a\\nsame\\x1b[2J']\n")
-            self.assertIn(f", at tool_{name.replace('-', '_')}.py, line 2; please report it", err)
+            self.assertIn(f", at {name.replace('-', '_')}.py, line 2; please report it", err)
 
     def test_wherever_it_fails(self):
         for text, says in (("raise ValueError('x' * 10 ** 6)\n", "ValueError: xxx"), ("def main(:\n", "SyntaxError: "),
                            ("", "AttributeError: "), ("def main():\n    main()\n", "RecursionError: "),
-                           ("import json\ndef main():\n    return json.loads('[')\n", ", at tool_check.py, line 3; "),
+                           ("import json\ndef main():\n    return json.loads('[')\n", ", at check.py, line 3; "),
                            ("def main():\n    raise UnicodeDecodeError('utf-8', b'\\xff', 0, 1, 'bad')\n", "'utf-8'"),
                            ("def main():\n    raise AssertionError\n", "AssertionError: ")):
             _, err = self.fails("check", text)
@@ -39,5 +38,6 @@ class Failing(Case):
             self.assertLess(len(err), 400)
 
     def test_what_was_printed_stays(self):
-        out, _ = self.fails("check", "from . import output\ndef main():\n    output.put_line('first')\n    1 / 0\n")
+        out, _ = self.fails("check", "from scftools.base import output\n"
+                                     "def main():\n    output.put_line('first')\n    1 / 0\n")
         self.assertEqual(out, "first\n")

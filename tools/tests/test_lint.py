@@ -13,8 +13,10 @@ from support.stand_in import StandIn
 from test_output import HOSTILE
 from test_runtimes import MOBY, PODMAN
 import kernel_profiles
-from scftools import client, constants, lint, oddities, tables, watchlist
-from scftools.calls import Call
+from scftools.model import constants, tables
+from scftools.model.calls import Call
+from scftools.ask import client
+from scftools.lint import lint, oddities, watchlist
 
 ALLOW, ERRNO, TOP_OF = "SCMP_ACT_ALLOW", "SCMP_ACT_ERRNO", (1 << 64) - 1
 NATIVE, I386, X32, AARCH64, ARM = (f"SCMP_ARCH_{it}" for it in ("X86_64", "X86", "X32", "AARCH64", "ARM"))

@@ -7,8 +7,9 @@ import subprocess
 import unittest
 
 from support.common import ALLOW, CORE, EPERM, I386, KILL_PROCESS, X86_64, Case, filter_of, insn, jeq, jge, load, ret
-from scftools import flow_graph, listing, tables
-from scftools.calls import Call
+from scftools.model import tables
+from scftools.model.calls import Call
+from scftools.report import flow_graph, listing
 from support.stand_in import StandIn
 
 # linux/audit.h

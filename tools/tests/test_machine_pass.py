@@ -9,7 +9,7 @@ from unittest import mock
 from support.common import ALLOW, LOADER, TOP, comes, filter_of, ret
 from support.confined import processes
 from support.own_machine import ROOT, OwnMachine
-from scftools import machine_pass
+from scfhost import machine_pass
 
 # Prints what a pass found: the numbers of processes by the lengths of their filters, those that weren't read and why,
 # what else was left out, and the seconds that it took. Its words are the tools' folder and what is to be set in the

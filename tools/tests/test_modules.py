@@ -1,50 +1,67 @@
-"""How the modules of scftools import each other: without a cycle, and all of them at the top of a module."""
+"""How the modules of the tools import each other: without a cycle, and all of them at the top of a module."""
 import ast
 import dataclasses
-import importlib
+import functools
+import glob
+import importlib.util
 import os
 import pickle
 import re
 import unittest
 
 from support.common import TOP
-from scftools import client, values
+from scftools.base import values
+from scftools.ask import client
 
-FOLDER = os.path.join(TOP, "tools", "scftools")
+TOOLS = os.path.join(TOP, "tools")
 # What is dear to import and rarely needed, and those of our modules that only some runs of a tool need: each is imported
 # where it is needed.
 # (what takes long is never imported at the start of a tool: Python's dataclasses import inspect)
 DEAR = {"dataclasses", "inspect", "typing"}
 LATE = {"ast", "ctypes", "difflib", "glob", "hashlib", "importlib", "json", "pickle", "resource", "shlex", "signal",
         "subprocess", "syslog", "tempfile", "threading",
-        "audit_page", "cores", "filter_loads", "pages", "processes", "ptrace", "row_conditions", "sandboxes", "sarif",
-        "stack_comparison"}
+        "scfhost.audit_page", "scfhost.processes", "scfhost.ptrace", "scftools.forms.lists.sandboxes",
+        "scftools.lint.sarif", "scftools.logs.cores", "scftools.logs.filter_loads", "scftools.report.pages",
+        "scftools.report.row_conditions", "scftools.report.stack_comparison"}
 
 
+@functools.cache
 def modules():
-    return sorted(name[:-len(".py")] for name in os.listdir(FOLDER) if name.endswith(".py"))
+    paths = glob.glob(os.path.join(TOOLS, "scf*", "**", "*.py"), recursive=True)
+    return sorted(os.path.relpath(path, TOOLS)[:-len(".py")].replace(os.sep, ".") for path in paths)
+
+
+@functools.cache
+def parsed(name):
+    with open(os.path.join(TOOLS, *name.split(".")) + ".py", encoding="utf-8") as file:
+        return ast.parse(file.read())
 
 
 def is_for_types(node):
     return isinstance(node, ast.If) and isinstance(node.test, ast.Name) and node.test.id == "TYPE_CHECKING"
 
 
-def imports_of(node, is_late=False):
+def imported_from(node, package):
+    """What each name of a statement `from .. import ..` is called in the module, and the module that it is or is of."""
+    at = importlib.util.resolve_name("." * node.level + (node.module or ""), package)
+    for alias in node.names:
+        whole = f"{at}.{alias.name}"
+        yield alias.asname or alias.name, whole if whole in modules() else at
+
+
+def imports_of(node, package, is_late=False):
     """The modules that are imported at or below a node, and for each whether a function does it."""
     for child in ast.iter_child_nodes(node):
-        if isinstance(child, ast.ImportFrom) and child.level:
-            yield from (((child.module or name.name), is_late) for name in child.names)
-        elif isinstance(child, ast.ImportFrom):
-            yield child.module, is_late
+        if isinstance(child, ast.ImportFrom):
+            yield from ((module, is_late) for _, module in imported_from(child, package))
         elif isinstance(child, ast.Import):
             yield from ((name.name, is_late) for name in child.names)
         elif not is_for_types(child):
-            yield from imports_of(child, is_late or isinstance(child, ast.FunctionDef))
+            yield from imports_of(child, package, is_late or isinstance(child, ast.FunctionDef))
 
 
 def imports(name):
-    with open(os.path.join(FOLDER, f"{name}.py"), encoding="utf-8") as file:
-        return set(imports_of(ast.parse(file.read())))
+    return set(imports_of(parsed(name), name.rpartition(".")[0]))
 
 
 def cycle_in(graph):
@@ -81,19 +98,17 @@ class Modules(unittest.TestCase):
 
     def test_what_modules_use_of_others_is_there(self):
         for name in modules():
-            with open(os.path.join(FOLDER, f"{name}.py"), encoding="utf-8") as file:
-                nodes = list(ast.walk(ast.parse(file.read())))
-            imports_of_modules = (node for node in nodes if isinstance(node, ast.ImportFrom) and node.level)
-            imported = {alias.name for node in imports_of_modules if not node.module for alias in node.names}
+            nodes = list(ast.walk(parsed(name)))
+            called = dict(pair for node in nodes if isinstance(node, ast.ImportFrom)
+                          for pair in imported_from(node, name.rpartition(".")[0]) if pair[1].endswith(f".{pair[0]}"))
             for node in nodes:
-                if isinstance(node, ast.Attribute) and isinstance(node.value, ast.Name) and node.value.id in imported:
-                    module = importlib.import_module(f"scftools.{node.value.id}")
+                if isinstance(node, ast.Attribute) and isinstance(node.value, ast.Name) and node.value.id in called:
+                    module = importlib.import_module(called[node.value.id])
                     self.assertTrue(hasattr(module, node.attr), f"{name}, line {node.lineno}: {ast.unparse(node)}")
 
     def test_scf_is_run_in_one_module(self):
-        for name in set(modules()) - {"client", "tracing"}:
-            with open(os.path.join(FOLDER, f"{name}.py"), encoding="utf-8") as file:
-                self.assertNotIn("posix_spawn", file.read(), name)
+        for name in set(modules()) - {"scftools.ask.client", "scftools.logs.tracing"}:
+            self.assertNotIn("posix_spawn", ast.unparse(parsed(name)), name)
 
 
 class Values(unittest.TestCase):

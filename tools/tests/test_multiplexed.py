@@ -10,8 +10,8 @@ from support.oci import ALLOW, ERRNO, NATIVE, X32, X86, condition, entry, profil
 from support.seccomp_library import NEEDED, Conflict, Library, answer_of
 from support.stand_in import StandIn, unpacked, words_of
 import kernel_profiles
-from scftools import multiplexed, tables
-from scftools.calls import Call
+from scftools.model import multiplexed, tables
+from scftools.model.calls import Call
 
 HEADERS = {"socketcall": ("/usr/include/linux/net.h", r"^#define SYS_(\w+)\s+(\d+)"),
            "ipc": ("/usr/include/linux/ipc.h", r"^#define ((?:SEM|MSG|SHM)\w+)\s+(\d+)")}

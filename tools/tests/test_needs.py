@@ -11,8 +11,9 @@ import unittest
 
 from support.common import CONFINED, LOADER, Case, limited, profile_of, taken, tool
 from support.oci import ALLOW, ERRNO
-from scftools import strace, tables
-from scftools.architectures import AARCH64, ARM, I386, JUDGED, NATIVE, X32
+from scftools.model import tables
+from scftools.model.architectures import AARCH64, ARM, I386, JUDGED, NATIVE, X32
+from scftools.logs import strace
 
 TABLE = tables.read(None)
 TABLES = tables.of_architectures(JUDGED, TABLE).of

@@ -10,7 +10,8 @@ import unittest
 from support.common import CORE, PROGRAM, SCF, X86_64, Case, filter_of, insn, profile_of, tool
 from support.on_parts import (ALL, ALLOW, ARCH_GATE, NO_TABLE, OnProgram, a_filter, a_table, assembled, beside, bundle,
                               long_filter, ran)
-from scftools import output, verdicts
+from scftools.base import output
+from scftools.ask import verdicts
 
 SAME, DIFFERS = filter_of([0, 1]), filter_of([0, 1, 231])
 FORGED_CALL = "41 socket differs args 0x0 0x0 0x0 0x0 0x0 0x0 filter ALLOW 0 profile ERRNO 1"

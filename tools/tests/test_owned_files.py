@@ -1,4 +1,4 @@
-"""scftools.owned_files: who could have changed a file, and that no link of a user leads elsewhere."""
+"""scfhost.owned_files: who could have changed a file, and that no link of a user leads elsewhere."""
 import ctypes
 import os
 import signal
@@ -12,8 +12,8 @@ import unittest
 from unittest import mock
 
 from support.common import Case
-from scftools import owned_files
-from scftools.owned_files import ANYONE, Absent, UnreadableFile
+from scfhost.owned_files import ANYONE, Absent, UnreadableFile
+from scfhost import owned_files
 
 USER = 12345
 # linux/fs.h
@@ -129,7 +129,7 @@ class Files(Case):
 
     def test_many_mounts(self):
         """A file system is known behind others of any number."""
-        with mock.patch("scftools.ptrace.MAX_CONTENTS", 64):
+        with mock.patch("scfhost.ptrace.MAX_CONTENTS", 64):
             self.test_file_systems_of_users()
 
     def test_sizes(self):

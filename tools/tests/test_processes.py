@@ -1,4 +1,4 @@
-"""scftools.processes: what is asked of a kernel that is made here, and of this one, on processes of the test's own."""
+"""scfhost.processes: what is asked of a kernel that is made here, and of this one, on processes of the test's own."""
 import ctypes
 import errno
 import itertools
@@ -13,8 +13,9 @@ from unittest import mock
 
 from support.common import ALLOW, PATIENCE, Case, comes, ret
 from support.confined import NEWEST, OLDEST, OTHER, Confined, FakeKernel, here, processes, ptrace, status_of
-from scftools import child as children
-from scftools import hold, verdicts, verify
+from scftools.base import child as children
+from scftools.ask import verdicts
+from scfhost import hold, verify
 
 SEIZE, INTERRUPT, DETACH, GET = (ptrace.PTRACE_SEIZE, ptrace.PTRACE_INTERRUPT, ptrace.PTRACE_DETACH,
                                  ptrace.PTRACE_SECCOMP_GET_FILTER)

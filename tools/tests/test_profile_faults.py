@@ -2,7 +2,7 @@
 import unittest
 
 from support.common import Case, filter_of, profile_of
-from scftools import json_places
+from scftools.base import json_places
 
 
 class Places(Case):

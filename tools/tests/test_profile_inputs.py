@@ -6,7 +6,7 @@ import unittest
 
 from support.common import Case, filter_of, profile_of, tool
 from support.oci import ALLOW, ERRNO
-from scftools import engines, kubernetes
+from scftools.forms import engines, kubernetes
 
 # As the documentation of the Security Profiles Operator has them.
 YAML = """---

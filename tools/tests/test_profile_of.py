@@ -10,9 +10,9 @@ from support.common import (ALLOW, EPERM, KILL_PROCESS, KILL_THREAD, LOG, TOP, T
                             Case, gate, insn, jeq, jge, jgt, jset, load, ret, tool)
 from support.seccomp_library import NEEDED, Library
 from support.stand_in import StandIn, unpacked
-from scftools import answers
-from scftools.calls import Call
-from scftools.profile_of import TRAP_DATA_TEXT
+from scftools.model import answers
+from scftools.model.calls import Call
+from scftools.report.profile_of import TRAP_DATA_TEXT
 
 MOST = (1 << 64) - 1
 NAMES = {"read": 0, "write": 1, "ioctl": 16, "socket": 41, "personality": 135}

@@ -1,5 +1,6 @@
 """tools/check, tools/compile and tools/run; and what the tools have in common: several calls at once, JSON, the files
 of a stack that are told, names that no call has, versions, and the name by which a tool was called."""
+import glob
 import json
 import os
 import re
@@ -8,7 +9,7 @@ import sys
 
 from support.common import (ALLOW, CORE, EPERM, I386, KILL_PROCESS, TABLE, TOP, UNKNOWN_ZERO, X86_64, Case, filter_of,
                             insn, jeq, jge, load, part, profile_of, ret, tool)
-from scftools import tables
+from scftools.model import tables
 
 TOOLS = ("ask", "bundle", "check", "compare", "compare-profiles", "compile", "decide", "explain", "lint", "list",
          "needs", "run", "surface", "why")
@@ -449,19 +450,17 @@ class Programs(Case):
 
     def test_what_is_imported_at_start(self):
         """No module that only some runs need."""
-        script = ("import sys\nsys.path.append(sys.argv[1])\nimport scftools.compare, scftools.words\n"
+        script = ("import sys\nsys.path.append(sys.argv[1])\nimport scftools.report.compare, scftools.cli.words\n"
                   "late = {'difflib', 'subprocess', 'tempfile', 'ctypes', 'typing', 'inspect', 'dataclasses'}\n"
                   "print(*sorted(late & set(sys.modules)))")
         done = self.run_words([sys.executable, "-IS", "-c", script, os.path.join(TOP, "tools")])
         self.assertEqual(done, (0, "\n", ""))
 
     def test_each_module_says_in_its_first_line_what_it_has(self):
-        folder = os.path.join(TOP, "tools", "scftools")
-        for name in os.listdir(folder):
-            if name.endswith(".py"):
-                with open(os.path.join(folder, name), encoding="utf-8") as file:
-                    first = next(line for line in file if not line.startswith("#!"))
-                self.assertRegex(first, r'^"""\w.{20}', name)
+        for path in glob.glob(os.path.join(TOP, "tools", "scf*", "**", "*.py"), recursive=True):
+            with open(path, encoding="utf-8") as file:
+                first = next(line for line in file if not line.startswith("#!"))
+            self.assertRegex(first, r'^"""\w.{20}', path)
 
 
 class Python(Case):
@@ -488,8 +487,8 @@ class Python(Case):
     def test_a_fault_of_a_tool_itself(self):
         """It isn't status 1, which says that something differs."""
         tree = self.made_tree("#!/bin/sh\nexit 0\n")
-        with open(os.path.join(tree, "tools", "scftools", "tool_lint.py"), "w", encoding="utf-8") as file:
+        with open(os.path.join(tree, "tools", "scftools", "commands", "lint.py"), "w", encoding="utf-8") as file:
             file.write("def main():\n    return {}['a\\nb']\n")
         status, out, err = self.run_words([os.path.join(tree, "tools", "lint"), "x"])
         self.assertEqual((status, out), (70, ""))
-        self.assertEqual(err, "lint: internal error: KeyError: 'a\\nb', at tool_lint.py, line 2; please report it\n")
+        self.assertEqual(err, "lint: internal error: KeyError: 'a\\nb', at lint.py, line 2; please report it\n")

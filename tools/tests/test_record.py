@@ -9,8 +9,9 @@ import sys
 import unittest
 
 from support.common import ALLOW, EPERM, LOADER, X86_64, Case, jeq, load, ret, tool
-from scftools import c_arrays, filter_loads, forms, strace
-from scftools.architectures import NATIVE
+from scftools.model.architectures import NATIVE
+from scftools.forms import c_arrays, forms
+from scftools.logs import filter_loads, strace
 
 # Filters that allow all but a syscall that nobody makes.
 FIRST, SECOND, THIRD = (load(4) + jeq(X86_64, 0, 2) + load(0) + jeq(number, 1, 0) + ret(ALLOW) + ret(EPERM)

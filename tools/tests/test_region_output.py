@@ -11,10 +11,12 @@ from support.common import (ALLOW, ENOSYS, EPERM, I386, LOG, TABLE, TRACE, UNKNO
                             jeq, jge, load, part, ret)
 from support.stand_in import StandIn
 from test_surface import gate, of_number
-from scftools import architectures, client, flow_graph, regions, tables
-from scftools.calls import Call
-from scftools.program import ToolError
-from scftools.regions import TooManyRanges, Word
+from scftools.base.program import ToolError
+from scftools.model import architectures, tables
+from scftools.model.calls import Call
+from scftools.ask import client, regions
+from scftools.ask.regions import TooManyRanges, Word
+from scftools.report import flow_graph
 
 WORD = (1 << 32) - 1
 # A filter, and the lines that people expect of it.

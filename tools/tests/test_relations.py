@@ -10,8 +10,10 @@ from support.common import (ALLOW, CORE, ENOSYS, EPERM, I386, KILL_PROCESS, KILL
 from support.confined import Confined, here
 from support.stand_in import StandIn
 import kernel_profiles
-from scftools import answers, architectures, calls, client, compare, other_abis, regions, tables, verdicts
-from scftools.filters import Filter
+from scftools.model import answers, architectures, calls, tables
+from scftools.ask import client, other_abis, regions, verdicts
+from scftools.forms.filters import Filter
+from scftools.report import compare
 
 READ, WRITE, SOCKET, GETPID, EXIT_GROUP = 0, 1, 41, 39, 231
 # Numbers on both sides of all that the filters and profiles here test, of x86-64 and of other architectures.

@@ -13,8 +13,10 @@ from unittest import mock
 from support.common import (ALLOW, EPERM, I386, KILL_PROCESS, KILL_THREAD, LOG, PATIENCE, TRACE, TRAP, X86_64, Case,
                             comes, jeq, load, profile_of, ret)
 from support.confined import USER_NOTIF, Confined, here, processes, ptrace
-from scftools import client, hold, program, restart
-from scftools.calls import Call
+from scftools.base import program
+from scftools.model.calls import Call
+from scftools.ask import client
+from scfhost import hold, restart
 
 DENIALS = (KILL_PROCESS, KILL_THREAD, EPERM, TRAP, USER_NOTIF, TRACE)
 # asm/unistd_64.h, asm/unistd_32.h

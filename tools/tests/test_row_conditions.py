@@ -10,8 +10,9 @@ from support.common import ALLOW, EPERM, KILL_PROCESS, Case, jeq, jge, load, ret
 from support.stand_in import StandIn
 from test_profile_of import (AARCH64, ARM, FILES, HOLDS, NATIVE, OWN, TRAP, X32_NAME, X86, Drawn, jset, of_numbers,
                              of_records, rank_of, tests_of, where)
-from scftools import answers, constants, row_conditions, tables
-from scftools.calls import Call
+from scftools.model import answers, constants, tables
+from scftools.model.calls import Call
+from scftools.report import row_conditions
 
 EINVAL = 0x00050000 | 22
 AUDIT = where(0, "SCMP_CMP_EQ", 16, 0, where(2, "SCMP_CMP_EQ", 9, 0, ret(EINVAL), ret(ALLOW)), ret(ALLOW))

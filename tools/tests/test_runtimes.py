@@ -17,11 +17,15 @@ from support.drawn_profiles import drawn_profile
 from support.oci import ALLOW, ERRNO, X32, X86, condition, entry
 from support.oci import NATIVE as X86_64
 from support.second_reading import by_words
-from scftools import client, engines, inputs, libseccomp, processes, runtimes, tables, verdicts
-from scftools.architectures import JUDGED
-from scftools.compare import Comparison
-from scftools.filters import Filter
-from scftools.values import replace
+from scftools.base import inputs
+from scftools.base.values import replace
+from scftools.model import libseccomp, tables
+from scftools.model.architectures import JUDGED
+from scftools.ask import client, verdicts
+from scftools.forms import engines, runtimes
+from scftools.forms.filters import Filter
+from scftools.report.compare import Comparison
+from scfhost import processes
 
 LOG, TRAP, TRACE, KILL = "SCMP_ACT_LOG", "SCMP_ACT_TRAP", "SCMP_ACT_TRACE", "SCMP_ACT_KILL_PROCESS"
 NAMES = sorted(tables.read(None).names())

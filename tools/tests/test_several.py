@@ -18,10 +18,13 @@ from support.common import PROGRAM, TOP, Case, insn, jeq, jge, load, ret
 from support.seccomp_library import NEEDED, Conflict, Library
 from support.stand_in import StandIn, unpacked
 from test_library import OUT, RELATIONS, python_module
-from scftools import bundles, client, runtimes, tables, verdicts, verify
-from scftools.architectures import JUDGED
-from scftools.calls import Call
-from scftools.filters import Filter
+from scftools.model import bundles, tables
+from scftools.model.architectures import JUDGED
+from scftools.model.calls import Call
+from scftools.ask import client, verdicts
+from scftools.forms import runtimes
+from scftools.forms.filters import Filter
+from scfhost import verify
 
 # How many profiles are drawn to be held against libscf, against the program, and to be counted by kinds; and how many
 # records are tried of a syscall that has conditions.

@@ -8,11 +8,15 @@ from unittest import mock
 from support.common import PROGRAM, Case, filter_of, profile_of
 from support.confined import Confined, here
 from test_filters_of import MOUNT, refuses, refusing
-from scftools import audit, client, program, stack_comparison, tables
-from scftools.client import Run
-from scftools.filters import Filter
-from scftools.processes import Stack
-from scftools.verify import Request
+from scftools.base import program
+from scftools.model import tables
+from scftools.ask import client
+from scftools.ask.client import Run
+from scftools.forms.filters import Filter
+from scftools.report import stack_comparison
+from scfhost.processes import Stack
+from scfhost.verify import Request
+from scfhost import audit
 
 # Stands in for scf: a comparison says that mount is answered otherwise than any filter here does.
 LIES = f"""#!/bin/sh

@@ -6,7 +6,8 @@ from unittest import mock
 from support.common import (ALLOW, EPERM, I386, PROGRAM, TABLE, X86_64, Case, filter_of, insn, jeq, jge, load,
                             profile_of, ret, stub)
 from support.confined import Confined, here
-from scftools import client, tables
+from scftools.model import tables
+from scftools.ask import client
 
 # What `lint` finds nothing of.
 NAMES = ("read write exit exit_group rt_sigaction rt_sigreturn nanosleep restart_syscall mmap munmap faccessat "

@@ -20,9 +20,11 @@ from support.common import (ALLOW, EPERM, I386, KILL_PROCESS, KILL_THREAD, LOG, 
 from support.confined import NEWEST, OLDEST, Confined, here
 from support.stand_in import StandIn
 from test_why import random_filter
-from scftools import (answers, architectures, client, processes, questions, stack_surfaces,
-                      surface_output, surfaces, tables)
-from scftools.calls import Call
+from scftools.model import answers, architectures, tables
+from scftools.model.calls import Call
+from scftools.ask import client, questions
+from scftools.report import stack_surfaces, surface_output, surfaces
+from scfhost import processes
 
 READ, WRITE, GETPID, SOCKET, EXIT_GROUP = 0, 1, 39, 41, 231
 NAMES = {"read": READ, "write": WRITE, "getpid": GETPID, "socket": SOCKET, "exit_group": EXIT_GROUP, "too": READ}

@@ -14,7 +14,8 @@ import unittest
 from support.common import CONFINED, TOP, Case, profile_of
 from support.oci import ALLOW, ERRNO
 from test_runtimes import ALONE, BUSYBOX, config
-from scftools import architectures, requirements, tables, traces
+from scftools.model import architectures, tables
+from scftools.logs import requirements, traces
 
 NETLINK_AUDIT, SO_RCVBUFFORCE = 9, 33
 SECCOMP_RECORD = 1326

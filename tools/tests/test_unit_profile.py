@@ -10,7 +10,8 @@ import unittest
 
 from support.common import CORE, SCF, TABLE, Case, part, tool
 from support.own_machine import Systemd
-from scftools import unit_restrictions, units
+from scftools.forms.lists import unit_restrictions
+from scfhost import units
 from test_audit import Audited
 
 ALLOW, ERRNO, KILL, LOG = (f"SCMP_ACT_{name}" for name in ("ALLOW", "ERRNO", "KILL_PROCESS", "LOG"))

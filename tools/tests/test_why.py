@@ -12,8 +12,10 @@ from support.common import (ALLOW, CORE, EPERM, I386, KILL_PROCESS, X86_64, Case
                             load, profile_of, ret)
 from support.stand_in import StandIn
 import kernel_profiles
-from scftools import listing, reasons, tables
-from scftools.calls import Call
+from scftools.model import tables
+from scftools.model.calls import Call
+from scftools.ask import reasons
+from scftools.report import listing
 
 X32, WORD = 0x40000000, (1 << 32) - 1
 NATIVE = load(4) + jeq(X86_64, 1, 0) + ret(KILL_PROCESS) + load(0) + insn(0x35, X32, 0, 1) + ret(KILL_PROCESS)

@@ -19,6 +19,9 @@ from . import json_schema
 TOP = os.path.abspath(os.path.join(os.path.dirname(__file__), "..", "..", ".."))
 # (some tests read profiles a second way, as those of the kernel do)
 sys.path[:0] = [os.path.join(TOP, "tools"), os.path.join(TOP, "conformance")]
+
+from scftools.cli.commands import module_of  # noqa: E402
+
 SCF = os.path.join(TOP, "scf")
 # The proved program alone, which is built if it never was.
 CORE = [SCF, "core"]
@@ -46,12 +49,12 @@ def for_developers(name):
 
 def source_of(name):
     """The module of a tool, whose docstring is the tool's manual."""
-    return os.path.join(TOP, "tools", "scftools", f"tool_{name.replace('-', '_')}.py")
+    return os.path.join(TOP, "tools", *module_of(name).split(".")) + ".py"
 
 
 def module(name):
     """A tool, imported."""
-    return importlib.import_module(f"scftools.tool_{name.replace('-', '_')}")
+    return importlib.import_module(module_of(name))
 
 
 def forked(words, prepare=None):
@@ -69,7 +72,7 @@ def forked(words, prepare=None):
             sys.stdin, sys.stdout, sys.stderr = (
                 open(file, mode, encoding=stdio.encoding, errors=errors, closefd=False) for file, mode, errors in (
                     (0, "r", stdio.errors), (1, "w", stdio.errors), (2, "w", "backslashreplace")))
-            importlib.import_module("scftools.program").start(main)
+            importlib.import_module("scftools.base.program").start(main)
         except BaseException:
             traceback.print_exc()
         finally:

@@ -13,7 +13,7 @@ import unittest
 
 from .common import ALLOW, EPERM, LOADER, PATIENCE, USER_NOTIF, Case, comes, jeq, load, ret
 from kernel_child import SECCOMP_IOCTL_NOTIF_RECV, SECCOMP_IOCTL_NOTIF_SEND
-from scftools import processes, ptrace
+from scfhost import processes, ptrace
 
 # Its words: a JSON list, for each thread the names of its filters' files, oldest first; the main thread's is the first.
 # Each thread is put under its own filters, the main one last, since threads that are begun later inherit them. It

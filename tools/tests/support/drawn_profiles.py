@@ -2,7 +2,7 @@
 does, two conditions on one argument, errnos beside any action, names that nobody knows, and several architectures."""
 import random
 
-from scftools import tables
+from scftools.model import tables
 
 ALLOW, ERRNO = "SCMP_ACT_ALLOW", "SCMP_ACT_ERRNO"
 X86_64, X86, X32 = "SCMP_ARCH_X86_64", "SCMP_ARCH_X86", "SCMP_ARCH_X32"

@@ -1,5 +1,5 @@
 """A runtime's reading of a profile, made a second time: as a profile that says the same by its words."""
-from scftools.profiles import OCI_ACTIONS
+from scftools.model.profiles import OCI_ACTIONS
 
 WITH_ERRNO = ("SCMP_ACT_ERRNO", "SCMP_ACT_TRACE")
 KILL_THREAD = ("SCMP_ACT_KILL", "SCMP_ACT_KILL_THREAD")

@@ -1,0 +1,303 @@
+"""An audit as lines, as JSON, and as metrics for Prometheus."""
+from __future__ import annotations
+
+import os
+import re
+import time
+from collections.abc import Iterator
+
+from scftools.base import output
+from scftools.base.values import Any, dataclass
+from scftools.model.tables import Table
+from .audit import (AUDIT_VERDICTS, CONTAINER, OTHER_PROGRAM, ROW_KINDS, STRICTER, UNIT, Audit, AuditRow, RowPart,
+                    StackJudgement, is_only_counted, sha256, stack_digest)
+
+# At most so many processes of a row are named in a line, and so many characters of a name, or of a label, are printed.
+MOST_PROCESSES, MOST_OF_NAME, MOST_OF_LABEL = 3, 200, 256
+# After the path of a container's config.json.
+CHANGED = "has changed: judged is the profile that the container was started with"
+PLURALS = {CONTAINER: "containers", UNIT: "units", OTHER_PROGRAM: "other confined programs"}
+# A metric's name and help, and its values with their labels.
+Metric = "tuple[str, str, list[tuple[list[tuple[str, str | None]], object]]]"
+
+
+def time_text(seconds: float) -> str:
+    """A time as in RFC 3339, in UTC."""
+    return time.strftime("%Y-%m-%dT%H:%M:%SZ", time.gmtime(seconds))
+
+
+def number_text(count: int, word: str, plural: str | None = None) -> str:
+    return f"{count} {word if count == 1 else plural or word + 's'}"
+
+
+def short(identifier: str) -> str:
+    """An identifier as engines show it."""
+    return identifier[:12] if re.fullmatch("[0-9a-f]{64}", identifier) else identifier
+
+
+def whose(row: AuditRow) -> list[str]:
+    """The user who alone describes a container, and where, if one before it has the same identifier."""
+    phrases = [] if row.user is None else [f"of user {row.user}"]
+    return phrases if row.container is None or row.key == row.container.identifier else [*phrases, row.place]
+
+
+def about(row: AuditRow) -> list[str]:
+    """The details of a container that stand behind its name."""
+    container = row.container
+    if container is None:
+        return []
+    details = [container.engine, *whose(row), container.image, f"pod {short(container.pod)}" if container.pod else None,
+               short(container.identifier) if container.name is not None else None]
+    return [output.cut(detail, MOST_OF_NAME) for detail in details if detail]
+
+
+def row_text(row: AuditRow) -> str:
+    """The kind and the name of a row, with its details."""
+    details = about(row)
+    name = output.cut(short(row.key) if row.name == row.key else row.name, MOST_OF_NAME)
+    return f"{row.kind} {name}" + (f" ({', '.join(details)})" if details else "")
+
+
+def judgement_text(judgement: StackJudgement, table: Table) -> str:
+    """The evidence of a verdict: why it isn't known, or a call with both answers."""
+    than = "the baseline" if judgement.is_of_baseline else "the profile"
+    if judgement.shown is None or judgement.shown.call is None:
+        return judgement.why or ""
+    call = judgement.shown.call
+    arguments = " ".join(map(hex, call.arguments))
+    pointer = f" at {call.pointer:#x}" if call.pointer else ""
+    return (f"{call.describe(table)} with {arguments}{pointer} is answered {judgement.shown.filters}, by {than} "
+            f"{judgement.shown.profile}")
+
+
+def _processes_text(row: AuditRow, part: RowPart) -> str:
+    """Which processes of a row have a stack."""
+    shown = [f"{number} ({output.escaped(row.names.get(number, b''))})"
+             for number in list(part.threads)[:MOST_PROCESSES]]
+    more = len(part.threads) - len(shown)
+    return f"process{'es' * (len(part.threads) > 1)} {', '.join(shown)}" + (f" and {more} more" if more else "")
+
+
+def row_lines(row: AuditRow, table: Table, row_of_reason: dict[str, str]) -> Iterator[str]:
+    """A line for a row, and for each further verdict in it one more. A reason that stands at an earlier row isn't
+    repeated: `row_of_reason` has the rows by their reasons."""
+    yield f"{row.verdict}: {row_text(row)}: {number_text(len(row.processes), 'process', 'processes')}"
+    if row.container is not None and row.container.has_changed:
+        yield f"    {output.escaped(row.container.config)} {CHANGED}"
+    verdicts = [part.judgement.verdict for part in row.parts]
+    for at, part in enumerate(row.parts):
+        text = judgement_text(part.judgement, table) if part.judgement.verdict != STRICTER else ""
+        if part.judgement.verdict in verdicts[:at] or not text and len(set(verdicts)) == 1:
+            continue
+        if text and part.judgement.shown is None and row_of_reason.setdefault(text, row_text(row)) != row_text(row):
+            text = f"as for {row_of_reason[text]}"
+        yield f"    {part.judgement.verdict}: {_processes_text(row, part)}" + (f": {text}" if text else "")
+
+
+def summary(audit: Audit, unlisted: int = 0) -> Iterator[str]:
+    """The last lines: how many rows have each verdict, and how many programs aren't listed; what there is, and what
+    wasn't looked at."""
+    for kind in ROW_KINDS:
+        counts = [(verdict, audit.counts[kind, verdict]) for verdict in AUDIT_VERDICTS]
+        text = ", ".join(f"{verdict} {count}" for verdict, count in counts if count) or "none"
+        more = f"; without a configuration, and listed by --programs: {unlisted}"
+        yield f"{PLURALS[kind]}: {text}{more if unlisted and kind == OTHER_PROGRAM else ''}"
+    yield (f"processes: confined {audit.confined}, unconfined {audit.unconfined}; distinct stacks: "
+           f"{len(audit.stacks)}; seconds: {audit.seconds:.2f}")
+    named = sorted({name for row in audit.rows for part in row.parts for name in part.judgement.not_compared})
+    if named:
+        yield f"not compared: syscalls of {', '.join(named)}, beside those of SCMP_ARCH_X86_64"
+    yield from (f"not looked at: {line}" for line in audit.left_out)
+    yield from audit.snapshot.notes
+
+
+def lines(audit: Audit, table: Table, lists_all: bool = True, earlier: Earlier | None = None) -> Iterator[str]:
+    """The text output: the rows, without the programs that are only counted unless `lists_all`; the changes since an
+    earlier audit; and the summary."""
+    listed = [row for row in audit.rows if lists_all or not row.is_only_counted]
+    row_of_reason: dict[str, str] = {}
+    for row in listed:
+        yield from row_lines(row, table, row_of_reason)
+    for line in () if earlier is None else _change_lines(earlier, audit, lists_all):
+        yield f"# {line}"
+    yield from (f"# {line}" for line in summary(audit, len(audit.rows) - len(listed)))
+
+
+@dataclass(frozen=True)
+class EarlierRow:
+    """A row of an earlier audit."""
+
+    text: str
+    verdict: str
+    is_only_counted: bool
+
+
+@dataclass(frozen=True)
+class Earlier:
+    """An earlier audit: its time, and its rows by their kinds and keys."""
+
+    time: str
+    rows: dict[tuple[str, str], EarlierRow]
+
+    @classmethod
+    def of(cls, audit: Audit) -> Earlier:
+        return cls(time_text(audit.time), {(row.kind, output.escaped(row.key)): EarlierRow(
+            output.escaped(row_text(row)), row.verdict, row.is_only_counted) for row in audit.rows})
+
+    @classmethod
+    def of_object(cls, value: Any) -> Earlier:
+        """The audit of an object that --json printed; raises ValueError if it isn't one."""
+        if not isinstance(value, dict) or not isinstance(value.get("rows"), list):
+            raise ValueError("there are no rows")
+        rows = {}
+        for row in value["rows"]:
+            texts = [row.get(name) for name in ("kind", "name", "verdict")] if isinstance(row, dict) else [None]
+            if not all(isinstance(text, str) for text in texts):
+                raise ValueError("a row is malformed")
+            key, (kind, name, verdict) = row.get("id"), texts
+            is_stated = row.get("profile") != {"source": None, "sha256": None}
+            rows[kind, key if isinstance(key, str) else name] = EarlierRow(
+                f"{kind} {name}", verdict, is_only_counted(kind, is_stated, verdict))
+        return cls(str(value.get("time", "an earlier audit")), rows)
+
+
+def changes(earlier: Earlier, audit: Audit, lists_all: bool = True) -> Iterator[dict[str, object]]:
+    """The changes since an earlier audit: rows that are new, gone, or have another verdict; without those of programs
+    that are only counted unless `lists_all`."""
+    now = Earlier.of(audit)
+    for key in {**now.rows, **earlier.rows}:
+        verdict, was = (rows[key].verdict if key in rows else None for rows in (now.rows, earlier.rows))
+        rows = [rows[key] for rows in (now.rows, earlier.rows) if key in rows]
+        if verdict == was or not lists_all and all(row.is_only_counted for row in rows):
+            continue
+        yield {"time": now.time, "change": "new" if was is None else "gone" if verdict is None else "changed",
+               "kind": key[0], "row": output.escaped(rows[0].text), "verdict": verdict, "was": was}
+
+
+def _change_lines(earlier: Earlier, audit: Audit, lists_all: bool) -> Iterator[str]:
+    """A line for each change since an earlier audit, or one that there is none."""
+    count = 0
+    for count, change in enumerate(changes(earlier, audit, lists_all), 1):
+        verdict = f": {change['verdict']}" if change["verdict"] is not None else ""
+        was = f" (was {change['was']})" if change["was"] is not None else ""
+        yield f"{change['change']} since {output.escaped(earlier.time)}: {change['row']}{verdict}{was}"
+    if not count:
+        yield f"nothing changed since {output.escaped(earlier.time)}"
+
+
+def change_text(change: dict[str, object]) -> str:
+    was = f" (was {change['was']})" if change["was"] is not None else ""
+    return f"{change['time']} {change['verdict'] or 'gone'}: {change['row']}{was}"
+
+
+def _judgement_json(judgement: StackJudgement, table: Table) -> dict[str, object]:
+    value: dict[str, object] = {"verdict": judgement.verdict}
+    if judgement.why is not None:
+        value["why"] = output.escaped(judgement.why)
+    shown = judgement.shown
+    if shown is not None and shown.call is not None and shown.filters is not None and shown.profile is not None:
+        value.update(shown.as_json(table))
+    if judgement.is_of_baseline:
+        value["baseline"] = True
+    if judgement.not_compared:
+        value["not_compared"] = list(judgement.not_compared)
+    return value
+
+
+def _part_json(row: AuditRow, part: RowPart, numbers: dict[int, int], table: Table) -> dict[str, object]:
+    names = row.names
+    return {**_judgement_json(part.judgement, table), "stack": numbers.get(id(part.stack)),
+            "is_unconfined": part.judgement.is_unconfined,
+            "processes": [{"process": process, "name": output.escaped(names.get(process, b"")), "threads": len(threads)}
+                          for process, threads in part.threads.items()]}
+
+
+def row_json(row: AuditRow, numbers: dict[int, int], table: Table) -> dict[str, object]:
+    """A row; `numbers` are the indexes of stacks by their identities."""
+    container = row.container
+    value: dict[str, object] = {"kind": row.kind, "name": output.escaped(row.name), "verdict": row.verdict,
+                                "is_unconfined": row.is_unconfined}
+    if container is not None:
+        value.update((name, None if value is None else output.escaped(value)) for name, value in (
+            ("id", row.key), ("engine", container.engine), ("runtime", container.runtime), ("image", container.image),
+            ("pod", container.pod)))
+        value["user"] = container.user
+    value["profile"] = {"source": None if row.expected.source is None else output.escaped(row.expected.source),
+                        "sha256": row.expected.digest,
+                        **({"why": output.escaped(row.expected.why)} if row.expected.why is not None else {}),
+                        **({"changed": True} if container is not None and container.has_changed else {})}
+    return {**value, "capabilities": row.capabilities,
+            "no_new_privileges": all(process.has_no_new_privileges for process in row.processes),
+            "users": sorted({process.user for process in row.processes}),
+            "parts": [_part_json(row, part, numbers, table) for part in row.parts]}
+
+
+def head_json(audit: Audit, earlier: Earlier | None = None) -> dict[str, object]:
+    """The JSON of the whole audit, without its rows."""
+    system = os.uname()
+    since = {} if earlier is None else {"since": {
+        "time": output.escaped(earlier.time), "changes": [*changes(earlier, audit)]}}
+    return {"status": audit.status, "host": system.nodename, "kernel": system.release, "time": time_text(audit.time),
+            "seconds": round(audit.seconds, 3),
+            "verdicts": {kind: {verdict: audit.counts[kind, verdict] for verdict in AUDIT_VERDICTS}
+                         for kind in ROW_KINDS},
+            "processes": {"confined": audit.confined,
+                          "unconfined": audit.unconfined, "unread": len(audit.snapshot.unread)},
+            "left_out": [output.escaped(line) for line in audit.left_out],
+            "notes": [output.escaped(note) for note in audit.snapshot.notes], **since,
+            "stacks": [{"sha256": stack_digest(stack.filters), "filters": [len(data) // 8 for data in stack.filters]}
+                       for stack in audit.stacks]}
+
+
+def as_json(audit: Audit, table: Table, earlier: Earlier | None = None) -> dict[str, object]:
+    *rows, head = json_lines(audit, table, earlier)
+    return {**head, "rows": rows}
+
+
+def json_lines(audit: Audit, table: Table, earlier: Earlier | None = None) -> Iterator[dict[str, object]]:
+    """An object for each row, and the last one for the whole."""
+    numbers = {id(stack): at for at, stack in enumerate(audit.stacks)}
+    yield from (row_json(row, numbers, table) for row in audit.rows)
+    yield head_json(audit, earlier)
+
+
+def _label(text: str) -> str:
+    """A label's value in Prometheus's text format. Different texts have different ones: control characters are escaped,
+    and so is the backslash by which they are; one that is too long is cut, and ends with its SHA-256."""
+    if len(text) > MOST_OF_LABEL:
+        text = f"{text[:MOST_OF_LABEL]}..{sha256(text.encode('utf-8', 'surrogatepass'))}"
+    return output.escaped(text.replace("\\", "\\\\")).replace("\\", "\\\\").replace('"', '\\"')
+
+
+def _metrics(audit: Audit) -> Iterator[Metric]:
+    yield "scf_container_verdict", "The verdict on a container; the label says which.", [
+        ([("id", row.key), ("name", row.name), ("engine", row.container.engine), ("image", row.container.image),
+          ("pod", row.container.pod), ("verdict", row.verdict)], 1)
+        for row in audit.rows if row.kind == CONTAINER and row.container is not None]
+    yield "scf_unit_verdict", "The verdict on a systemd unit; the label says which.", [
+        ([("unit", row.key), ("verdict", row.verdict)], 1) for row in audit.rows if row.kind == UNIT]
+    yield "scf_audit_rows", "How many rows of a kind have a verdict.", [
+        ([("kind", kind), ("verdict", verdict)], audit.counts[kind, verdict])
+        for kind in ROW_KINDS for verdict in AUDIT_VERDICTS]
+    for name, help_text, value in (
+            ("unconfined_processes", "Processes with a thread that has no seccomp filter.", audit.unconfined),
+            ("confined_processes", "Processes with a thread that has a seccomp filter.", audit.confined),
+            ("unread_processes", "Confined processes whose filters could not be read.", len(audit.snapshot.unread)),
+            ("distinct_stacks", "Distinct stacks of filters.", len(audit.stacks)),
+            ("not_looked_at", "What could not be looked at, each thing a line of scf audit.", len(audit.left_out)),
+            ("audit_status", "The exit status: 0 as configured, 1 weaker or unconfined, 4 something is not known.",
+             audit.status),
+            ("audit_seconds", "How long the audit took.", f"{audit.seconds:.3f}"),
+            ("audit_timestamp_seconds", "When the audit began, in seconds since 1970.", f"{audit.time:.3f}")):
+        yield f"scf_{name}", help_text, [([], value)]
+
+
+def metrics(audit: Audit) -> str:
+    """The audit in Prometheus's text format."""
+    lines_of = []
+    for name, help_text, samples in _metrics(audit):
+        lines_of += [f"# HELP {name} {help_text}\n", f"# TYPE {name} gauge\n"]
+        for labels, value in samples:
+            shown = ",".join(f'{label}="{_label(text or "")}"' for label, text in labels)
+            lines_of.append(f"{name}{{{shown}}} {value}\n" if shown else f"{name} {value}\n")
+    return "".join(lines_of)

@@ -1,0 +1,158 @@
+"""Says of each container, systemd unit and other confined program of this machine whether it is confined as configured.
+
+    scf audit [--expect FILE] [--baseline no-more:FILE] [--allow-unconfined] [--force]
+              [--programs] [--runtime-root FOLDER] [--json | --json-lines] [--since FILE]
+              [--prometheus FILE] [--html FILE] [--watch SECONDS] [--native] [--limit N]
+              [--splits N] [--table FILE]
+
+All processes are read in one pass. Those with a filter are stopped for a moment, one after another, and their filters
+are compared with what is configured, each distinct stack with each distinct profile once. A container's profile is that
+of its config.json, as its runtime applies it; a unit's is what `scf unit-profile` prints; that of a snap's programs is
+in the rules that snapd keeps of them, and that of a sandbox of firejail in its profile. --expect takes one profile for
+all instead. Nothing is configured for other programs, of which there is a row for each executable with a filter; unless
+one is weaker than the baseline, unconfined or not known, these rows are only counted, and listed by --programs.
+
+Each row has a verdict. `unconfined though configured`: some thread has no filter. `unconfined by configuration`: so it
+is configured. `weaker`: some syscall is more permissive than configured, and one is shown. `not known`: and why.
+`otherwise`: nothing is more or less permissive, but some answers differ, such as the errno. `stricter`: nothing is more
+permissive. `as configured`: every syscall gets the profile's answer, of each architecture that the profile names and
+scf has a table of, or with --native of x86-64 alone; a line says which weren't compared. The unconfined stand first.
+With --baseline a row is also weaker if it allows more than the profile FILE, and always if it allows an i386 or x32
+syscall and the profile doesn't name its architecture.
+
+Containers are known by the files of runc, crun, containerd, Docker, podman and CRI-O. --runtime-root is a folder that
+was given to a runtime as --root, may have wildcards, and may be given several times. What a user could have written
+there describes only processes of that user, in a row of its own; a user's rows come last, and have 5 seconds. A line
+says what wasn't looked at.
+
+--json prints one object, and --json-lines an object for each row and a last one for the whole; both have all rows.
+--since compares with an object that --json printed, and says which rows are new or gone, or have another verdict:
+in lines, in the member `since`, and on the page. --prometheus writes metrics for the textfile collector of
+node_exporter, and --html a page without scripts, which also shows what each distinct stack allows. Both replace FILE at
+once. --watch audits again and again, and after the first time prints a line for each change.
+
+Exit status: 0 nothing is unconfined or weaker than configured; 1 something is (with --allow-unconfined what is
+unconfined by configuration doesn't count); 2 usage error; 3 an input or the output failed; 4 something isn't known or
+wasn't looked at.
+
+Examples:
+
+    scf audit
+    scf audit --json
+    scf audit --json >before.json; scf audit --since before.json
+"""
+import json
+import sys
+import time
+
+from scftools.base import inputs, output, program
+from scftools.model import tables
+from scftools.ask import verdicts
+from scftools.cli import words
+from scftools.forms import profile_inputs
+from .. import audit, audit_output, processes
+
+BASELINE = "no-more:"
+
+
+def read_words():
+    parser = words.Parser(__doc__, processes.NEEDS)
+    parser.add_argument("--expect", metavar="FILE", help="a resolved profile or a config.json that all should have")
+    parser.add_argument("--baseline", metavar="no-more:FILE", help="a resolved profile that no row may exceed")
+    parser.add_argument("--allow-unconfined", action="store_true",
+                        help="don't count what is unconfined by configuration")
+    parser.add("--force")
+    parser.add_argument("--programs", action="store_true", help="list the programs without a configuration, too")
+    parser.add_argument("--runtime-root", metavar="FOLDER", action="append", default=[],
+                        help="where a runtime keeps its containers, as given to its own --root")
+    form = parser.add_mutually_exclusive_group()
+    form.add_argument("--json", action="store_true",
+                      help="print one JSON object instead of lines (JSON.md says what it holds)")
+    form.add_argument("--json-lines", action="store_true", help="print an object for each row, and one for the whole")
+    parser.add_argument("--prometheus", metavar="FILE", help="write metrics in Prometheus's text format")
+    parser.add_argument("--html", metavar="FILE", help="write a page of HTML")
+    parser.add_argument("--since", metavar="FILE", help="say what changed since an object that --json printed")
+    parser.add_argument("--watch", metavar="SECONDS", type=words.seconds, help="audit again and again, with this pause")
+    parser.add("--native", "--limit", "--splits", "--table")
+    given = parser.parse_args()
+    if given.baseline is not None and not given.baseline.startswith(BASELINE):
+        parser.error(f"--baseline takes {BASELINE}FILE")
+    if given.watch is not None and not 0.1 <= given.watch <= 86400:
+        parser.error("--watch takes 0.1 to 86400 seconds")
+
+    given.baseline = None if given.baseline is None else given.baseline[len(BASELINE):]
+    parser.one_standard_input([given.expect, given.baseline, given.since, given.table])
+    return given
+
+
+def options_of(given):
+    def profile(name):
+        return None if name is None else (name, profile_inputs.read(name, is_runtimes=True).data)
+
+    return audit.Options(tables.read(given.table), profile(given.expect), profile(given.baseline),
+                         given.force, given.allow_unconfined, tuple(given.runtime_root),
+                         verdicts.NATIVE_SCOPE if given.native else None)
+
+
+def earlier_in(name):
+    if name is None:
+        return None
+    try:
+        return audit_output.Earlier.of_object(json.loads(inputs.read_whole(name, "object")))
+    except (ValueError, RecursionError) as why:
+        raise program.ToolError(f"'{name}' isn't an object that --json printed", program.IO_ERROR) from why
+
+
+def write(report, given, options, earlier):
+    if given.prometheus is not None:
+        output.replace_file(given.prometheus, audit_output.metrics(report))
+    if given.html is not None:
+        from .. import audit_page  # pylint: disable=import-outside-toplevel
+
+        output.replace_file(given.html, audit_page.page(report, options.table, earlier))
+
+
+def show(report, given, table, earlier):
+    """Prints an audit, and what changed since an earlier one."""
+    if given.json:
+        output.put_json(audit_output.as_json(report, table, earlier))
+    elif given.json_lines:
+        for value in audit_output.json_lines(report, table, earlier):
+            output.put_json(value)
+    else:
+        output.put_lines(audit_output.lines(report, table, given.programs, earlier))
+
+
+def show_changes(before, report, given):
+    """Prints a line, or an object, for each change since the audit before."""
+    for change in audit_output.changes(before, report, given.programs or given.json_lines):
+        if given.json_lines:
+            output.put_json(change)
+        else:
+            output.put_line(audit_output.change_text(change))
+
+
+def progress(count):
+    """Shows on a terminal how many comparisons were made; None clears the line."""
+    if sys.stderr is not None and sys.stderr.isatty():
+        print("\r\033[K" + (f"compared: {count}" if count is not None else ""), end="", file=sys.stderr, flush=True)
+
+
+def main():
+    given = read_words()
+    options, earlier, before = options_of(given), earlier_in(given.since), None
+    options.check()
+    judge = audit.StackJudge(options.table, progress)
+    while True:
+        report = processes.read_or_end(lambda: audit.of_machine(options, judge), is_json=given.json)
+        progress(None)
+        write(report, given, options, earlier)
+        if before is None or given.json:
+            show(report, given, options.table, earlier)
+        else:
+            show_changes(before, report, given)
+        output.flush()
+        if given.watch is None:
+            return report.status
+        before = audit_output.Earlier.of(report)
+        time.sleep(given.watch)

@@ -1,0 +1,161 @@
+"""A poststart hook for OCI runtimes: says whether a container is confined as configured.
+
+    scf oci-hook [--runtime runc|crun|docker|podman] [--policy same|no-more] [--kill]
+                 [--keep-first] [--allow-unconfined] [--dry-run] [--force] [--wait SECONDS]
+                 [--deadline SECONDS] [--native] [--limit N] [--splits N] [--table FILE]
+                 [--json] <STATE
+    scf oci-hook --print-hook [OPTION ..] >scf.json
+
+A runtime starts a hook with the container's state on standard input. The profile is `linux.seccomp` of config.json in
+the bundle, with --runtime as that runtime applies it, and the filters are read from the kernel as by
+`scf filters-of`, for all processes of the container. The syscalls of each architecture that the profile names are
+compared, as far as scf has a table of it, with --native x86-64's alone. With the policy `same` each must be answered as
+the profile says, with `no-more` none more permissively. The result goes to standard error and to the system log, or
+with --json as one object to standard output and to the log. A container whose configuration has no profile isn't
+confined, and is rejected too, except with --allow-unconfined.
+
+--kill kills the container unless it is known to be confined, and only then says why. It also kills it if that isn't
+known at the deadline, if this tool is stopped or ended before it knows, and if its own options are wrong. runc ends a
+container whose hook fails; crun lets it run on, and so needs --kill. The processes of a container are those of its PID
+namespace, or, if that isn't its own, those of its control group, or else those that descend from its first process.
+
+--dry-run only reports: the status is 0, and nothing is killed, whatever is found; a line says what would have been
+done.
+
+If the runtime says that the container is `created`, as runc does, its program isn't executed yet, and of its first
+process only the main thread, which will execute it, is read. A process without a filter is read again for some time,
+since a runtime may call its hooks before the filter is loaded.
+
+--print-hook prints a file for hooks.d (oci-hooks(5)) that has podman call this tool with the other options for each
+container, and wait longer for it than its own limits allow it to take.
+
+Exit status: 0 confined as configured, 1 not, or the profile is refused, 2 usage error, 3 the state, the configuration
+or the filters can't be read, 4 undecided or not known at the deadline, 70 an internal error, 125 scf can't be run.
+
+Examples:
+
+    scf oci-hook --print-hook --kill >scf.json
+    scf oci-hook --print-hook --runtime crun --policy no-more >scf.json
+    scf oci-hook --print-hook --dry-run >scf.json
+"""
+import os
+import sys
+
+from scftools.base import output, program
+from scftools.model import tables
+from scftools.ask import verdicts
+from scftools.cli import words
+from scftools.forms import runtimes
+from .. import hooks, processes, verify
+
+RELATION_OF_POLICY = {"same": verdicts.SAME, "no-more": verdicts.NO_MORE}
+MOST_SECONDS = 60
+
+
+def read_words():
+    parser = words.Parser(__doc__, processes.NEEDS)
+    parser.add_argument("--policy", choices=tuple(RELATION_OF_POLICY), default="same",
+                        help="whether each syscall is answered as the profile says, or none more permissively "
+                             "[default: same]")
+    parser.add_argument("--kill", action="store_true",
+                        help="kill the container unless it is known to be confined, before the reason is reported")
+    whose = parser.add_mutually_exclusive_group()
+    runtimes.add_option(whose)
+    whose.add_argument("--keep-first", **words.SHARED["--keep-first"])
+    parser.add_argument("--allow-unconfined", action="store_true",
+                        help="accept a container whose configuration has no profile")
+    parser.add_argument("--wait", metavar="SECONDS", type=words.seconds, default=1.0,
+                        help="how long to wait for a process to get a filter, at most 60 [default: 1]")
+    parser.add_argument("--deadline", metavar="SECONDS", type=words.seconds, default=hooks.DEADLINE,
+                        help="how long the check may take beyond --wait, at most "
+                             f"{hooks.DEADLINE * 10:g}; then it is undecided [default: {hooks.DEADLINE:g}]")
+    parser.add_argument("--dry-run", action="store_true",
+                        help="only report: end with status 0 and kill nothing, whatever is found")
+    parser.add("--force", "--native", "--limit", "--splits")
+    parser.add("--table", help="the syscall table [default: tables/x86_64.table]")
+    parser.add("--json")
+    parser.add_argument("--print-hook", action="store_true", help="print a hooks.d file with the other options")
+    options = parser.parse_args()
+    for seconds, most in ((options.wait, MOST_SECONDS), (options.deadline, hooks.DEADLINE * 10)):
+        if not 0 <= seconds <= most:
+            parser.error(f"'{seconds}' isn't a number of seconds from 0 to {most:g}")
+    if options.table == "-":
+        parser.error("the table can't be '-': standard input is the container's state")
+    return options
+
+
+def judge(options, process):
+    """Whether the container is confined as its configuration says."""
+    config = hooks.configuration_of(process.container)
+    if config is None:
+        is_confined = process.kernel.status_of(process.container.pid).get("Seccomp") == "2"
+        return hooks.plain_finding(program.SUCCESS if options.allow_unconfined else program.NEGATIVE, "unstated",
+                                   "the configuration has no seccomp profile: " + (
+                                       "the container's first process has a filter that isn't its runtime's"
+                                       if is_confined else "the container isn't confined"))
+    asked = verify.request_of(config, options.runtime, options.keep_first, tables.read(options.table),
+                              RELATION_OF_POLICY[options.policy], verdicts.NATIVE_SCOPE if options.native else None)
+    return hooks.finding_of(process.confined(options.wait, options.force), asked, process)
+
+
+def tell(is_json, container, result, killed):
+    lines = [hooks.verdict_line(container, result), *(kill.line for kill in killed), *result.lines()]
+    if is_dry_run():
+        lines.append(hooks.dry_run_line(result.status, "--kill" in sys.argv[1:]))
+    if is_json:
+        name = None if container is None else output.escaped(container.name)
+        output.put_json({**result.value(), "id": name, "killed": any(kill.is_so for kill in killed),
+                         **({"dry_run": True} if is_dry_run() else {})})
+        output.flush()
+    else:
+        program.say(*lines)
+    hooks.write_log(program.name(), result.status, lines)
+
+
+def examine(judge_process, seconds, kills, is_json):
+    """Reads the container's state, and examines the container: the status."""
+    container, killed = None, []
+    try:
+        container = hooks.container_of(hooks.state(min(seconds, hooks.STATE_SECONDS)))
+        examination = hooks.Examination(hooks.ContainerProcess(container), seconds, kills)
+        result = examination.result(lambda: judge_process(examination.process), is_json)
+        killed = examination.killed
+    except hooks.ContainerError as why:
+        result = hooks.failure(str(why))
+    tell(is_json, container, result, killed)
+    return result.status
+
+
+def is_hook_with(option):
+    """Whether a runtime calls this tool with an option, whatever the other words are."""
+    return option in sys.argv[1:] and "--print-hook" not in sys.argv[1:] and not os.isatty(0)
+
+
+def is_dry_run():
+    return is_hook_with("--dry-run")
+
+
+def main():
+    status = hook()
+    return program.SUCCESS if is_dry_run() else status
+
+
+def hook():
+    """The status without --dry-run."""
+    try:
+        options = read_words()
+    except program.ToolError as why:
+        if is_dry_run():
+            program.say(f"dry run: usage error: {why}")
+            return program.USAGE_ERROR
+        if not is_hook_with("--kill"):
+            raise
+        wrong = hooks.failure(f"usage error: {why}", program.USAGE_ERROR)
+        program.say(str(why))
+        examine(lambda _: wrong, hooks.DEADLINE, True, False)
+        return program.USAGE_ERROR
+    seconds = options.wait + options.deadline
+    if options.print_hook:
+        output.put(hooks.hook_file(os.path.abspath(sys.argv[0]), sys.argv[1:], seconds))
+        return program.SUCCESS
+    return examine(lambda process: judge(options, process), seconds, options.kill and not options.dry_run, options.json)

@@ -1,0 +1,188 @@
+"""Says whether a running process's filters answer syscalls as a profile does.
+
+    scf verify-process [--native|--calls] [--no-more|--no-less] [--all] [--force]
+                       [--runtime runc|crun|docker|podman] [--engine docker|docker-20.10|podman]
+                       [--caps LIST] [--kernel X.Y] [--arch-map native|all] [--ignore MEMBER ..]
+                       [--limit N] [--splits N] [--strict] [--table FILE] [--verbose] [--json]
+                       PID PROFILE
+    scf verify-process [--native|--calls] [--no-more|--no-less] [--all] [--force] [--limit N]
+                       [--splits N] [--table FILE] [--json] PID --beside FOLDER
+
+The filters are read from the kernel as by `scf filters-of`, for all threads of the process, and compared with the
+profile as by `scf compare`, which shows why a syscall differs. Filters belong to threads. Each distinct stack has a
+block of its own, with the threads that have it, the worst first; a thread without a filter isn't confined, and counts
+as one that differs.
+
+With --all these are the threads of all processes in the container of PID: those of the container's control group and of
+the groups in it, in any hierarchy of cgroups, or, if PID is in the root group, those of its PID namespace. The
+container's group is that of PID or one above: the one that a runtime mounts or names for it, or that in which systemd
+makes init.scope and system.slice. If other processes of the PID namespace are in groups that can't be known to be a
+container's, status 0 becomes 4. In a cgroup namespace other than the initial one only a group below the namespace's
+root can be known.
+--no-more and --no-less ask what they ask of `scf compare`: `more` and `less` count as `differs`.
+
+With --runtime PROFILE is read as the container's runtime reads it, which skips an entry whose answer is the default's
+and takes the first of two. runc answers the numbers of an architecture above all that the profile names with ENOSYS, so
+these count as `same`, too. With `docker` and `podman` PROFILE may be the engine's own, which is resolved as by
+`scf resolve-profile`, for --kernel and --caps, or without --caps for the bounding set of PID; a whole config.json is
+resolved already.
+
+PROFILE may be a container's config.json. If that has no profile, nothing is configured: as `scf audit` says it, a
+process without a filter is then `unconfined by configuration`, and one beside a configured profile `unconfined though
+configured`; one with filters is compared with a profile that allows every syscall. A config.json that is known to be
+that of another container is a usage error.
+
+With --beside the filters are compared with those that `scf filters-of` wrote into FOLDER, from this process before an
+upgrade or from another one, over each possible record unless --native.
+
+With a profile the syscalls of each architecture that it names are compared, as far as scf has a table of it; with
+--native x86-64's alone, and with --calls each that a table names by itself. Of i386 and x32, which an x86-64 kernel
+also has, the tool says whether any syscall is allowed that isn't compared, and gives one. If scf can't decide that,
+some are tried.
+
+The exit status is the worst of all stacks, 1 before 3 before 4 before 0: 0 same, no more or no less, 1 differs, more,
+less, not confined or refused, 2 usage error, 3 the filters can't be read or an input or the output failed, 4 undecided
+or unfinished.
+
+Examples:
+
+    scf verify-process "$PID" profile.json
+    scf verify-process --no-more --json "$PID" profile.json
+    scf verify-process "$PID" --beside filters
+"""
+import os
+import sys
+
+from scftools.base import inputs, output, program
+from scftools.base.values import replace
+from scftools.model import tables
+from scftools.cli import words
+from scftools.forms import engines, profile_inputs, runtimes
+from .. import containers, processes, verify
+
+
+def read_words():
+    parser = words.Parser(__doc__, processes.NEEDS)
+    parser.scope("x86-64 syscalls alone, whatever architectures the profile names")
+    parser.add_argument("--all", action="store_true", help="all processes in the container of PID")
+    parser.add("--force")
+    parser.relation()
+    runtimes.add_options(parser, without_caps="the bounding set of PID")
+    parser.add("--limit", "--splits", "--strict", "--table", "--verbose", "--json", "pid")
+    parser.add_argument("--beside", metavar="FOLDER", help="compare with the filters that filters-of wrote")
+    if not any(word.partition("=")[0] == "--beside" for word in sys.argv):
+        parser.add_argument("profile", metavar="PROFILE",
+                            help="a resolved profile, or a config.json; with --runtime also an engine's; - is standard "
+                                 "input")
+    options = parser.parse_args()
+    if options.beside is not None:
+        options.profile = None
+        if options.runtime is not None or options.verbose or options.strict:
+            parser.error("--runtime, --verbose and --strict speak of a profile, and --beside has none")
+    if options.runtime is None and runtimes.is_engines(options):
+        parser.error("--engine, --caps, --kernel, --arch-map and --ignore need --runtime")
+    options.setting = runtimes.setting_of_words(options, parser)
+    options.pid = processes.number_in(options.pid, parser)
+    parser.one_standard_input([options.profile, options.table])
+    return options
+
+
+def setting_of(options, kernel):
+    """The container of a process: without `--caps` with the capabilities of the process's bounding set, which are those
+    that the engine gave the container."""
+    bounding = kernel.status_of(options.pid).get("CapBnd")
+    if options.caps is not None or bounding is None:
+        return options.setting
+    return replace(options.setting, capabilities=engines.capabilities_in(int(bounding, 16)),
+                   source="the process's bounding set")
+
+
+def is_configured(data, name, kernel, pid):
+    """Whether a configuration has a profile; None of what is no configuration. Ends the tool where it isn't that of the
+    process, or runtimes read it otherwise than it is spelled."""
+    try:
+        value = verify.configuration_in(data)
+        if value is None:
+            return None
+        why_not = verify.why_not_its(kernel, pid, value)
+        if why_not is not None:
+            raise program.ToolError(f"{why_not}: `podman inspect -f '{{{{.State.Pid}}}} {{{{.OCIConfigPath}}}}' NAME` "
+                                    "prints the first process of a container and its configuration")
+        return verify.seccomp_in(value, name) is not None
+    except verify.ContainerError as why:
+        raise program.ToolError(f"{inputs.label(name)}: {why}", program.NEGATIVE) from why
+
+
+def read_profile(name, is_engines):
+    """The bytes of a profile's or a configuration's file."""
+    if not name:
+        raise program.ToolError("the name of PROFILE is empty: the command that should print it printed nothing")
+    if os.path.exists(os.path.join(name, verify.CONFIG)):
+        raise program.ToolError(f"'{name}' is a bundle's folder: take the file {verify.CONFIG} in it")
+    try:
+        return inputs.read_whole(name, "engine's profile") if is_engines else inputs.read(name, "profile")
+    except program.ToolError as why:
+        if not isinstance(why.__cause__, FileNotFoundError) or os.path.basename(name) != verify.CONFIG:
+            raise
+        raise program.ToolError(f"{why}: the container has ended, or was removed; of one that runs `podman inspect -f "
+                                f"'{{{{.OCIConfigPath}}}}' NAME` prints it") from why
+
+
+def request_of(options, kernel):
+    """How each stack is compared, and with what."""
+    settings = tables.read(options.table), options.scope, options.relation
+    if options.beside is not None:
+        return verify.SavedRequest(verify.read_saved(options.beside), *settings)
+    name, runtime = options.profile, options.runtime
+    data = read_profile(name, runtime is not None)
+    configured = is_configured(data, name, kernel, options.pid)
+    if configured is False:
+        return verify.Request(verify.ALLOWS_ALL, *settings, configured=False)
+    if runtime is None:
+        profile = profile_inputs.profile_in(data, name, is_runtimes=True, is_strict=options.strict)
+        request = verify.Request(profile.data, *settings)
+        return replace(request, configured=True) if configured and request.is_accepted else request
+    applied = runtimes.applied_in(data, name, runtime, setting_of(options, kernel), options.strict)
+    return verify.Request(applied.data, *settings, applied, configured=configured)
+
+
+def other_runtime(options, kernel, request, worst):
+    """The line, where filters aren't as configured, that another runtime than was said reads the configuration."""
+    if request.configured and worst.report is not None and worst.status == program.NEGATIVE:
+        identifiers = [*verify.identifiers_of(kernel, options.pid), *verify.identifiers_in(options.profile)]
+        yield from filter(None, [verify.other_runtime(identifiers, options.runtime)])
+
+
+def main():
+    options = read_words()
+    kernel = processes.Kernel()
+    request = request_of(options, kernel)
+
+    def read():
+        process = processes.process_of(kernel, options.pid)
+        if not options.all:
+            return None, processes.look_at_process(kernel, process, is_forced=options.force)
+        container = processes.container_of(kernel, process)
+        return container, processes.look_at_container(kernel, container, is_forced=options.force)
+
+    container, inspection = processes.read_or_end(read, has_force=True, is_json=options.json)
+    blocks = verify.blocks(inspection, request)
+    others = None if container is None else containers.others_note(kernel, container)
+    is_unknown = others is not None and blocks[0].status == program.SUCCESS
+    status = program.UNKNOWN if is_unknown else blocks[0].status
+    remarks = [*request.remarks, *other_runtime(options, kernel, request, blocks[0])]
+    if options.json:
+        group = None if container is None else container.description
+        value = {**verify.as_json(blocks, inspection, request, group), "status": status, "not_checked": others}
+        if options.runtime is not None or remarks:
+            value["remarks"] = remarks
+        output.put_json({**value, "verdict": None} if is_unknown else value)
+        return status
+    output.put_lines(verify.lines(blocks, inspection, request, options.verbose))
+    output.put_lines(output.notes(remarks))
+    if others is not None:
+        output.put_line(f"# {others}")
+    if container is not None:
+        output.put_line(f"# the container is {container.description}; its processes that were checked: "
+                        f"{len(inspection.names)}")
+    return status

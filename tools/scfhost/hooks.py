@@ -1,0 +1,443 @@
+"""Hooks of container runtimes: a container's state, and whether its process is confined as configured.
+
+A runtime starts a hook with the container's state on standard input (OCI runtime specification, runtime.md: State, and
+config.md: POSIX-platform Hooks). The process is held by a pidfd (pidfd_open(2)) as soon as its ID is known, so that no
+other process with that ID later is taken for it, or killed in its place.
+
+A worker reads the filters and compares them, and the hook itself only waits for its report, so that the deadline holds
+whatever the worker hangs in. A watchdog kills the container if the hook is stopped or ended before that.
+"""
+from __future__ import annotations
+
+import contextlib
+import errno
+import json
+import math
+import os
+import select
+import signal
+import stat
+import time
+from collections.abc import Callable, Sequence
+
+from scftools.base import inputs, output, program
+from scftools.base.values import Any, dataclass
+from scftools.ask import verdicts
+from scftools.forms import engines
+from . import containers, hold, processes, verify
+from .processes import Inspection, Kernel
+from .ptrace import has_ended
+from .verify import ContainerError
+from .watchdog import Watchdog, Worker
+
+
+# The container's own program isn't executed yet; runc calls a poststart hook so.
+CREATED = "created"
+# How often the threads of a process without a filter are read again, in seconds: a runtime may call its hooks
+# before the filter is loaded.
+READING_PAUSE = 0.02
+# A hook has no environment but the one that is named.
+HOOK_PATH = "PATH=/usr/local/sbin:/usr/local/bin:/usr/sbin:/usr/bin:/sbin:/bin"
+# Seconds to wait for the container's state, for killed processes to end, and for the explanation of what is known
+# already; and how much later than the hook, which may be killing then, the watchdog acts.
+STATE_SECONDS, KILL_SECONDS, EXPLANATION_SECONDS, GRACE = 5.0, 2.0, 10.0, 4.0
+# Seconds that the check may take beyond the wait for a filter.
+DEADLINE = 30.0
+OF_NO_GROUP = ("the container has neither a PID namespace nor a control group of its own: its first process "
+               "and that one's descendants were checked")
+# How much time the hook file leaves for what isn't waited for: the tool's own start, and its end.
+STARTUP = 10
+
+
+@dataclass(frozen=True)
+class ContainerState:
+    """A container, as the runtime states it."""
+
+    name: str
+    status: str
+    pid: int
+    bundle: str
+
+    @property
+    def description(self) -> str:
+        return f"container {output.escaped(self.name)}"
+
+
+def container_of(data: bytes) -> ContainerState:
+    try:
+        state = json.loads(data.decode("utf-8"))
+    except (ValueError, RecursionError) as error:
+        raise ContainerError("the container's state on standard input isn't JSON") from error
+    if not isinstance(state, dict):
+        raise ContainerError("the container's state isn't an object")
+    for member in ("ociVersion", "id", "status", "bundle"):
+        if not isinstance(state.get(member), str) or not state[member]:
+            raise ContainerError(f"the container's state has no {member}")
+    name, status, bundle, pid = state["id"], state["status"], state["bundle"], state.get("pid")
+    if type(pid) is not int or not 0 < pid < 2**31:
+        raise ContainerError(f"the state of container {name} has no pid")
+    if not bundle.startswith("/") or "\0" in bundle:
+        raise ContainerError(f"the bundle of container {name} isn't an absolute path")
+    return ContainerState(name, status, pid, bundle)
+
+
+def state(seconds: float) -> bytes:
+    """The bytes that the runtime writes to standard input before it closes it, within so many seconds."""
+    until, data = time.monotonic() + seconds, b""
+    while len(data) <= inputs.LIMITS["state"]:
+        try:
+            if not select.select([0], [], [], max(0.0, until - time.monotonic()))[0]:
+                raise ContainerError(f"the container's state didn't come on standard input within {seconds:g} seconds")
+            piece = os.read(0, 1 << 16)
+        except OSError as error:
+            raise ContainerError(inputs.why("-", "state", error)) from error
+        if not piece:
+            return data
+        data += piece
+    raise ContainerError(f"the state on standard input has more than {inputs.LIMITS['state']} bytes")
+
+
+def contents(name: str) -> bytes:
+    """The bytes of a configuration. A pipe or a device isn't opened: it may never end."""
+    try:
+        is_other = not stat.S_ISREG(os.stat(name).st_mode)
+    except (OSError, ValueError):
+        is_other = False
+    if is_other and not os.path.isdir(name):
+        raise ContainerError(f"'{name}' isn't a regular file")
+    return inputs.read_whole(name, "profile")
+
+
+def configuration_of(container: ContainerState) -> dict[str, Any] | None:
+    """The seccomp configuration of the container's config.json, as `verify.seccomp_in`."""
+    name = os.path.join(container.bundle, verify.CONFIG)
+    try:
+        value = engines.read(contents(name))
+    except (program.ToolError, engines.Refused) as why:
+        raise ContainerError(f"the container's configuration: {why}") from why
+    return verify.seccomp_in(value, name)
+
+
+def members_of(kernel: Kernel, pid: int) -> containers.Container:
+    """The processes of a container whose first one this is: those of its PID namespace if it is also the first one
+    there, else those of its control group if this tool isn't in that group itself."""
+    if kernel.status_of(pid).get("NSpid", "").split()[1:][-1:] == ["1"]:
+        space = set(kernel.namespaces_of(pid)[:1])
+        return containers.Container(None, lambda: [number for number in kernel.processes()
+                                                   if space & set(kernel.namespaces_of(number))], end_together=True)
+    try:
+        container = processes.container_of(kernel, pid)
+        if container.group is not None and os.getpid() not in container.processes():
+            return container
+    except processes.Unreadable:
+        pass
+    return containers.Container(None, lambda: descendants(kernel, pid), remarks=(OF_NO_GROUP,))
+
+
+def descendants(kernel: Kernel, pid: int) -> list[int]:
+    parents = {number: kernel.status_of(number).get("PPid") for number in kernel.processes()}
+    numbers = [pid]
+    for ancestor in numbers:
+        numbers += [number for number, parent in parents.items() if parent == str(ancestor) and number not in numbers]
+    return numbers
+
+
+def send_signal(file: int, number: int) -> int | None:
+    """Sends a signal by a pidfd; returns the errno if that fails."""
+    try:
+        signal.pidfd_send_signal(file, number)
+    except OSError as error:
+        return error.errno
+    return None
+
+
+class ContainerProcess:
+    """The container's first process, the same one even if its ID is reused, and the others of the container."""
+
+    def __init__(self, container: ContainerState) -> None:
+        self.container = container
+        self.kernel = Kernel()
+        try:
+            self.file = os.pidfd_open(container.pid)
+        except ProcessLookupError as error:
+            raise ContainerError(f"there is no process {container.pid}") from error
+        except OSError as error:
+            raise ContainerError(f"process {container.pid} can't be held: {error.strerror}") from error
+        self.members = members_of(self.kernel, container.pid)
+
+    def has_ended(self, seconds: float = 0.0) -> bool:
+        """Whether it has ended, or does so within so many seconds: a pidfd can be read then (pidfd_open(2))."""
+        return bool(select.select([self.file], [], [], seconds)[0])
+
+    def kill(self) -> Kill:
+        """Kills it and the others of the container."""
+        pid, until = self.container.pid, time.monotonic() + KILL_SECONDS
+        was_there = not self.has_ended()
+        others = {} if self.members.end_together else self.hold_others()
+        why = send_signal(self.file, signal.SIGKILL)
+        count = self.kill_others(others, until)
+        more = f", and {count} more of the container" if count else ""
+        if not was_there or why == errno.ESRCH:
+            return Kill(count > 0, f"process {pid} has ended already" + (f"{more} were killed" if more else ""))
+        if why is not None:
+            return Kill(False, f"process {pid} can't be killed: {os.strerror(why)}")
+        if not self.has_ended(max(0.0, until - time.monotonic())):
+            return Kill(True, f"SIGKILL was sent to process {pid}{more}; it hasn't ended yet")
+        return Kill(True, f"process {pid} was killed{more}")
+
+    def kill_others(self, others: dict[int, int], until: float) -> int:
+        """Kills the held processes and those that they started meanwhile; returns how many."""
+        killed: set[int] = set()
+        while others:
+            killed.update(pid for pid, file in others.items() if send_signal(file, signal.SIGKILL) is None)
+            for file in others.values():
+                os.close(file)
+            if time.monotonic() > until:
+                break
+            time.sleep(0.001)
+            others = self.hold_others()
+        return len(killed)
+
+    def hold_others(self) -> dict[int, int]:
+        """The pidfds of the other processes that run, each held before it was listed again."""
+        held = {}
+        for pid in self.running_others():
+            with contextlib.suppress(OSError):
+                held[pid] = os.pidfd_open(pid)
+        for pid in held.keys() - set(self.running_others()):
+            os.close(held.pop(pid))
+        return held
+
+    def running_others(self) -> list[int]:
+        return [number for number in self.members.processes()
+                if number != self.container.pid and not has_ended(self.kernel.status_of(number))]
+
+    def threads(self) -> dict[int, int]:
+        """The threads of all processes of the container; of the first one, before the container's program is executed,
+        only the thread that will execute it."""
+        pid = self.container.pid
+        threads = self.kernel.threads_of(pid)
+        processes_of = {thread: pid for thread in threads if thread == pid or self.container.status != CREATED}
+        for member in self.members.processes():
+            processes_of.update((thread, member) for thread in self.kernel.threads_of(member) if member != pid)
+        return processes_of
+
+    def look(self, is_forced: bool = False) -> Inspection:
+        """The filters of all threads."""
+        pid = self.container.pid
+        inspection = processes.look(self.kernel, self.threads, processes.PATIENCE, is_forced)
+        if pid not in inspection.names or self.has_ended():
+            raise processes.Unreadable(f"process {pid} {inspection.passed_over.get(pid, 'has ended')}")
+        return inspection
+
+    def has_filters(self) -> bool:
+        """Whether every thread has a filter, as far as that can be known without stopping it."""
+        of_threads = [self.kernel.status_of(thread) for thread in self.threads()]
+        return all(status.get("Seccomp") != "0" or has_ended(status) for status in of_threads)
+
+    def confined(self, seconds: float, is_forced: bool) -> Inspection:
+        """The filters of all threads, once each has one or the time is up."""
+        until = time.monotonic() + seconds
+        while not self.has_ended() and not self.has_filters() and time.monotonic() < until:
+            time.sleep(READING_PAUSE)
+        return self.look(is_forced)
+
+
+@dataclass(frozen=True)
+class Kill:
+    """Whether a process was killed, and the line about it."""
+
+    is_so: bool
+    line: str
+
+
+@dataclass
+class HookResult:
+    """The finding on a container: a status and a verdict; and the explanation, which may take long to find, as
+    lines and as an object."""
+
+    status: int
+    verdict: str | None
+    lines: Callable[[], list[str]]
+    value: Callable[[], dict[str, object]]
+
+
+def finding_of(inspection: Inspection, request: verify.Request, process: ContainerProcess) -> HookResult:
+    """The result for all distinct stacks. Its text has no line for each name or architecture that was left out."""
+    blocks, others = verify.blocks(inspection, request), containers.others_note(process.kernel, process.members)
+    status, verdict = blocks[0].status, blocks[0].verdict
+    if others is not None and status == program.SUCCESS:
+        status, verdict = program.UNKNOWN, None
+    remarks = [*request.remarks, *process.members.remarks, *([others] if others else [])]
+    if status == program.NEGATIVE and blocks[0].report is not None:
+        runtime = request.applied.runtime.name if request.applied is not None else None
+        remarks += filter(None, [verify.other_runtime([process.container.name], runtime)])
+
+    def lines() -> list[str]:
+        report_lines = [line for line in verify.lines(blocks, inspection, request)
+                        if line and not line.startswith(verdicts.LEFT_OUT)]
+        return report_lines + [f"# {remark}" for remark in remarks]
+
+    def value() -> dict[str, object]:
+        report_value = verify.as_json(blocks, inspection, request, None)
+        return {**report_value, "status": status, "verdict": verdict, "remarks": remarks}
+
+    return HookResult(status, verdict, lines, value)
+
+
+def plain_finding(status: int, verdict: str | None, line: str) -> HookResult:
+    """A finding of a single line."""
+    value: dict[str, object] = {"status": status, "scope": verdicts.NATIVE_SCOPE, "verdict": verdict}
+    return HookResult(status, verdict, lambda: [line], lambda: value if verdict else {**value, "why": line})
+
+
+def failure(why: str, status: int = program.IO_ERROR) -> HookResult:
+    return plain_finding(status, None, why)
+
+
+def send_result(result: HookResult, is_json: bool, send: Callable[[object], None]) -> None:
+    """Sends a worker's result: first the status and the verdict, then the explanation."""
+    send([result.status, result.verdict])
+    send(result.lines())
+    if is_json:
+        send(result.value())
+
+
+def result_of(worker: Worker, seconds: float, is_json: bool, settle: Callable[[int], None]) -> HookResult:
+    """The finding of a worker within this many seconds. `settle` is called as soon as the status is known."""
+    outcome = worker.receive(time.monotonic() + seconds)
+    if outcome is None:
+        finding = unknown(worker.status(), seconds)
+        settle(finding.status)
+        return finding
+    status, verdict = outcome
+    settle(status)
+    until = time.monotonic() + EXPLANATION_SECONDS
+    late = plain_finding(status, verdict, f"no explanation: it takes longer than {EXPLANATION_SECONDS:g} seconds")
+    lines = worker.receive(until) or late.lines()
+    value = is_json and worker.receive(until) or late.value()
+    return HookResult(status, verdict, lambda: lines, lambda: value)
+
+
+def unknown(status: int | None, seconds: float) -> HookResult:
+    """The finding if a worker reports nothing: it ended with a status, or still runs."""
+    if status is None:
+        return failure(f"undecided after {seconds:g} seconds", program.UNKNOWN)
+    if status == program.NOT_BUILT:
+        return failure("scf can't be run", program.NOT_BUILT)
+    how = f"signal {-status}" if status < 0 else f"status {status}"
+    return failure(f"the check ended with {how}")
+
+
+class Examination:
+    """A container that must be known to be confined within this many seconds, and else is killed on request, as soon as
+    the status is known and before it is explained."""
+
+    def __init__(self, process: ContainerProcess, seconds: float, kills: bool) -> None:
+        self.process = process
+        self.seconds = seconds
+        self.kills = kills
+        self.killed: list[Kill] = []
+        self.watchdog: Watchdog | None = None
+
+    def result(self, find: Callable[[], HookResult], is_json: bool) -> HookResult:
+        try:
+            if self.kills:
+                self.watchdog = Watchdog(self.bark, time.monotonic() + self.seconds + GRACE)
+            worker = Worker(lambda send: send_result(run_safely(find), is_json, send),
+                            [self.watchdog.end] if self.watchdog else [])
+        except OSError as error:
+            self.settle(program.IO_ERROR)
+            return failure(f"no process can be started: {error.strerror}")
+        return result_of(worker, self.seconds, is_json, self.settle)
+
+    def settle(self, status: int) -> None:
+        """Acts on the status: kills the container on request, and dismisses the watchdog."""
+        if self.kills and status != program.SUCCESS:
+            self.killed.append(self.process.kill())
+        if self.watchdog is not None:
+            self.watchdog.dismiss()
+
+    def bark(self) -> None:
+        """The watchdog's action: it kills the container and reports that."""
+        killed = self.process.kill()
+        line = f"{self.process.container.description}: the hook was ended or stopped: {killed.line}"
+        program.say(line)
+        write_log(program.name(), program.IO_ERROR, [line])
+
+
+def write_log(name: str, status: int, lines: Sequence[str]) -> None:
+    """Writes lines to the system log; where there is none, they are lost."""
+    import syslog  # pylint: disable=import-outside-toplevel
+
+    syslog.openlog(output.escaped(name), syslog.LOG_PID, syslog.LOG_DAEMON)
+    level = syslog.LOG_INFO if status == program.SUCCESS else syslog.LOG_ERR
+    for line in lines:
+        syslog.syslog(level, output.escaped(line))
+    syslog.closelog()
+
+
+def verdict_line(container: ContainerState | None, result: HookResult) -> str:
+    """A line that says how it came out."""
+    who = container.description if container else "a container"
+    if result.status == program.SUCCESS:
+        return f"{who}: confined as configured ({result.verdict})"
+    if result.status == program.NEGATIVE and result.verdict is not None:
+        return f"{who}: not confined as configured ({result.verdict})"
+    return f"{who}: unknown whether it is confined as configured"
+
+
+def dry_run_line(status: int, kills: bool) -> str:
+    """A line that says what a hook would have done that only reports."""
+    if status == program.SUCCESS:
+        return "dry run: the status is 0 without --dry-run, too"
+    killed = ", and the container would be killed" if kills else ""
+    return f"dry run: without --dry-run the status would be {status}{killed}"
+
+
+def hook_words(words: Sequence[str]) -> list[str]:
+    """The words that the hook is called with. A runtime calls it in a folder of its own, so the table's path is the
+    absolute one."""
+    words_of_hook: list[str] = []
+    for word in words:
+        name = word.removeprefix("--table=")
+        if words_of_hook[-1:] == ["--table"]:
+            words_of_hook.append(os.path.abspath(word))
+        elif name != word:
+            words_of_hook.append(f"--table={os.path.abspath(name)}")
+        elif word != "--print-hook":
+            words_of_hook.append(word)
+    return words_of_hook
+
+
+def hook_file(path: str, words: Sequence[str], seconds: float) -> str:
+    """The text of a file for hooks.d, as oci-hooks(5) has it, that calls this tool for each container. The runtime must
+    wait longer than the tool itself, which takes this many seconds to know."""
+    longest = seconds + STATE_SECONDS + KILL_SECONDS + EXPLANATION_SECONDS + GRACE
+    hook = {"path": path, "args": [os.path.basename(path), *hook_words(words)], "env": [HOOK_PATH],
+            "timeout": math.ceil(longest) + STARTUP}
+    return json.dumps({"version": "1.0.0", "hook": hook, "when": {"always": True}, "stages": ["poststart"]},
+                      indent=4) + "\n"
+
+
+def run_safely(find: Callable[[], HookResult]) -> HookResult:
+    """The finding; if anything fails, one that says why."""
+    try:
+        return find()
+    except (ContainerError, program.ToolError) as why:
+        status = getattr(why, "status", None)
+        return failure(str(why), status if status in (program.INTERNAL, program.NOT_BUILT) else program.IO_ERROR)
+    except processes.Unreadable as why:
+        return failure(f"{why} (--force stops it)" if isinstance(why, hold.Waiting) else str(why))
+    except processes.Interrupted as came:
+        return failure(f"the check was ended by {signal.Signals(came.args[0]).name}")
+    except MemoryError:
+        return failure("out of memory")
+    except OSError as error:
+        return failure(f"the container can't be inspected: {error.strerror}")
+    except ModuleNotFoundError as error:
+        return failure(program.why_it_lacks(error), program.NOT_BUILT)
+    except Exception as error:  # pylint: disable=broad-exception-caught
+        # nothing fails open
+        return failure(str(program.InternalError(f"{program.name()} itself failed: {type(error).__name__}")),
+                       program.INTERNAL)

@@ -1,0 +1,216 @@
+"""Processes, and the filters that the kernel keeps of their threads.
+
+Filters belong to threads (seccomp(2)), so two threads of one process may have different ones, or none: each thread is
+inspected. A child process does it (`child`): all threads are stopped (`hold`), the filters of each are copied
+(PTRACE_SECCOMP_GET_FILTER), and all continue. A process's name (its `comm`) is read while it is stopped, since its ID
+may be reused later.
+"""
+from __future__ import annotations
+
+import os
+from collections.abc import Callable, Sequence
+
+from scftools.base import child, output, program
+from scftools.base.child import Interrupted
+from scftools.base.values import Any, dataclass, field
+from scftools.cli.words import Parser
+from scftools.forms.filters import Filter
+from .containers import Container, container_of
+from .hold import Ended, Hold, Unreadable, Waiting, called, stack_of, why_no_filters
+from .ptrace import Kernel
+from .restart import Restarts
+
+__all__ = ("Container", "Inspection", "Interrupted", "Kernel", "Stack", "Unreadable", "called", "container_of")
+
+# How long an inspection may last, in seconds, and how much of it all threads have to stop.
+PATIENCE, TO_STOP = 10.0, 0.9
+# The paragraph in --help.
+NEEDS = (f"This needs CAP_SYS_ADMIN and CAP_SYS_PTRACE, which root has outside of containers, and a kernel with "
+         f"CONFIG_CHECKPOINT_RESTORE. The threads are stopped for a moment with ptrace(2), and continue within "
+         f"{PATIENCE:g} seconds, whatever happens. A few blocking syscalls then return early with EINTR, as after "
+         f"SIGSTOP and SIGCONT (signal(7)): epoll_wait, semop, sigtimedwait, and recv, send and the like with a "
+         f"timeout. nanosleep, clock_nanosleep, poll and futex continue by restart_syscall(2) for the remaining time; "
+         f"if the thread's filters don't allow that, they restart with their whole time, or return EINTR if the "
+         f"filters no longer allow the syscall itself. A thread that waits for a seccomp supervisor isn't stopped "
+         f"before the supervisor answers, since it would get the syscall twice.")
+
+
+@dataclass
+class Stack:
+    """The filters that some threads have in common, oldest first, as bytes."""
+
+    filters: tuple[bytes, ...]
+    # Whether they are in the strict mode of seccomp(2), which isn't a filter.
+    is_strict: bool
+    # The numbers of their processes, and for each those of its threads.
+    threads: dict[int, list[int]] = field(default_factory=dict)
+
+    @property
+    def named(self) -> list[Filter]:
+        """The filters, by the names that `scf filters-of` gives their files."""
+        width = len(str(len(self.filters) - 1))
+        return [Filter(f"{at:0{width}}.bpf", data) for at, data in enumerate(self.filters)]
+
+    def as_json(self, names: dict[int, bytes]) -> dict[str, object]:
+        """The lengths of its filters, and the threads that have it, given the names of processes."""
+        return {"filters": [filter_.count for filter_ in self.named],
+                "processes": [{"process": process, "name": output.escaped(names[process]), "threads": threads}
+                              for process, threads in self.threads.items()]}
+
+    @property
+    def is_unconfined(self) -> bool:
+        """Whether the threads have neither a filter nor the strict mode."""
+        return not self.filters and not self.is_strict
+
+    @property
+    def description(self) -> str:
+        """The number of filters, and their lengths."""
+        if self.is_strict:
+            return "no filter, but seccomp's strict mode"
+        if not self.filters:
+            return "no filter"
+        sizes = ", ".join(str(filter_.count) for filter_ in self.named)
+        return f"{len(self.filters)} filter{'s' * (len(self.filters) > 1)}, of {sizes} instructions"
+
+
+@dataclass
+class Inspection:
+    """The stacks of threads, read while all of these were stopped."""
+
+    # The distinct stacks, in the order of their first threads.
+    stacks: list[Stack]
+    # The processes, by number, and what each was called.
+    names: dict[int, bytes]
+    # The processes whose threads make no syscalls, by number, and why.
+    passed_over: dict[int, str]
+    # The processes and threads whose syscalls a supervisor got twice, since they were stopped meanwhile.
+    asked_again: list[tuple[int, int]] = field(default_factory=list)
+
+    @property
+    def notes(self) -> list[str]:
+        """Notes on the inspection itself."""
+        return [*(f"process {process} is skipped: it {why}" for process, why in self.passed_over.items()),
+                *(f"the syscall of {called(thread, process)} restarts, and its seccomp supervisor gets it a second "
+                  f"time" for process, thread in self.asked_again)]
+
+
+def threads_text(threads: Sequence[int]) -> str:
+    """Threads by their numbers, which rise; neighbours as `7 to 9`."""
+    shown = ", ".join(f"{first} to {last}" if last - first > 1 else ", ".join(map(str, range(first, last + 1)))
+                      for first, last in output.runs(threads))
+    return f"thread{'s' * (len(threads) > 1)} {shown}"
+
+
+def inspection_of(kernel: Kernel, hold: Hold) -> Inspection:
+    """The stacks of the stopped threads. An equal filter of another thread is kept once."""
+    stacks: dict[tuple[tuple[bytes, ...], bool], Stack] = {}
+    names: dict[int, bytes] = {}
+    asked_again = []
+    for thread in sorted(hold.stopped, key=lambda number: (hold.process_of[number], number)):
+        process = hold.process_of[thread]
+        key = stack_of(kernel, thread, process)
+        stack = stacks.setdefault(key, Stack(*key))
+        stack.threads.setdefault(process, []).append(thread)
+        if hold.restarts.goes_to_supervisor_again(thread, stack.filters):
+            asked_again.append((process, thread))
+        if process not in names:
+            names[process] = kernel.name_of(process)
+    passed_over = {process: why for process, why in hold.passed_over.items() if process not in names}
+    return Inspection(list(stacks.values()), names, passed_over, asked_again)
+
+
+def read_threads(kernel: Kernel, listed: Callable[[], dict[int, int]], patience: float,
+                 is_forced: bool = False, restarts: Restarts | None = None) -> Inspection:
+    """Stops all threads that are listed, reads what each has, and lets them run on. `restarts` is that of an earlier
+    call, if there was one."""
+    why = why_no_filters(kernel)
+    if why is not None:
+        raise Unreadable(why)
+    with Hold(kernel, listed, patience, is_forced, restarts) as hold:
+        while True:
+            hold.stop_all()
+            try:
+                return inspection_of(kernel, hold)
+            except Ended as ended:
+                hold.drop(ended.args[0])
+
+
+def look(kernel: Kernel, listed: Callable[[], dict[int, int]], patience: float, is_forced: bool) -> Inspection:
+    """Reads all threads that are listed, in a child process, so that it ends in time whatever it waits for."""
+    try:
+        return child.run(lambda: read_threads(kernel, listed, TO_STOP * patience, is_forced), patience)
+    except child.Late as late:
+        raise Unreadable(f"the threads couldn't be read within {patience:g} seconds: the kernel makes a tracer wait, "
+                         f"as for a thread that executes a program; all stopped threads continue") from late
+    except child.Died as died:
+        raise Unreadable(str(died)) from died
+
+
+def process_of(kernel: Kernel, number: int) -> int:
+    """The process of a process's or a thread's number."""
+    process = kernel.status_of(number).get("Tgid")
+    if process is None:
+        raise Unreadable(f"there is no process {number}: it has ended, or that is its number in another PID namespace")
+    return int(process)
+
+
+def look_at_process(kernel: Kernel, process: int, thread: int | None = None, patience: float = PATIENCE,
+                    is_forced: bool = False) -> Inspection:
+    """Reads all threads of a process, or one of them."""
+
+    def listed() -> dict[int, int]:
+        threads = kernel.threads_of(process)
+        return {number: process for number in threads if thread in (None, number)}
+
+    if thread is not None and thread not in kernel.threads_of(process):
+        raise Unreadable(f"process {process} has no thread {thread}")
+    inspection = look(kernel, listed, patience, is_forced)
+    if not inspection.stacks:
+        who = called(process if thread is None else thread, process)
+        raise Unreadable(f"{who} {inspection.passed_over.get(process, 'has ended')}")
+    return inspection
+
+
+def look_at_container(kernel: Kernel, container: Container, patience: float = PATIENCE,
+                      is_forced: bool = False) -> Inspection:
+
+    def listed() -> dict[int, int]:
+        return {thread: process for process in container.processes() for thread in kernel.threads_of(process)}
+
+    inspection = look(kernel, listed, patience, is_forced)
+    if not inspection.stacks:
+        raise Unreadable("the processes of the container have ended")
+    return inspection
+
+
+def number_in(text: str, parser: Parser) -> int:
+    """The number of a process or a thread among the words of a tool."""
+    if not text:
+        parser.error("'' isn't a process ID: the command that should print one printed nothing")
+    if text == "0":
+        parser.error("'0' isn't a process ID: it is what `podman inspect` prints of a container that doesn't run, and "
+                     "systemctl of a unit")
+    if not (text.isascii() and text.isdigit()) or len(text) > 10 or not 0 < int(text) < 2**31:
+        parser.error(f"'{text}' isn't a process ID: for a container `podman inspect -f '{{{{.State.Pid}}}}' NAME` "
+                     "prints it, as docker does, for a unit `systemctl show -p MainPID --value NAME`")
+    return int(text)
+
+
+def read_or_end(read: Callable[[], Any], has_force: bool = False, is_json: bool = False) -> Any:
+    """The result of `read`; ends the tool where that fails, with an object that says so where one is wanted, or where a
+    signal came that ends it."""
+    try:
+        return read()
+    except Unreadable as error:
+        why = f"{error} (--force stops it)" if has_force and isinstance(error, Waiting) else str(error)
+        if is_json:
+            output.put_json({"status": program.IO_ERROR, "verdict": None, "stacks": [], "why": output.escaped(why)})
+        raise program.ToolError(why, program.IO_ERROR) from error
+    except Interrupted as came:
+        import signal  # pylint: disable=import-outside-toplevel
+
+        number = came.args[0]
+        program.say(f"ended by {signal.Signals(number).name}; all stopped threads continue")
+        signal.signal(number, signal.SIG_DFL)
+        os.kill(os.getpid(), number)
+        raise program.ToolError("the signal didn't end it", program.IO_ERROR) from came

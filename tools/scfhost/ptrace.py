@@ -1,0 +1,257 @@
+"""The kernel's facts about processes, by ptrace(2) and by the files of /proc (proc(5))."""
+from __future__ import annotations
+
+import errno
+import fcntl
+import os
+import struct
+from collections.abc import Iterator
+
+from scftools.base.values import Pattern
+
+# sys/ptrace.h
+PTRACE_POKEUSER = 6
+PTRACE_GETREGS = 12
+PTRACE_DETACH = 17
+PTRACE_SEIZE = 0x4206
+PTRACE_INTERRUPT = 0x4207
+PTRACE_SECCOMP_GET_FILTER = 0x420C
+PTRACE_GET_SYSCALL_INFO = 0x420E
+PTRACE_EVENT_STOP = 128
+# sys/user.h: struct user_regs_struct, which the kernel shows to a 64-bit tracer whatever the thread runs.
+REGISTERS = ("r15", "r14", "r13", "r12", "rbp", "rbx", "r11", "r10", "r9", "r8", "rax", "rcx", "rdx", "rsi", "rdi",
+             "orig_rax", "rip", "cs", "eflags", "rsp", "ss", "fs_base", "gs_base", "ds", "es", "fs", "gs")
+WORD_BYTES = 8
+# linux/ptrace.h: the beginning of struct ptrace_syscall_info, which holds the architecture of the syscall.
+SYSCALL_INFO = struct.Struct("<B3xI")
+# linux/wait.h: wait for threads too. Since Linux 4.7 the kernel takes it for granted of what is traced; before, a
+# thread that isn't the main one of its process is waited for by this alone.
+WALL = 0x40000000
+# linux/nsfs.h
+NS_GET_PARENT, NS_GET_OWNER_UID = 0xB702, 0xB704
+# linux/proc_ns.h: the numbers of the initial cgroup namespace, PID namespace and user namespace.
+PROC_CGROUP_INIT_INO, PROC_PID_INIT_INO, PROC_USER_INIT_INO = 0xEFFFFFFB, 0xEFFFFFFC, 0xEFFFFFFD
+# The numbers of execve and execveat: asm/unistd_64.h, with those of x32 (asm/unistd_x32.h), and asm/unistd_32.h.
+EXECUTE, EXECUTE_32 = (59, 322, 0x40000208, 0x40000221), (11, 358)
+# The most bytes of a file of /proc that are read.
+MAX_CONTENTS = 1 << 20
+# A byte of a path in a file of /proc that separates its fields.
+ESCAPED_BYTE = Pattern(rb"\\([0-3][0-7]{2})")
+
+
+def numbers_in(folder: str) -> list[int]:
+    try:
+        return sorted(int(name) for name in os.listdir(folder) if name.isascii() and name.isdigit())
+    except OSError:
+        return []
+
+
+def contents(path: str) -> bytes:
+    """The contents of a file of /proc; nothing if it isn't there."""
+    try:
+        with open(path, "rb") as file:
+            return file.read(MAX_CONTENTS)
+    except OSError:
+        return b""
+
+
+def stat_of(process: int) -> list[bytes]:
+    """The fields of /proc/PROCESS/stat from the third one on, which is behind the name; none where it isn't there."""
+    return contents(f"/proc/{process}/stat").rpartition(b")")[2].split()
+
+
+def ticks_at_start(process: int) -> int | None:
+    """When a process started, in the kernel's clock ticks (proc_pid_stat(5))."""
+    fields = stat_of(process)
+    return int(fields[19]) if len(fields) > 19 else None
+
+
+def _without_octal(field: bytes) -> bytes:
+    """A path of mountinfo, in which the kernel writes some bytes as a backslash and three octal digits."""
+    return ESCAPED_BYTE.sub(lambda match: bytes([int(match[1], 8)]), field)
+
+
+def _group_mounts(process: int | str) -> Iterator[tuple[bytes, list[bytes], bytes, bytes]]:
+    """The control group mounts that a process sees (proc_pid_mountinfo(5)): the type, the options, the group that is
+    mounted, and where."""
+    for line in contents(f"/proc/{process}/mountinfo").split(b"\n"):
+        fields, _, source = line.partition(b" - ")
+        kind, _, options = source.partition(b" ")
+        if kind in (b"cgroup", b"cgroup2") and fields.count(b" ") > 4:
+            root, place = map(_without_octal, fields.split(b" ")[3:5])
+            yield kind, options.rpartition(b" ")[2].split(b","), root, place
+
+
+def _namespace_files(process: int, kind: str) -> Iterator[int]:
+    """The open namespace of a process, and those around it that this tool may see, one at a time, the innermost first
+    (ioctl_ns(2)); none if there is no such process."""
+    try:
+        file = os.open(f"/proc/{process}/ns/{kind}", os.O_RDONLY | os.O_CLOEXEC)
+    except OSError:
+        return
+    while True:
+        try:
+            yield file
+            around = fcntl.ioctl(file, NS_GET_PARENT)
+        except OSError:
+            return
+        finally:
+            os.close(file)
+        file = around
+
+
+def has_ended(status: dict[str, str]) -> bool:
+    """Whether a thread with these lines of /proc/THREAD/status has ended, or there is none: a zombie, or dead."""
+    return status.get("State", "Z")[:1] in "ZX"
+
+
+def is_executing(thread: int) -> bool:
+    """Whether a thread waits in execve(2) or execveat(2): then the kernel makes who wants to trace its process wait,
+    too, however long that is (ptrace_attach of kernel/ptrace.c takes cred_guard_mutex)."""
+    # proc_pid_syscall(5): the number, six arguments, the stack pointer and the program counter
+    fields = contents(f"/proc/{thread}/syscall").split()
+    if len(fields) != 9:
+        return False
+    is_32 = all(int(field, 16) >> 32 == 0 for field in fields[7:])
+    return int(fields[0]) in (*EXECUTE, *(EXECUTE_32 if is_32 else ()))
+
+
+class Kernel:
+    """Questions to the kernel; raises OSError if a syscall fails."""
+
+    def __init__(self) -> None:
+        import ctypes  # pylint: disable=import-outside-toplevel
+
+        self.ctypes, self.library = ctypes, ctypes.CDLL(None, use_errno=True)
+        self.library.ptrace.restype = ctypes.c_long
+        self.library.ptrace.argtypes = [ctypes.c_long, ctypes.c_long, ctypes.c_void_p, ctypes.c_void_p]
+        # The tool that looks, which may do that in a child.
+        self.tool = os.getpid()
+
+    def ptrace(self, request: int, thread: int, place: int | None, data: object) -> int:
+        answer: int = self.library.ptrace(request, thread, place, data)
+        if answer < 0:
+            number = self.ctypes.get_errno()
+            raise OSError(number, os.strerror(number))
+        return answer
+
+    def registers(self, thread: int) -> dict[str, int]:
+        """The registers of a stopped thread."""
+        room = (self.ctypes.c_uint64 * len(REGISTERS))()
+        self.ptrace(PTRACE_GETREGS, thread, None, room)
+        return dict(zip(REGISTERS, room))
+
+    def set_result(self, thread: int, result: int) -> None:
+        """Sets what the system call returns in which a thread is stopped."""
+        self.ptrace(PTRACE_POKEUSER, thread, REGISTERS.index("rax") * WORD_BYTES, result & 0xFFFFFFFFFFFFFFFF)
+
+    def architecture_of_call(self, thread: int) -> int | None:
+        """The architecture of the system call in which a thread is stopped; None before Linux 5.3."""
+        room = self.ctypes.create_string_buffer(SYSCALL_INFO.size)
+        try:
+            self.ptrace(PTRACE_GET_SYSCALL_INFO, thread, SYSCALL_INFO.size, room)
+        except OSError:
+            return None
+        return SYSCALL_INFO.unpack(room.raw)[1]
+
+    def waits_for_supervisor(self, thread: int) -> bool:
+        """Whether a thread waits for a supervisor's answer to its system call (seccomp_unotify(2)): then it is in
+        seccomp_do_user_notification of kernel/seccomp.c."""
+        return b"seccomp" in contents(f"/proc/{thread}/wchan")
+
+    def wait(self, thread: int) -> int | None:
+        """The state that the thread stopped or ended in, or None where it is in none yet."""
+        stopped, state = os.waitpid(thread, WALL | os.WNOHANG)
+        return state if stopped else None
+
+    def is_proc_ours(self) -> bool:
+        """Whether /proc is mounted, and is that of this tool's PID namespace."""
+        try:
+            return os.readlink("/proc/self") == str(os.getpid())
+        except OSError:
+            return False
+
+    def processes(self) -> list[int]:
+        return numbers_in("/proc")
+
+    def threads_of(self, process: int) -> list[int]:
+        """The threads of a process; none where there is no such process."""
+        return numbers_in(f"/proc/{process}/task")
+
+    def status_of(self, thread: int) -> dict[str, str]:
+        """The lines of /proc/THREAD/status, by name; none where there is no such thread. The kernel escapes names."""
+        lines = contents(f"/proc/{thread}/status").decode("utf-8", "replace").split("\n")
+        return {name: value.strip() for name, colon, value in (line.partition(":") for line in lines) if colon}
+
+    def flags_of(self, thread: int) -> int:
+        """The flags of a thread, as linux/sched.h has them: the ninth field of /proc/THREAD/stat."""
+        fields = stat_of(thread)
+        return int(fields[6]) if len(fields) > 6 else 0
+
+    def name_of(self, process: int) -> bytes:
+        """The name of a process: bytes of its own choice."""
+        name = contents(f"/proc/{process}/comm")
+        return name[:-1] if name.endswith(b"\n") else name
+
+    def groups_of(self, process: int) -> dict[str, bytes]:
+        """The control groups of a process, by the controllers of their hierarchies."""
+        paths: dict[str, bytes] = {}
+        for line in contents(f"/proc/{process}/cgroup").split(b"\n"):
+            _, _, fields = line.partition(b":")
+            controllers, _, path = fields.partition(b":")
+            if path:
+                paths.update((name, path) for name in controllers.decode("utf-8", "replace").split(","))
+        return paths
+
+    def mounted_groups(self, process: int) -> list[bytes]:
+        """The roots of the control group mounts that a process sees."""
+        return [root for _, _, root, _ in _group_mounts(process)]
+
+    def group_owner(self, hierarchy: str, path: bytes) -> int | None:
+        """The first user beside root who owns a control group of a hierarchy, or one above it; None if root owns all,
+        or the hierarchy isn't mounted here."""
+        for kind, options, root, place in _group_mounts("self"):
+            if kind != (b"cgroup" if hierarchy else b"cgroup2") or hierarchy and hierarchy.encode() not in options:
+                continue
+            if root != b"/" and path != root and not path.startswith(root + b"/"):
+                continue
+            for part in path[len(root) if root != b"/" else 0:].strip(b"/").split(b"/"):
+                place = place + b"/" + part
+                try:
+                    user = os.stat(place).st_uid
+                except OSError:
+                    break
+                if user != 0:
+                    return user
+        return None
+
+    def is_root_the_first(self) -> bool:
+        """Whether the control group `/` is the root of its hierarchy, and not that of a cgroup namespace alone."""
+        try:
+            return os.stat("/proc/self/ns/cgroup").st_ino == PROC_CGROUP_INIT_INO
+        except OSError as error:
+            # a kernel without such namespaces
+            return error.errno == errno.ENOENT
+
+    def makers_of_namespaces(self, process: int) -> list[int]:
+        """The users who made the user namespace of a process and those around it that this tool may see, the innermost
+        first; the initial namespace isn't among them."""
+        users: list[int] = []
+        for file in _namespace_files(process, "user"):
+            try:
+                if os.fstat(file).st_ino == PROC_USER_INIT_INO:
+                    break
+                users.append(int.from_bytes(fcntl.ioctl(file, NS_GET_OWNER_UID, bytes(4)), "little"))
+            except OSError:
+                break
+        return users
+
+    def owner_of(self, process: int, user: int) -> int:
+        """The user who answers for a process: its own one, or if it is in another user namespace than the initial one
+        the user who made that, or made the outermost of several."""
+        return [user, *self.makers_of_namespaces(process)][-1]
+
+    def namespaces_of(self, process: int) -> list[tuple[int, int]]:
+        """The PID namespace of a process and those around it that this tool may see, the innermost first."""
+        statuses = map(os.fstat, _namespace_files(process, "pid"))
+        return [(status.st_dev, status.st_ino) for status in statuses]

@@ -1,0 +1,174 @@
+"""Syscalls that a stop interrupts, and how they continue with the thread.
+
+A syscall that waits returns one of the numbers below when its thread is stopped, and the kernel calls it again after
+the stop (handle_signal and arch_do_signal_or_restart in arch/x86/kernel/signal.c). If it waits with a timeout, as
+nanosleep and poll do, the kernel calls restart_syscall(2) instead, which continues with the remaining time. A filter
+answers that as any other syscall: if it denies it, it ends the process or fails the call. So a thread in such a syscall
+is given another number while it is stopped, if its filters don't allow restart_syscall. A syscall that they deny isn't
+restarted either.
+"""
+from __future__ import annotations
+
+import errno
+from collections.abc import Sequence
+
+from scftools.base import program
+from scftools.base.values import dataclass, replace
+from scftools.model import bundles
+from scftools.model.answers import ALLOWED, DENIED, FIRST_X32, I386_NUMBER, X86_64, Answer
+from scftools.model.calls import Call
+from scftools.ask import client, regions, verdicts
+from scftools.ask.regions import Lookup
+from scftools.forms.filters import INSTRUCTION, RETURN_CONSTANT
+from .ptrace import Kernel
+
+# linux/errno.h. What a handler of a signal doesn't interrupt begins anew by each of them but the last, by which it goes
+# on by restart_syscall; a handler interrupts by NOHAND and by RESTARTBLOCK alike.
+ERESTARTSYS, ERESTARTNOINTR, ERESTARTNOHAND, ERESTART_RESTARTBLOCK = 512, 513, 514, 516
+BEGIN_ANEW = (ERESTARTSYS, ERESTARTNOINTR, ERESTARTNOHAND)
+# The number of restart_syscall: asm/unistd_64.h, asm/unistd_32.h.
+RESTART = {X86_64: 219, I386_NUMBER: 0}
+# The registers of the six arguments, in their order.
+ARGUMENT_REGISTERS = {X86_64: ("rdi", "rsi", "rdx", "r10", "r8", "r9"),
+                      I386_NUMBER: ("rbx", "rcx", "rdx", "rsi", "rdi", "rbp")}
+# linux/filter.h: BPF_RET | BPF_A, whose answer is computed; linux/seccomp.h: SECCOMP_RET_USER_NOTIF's high half.
+RETURN_COMPUTED, USER_NOTIF = 0x16, 0x7FC0
+# How often scf is asked about the threads of a process, which are stopped meanwhile; calls beyond begin anew. The steps
+# in which it follows their filters: the 28 of a unit of systemd take 230000, and some 30 ms. Of how many stacks the regions
+# are kept; and how many calls of a stack are asked one by one before all of them.
+MOST_ASKED, LOOKUP_STEPS, MOST_KEPT, FEW_CALLS = 200, "300000", 50, 2
+
+
+def restart_of(call: Call) -> Call:
+    """The restart_syscall by which a syscall goes on: the registers stay as they are."""
+    x32 = call.number & FIRST_X32 if call.architecture == X86_64 else 0
+    return replace(call, number=RESTART[call.architecture] | x32)
+
+
+def call_of(architecture: int, registers: dict[str, int]) -> Call:
+    mask = 0xFFFFFFFF if architecture == I386_NUMBER else 0xFFFFFFFFFFFFFFFF
+    return Call(registers["orig_rax"] & 0xFFFFFFFF, architecture, registers["rip"] & mask,
+                tuple(registers[name] & mask for name in ARGUMENT_REGISTERS[architecture]))
+
+
+def restart_number(registers: dict[str, int]) -> int:
+    """The number by which an interrupted call goes on, 0 where none was interrupted."""
+    result = -registers["rax"] & 0xFFFFFFFFFFFFFFFF
+    is_in_call = registers["orig_rax"] & 0xFFFFFFFF < 0x80000000
+    return result if is_in_call and result in (*BEGIN_ANEW, ERESTART_RESTARTBLOCK) else 0
+
+
+def may_notify(filters: Sequence[bytes]) -> bool:
+    """Whether a filter has an instruction by which it may answer USER_NOTIF."""
+    return any(code == RETURN_COMPUTED or code == RETURN_CONSTANT and k >> 16 == USER_NOTIF
+               for data in filters for code, _, _, k in INSTRUCTION.iter_unpack(data))
+
+
+@dataclass(frozen=True)
+class InterruptedSyscall:
+    """An interrupted syscall: the number with which it would continue, and what it may be.
+
+    If the kernel doesn't report the architecture, it is a syscall of x86-64 or of i386.
+    """
+
+    number: int
+    calls: tuple[Call, ...]
+
+    @property
+    def goes_on(self) -> bool:
+        """Whether restart_syscall is called instead."""
+        return self.number == ERESTART_RESTARTBLOCK
+
+    @property
+    def anew(self) -> int:
+        """The number with which it starts again."""
+        return ERESTARTNOHAND if self.goes_on else self.number
+
+
+class Restarts:
+    """The interrupted calls of stopped threads."""
+
+    def __init__(self, kernel: Kernel) -> None:
+        self.kernel = kernel
+        self.calls: dict[int, InterruptedSyscall] = {}
+        self.lookups: dict[tuple[bytes, ...], Lookup] = {}
+        # the answers that were asked for one by one
+        self.answers: dict[tuple[bytes, ...], dict[Call, Answer | None]] = {}
+        # how often scf may still be asked
+        self.remaining_runs = MOST_ASKED
+
+    def begin(self) -> None:
+        """Before the threads of another process are stopped."""
+        self.remaining_runs = MOST_ASKED
+        if len(self.answers) > MOST_KEPT:
+            self.lookups.clear()
+            self.answers.clear()
+
+    def at_stop(self, thread: int) -> None:
+        """A thread has stopped. Until it is known what its filters allow, its call begins anew, so that it does even if
+        this process is killed."""
+        self.calls.pop(thread, None)
+        registers = self.kernel.registers(thread)
+        number = restart_number(registers)
+        if not number:
+            return
+        architecture = self.kernel.architecture_of_call(thread)
+        architectures_of_call = (architecture,) if architecture in RESTART else tuple(RESTART)
+        interrupted = InterruptedSyscall(number, tuple(call_of(oci, registers) for oci in architectures_of_call))
+        if interrupted.goes_on:
+            self.kernel.set_result(thread, -interrupted.anew)
+        self.calls[thread] = interrupted
+
+    def before_it_runs_on(self, thread: int, filters: tuple[bytes, ...]) -> None:
+        """Chooses how the call of a thread goes on that has these filters."""
+        interrupted = self.calls[thread]
+        number = self.number(interrupted, filters)
+        if number != interrupted.anew:
+            self.kernel.set_result(thread, -number)
+
+    def number(self, interrupted: InterruptedSyscall, filters: tuple[bytes, ...]) -> int:
+        """The number with which a syscall continues: restart_syscall's if that is allowed; else its own, from the
+        start. If it is denied itself, since its thread got another filter meanwhile, it ends with EINTR."""
+        if not filters:
+            return interrupted.number
+        calls = interrupted.calls
+        if interrupted.goes_on and all(self.becomes(filters, restart_of(call)) == ALLOWED for call in calls):
+            return ERESTART_RESTARTBLOCK
+        return errno.EINTR if any(self.becomes(filters, call) == DENIED for call in calls) else interrupted.anew
+
+    def goes_to_supervisor_again(self, thread: int, filters: tuple[bytes, ...]) -> bool:
+        """Whether a stopped thread's call begins anew, and is one that a supervisor answers."""
+        interrupted = self.calls.get(thread)
+        if interrupted is None or not may_notify(filters) or self.number(interrupted, filters) != interrupted.anew:
+            return False
+        answers = [self.answer(filters, call) for call in interrupted.calls]
+        return any(answer is not None and answer.action == "USER_NOTIF" for answer in answers)
+
+    def becomes(self, filters: tuple[bytes, ...], call: Call) -> str | None:
+        """The disposition of a syscall, or None if it isn't known."""
+        answer = self.answer(filters, call)
+        return None if answer is None else answer.disposition
+
+    def answer(self, filters: tuple[bytes, ...], call: Call) -> Answer | None:
+        """The answer of filters to a syscall, None if scf can't tell or was asked too often: after a few syscalls by
+        their regions, which it prints once for all."""
+        known = self.answers.setdefault(filters, {})
+        if call in known:
+            return known[call]
+        if filters not in self.lookups and len(known) >= FEW_CALLS and self.remaining_runs > 0:
+            printed = self.run(["answers", "--examples", f"--limit={LOOKUP_STEPS}"], filters)
+            self.lookups[filters] = Lookup(regions.read(printed))
+        region = self.lookups[filters].of(call) if filters in self.lookups else None
+        if region is not None or self.remaining_runs <= 0:
+            return None if region is None else region.answer
+        known[call] = verdicts.decision(self.run(["decide", *call.words()], filters)).answer
+        return known[call]
+
+    def run(self, words: Sequence[str], filters: Sequence[bytes]) -> str:
+        """The text that scf prints of filters; empty if it isn't built, since building it takes long, or can't be
+        run."""
+        self.remaining_runs -= 1
+        try:
+            return client.run(words, bundles.of_stack(filters), may_build=False).text
+        except (program.ToolError, OSError):
+            return ""

@@ -1,0 +1,151 @@
+"""The sandboxes that run on this machine, and the lists of syscalls that confine them, by files of root's own.
+
+A configuration of LXC names a policy (lxc.container.conf(5)). firejail keeps the path of each sandbox's profile in a
+file that is called by the number of the process that started the sandbox. snap-confine loads what snap-seccomp made of
+a program's rules, which snapd keeps by the program's security tag, and a filter that all snaps have (snap-confine(8));
+snapd names control groups by the tag: those of services, and with a UUID those of what users start.
+"""
+from __future__ import annotations
+
+import itertools
+import os
+from collections.abc import Callable, Iterator
+
+from scftools.base.values import Pattern, dataclass
+from scftools.model.answers import ALLOW
+from scftools.forms.lists import firejail_lists, snap_templates
+from scftools.forms.lists.sandbox_rules import MOST_LIST_BYTES, Policy, UnknownRules
+from . import owned_files
+from .machine import Process, ancestors
+from .owned_files import UnreadableFile
+from .ptrace import contents
+
+# Where root's containers of LXC have their folders; what files of one may have, and how they may include each other.
+LXC_CONTAINERS, MOST_CONFIG_BYTES, MOST_FILES, DEEPEST = "/var/lib/lxc", 1 << 18, 64, 8
+Read = Callable[[str, int], bytes]
+# Where firejail's files are, and the most bytes of a path.
+FIREJAIL_SANDBOXES, MOST_PATH = "/run/firejail/profile", 4096
+# How options of firejail begin that state more than a profile, or that it isn't read.
+STATING = Pattern(rb"--(?:seccomp|protocol|memory-deny-write-execute|restrict-namespaces|allow-debuggers|ignore|"
+                  rb"noprofile)")
+# Where snapd keeps the rules of each tag, and the filter of all snaps, of at most so many bytes.
+SNAP_RULES, OF_ALL_SNAPS, MOST_OF_FILTER = "/var/lib/snapd/seccomp/bpf", "global.bin", 1 << 15
+TAGGED_GROUP = Pattern(rb"(snap\.[a-z0-9_-]{1,80}(?:\.[A-Za-z0-9-]{1,80}){1,2})"
+                       rb"(?:\.service|[.-][0-9a-f]{8}(?:-[0-9a-f]{4}){3}-[0-9a-f]{12}\.scope)")
+
+
+def _names_in(folder: str) -> list[str]:
+    """The names in a folder of root's, none if it can't be read."""
+    try:
+        return owned_files.names_in(folder, 0)[0]
+    except UnreadableFile:
+        return []
+
+
+def lxc_config(name: str) -> str:
+    """The path of the configuration of root's container by this name."""
+    return os.path.join(LXC_CONTAINERS, name, "config")
+
+
+def lxc_policy(read: Read, path: str) -> str | None:
+    """The path of the policy that a configuration names last, if it names one. Raises UnreadableFile."""
+    policy = None
+    for name, value in _lxc_settings(read, path, itertools.count(1)):
+        if name in ("lxc.seccomp.profile", "lxc.seccomp"):
+            policy = value or None
+    return policy
+
+
+def _lxc_settings(read: Read, path: str, files: Iterator[int], depth: int = 0) -> Iterator[tuple[str, str]]:
+    """The settings in a file and in those that it includes; `files` counts them."""
+    if next(files) > MOST_FILES or depth > DEEPEST:
+        raise UnreadableFile(f"'{path}' is included after too many others")
+    for line in read(path, MOST_CONFIG_BYTES).decode("utf-8", "surrogateescape").split("\n"):
+        name, equals, value = (part.strip() for part in line.partition("="))
+        if not equals or name.startswith("#"):
+            continue
+        for included in _included(value) if name == "lxc.include" else ():
+            yield from _lxc_settings(read, included, files, depth + 1)
+        yield name, value
+
+
+def _included(path: str) -> list[str]:
+    """The file that an include names, or the files of a folder whose names end in .conf."""
+    try:
+        names, is_all = owned_files.names_in(path, 0)
+    except UnreadableFile:
+        return [path]
+    if not is_all:
+        raise UnreadableFile(f"'{path}' isn't root's own")
+    return [os.path.join(path, name) for name in sorted(names) if name.endswith(".conf")]
+
+
+@dataclass(frozen=True)
+class Firejail:
+    """A sandbox of firejail: the process that started it, and its profile."""
+
+    number: int
+    profile: str
+
+    def policy(self) -> Policy:
+        """The rules of its profile. Raises ListError or UnreadableFile if they can't be known."""
+        words = itertools.takewhile(b"--".__ne__, contents(f"/proc/{self.number}/cmdline").split(b"\0"))
+        option = next((word for word in words if STATING.match(word)), None)
+        if option is not None:
+            raise UnknownRules(f"firejail was given {option.decode('utf-8', 'backslashreplace')}")
+        return firejail_lists.read(owned_files.read_own(self.profile, MOST_LIST_BYTES))
+
+
+class Firejails:
+    """The sandboxes of firejail, by the processes that started them."""
+
+    def __init__(self, processes: dict[int, Process]) -> None:
+        self.processes = processes
+        names = (name for name in _names_in(FIREJAIL_SANDBOXES) if name.isascii() and name.isdigit())
+        sandboxes = (_firejail(name) for name in names if int(name) in processes)
+        self.of_number = {sandbox.number: sandbox for sandbox in sandboxes if sandbox is not None}
+
+    def sandbox_of(self, process: Process) -> Firejail | None:
+        """The sandbox of a process: that of its nearest ancestor that started one."""
+        return next((self.of_number[number] for number in ancestors(process, self.processes)
+                     if number in self.of_number), None)
+
+
+def _firejail(number: str) -> Firejail | None:
+    """The sandbox that a process with this number started; None if its file isn't root's, or has no path."""
+    try:
+        path = os.fsdecode(owned_files.read_own(os.path.join(FIREJAIL_SANDBOXES, number), MOST_PATH).rstrip(b"\n"))
+    except UnreadableFile:
+        return None
+    return Firejail(int(number), path) if path.startswith("/") else None
+
+
+def snap_rules(tag: str) -> str:
+    """The path of the rules of a security tag."""
+    return os.path.join(SNAP_RULES, f"{tag}.src")
+
+
+def snap_policy(tag: str) -> Policy | None:
+    """The rules of a security tag, None if it has no filter. Raises ListError or UnreadableFile if they can't be
+    known."""
+    policy = snap_templates.read(owned_files.read_own(snap_rules(tag), MOST_LIST_BYTES))
+    return None if policy.default == ALLOW else policy
+
+
+def filter_of_all_snaps() -> bytes:
+    """The filter that each program of a snap has beside its own; none if it can't be read."""
+    try:
+        return owned_files.read_own(os.path.join(SNAP_RULES, OF_ALL_SNAPS), MOST_OF_FILTER)
+    except UnreadableFile:
+        return b""
+
+
+def snap_tags() -> frozenset[str]:
+    """The security tags of this machine's snaps."""
+    return frozenset(name.removesuffix(".src") for name in _names_in(SNAP_RULES) if name.endswith(".src"))
+
+
+def snap_tag_of(process: Process) -> str | None:
+    """The security tag by which a control group of a process is called."""
+    named = (TAGGED_GROUP.fullmatch(part) for path in process.groups.values() for part in path.split(b"/"))
+    return next((match[1].decode() for match in named if match), None)

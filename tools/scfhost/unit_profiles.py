@@ -1,0 +1,68 @@
+"""The profiles of systemd units: what all filters answer together that systemd adds for their settings.
+
+Settings may deny something else on i386 than on x86-64 and x32, which one profile can't say: then there are two.
+"""
+from __future__ import annotations
+
+import json
+from collections.abc import Iterator, Sequence
+
+from scftools.model import multiplexed
+from scftools.model.answers import Answer
+from scftools.model.architectures import I386
+from scftools.forms.lists import unit_restrictions
+from scftools.forms.lists.unit_restrictions import Alternative, Restriction
+from .units import UnitSettings
+
+
+def groups_of(settings: UnitSettings) -> list[list[str]]:
+    """The architectures that a unit permits, together with those on which the same is denied; the native one first."""
+    groups: list[tuple[unit_restrictions.Rules, list[str]]] = []
+    for oci in settings.architectures:
+        rules = unit_restrictions.rules_of(settings.restrictions, oci)
+        alike = [group for group_rules, group in groups if group_rules == rules]
+        if alike:
+            alike[0].append(oci)
+        else:
+            groups.append((rules, [oci]))
+    return [group for _, group in groups]
+
+
+def _of_call(settings: UnitSettings, name: str,
+             restriction: Restriction | None) -> Iterator[tuple[Answer, Alternative]]:
+    """The answers to a syscall with their conditions. The lists answer what they deny."""
+    answer = settings.answer_of(name)
+    if restriction is None or answer.denies:
+        yield answer, ()
+        return
+    yield from ((restriction.answer, conditions) for conditions in restriction.denied)
+    yield from ((answer, conditions) for conditions in restriction.allowed)
+
+
+def _of_multiplexer(settings: UnitSettings, name: str) -> Iterator[tuple[Answer, Alternative]]:
+    """The answers to i386's socketcall or ipc. Where a list doesn't name it, libseccomp adds the rules of what it is
+    called for: each names that by argument 0."""
+    answer = settings.answer_of(name)
+    answers = {number: settings.answer_of(call, name) for call, number in multiplexed.CALL_NUMBERS[name].items()}
+    others = [number for number in answers if answers[number] != answer]
+    yield from ((answers[number], conditions) for number in others
+                for conditions in unit_restrictions.among(0, [number]))
+    yield from ((answer, conditions) for conditions in (unit_restrictions.outside(0, others) if others else [()]))
+
+
+def profile_of(settings: UnitSettings, architectures: Sequence[str]) -> str:
+    """The text of the profile that the settings describe, for architectures of one group."""
+    default, rules = settings.answer_of(None), unit_restrictions.rules_of(settings.restrictions, architectures[0])
+    multiplexers = [*multiplexed.CALL_NUMBERS] if I386 in architectures else []
+    named: dict[tuple[Answer, Alternative], list[str]] = {}
+    for name in dict.fromkeys([*settings.names(), *rules, *multiplexers]):
+        answers = _of_multiplexer(settings, name) if name in multiplexers else _of_call(settings, name, rules.get(name))
+        for answer, conditions in answers:
+            if answer != default:
+                named.setdefault((answer, conditions), []).append(name)
+    entries = []
+    for (answer, conditions), names in named.items():
+        args = {"args": [condition.as_json() for condition in conditions]} if conditions else {}
+        entries.append({"names": names, **answer.members(), **args})
+    top = {**default.default(), "architectures": list(architectures), "syscalls": entries}
+    return json.dumps(top, indent=4) + "\n"

@@ -1,0 +1,337 @@
+"""The filters of processes compared with a profile, or with filters that were saved: a verdict for each distinct stack,
+and the threads that have it."""
+from __future__ import annotations
+
+import json
+import os
+from collections.abc import Callable, Iterator, Sequence
+
+from scftools.base import output, program
+from scftools.base.values import Any, Pattern, dataclass, field, replace
+from scftools.model import profiles, tables
+from scftools.model.tables import Table
+from scftools.ask import client, reasons, verdicts
+from scftools.ask.verdicts import Report
+from scftools.forms import engines, filters, runtimes
+from scftools.forms.filters import Filter
+from scftools.forms.profile_inputs import ProfileInput
+from scftools.report import compare_output, stack_comparison
+from scftools.report.compare import Comparison
+from scftools.report.stack_comparison import StackComparison
+from .processes import Inspection, Kernel, Stack, threads_text
+from .ptrace import PROC_PID_INIT_INO
+
+# The sources of faults that no stack causes.
+OF_ALL = ("profile", "table", "number", "command", "input")
+# What is compared with if nothing is configured: every syscall is allowed.
+ALLOWS_ALL = b'{"defaultAction": "SCMP_ACT_ALLOW"}'
+# The verdict on threads without a filter, by whether a container's configuration has a profile; None if the profile
+# isn't that of a configuration.
+UNCONFINED = {None: "unconfined", False: "unconfined by configuration", True: "unconfined though configured"}
+
+
+# The configuration in a bundle.
+CONFIG = "config.json"
+# The identifiers that engines give containers, and how many digits of them they show.
+IDENTIFIER, SHORT = Pattern("(?<![0-9a-f])[0-9a-f]{64}(?![0-9a-f])"), 12
+# The file that a runtime keeps of a container of root's, in a folder with its identifier below /run/RUNTIME.
+STATES = {"runc": "state.json", "crun": "status"}
+
+
+class ContainerError(Exception):
+    """Why it is unknown whether a container is confined."""
+
+
+@dataclass
+class Block:
+    """A distinct stack and its report; without filters there is nothing to compare."""
+
+    stack: Stack
+    status: int
+    comparison: Comparison | StackComparison | None = None
+    report: Report | None = None
+    # by architecture the least number that runc answers with ENOSYS, if it does so here
+    stub: dict[str, int] = field(default_factory=dict)
+    # the scope of the comparison
+    scope: str = verdicts.NATIVE_SCOPE
+    # whether a container's configuration has a profile, as in UNCONFINED
+    configured: bool | None = None
+
+    @property
+    def is_of_all(self) -> bool:
+        """Whether every stack would have this fault."""
+        return bool(self.report and self.report.fault and self.report.fault.source in OF_ALL)
+
+    @property
+    def verdict(self) -> str | None:
+        """The verdict; of a stack without filters why there is none."""
+        if self.report is None:
+            return "strict" if self.stack.is_strict else UNCONFINED[self.configured]
+        return self.report.verdict.word if self.report.verdict else None
+
+
+@dataclass(frozen=True)
+class Request:
+    """A profile, and how each stack is compared with it; with a runtime also what that makes of the profile."""
+
+    profile: bytes
+    table: Table
+    # None for all architectures that the profile names
+    scope: str | None = None
+    relation: str = verdicts.SAME
+    applied: ProfileInput | None = None
+    # the OCI names of architectures of which another profile speaks
+    elsewhere: tuple[str, ...] = ()
+    # those of which nothing is known
+    unknown: tuple[str, ...] = ()
+    # whether the profile is what a container's configuration says, and that has one
+    configured: bool | None = None
+
+    @property
+    def remarks(self) -> list[str]:
+        """Notes on the profile as its runtime applies it."""
+        if self.configured is False:
+            return ["nothing is configured (linux.seccomp), as with --privileged and seccomp=unconfined; that counts "
+                    "as a profile that allows every syscall"]
+        return list(self.applied.remarks) if self.applied is not None else []
+
+    @property
+    def is_accepted(self) -> bool:
+        """Whether scf takes the profile, or leaves it to the runtimes, which accept two answers to a syscall, and two
+        conditions on one argument."""
+        judged = tables.of_profile(self.profile, self.table, self.scope == verdicts.NATIVE_SCOPE)
+        fault = reasons.of(self.profile, judged, ()).fault
+        return fault is None or fault.kind in ("Conflict", "RepeatedIndex")
+
+    def judge(self, stack: Stack) -> Block:
+        comparison = self.comparison(stack.named)
+        scope = self.scope or comparison.scope
+        comparison, status, report = comparison.run_by_stub(scope)
+        has_stub = report.verdict is not None and report.verdict.word == verdicts.SAME
+        return Block(stack, status, comparison, report, comparison.stub if has_stub else {}, scope)
+
+    def comparison(self, stack: Sequence[Filter], relation: str | None = None) -> Comparison:
+        """The comparison of filters with the profile."""
+        origins, stub = (None, {}) if self.applied is None else (self.applied.origins, self.applied.stub)
+        return Comparison(stack, self.profile, self.table, relation or self.relation, origins, stub,
+                          is_native=self.scope == verdicts.NATIVE_SCOPE)
+
+    def notes(self, block: Block) -> Iterator[str]:
+        """What is added to scf's lines."""
+        yield from compare_output.notes(block.comparison, block.report, block.scope)
+        if block.stub and self.applied is not None:
+            yield from self.applied.stub_notes(block.stub)
+        yield from compare_output.foreign_lines(block.comparison, block.report, block.scope)
+
+    def as_json(self, block: Block) -> dict[str, object]:
+        members = compare_output.as_json(block.comparison, block.report, block.scope, block.status)
+        return {**members, "stub": block.stub} if block.stub else members
+
+
+def configuration_in(data: bytes) -> dict[str, Any] | None:
+    """A container's configuration (config.json) as JSON; None if a text is something else, or can't be read. Raises
+    ContainerError if it is a container's state."""
+    try:
+        value = engines.read(data)
+    except engines.Refused:
+        return None
+    if not isinstance(value, dict) or value.get("defaultAction") is not None:
+        return None
+    if "linux" in value or "ociVersion" in value and {"process", "root"} & value.keys():
+        return value
+    if {"pid", "init_process_pid"} & value.keys():
+        bundle = value.get("bundle")
+        where = os.path.join(bundle, CONFIG) if isinstance(bundle, str) else f"the {CONFIG} of its bundle"
+        raise ContainerError(f"it is a container's state, which says nothing about seccomp: take {where}")
+    return None
+
+
+def seccomp_in(value: Any, name: str) -> dict[str, Any] | None:
+    """The seccomp part of a configuration with this name, as a config.json with nothing else in it, or None if it says
+    nothing. Runtimes read only `linux.seccomp`, whatever else is in it; runc takes one without an action and without
+    syscalls for none (SetupSeccomp of specconv), and crun starts no container with it."""
+    linux = member(value, "linux", name)
+    seccomp = None if linux is None else member(linux, "seccomp", name)
+    says = [profiles.folded(member_name) for member_name in ("defaultAction", "syscalls")]
+    is_empty = isinstance(seccomp, dict) and not any(given for member_name, given in seccomp.items()
+                                                     if profiles.folded(member_name) in says)
+    return None if seccomp is None or is_empty else {"linux": {"seccomp": seccomp}}
+
+
+def member(value: Any, wanted: str, path: str) -> Any:
+    """A member of an object in a configuration; refused if a runtime in Go also reads another one as it."""
+    if not isinstance(value, dict):
+        raise ContainerError(f"'{path}' isn't a container's configuration")
+    others = [name for name in value if name != wanted and profiles.folded(name) == wanted]
+    if others:
+        raise ContainerError(f"'{path}' has a member '{others[0]}', which runc reads as {wanted} and crun doesn't")
+    return value.get(wanted)
+
+
+def identifiers_in(text: str) -> list[str]:
+    """The identifiers of containers in a text."""
+    return [match[0] for match in IDENTIFIER.finditer(text)]
+
+
+def identifiers_of(kernel: Kernel, process: int) -> list[str]:
+    """The identifiers of containers in the paths of a process's control groups."""
+    return [identifier for group in kernel.groups_of(process).values()
+            for identifier in identifiers_in(os.fsdecode(group))]
+
+
+def other_runtime(identifiers: Sequence[str], runtime: str | None) -> str | None:
+    """The line on the runtime of a container with one of these identifiers, where its own files show that it is another
+    one than was said."""
+    runtime_program = runtimes.RUNTIMES[runtime].program if runtime is not None else None
+    for name, file in STATES.items():
+        folders = (f"/run/{name}/{identifier}" for identifier in identifiers)
+        folder = next((folder for folder in folders if os.path.exists(f"{folder}/{file}")), None)
+        if folder is not None and name != runtime_program:
+            return f"the container's runtime is {name}, by {folder}: --runtime {name} reads the profile as it does"
+    return None
+
+
+def why_not_its(kernel: Kernel, process: int, config: dict[str, Any]) -> str | None:
+    """Why a configuration isn't that of the container that a process is in; None if it may be.
+
+    A container's identifier stands in the path that its configuration gives its control group, and in that of the
+    groups of its processes; and where a configuration makes a PID namespace, its processes aren't in the machine's own.
+    """
+    linux = config.get("linux")
+    linux = linux if isinstance(linux, dict) else {}
+    who = f"process {process} ({output.escaped(kernel.name_of(process))})"
+    path, spaces = linux.get("cgroupsPath"), linux.get("namespaces")
+    stated, actual = identifiers_in(path) if isinstance(path, str) else [], identifiers_of(kernel, process)
+    if stated and actual and stated[-1] not in actual:
+        return (f"the configuration is that of the container {stated[-1][:SHORT]}, and {who} is in the container "
+                f"{actual[-1][:SHORT]}")
+    makes_space = isinstance(spaces, list) and {"type": "pid"} in spaces
+    if makes_space and [inode for _, inode in kernel.namespaces_of(process)] == [PROC_PID_INIT_INO]:
+        return f"{who} is in no container with this configuration, which has a PID namespace of its own"
+    return None
+
+
+def request_of(config: dict[str, Any], runtime: str | None, keeps_first: bool, table: Table, relation: str,
+               scope: str | None = None) -> Request:
+    """The question about a container with this configuration, as its runtime applies it; over all architectures that
+    its profile names unless a scope is given."""
+    try:
+        if runtime is not None:
+            applied = runtimes.applied(config, runtime)
+            return Request(applied.data, table, scope, relation, applied)
+        text = json.dumps(config)
+        if keeps_first:
+            profile, _ = engines.resolve(config, engines.Setting((), (0, 0), False), lambda _: None, True)
+            text = engines.printed(profile)
+        return Request(text.encode(), table, scope, relation)
+    except RecursionError as error:
+        raise ContainerError("the container's configuration: the profile is nested too deep") from error
+    except engines.Refused as why:
+        raise ContainerError(f"the container's configuration: {why}") from why
+
+
+def read_saved(folder: str) -> list[Filter]:
+    """The filters that were saved in a folder, oldest first."""
+    names = filters.saved_in(folder)
+    if not names:
+        raise program.ToolError(f"the folder '{output.escaped(folder)}' has no *.bpf: `scf filters-of PID FOLDER` "
+                                "writes those of a process")
+    return filters.read_stack(names)
+
+
+@dataclass(frozen=True)
+class SavedRequest:
+    """Saved filters, and how each stack is compared with them, as `verify.Request` does with a profile."""
+
+    saved: Sequence[Filter]
+    table: Table
+    scope: str | None
+    relation: str
+    remarks: Sequence[str] = ()
+    configured: bool | None = None
+
+    def judge(self, stack: Stack) -> Block:
+        comparison = StackComparison(stack.named, self.saved, self.table, self.relation)
+        scope = self.scope or verdicts.ALL
+        status, report = comparison.run(scope)
+        return Block(stack, status, comparison, report, scope=scope)
+
+    def notes(self, block: Block) -> Iterator[str]:
+        """What is added to scf's lines."""
+        return stack_comparison.added(block.comparison, block.report, block.scope)
+
+    def as_json(self, block: Block) -> dict[str, object]:
+        return stack_comparison.as_json(block.comparison, block.report, block.scope, block.status)
+
+
+def blocks_of(inspection: Inspection, judge: Callable[[Stack], Any],
+              unfiltered: Callable[[Stack, int], Any]) -> list[Any]:
+    """A block for each distinct stack, the worst first, and before all that of threads that aren't confined; a fault of
+    all stacks is reported once."""
+    # strict mode allows four syscalls, which no profile can express
+    unconfined = [unfiltered(stack, program.NEGATIVE)
+                  for stack in inspection.stacks if not stack.filters and not stack.is_strict]
+    made: list[Any] = [unfiltered(stack, program.UNKNOWN) for stack in inspection.stacks if stack.is_strict]
+    for stack in inspection.stacks:
+        if stack.filters and not any(block.is_of_all for block in made):
+            made.append(judge(stack))
+    return unconfined + sorted(made, key=lambda block: client.rank(block.status))
+
+
+def blocks(inspection: Inspection, request: Request | SavedRequest) -> list[Block]:
+    """The blocks of stacks that are compared."""
+    return blocks_of(inspection, request.judge,
+                     lambda stack, status: Block(stack, status, configured=request.configured))
+
+
+def of_threads(stack: Stack, inspection: Inspection) -> Iterator[str]:
+    """Which threads have a stack: a line for each process."""
+    for process, threads in stack.threads.items():
+        who = f"process {process} ({output.escaped(inspection.names[process])})"
+        count = sum(len(other_stack.threads.get(process, ())) for other_stack in inspection.stacks)
+        if len(threads) < count:
+            line = f"{threads_text(threads)} of {who} {'have' if len(threads) > 1 else 'has'} {stack.description}"
+        else:
+            line = f"{who} has {stack.description}" + (f", in each of its {count} threads" if count > 1 else "")
+        if not stack.filters and not stack.is_strict:
+            line += ": they aren't confined" if len(threads) > 1 else ": it isn't confined"
+            line += ", and every syscall is allowed"
+        yield line
+
+
+def lines(made: Sequence[Block], inspection: Inspection, request: Request | SavedRequest, is_verbose: bool = False) -> \
+        Iterator[str]:
+    """The text output: scf's lines for each block, with --verbose also the skipped names, and then added lines,
+    marked by `# `."""
+    is_printed = False
+    for at, block in enumerate(made):
+        if at:
+            yield ""
+        report = block.report
+        if report is not None:
+            if is_printed:
+                report = replace(report, skipped=(), architectures=())
+            is_printed = is_printed or report.verdict is not None
+            yield from report.printed if is_verbose else report.brief
+            yield from output.notes(request.notes(replace(block, report=report)))
+        elif request.configured is not None:
+            yield block.verdict or ""
+        yield from output.notes(of_threads(block.stack, inspection))
+    yield from output.notes(inspection.notes)
+
+
+def _block_json(block: Block, inspection: Inspection, request: Request | SavedRequest) -> dict[str, object]:
+    members: dict[str, object] = {"status": block.status, "verdict": block.verdict}
+    if block.report is not None:
+        members = request.as_json(block)
+    return {**members, **block.stack.as_json(inspection.names)}
+
+
+def as_json(made: Sequence[Block], inspection: Inspection, request: Request | SavedRequest, container: str | None) -> \
+        dict[str, object]:
+    """The object with everything that `lines` prints, and the container: the verdict is that of the worst stack."""
+    scope = request.scope or next((block.scope for block in made if block.report is not None), verdicts.NATIVE_SCOPE)
+    return {"status": made[0].status, "scope": scope, "verdict": made[0].verdict, "container": container,
+            "stacks": [_block_json(block, inspection, request) for block in made],
+            "passed_over": [{"process": process, "why": why} for process, why in inspection.passed_over.items()],
+            "asked_again": [{"process": process, "thread": thread} for process, thread in inspection.asked_again]}

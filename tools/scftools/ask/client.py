@@ -1,0 +1,272 @@
+"""The client of scf: the one place where the proved program is run, and what comes of a run."""
+from __future__ import annotations
+
+import os
+from collections.abc import Iterable, Sequence
+
+from ..base import output, program
+from ..base.program import NEGATIVE, NOT_BUILT, SUCCESS, UNKNOWN, ToolError
+from ..base.values import NoReturn, Pattern, dataclass
+from ..model import bundles
+from ..model.tables import Tables
+
+# In the sources the command, which builds the program where it never was; the program, as it is installed or was built.
+SCF = os.path.join(program.TOP, "scf")
+PROGRAMS = (os.path.join(program.TOP, "program", "scf"), os.path.join(program.TOP, "crates", "scf", "out", "scf"))
+# SIGKILL (signal(7)), which ends a process that exceeds its limit of CPU time.
+SIGKILL = 9
+# The most bytes of address space that the tools give scf. The largest real inputs take a sixth; 4 MiB of `{"":0}`
+# would take 530 MB.
+MAX_MEMORY = 256 << 20
+# A tool's comparisons without --limit: seconds of CPU time for the tool and all that it runs; after the first limit
+# comparisons have few steps, after the second none.
+SECONDS, ALL_SECONDS, FEW_STEPS = 6, 8, "1000"
+# The options of `scf compare` by which a tool's command line limits each comparison, with their texts.
+LIMIT_OPTIONS = {
+    "limit": f"at most N steps for each comparison [default: 1000000, and {SECONDS} s of CPU time for all together]",
+    "splits": "at most N splits for each comparison that tests leave undecided; 18446744073709551615 is no limit "
+              "[default: 10000]"}
+limits: dict[str, str] = {}
+SPENT = (f"all comparisons together took {SECONDS} s of CPU time, the most without --limit: what {FEW_STEPS} steps "
+         f"don't decide is unfinished")
+FAULT = Pattern(r"fault ([a-z]+) ([A-Za-z0-9]+)((?: [a-z]+ [0-9]+)*)")
+# A tool's first questions, which it doesn't ask again: the words and bytes that scf was run on, and the run.
+MOST_KEPT_RUNS = 64
+_kept_runs: dict[tuple[tuple[str, ...], bytes], Run] = {}
+_is_spent_reported = False
+# The CPU time of scf's comparisons since the limits began to count, in seconds; None if they count from the start of
+# the tool on, with its own time.
+_seconds_of_scf: float | None = None
+
+
+def lines_of(text: str) -> list[str]:
+    """The lines of a text; the last may lack its newline."""
+    lines = text.split("\n")
+    return lines if lines[-1] else lines[:-1]
+
+
+def rank(status: int) -> tuple[bool, int]:
+    """Sorts statuses, the worst first: what differs, a usage error, an I/O error, what isn't known, then success."""
+    return status == SUCCESS, status
+
+
+def worst(statuses: Iterable[int]) -> int:
+    return min(statuses, key=rank, default=SUCCESS)
+
+
+@dataclass(frozen=True)
+class Fault:
+    """A fault: `fault SOURCE KIND` and the kind's numbers by name."""
+
+    line: str
+    source: str
+    kind: str
+    numbers: dict[str, int]
+
+    @classmethod
+    def read(cls, line: str) -> Fault | None:
+        match = FAULT.fullmatch(line)
+        if not match:
+            return None
+        words = match[3].split()
+        return cls(line, match[1], match[2], {name: int(value) for name, value in zip(words[::2], words[1::2])})
+
+    def as_json(self, sentences: Iterable[str] | None = None) -> dict[str, object]:
+        value: dict[str, object] = {"source": self.source, "kind": self.kind, "numbers": self.numbers}
+        return value if sentences is None else {**value, "sentences": list(sentences)}
+
+
+class Refusal(Exception):
+    """scf refuses an input, or fails: the line that it printed, its status, and its fault, None if the line isn't one.
+
+    `subject` says which of several inputs was refused, where the caller has several: a name and the input's bytes.
+    """
+
+    def __init__(self, line: str, status: int = NEGATIVE, subject: tuple[str, bytes] = ("", b"")):
+        super().__init__(line)
+        self.line, self.status, self.subject, self.fault = line, status, subject, Fault.read(line)
+
+
+@dataclass(frozen=True)
+class Run:
+    """How a run of scf ended, and what it printed; nothing if it exceeded its time. Names in it are untrusted."""
+
+    status: int
+    out: bytes
+
+    @property
+    def text(self) -> str:
+        return self.out.decode("utf-8", "surrogateescape")
+
+    @property
+    def lines(self) -> list[str]:
+        return lines_of(self.text)
+
+    @property
+    def line(self) -> str:
+        """The first line: a verdict, an answer or a fault."""
+        return self.text.split("\n", 1)[0]
+
+
+def built_program() -> str | None:
+    """The program, if it exists without a build."""
+    return next((path for path in PROGRAMS if os.access(path, os.X_OK)), None)
+
+
+def _command() -> tuple[str, list[str]]:
+    """The program and its first words; if it isn't built, those of the launcher, which builds it."""
+    path = built_program()
+    return (SCF, ["scf", "core"]) if path is None else (path, ["scf"])
+
+
+def memory_file(data: bytes) -> int:
+    """A file descriptor with these bytes."""
+    try:
+        file = os.memfd_create("scf")
+    except (AttributeError, OSError):
+        import tempfile  # pylint: disable=import-outside-toplevel
+
+        with tempfile.TemporaryFile() as spare:
+            file = os.dup(spare.fileno())
+    with os.fdopen(file, "wb", closefd=False) as opened:
+        opened.write(data)
+    os.lseek(file, 0, os.SEEK_SET)
+    return file
+
+
+def _limit(child: int, seconds: float | None) -> None:
+    """Limits scf's memory, so that it reports `Memory` instead of taking more, and its CPU time, after which it is
+    killed without a core dump."""
+    import resource  # pylint: disable=import-outside-toplevel
+
+    limits = [(resource.RLIMIT_AS, MAX_MEMORY)]
+    if seconds is not None:
+        limits.append((resource.RLIMIT_CPU, max(1, round(seconds))))
+    for kind, limit in limits:
+        most = resource.getrlimit(kind)[1]
+        limit = limit if most == resource.RLIM_INFINITY else min(limit, most)
+        try:
+            resource.prlimit(child, kind, (limit, limit))
+        except ProcessLookupError:
+            # it has ended
+            pass
+
+
+def run(words: Sequence[str], given: bytes | None = b"", seconds: float | None = None, may_build: bool = True) -> Run:
+    """Runs scf on these bytes, or if they are None on this process's standard input.
+
+    After so many seconds of CPU time it is killed, and the result is empty and UNKNOWN. If scf isn't built, its
+    launcher builds it first, which takes long; without `may_build` the result is then empty and NOT_BUILT.
+    """
+    if given is None or not program.is_tool:
+        return _run(words, given, seconds, may_build)
+    question = tuple(words), given
+    done = _kept_runs.get(question) or _run(words, given, seconds, may_build)
+    if done.out and len(_kept_runs) < MOST_KEPT_RUNS:
+        _kept_runs[question] = done
+    return done
+
+
+def _run(words: Sequence[str], given: bytes | None, seconds: float | None, may_build: bool) -> Run:
+    """The run of scf that `run` needs."""
+    path, before = _command()
+    if path == SCF and not may_build:
+        return Run(NOT_BUILT, b"")
+    ends = os.pipe()
+    actions: list[tuple] = [(os.POSIX_SPAWN_DUP2, ends[1], 1)]
+    source = None if given is None else memory_file(given)
+    if source is not None:
+        actions.append((os.POSIX_SPAWN_DUP2, source, 0))
+    try:
+        child = os.posix_spawn(path, [*before, *words], os.environ, file_actions=actions)
+    except OSError as error:
+        raise ToolError(f"scf can't be run: {path}: {error.strerror}", NOT_BUILT) from error
+    os.close(ends[1])
+    if source is not None:
+        os.close(source)
+    if path != SCF:
+        _limit(child, seconds)
+    with os.fdopen(ends[0], "rb") as printed:
+        out = printed.read()
+    state = os.waitpid(child, 0)[1]
+    if os.WIFSIGNALED(state) and seconds is not None and os.WTERMSIG(state) == SIGKILL:
+        return Run(UNKNOWN, b"")
+    if os.WIFSIGNALED(state):
+        raise ToolError(f"scf was ended by signal {os.WTERMSIG(state)}", 128 + os.WTERMSIG(state))
+    if os.WEXITSTATUS(state) == NOT_BUILT:
+        # the launcher has printed why
+        program.finish(NOT_BUILT)
+    return Run(os.WEXITSTATUS(state), out)
+
+
+def become(words: Sequence[str]) -> NoReturn:
+    """Runs scf in place of this process, on its standard input."""
+    path, before = _command()
+    if path != SCF:
+        _limit(os.getpid(), None)
+    output.flush()
+    os.execv(path, [*before, *words])
+
+
+def compile_profile(profile: bytes, tables: Tables) -> bytes:
+    """The filter of a profile for the architectures of these tables. Raises Refusal."""
+    done = run(["compile", *tables.words], bundles.of_compilation(profile, tables))
+    if done.status != SUCCESS:
+        raise Refusal(done.line, done.status)
+    return done.out
+
+
+def begin_limits(seconds: float = SECONDS, is_reported: bool = True) -> None:
+    """Has the limits count from now on, and scf's time alone, for a tool that does its work again and again; so many
+    seconds are left until comparisons have few steps."""
+    global _is_spent_reported, _seconds_of_scf  # pylint: disable=global-statement
+    _is_spent_reported, _seconds_of_scf = not is_reported, SECONDS - seconds
+
+
+def _seconds_left(until: float) -> float:
+    """The CPU time that may still be taken, of so many seconds for this process and its ended children, or for scf
+    alone."""
+    return until - (sum(os.times()[:4]) if _seconds_of_scf is None else _seconds_of_scf)
+
+
+def is_spent() -> bool:
+    """Whether the CPU time is up that a tool without --limit has for comparisons."""
+    return program.is_tool and "limit" not in limits and _seconds_left(ALL_SECONDS) <= 0
+
+
+def has_time() -> bool:
+    """Whether comparisons still have all their steps: what takes these isn't known later either."""
+    return "limit" in limits or not program.is_tool or _seconds_left(SECONDS) > 0
+
+
+def compare(words: Sequence[str], bundle: bytes) -> Run:
+    """`scf compare` within the limits of the command line."""
+    return _limited(["compare", *words, *(f"--{name}={text}" for name, text in limits.items())], bundle)
+
+
+def answers(words: Sequence[str], bundle: bytes) -> Run:
+    """`scf answers` within them."""
+    of_limit = [f"--limit={limits['limit']}"] if "limit" in limits else []
+    return _limited(["answers", *words, *of_limit], bundle)
+
+
+def _limited(words: Sequence[str], bundle: bytes) -> Run:
+    """Runs scf within the limits of the command line; a tool without --limit has scf's own while there is time, and
+    reports once that it is up."""
+    global _is_spent_reported, _seconds_of_scf  # pylint: disable=global-statement
+    if "limit" in limits or not program.is_tool:
+        return run(words, bundle)
+    if built_program() is None:
+        # the time to build it doesn't count
+        run(["--version"])
+    for steps, until in (([], SECONDS), ([f"--limit={FEW_STEPS}"], ALL_SECONDS)):
+        remaining, before = _seconds_left(until), sum(os.times()[2:4])
+        done = run([*words, *steps], bundle, remaining) if remaining > 0 else None
+        if _seconds_of_scf is not None:
+            _seconds_of_scf += sum(os.times()[2:4]) - before
+        if done is not None and done.out:
+            return done
+        if not _is_spent_reported:
+            program.say(SPENT)
+        _is_spent_reported = True
+    return run([*words, "--limit=0"], bundle)

@@ -1,0 +1,139 @@
+"""Explanations of scf's answers, verdicts and faults: the lines that the tools add after scf's. Those of faults,
+`undecided` and `unfinished` are the rows of docs/FAULTS.md."""
+from __future__ import annotations
+
+import itertools
+import re
+from collections.abc import Iterator, Sequence
+
+from ..base import output, program
+from ..model import architectures, tables
+from ..model.answers import DELEGATED, X86_64, Answer
+from ..model.calls import Call
+from ..model.tables import Table, Tables
+from . import verdicts
+from .verdicts import Fault, Report
+
+
+# What to do where scf is undecided.
+MORE_SPLITS = "not known: allow more splits and steps, --splits N --limit N"
+
+
+def join_names(names: Sequence[str]) -> str:
+    """Names in a sentence."""
+    return names[0] if len(names) == 1 else ", ".join(names[:-1]) + f" and {names[-1]}"
+
+
+def _key(line: str) -> str:
+    """The words of a printed line up to its numbers, which are the key of its row."""
+    words = line.split()
+    return " ".join(words[:3] if words[:1] == ["fault"] else words[:1])
+
+
+def _rows() -> dict[str, list[str]]:
+    """For each line in the page, by its words without numbers, the two sentences that stand below it."""
+    rows: dict[str, list[str]] = {}
+    with open(program.FAULTS, encoding="utf-8") as file:
+        for line, *sentences in re.findall(r"^- `(.*)`\n  (.*)\n  (.*)$", file.read(), re.M):
+            alternatives = (word.split("|") for word in _key(line).split())
+            rows.update((" ".join(words), sentences) for words in itertools.product(*alternatives))
+    return rows
+
+
+def has_row(line: str) -> bool:
+    """Whether the page has a row for a printed line."""
+    return _key(line) in _rows()
+
+
+def what_a_row_says(line: str) -> list[str]:
+    """The sentences of a printed line's row: when it appears, and what to do."""
+    return _rows().get(_key(line), ["docs/FAULTS.md doesn't name this line."])
+
+
+def of_fault(fault: Fault, table: Table | None = None) -> Iterator[str]:
+    """The explanation of a fault, and what to do; with a table also the x86-64 syscall of which two entries
+    conflict."""
+    yield from what_a_row_says(fault.line)
+    if (fault.source, fault.kind) == ("profile", "Conflict") and table is not None:
+        yield f"the syscall is {Call(fault.numbers['number']).describe(table)}"
+
+
+def of_line(line: str) -> Iterator[str]:
+    """The explanation of a line of scf, if it is a fault."""
+    fault = Fault.read(line)
+    yield from of_fault(fault) if fault is not None else ()
+
+
+def of_call(call: Call, table: Table, is_native: bool | None = None) -> Iterator[str]:
+    """A syscall's name, with the arguments as C would have them, and whether --native leaves it out, if that could be
+    given."""
+    shown = call.as_c(table) if any(call.arguments) else None
+    yield f"the syscall is {call.describe(table)}" + (f": {shown}" if shown is not None else "")
+    if is_native is False and not call.is_native:
+        what = "other architectures" if call.architecture != X86_64 else "numbers from 0x40000000 on"
+        yield f"--native leaves out {what}"
+
+
+def of_differing(verdict: verdicts.Verdict, table: Table, is_native: bool, count: int) -> Iterator[str]:
+    """The syscall that differs, and what both answers do; for `more` and `less` also both dispositions."""
+    if verdict.call is None:
+        return
+    yield from of_call(verdict.call, table, is_native)
+    if verdict.filters:
+        yield f"{'the filters answer' if count > 1 else 'the filter answers'} {verdict.filters.describe()}"
+    if verdict.profile:
+        yield f"the profile answers {verdict.profile.describe()}"
+    if verdict.word != verdicts.DIFFERS and verdict.filters and verdict.profile:
+        filters, profile = (answer.disposition + " to a supervisor or tracer" * (answer.disposition == DELEGATED)
+                            for answer in (verdict.filters, verdict.profile))
+        yield f"the syscall is {filters} by the filter{'s' * (count > 1)}, and {profile} by the profile"
+
+
+def of_verdict(report: Report, table: Table, is_native: bool, count: int) -> Iterator[str]:
+    """The explanation of a verdict on `count` filters, except for what was left out of the profile."""
+    verdict = report.verdict
+    if verdict is None:
+        return
+    if verdict.fails or verdict.word == verdicts.UNDETERMINED:
+        yield from of_differing(verdict, table, is_native, count)
+    elif not verdict.holds:
+        when, *what_to_do = what_a_row_says(report.lines[0])
+        yield from (when, *([MORE_SPLITS] if verdict.word == verdicts.UNDECIDED else what_to_do))
+
+
+def of_skipped(report: Report, judged: Tables, default_lets_through: bool) -> Iterator[str]:
+    """Lines on the skipped names, and on what is lost with them."""
+    if not report.skipped:
+        return
+    classified = tables.classify(report.skipped, judged)
+    why = "the table doesn't have them" if len(judged.of) == 1 else "no table has them"
+    yield (f"names in the profile that were skipped because {why}: {len(report.skipped)}"
+           + (", all of them syscalls of other architectures" if not classified.left_out and not classified.unknown
+              else ""))
+    for name in classified.left_out[:tables.MOST_LISTED]:
+        yield f"{name} is an x86-64 syscall that this table leaves out"
+    for name, near in classified.unknown[:tables.MOST_LISTED]:
+        nearest = f"; the nearest name in the table is {near}" if near else ""
+        yield f"no known syscall is named {output.cut(name)}{nearest}"
+    more = max(len(classified.left_out) - tables.MOST_LISTED, 0) + max(len(classified.unknown) - tables.MOST_LISTED, 0)
+    if more:
+        yield f"more such names: {more}"
+    if default_lets_through and (classified.left_out or classified.unknown):
+        yield "the profile's default allows syscalls: the rules for these names are lost"
+
+
+def of_architectures(report: Report) -> Iterator[str]:
+    """Which architectures of a profile aren't judged, and why."""
+    left_out = [architecture
+                for architecture in dict.fromkeys(report.architectures) if architecture in architectures.JUDGED]
+    if left_out:
+        yield f"--native leaves out {join_names(left_out)}, which the profile also names"
+    if len(left_out) < len(set(report.architectures)):
+        yield "the profile's other architectures aren't judged, since scf has no table of them"
+
+
+def of_answer(call: Call | None, answer: Answer, table: Table) -> Iterator[str]:
+    """The syscall, and what an answer to it does."""
+    if call is not None:
+        yield from of_call(call, table)
+    yield answer.describe()

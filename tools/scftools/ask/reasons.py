@@ -1,0 +1,130 @@
+"""Reasons: why a profile answers a syscall as it does, by `scf ask`, with the entry that decides and its conditions."""
+from __future__ import annotations
+
+import json
+from collections.abc import Iterator, Sequence
+
+from ..base import program
+from ..base.values import Pattern, dataclass
+from ..model import bundles, profiles
+from ..model.answers import Answer
+from ..model.calls import Call
+from ..model.entries import HOLDS
+from ..model.profiles import Origin
+from ..model.tables import Tables
+from . import client
+from .verdicts import Fault
+
+REASON_LINE = Pattern(r"(\w+ \w+) (?:entry ([0-9]+)|(default)|(foreign)|(stub))")
+# What a profile answers to a syscall of an architecture that it isn't judged for, and why, as scf prints it.
+FOREIGN = "KILL_PROCESS 0 foreign"
+BY_STUB = "by the ENOSYS that runc puts before the filter"
+# At most so many characters of an entry are printed.
+LONGEST_ENTRY = 400
+
+
+@dataclass(frozen=True)
+class Reason:
+    """A profile's answer to a syscall, and the index of the entry that decides; or a fault.
+
+    Without an index the answer is the default's, runc's stub's, or that for a foreign syscall, which no entry covers.
+    """
+
+    status: int
+    line: str
+    answer: Answer | None = None
+    entry: int | None = None
+    is_foreign: bool = False
+    is_stub: bool = False
+    fault: Fault | None = None
+
+
+def of(profile: bytes, judged: Tables, words: Sequence[str]) -> Reason:
+    """A profile's reason for the record that scf's options give."""
+    done = client.run(["ask", *judged.words, *words], bundles.of_compilation(profile, judged))
+    return _read(done.status, done.text)
+
+
+def of_region(line: str) -> Reason:
+    """The reason of all records of a region of a profile, by its line."""
+    return _read(program.SUCCESS, line)
+
+
+def _read(status: int, text: str) -> Reason:
+    line = text.split("\n", 1)[0]
+    match = REASON_LINE.fullmatch(line)
+    if not match:
+        return Reason(status, line, fault=Fault.read(line))
+    return Reason(status, line, Answer.read(match[1]), int(match[2]) if match[2] else None, bool(match[4]),
+                  bool(match[5]))
+
+
+def members_of(line: str) -> dict[str, object]:
+    """The members of `as_json` that a line of `scf ask` gives, without the profile."""
+    word, *index = line.split(" ")[2:]
+    return {"reason": word, **({"entry": int(index[0])} if index else {})}
+
+
+def _entry_text(entry: object) -> str:
+    """An entry as JSON on one line, truncated if it is long."""
+    text = json.dumps(entry)
+    more = len(text) - LONGEST_ENTRY
+    return text if more <= 0 else f"{text[:LONGEST_ENTRY]}.. ({more} more characters)"
+
+
+def _conditions(entry: object) -> list[dict[str, object]]:
+    given = entry.get("args") if isinstance(entry, dict) else None
+    return [condition for condition in given if isinstance(condition, dict)] if isinstance(given, list) else []
+
+
+def _condition_text(condition: dict[str, object], call: Call) -> str | None:
+    """A condition that the record meets, with the argument's value; None if it doesn't, or that is unknown."""
+    index, value, two = condition.get("index"), condition.get("value"), condition.get("valueTwo") or 0
+    op = condition.get("op")
+    if not (isinstance(index, int) and isinstance(value, int) and isinstance(two, int) and 0 <= index < 6):
+        return None
+    argument = call.arguments[index] & (1 << call.bits) - 1
+    if not isinstance(op, str) or op not in HOLDS or not HOLDS[op](argument, value, two):
+        return None
+    second = f" of {two} ({two:#x})" if op == "SCMP_CMP_MASKED_EQ" else ""
+    return f"argument {index} is {argument} ({argument:#x}): {op} {value} ({value:#x}){second} holds"
+
+
+def index_of(reason: Reason, origins: Sequence[Origin] | None) -> int | None:
+    """The index of the entry in the user's profile."""
+    return reason.entry if reason.entry is None or origins is None else origins[reason.entry].index
+
+
+def describe(reason: Reason, profile: bytes, call: Call | None,
+             origins: Sequence[Origin] | None = None) -> Iterator[str]:
+    """Lines on what gives the answer; for an entry also on which of its conditions hold."""
+    if reason.answer is None:
+        return
+    if reason.is_foreign:
+        yield "by no entry: the syscall is of another ABI"
+    elif reason.is_stub:
+        yield BY_STUB
+    elif reason.entry is None:
+        yield "by the default"
+    else:
+        entry, index = profiles.entry_at(profile, reason.entry), index_of(reason, origins)
+        yield f"by entry {index} of syscalls" + (f": {_entry_text(entry)}" if entry is not None else "")
+        for condition in _conditions(entry) if call else ():
+            met = _condition_text(condition, call)
+            if met:
+                yield met
+
+
+def as_json(reason: Reason, profile: bytes, call: Call | None,
+            origins: Sequence[Origin] | None = None) -> dict[str, object]:
+    """The reason as members of an object."""
+    if reason.answer is None:
+        return {}
+    index = index_of(reason, origins)
+    word = "foreign" if reason.is_foreign else "stub" if reason.is_stub else "default" if index is None else "entry"
+    members: dict[str, object] = {"reason": word}
+    if reason.entry is not None and word == "entry":
+        entry = profiles.entry_at(profile, reason.entry)
+        met = [_condition_text(condition, call) for condition in _conditions(entry)] if call else []
+        members.update(entry=index, definition=entry, conditions_met=[text for text in met if text])
+    return members

@@ -1,0 +1,299 @@
+"""Regions: everything that filters or a profile answer, by `scf answers`: sets of records, each with its answer. Or all
+that two sides may answer differently, each set with both answers.
+
+Each record lies in a region, or is answered alike by both sides. All records of an exact one get its answer, and no
+record lies in two exact ones. Open regions come of a test that scf doesn't decide: a record may lie in several of them,
+and gets the answer of one.
+"""
+from __future__ import annotations
+
+import bisect
+import functools
+from collections.abc import Iterable, Iterator, Mapping, Sequence
+
+from ..base import program
+from ..model import architectures, bundles
+from ..model.answers import Answer
+from ..model.architectures import Architecture
+from ..model.calls import Call
+from ..model.tables import Table, Tables
+from ..report.listing import ARCHITECTURE, ARGUMENTS, NUMBER
+from . import client, reasons
+from .verdicts import UNFINISHED
+
+UNKNOWN_ANSWER, OPEN, BESIDE = "unknown", " open", " beside "
+# The index of the instruction pointer, whose words stand before those of argument 0.
+POINTER = -1
+# The greatest value of a word, and the most intervals into which known bits may divide the numbers of a region.
+GREATEST_WORD, MOST_INTERVALS = (1 << 32) - 1, 4096
+
+
+class TooManyRanges(Exception):
+    """Bits that are known divide numbers into more than MOST intervals."""
+
+
+def _number_in(text: str) -> int:
+    if not text.startswith("0x"):
+        raise ValueError(text)
+    return int(text, 16)
+
+
+def _bits_in(text: str) -> tuple[int, int]:
+    """A mask and the bits in it."""
+    mask, bits = text.split("=")
+    return _number_in(mask), _number_in(bits)
+
+
+class Word:
+    """The possible values of a word: those in an interval, with the known bits and without any refuted ones."""
+
+    def __init__(self, intervals: Sequence[tuple[int, int]] = (), mask: int = 0, bits: int = 0,
+                 refuted: Sequence[tuple[int, int]] = ()):
+        self.intervals, self.mask, self.bits, self.refuted = intervals or ((0, GREATEST_WORD),), mask, bits, refuted
+
+    @classmethod
+    def read(cls, text: str) -> Word:
+        """Parses what `scf answers` prints of a word, which is mostly one value. Raises ValueError."""
+        if text.isalnum():
+            value = _number_in(text)
+            return cls(((value, value),))
+        possible, *refuted = text.split("!")
+        intervals, _, known = possible.partition("&")
+        ends = [interval.partition("-") for interval in intervals.split(",") if interval]
+        return cls([(_number_in(low), _number_in(high or low)) for low, _, high in ends],
+                   *(_bits_in(known) if known else (0, 0)), [*map(_bits_in, refuted)])
+
+    def has(self, value: int) -> bool:
+        """Whether a value is possible."""
+        for low, high in self.intervals:
+            if low <= value <= high:
+                return value & self.mask == self.bits and not any(value & mask == bits for mask, bits in self.refuted)
+        return False
+
+    def within(self, first: int, last: int) -> list[tuple[int, int]]:
+        """The possible values in a range, as intervals. Raises TooManyRanges."""
+        intervals = [(max(low, first), min(high, last))
+                     for low, high in self.intervals if low <= last and high >= first]
+        return [interval for part in intervals
+                for interval in self._split(*part)] if self.mask or self.refuted else intervals
+
+    def _split(self, low: int, high: int) -> Iterator[tuple[int, int]]:
+        pending, count = [(low, high)], 0
+        while pending:
+            low, high = pending.pop()
+            same = -1 << (low ^ high).bit_length()
+            refuted = [mask & ~same for mask, bits in self.refuted if not (low ^ bits) & mask & same]
+            if (low ^ self.bits) & self.mask & same or 0 in refuted:
+                continue
+            if not self.mask & ~same and not refuted:
+                count += 1
+                yield low, high
+            else:
+                middle = high & same >> 1
+                pending += (middle, high), (low, middle - 1)
+            if count + len(pending) > MOST_INTERVALS:
+                raise TooManyRanges
+
+
+FREE = Word()
+
+
+class Side:
+    """What a side answers to the records of a region: the answer and its reason as scf prints them, the answer, None if
+    it is computed, and the entry that gives it."""
+
+    def __init__(self, line: str, answer: Answer | None, entry: int | None):
+        self.line, self.answer, self.entry = line, answer, entry
+
+    @property
+    def by(self) -> str:
+        """What gives a profile's answer."""
+        if self.entry is not None:
+            return f"by entry {self.entry}"
+        return reasons.BY_STUB if self.line.endswith(" stub") else "by the default"
+
+
+class Region(Side):
+    """A set of records: those whose words have these values, by the index of each word that isn't free. With what a
+    side answers, beside which another one may stand, and a record."""
+
+    def __init__(self, line: str, answer: Answer | None, entry: int | None, is_exact: bool, words: dict[int, Word],
+                 example: str, beside: Side | None = None):
+        super().__init__(line, answer, entry)
+        self.is_exact, self.words, self._example, self.beside = is_exact, words, example, beside
+
+    @property
+    def is_decided(self) -> bool:
+        """Whether each of its records gets its answer, or both."""
+        return self.is_exact and self.answer is not None and (self.beside is None or self.beside.answer is not None)
+
+    def is_of(self, number: int, architecture: int) -> bool:
+        """Whether some of its records have this number and architecture."""
+        return self.words.get(NUMBER, FREE).has(number) and self.words.get(ARCHITECTURE, FREE).has(architecture)
+
+    def has(self, arguments: Mapping[int, int], halves: Sequence[int] = (0, 1)) -> bool:
+        """Whether some of its records have these arguments, or these halves of them, by their indexes; the instruction
+        pointer's is POINTER."""
+        for word, values in self.words.items():
+            index, half = divmod(word - ARGUMENTS, 2)
+            if index in arguments and half in halves and not values.has(arguments[index] >> 32 * half & GREATEST_WORD):
+                return False
+        return True
+
+    @functools.cached_property
+    def call(self) -> Call | None:
+        """The record that scf shows; of an open region it may show none, since it may have none."""
+        call = Call.read(self._example)
+        if call is None and (self._example or self.is_exact):
+            raise program.ToolError(f"scf answers printed an unexpected record: {self._example}", program.IO_ERROR)
+        return call
+
+    def call_of(self, number: int, architecture: int, given: Mapping[int, int] | None = None) -> Call | None:
+        """One of its records that has a number, an architecture and arguments which some have; None if scf shows none
+        of its records."""
+        if self.call is None:
+            return None
+        arguments = tuple((given or {}).get(index, value) for index, value in enumerate(self.call.arguments))
+        return Call(number, architecture, self.call.pointer, arguments)
+
+
+def _side_in(text: str, places: Sequence[int] | None) -> tuple[str, Answer | None, int | None]:
+    """An answer and its reason, also by themselves. Raises ValueError."""
+    words = text.split(" ")
+    count = 1 if words[0] == UNKNOWN_ANSWER else 2
+    answer = Answer.read(" ".join(words[:count]))
+    if not words[count:] or answer is None and count == 2:
+        raise ValueError(text)
+    entry = int(words[-1]) if words[count] == "entry" else None
+    return text, answer, entry if None in (entry, places) else places[entry]
+
+
+def read(text: str, places: Sequence[int] | None = None) -> list[Region] | None:
+    """Parses the output of `scf answers --examples`; None if it isn't one. An entry may have another place in the
+    profile that a user gave."""
+    *lines, last = text.splitlines() or [""]
+    shown: list[list[str]] = []
+    for line in lines:
+        # (an open region may lack a record)
+        if line.startswith("call ") and shown and len(shown[-1]) == 1:
+            shown[-1].append(line)
+        else:
+            shown.append([line])
+    # what many lines have alike is parsed once
+    sides: dict[str, tuple[str, Answer | None, int | None]] = {}
+    words: dict[str, tuple[int, Word]] = {}
+    regions: list[Region] = []
+    try:
+        for line, *example in shown:
+            head, *given = line.split(" w")
+            texts = head.removesuffix(OPEN).split(BESIDE)
+            for text in texts:
+                if text not in sides:
+                    sides[text] = _side_in(text, places)
+            for word in given:
+                if word not in words:
+                    index, values = word.split(" ")
+                    words[word] = int(index), Word.read(values)
+            side, *beside = map(sides.__getitem__, texts)
+            regions.append(Region(*side, not head.endswith(OPEN), dict(map(words.__getitem__, given)),
+                                  "".join(example), *(Side(*other) for other in beside)))
+    except ValueError:
+        return None
+    return regions if last.startswith(f"regions {len(regions)} steps ") else None
+
+
+def asked(words: Sequence[str], bundle: bytes, places: Sequence[int] | None = None) -> list[Region] | None:
+    """The regions that scf prints; None if it took as many steps as it may. Raises Refusal."""
+    done = client.answers(["--examples", *words], bundle)
+    regions = read(done.text, places) if done.status == program.SUCCESS else None
+    if regions is not None:
+        return regions
+    if (done.status, done.line) == (program.UNKNOWN, UNFINISHED):
+        return None
+    refusal = client.Refusal(done.line, done.status)
+    if refusal.fault is None or done.status == program.SUCCESS:
+        raise program.ToolError(f"scf ended with status {done.status} and unexpected output", program.IO_ERROR)
+    raise refusal
+
+
+def of_filters(filters: Sequence[bytes]) -> list[Region] | None:
+    """The regions of filters, oldest first; None if they are unfinished. Raises Refusal."""
+    return asked([], bundles.of_stack(filters))
+
+
+def of_profile(profile: bytes, judged: Tables, places: Sequence[int] | None = None) -> list[Region] | None:
+    """The regions of a profile's architectures, on request with other places of entries; None if they are unfinished.
+    Raises Refusal."""
+    return asked(judged.words, bundles.of_compilation(profile, judged), places)
+
+
+class Numbers:
+    """The regions of an architecture by the syscall numbers of records; none if they are None, which is unfinished."""
+
+    def __init__(self, regions: Iterable[Region] | None, architecture: Architecture, last: int | None = None):
+        self.first, self.last = architecture.first, architecture.last if last is None else last
+        has = functools.lru_cache(None)(lambda word: word.has(architecture.number))
+        self._all = [region for region in regions or () if has(region.words.get(ARCHITECTURE, FREE))]
+        # ranges of numbers with the same regions; None if they are too many
+        self.ranges: list[tuple[int, int, list[Region]]] | None = None
+        try:
+            self.ranges = self._ranges()
+        except TooManyRanges:
+            pass
+
+    def _ranges(self) -> list[tuple[int, int, list[Region]]]:
+        parts = [(*part, region) for region in self._all
+                 for part in region.words.get(NUMBER, FREE).within(self.first, self.last)]
+        cuts = sorted({self.first, self.last + 1, *(low for low, _, _ in parts), *(high + 1 for _, high, _ in parts)})
+        starting: dict[int, list[tuple[int, Region]]] = {}
+        for low, high, numbered_region in parts:
+            starting.setdefault(low, []).append((high, numbered_region))
+        ranges, here = [], []
+        for low, end in zip(cuts, cuts[1:]):
+            here = [part for part in here if part[0] >= low] + starting.get(low, [])
+            ranges.append((low, end - 1, [region for _, region in here]))
+        return ranges
+
+    def of(self, number: int) -> list[Region]:
+        """The regions with records of a number."""
+        if self.ranges is None or not self.first <= number <= self.last:
+            return [region for region in self._all if region.words.get(NUMBER, FREE).has(number)]
+        return self.ranges[bisect.bisect(self.ranges, (number, self.last + 1)) - 1][2]
+
+    def unnamed(self, table: Table) -> Iterator[tuple[int, int, Sequence[Region]]]:
+        """The numbers that a table doesn't name, range by range: the first as the table counts, how many, and the
+        regions, none if the ranges are too many."""
+        named = sorted(self.first + number for number in table.numbers())
+        for low, high, here in [(self.first, self.last, [])] if self.ranges is None else self.ranges:
+            within = named[bisect.bisect_left(named, low):bisect.bisect(named, high)]
+            count = high - low + 1 - len(within)
+            if count:
+                first = next((low + at for at, number in enumerate(within) if number != low + at), low + len(within))
+                yield first - self.first, count, here
+
+    def turns(self) -> list[int]:
+        """The first numbers of ranges."""
+        return [low for low, _, _ in self.ranges or ()]
+
+
+class Lookup:
+    """The regions in which records lie, of those that scf prints, or None if they are unfinished."""
+
+    def __init__(self, regions: Sequence[Region] | None):
+        self._regions, self.is_finished = regions, regions is not None
+        # by the OCI names of architectures
+        self._numbers: dict[str, Numbers] = {}
+
+    def of_number(self, call: Call) -> Sequence[Region]:
+        """Those with records of its number and architecture."""
+        architecture = architectures.JUDGED.get(call.abi or "")
+        if architecture is None:
+            return [region for region in self._regions or () if region.is_of(call.number, call.architecture)]
+        if architecture.oci not in self._numbers:
+            self._numbers[architecture.oci] = Numbers(self._regions, architecture)
+        return self._numbers[architecture.oci].of(call.number)
+
+    def of(self, call: Call) -> Region | None:
+        """The decided region of a record, None if there is none."""
+        record = {POINTER: call.pointer or 0, **dict(enumerate(call.arguments))}
+        return next((region for region in self.of_number(call) if region.is_decided and region.has(record)), None)

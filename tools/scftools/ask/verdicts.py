@@ -1,0 +1,265 @@
+"""scf's printed lines as values.
+
+Lines are parsed by their order, since the names in them are untrusted: the first line is the verdict or a fault, the
+next ones are its example, or syscalls by name. From the first `skipped` or `other` line on nothing is parsed: names may
+have newlines in them.
+"""
+from __future__ import annotations
+
+import re
+from collections.abc import Callable, Sequence
+
+from ..base import program
+from ..base.values import Pattern, dataclass, replace
+from ..model import bundles
+from ..model.answers import ALLOWED, DENIED, Answer
+from ..model.architectures import NATIVE, Architecture
+from ..model.calls import Call
+from ..model.tables import Table, Tables
+from . import client
+from .client import Fault, Refusal
+
+# The sets of syscalls that are compared: all records, x86-64's, x86-64's in the table one by one, or those of each
+# architecture that the profile names and scf has a table of.
+ALL, NATIVE_SCOPE, CALLS, LISTED = "all", "native", "calls", "listed"
+SAME, DIFFERS, UNDECIDED, UNFINISHED = "same", "differs", "undecided", "unfinished"
+# The options of scf for each of them, beside those of the tables.
+SCOPES = {ALL: [], NATIVE_SCOPE: ["--native"], CALLS: ["--calls"], LISTED: []}
+# Only from the tools: the syscall that decides is of an architecture that the profile names, and scf has no table of
+# it.
+UNDETERMINED = "undetermined"
+FOR_OTHER_ABI = f"{UNDETERMINED}: the profile is for this architecture, too"
+# The first two with --no-more and --no-less.
+NO_MORE, MORE, NO_LESS, LESS = "no more", "more", "no less", "less"
+# Only from the tools: other answers, neither more permissive nor stricter.
+OTHERWISE = "otherwise"
+# With --disposition.
+SAME_DISPOSITION = "same disposition"
+# The options for each relation, by the verdict if it holds.
+RELATIONS = {SAME: [], NO_MORE: ["--no-more"], NO_LESS: ["--no-less"], SAME_DISPOSITION: ["--disposition"]}
+# The words of each relation if it fails.
+FAILING_WORDS = {SAME: DIFFERS, NO_MORE: MORE, NO_LESS: LESS, SAME_DISPOSITION: DIFFERS}
+HOLDING, FAILING = tuple(FAILING_WORDS), (DIFFERS, MORE, LESS)
+NAMED_CALL_LINE = Pattern(r"([0-9]+) ([A-Za-z0-9_,]+) (differs|more|less|undecided|unfinished)\b(.*)")
+ANSWERED = Pattern(r" args((?: 0x[0-9a-f]+){6}) (?:filter|profile) (\w+ \w+) (?:profile|beside) (\w+ \w+)")
+LEFT_OUT = ("skipped ", "other ")
+LEFT_OUT_END = b"left-out skipped"
+
+
+@dataclass(frozen=True)
+class Verdict:
+    """A verdict, with its example and both answers if it is `differs`, `more` or `less`, and an instruction index if
+    `undecided`. `profile` is the answer of the side that the filters are compared with: a profile, or other filters."""
+
+    word: str
+    call: Call | None = None
+    filters: Answer | None = None
+    profile: Answer | None = None
+    at: int | None = None
+
+    @property
+    def holds(self) -> bool:
+        return self.word in HOLDING
+
+    @property
+    def fails(self) -> bool:
+        return self.word in FAILING
+
+    @property
+    def status(self) -> int:
+        """scf's exit status with it."""
+        return program.SUCCESS if self.holds else program.NEGATIVE if self.fails else program.UNKNOWN
+
+    @property
+    def both_deny(self) -> bool:
+        return bool(self.filters and self.profile and self.filters.denies and self.profile.denies)
+
+    @property
+    def is_allowed_and_denied(self) -> bool:
+        """Whether one side allows the example, and the other denies it."""
+        answers = (answer for answer in (self.filters, self.profile) if answer is not None)
+        return {ALLOWED, DENIED} == {answer.disposition for answer in answers}
+
+    def as_json(self, table: Table, other_side: str = "profile") -> dict[str, object]:
+        """Its example, as members of an object; `other` is what the other side is called."""
+        members: dict[str, object] = {} if self.call is None else {"call": self.call.as_json(table)}
+        for side, answer in (("filter", self.filters), (other_side, self.profile)):
+            if answer is not None:
+                members[side] = answer.as_json()
+        return members if self.at is None else {**members, "at": self.at}
+
+
+@dataclass(frozen=True)
+class NamedCall:
+    """A line of `scf compare --calls`, or the same line by regions: a syscall in the table for which the relation isn't
+    proved. The architecture is that of the table; the line of another one than x86-64 is the tools' own."""
+
+    line: str
+    number: int
+    names: tuple[str, ...]
+    verdict: Verdict
+    architecture: Architecture | None = None
+
+    @property
+    def record(self) -> Call:
+        """A record of the syscall."""
+        if self.verdict.call is not None or self.architecture is None:
+            return self.verdict.call or Call(self.number)
+        return Call(self.architecture.first + self.number, self.architecture.number)
+
+    def on(self, architecture: Architecture) -> NamedCall:
+        """The same line as that of a table of this architecture."""
+        verdict, call = self.verdict, self.verdict.call
+        if call is not None:
+            call = replace(call, number=architecture.first + self.number, architecture=architecture.number)
+            verdict = replace(verdict, call=call)
+        return replace(self, line=architecture.marked(self.line), verdict=verdict, architecture=architecture)
+
+    def as_json(self) -> dict[str, object]:
+        members: dict[str, object] = {"number": self.number, "names": list(self.names), "verdict": self.verdict.word}
+        if self.architecture is not None and self.architecture.oci != NATIVE:
+            members["architecture"] = self.architecture.name
+        return members
+
+
+@dataclass(frozen=True)
+class Report:
+    """The output of `scf compare`: a verdict or a fault, and what was left out of the profile.
+
+    `lines` are those of the verdict and the syscalls. Names and architectures are untrusted.
+    """
+
+    lines: tuple[str, ...]
+    verdict: Verdict | None = None
+    fault: Fault | None = None
+    calls: tuple[NamedCall, ...] = ()
+    skipped: tuple[str, ...] = ()
+    architectures: tuple[str, ...] = ()
+
+    def on(self, architecture: Architecture) -> Report:
+        """The same report as one on the table of this architecture."""
+        return replace(self, calls=tuple(call.on(architecture) for call in self.calls))
+
+    @classmethod
+    def of(cls, verdict: Verdict, beside: str = "profile") -> Report:
+        """The report on a verdict as scf prints it."""
+        if verdict.call is None:
+            return cls((verdict.word if verdict.at is None else f"{verdict.word} at {verdict.at}",), verdict)
+        return cls((verdict.word, verdict.call.line, f"filter {verdict.filters.line}",
+                    f"{beside} {verdict.profile.line}"), verdict)
+
+    @property
+    def printed(self) -> list[str]:
+        """scf's lines, where a name with newlines in it is one line."""
+        return [*self.lines, *(f"skipped {name}" for name in self.skipped),
+                *(f"other {name}" for name in self.architectures)]
+
+    @property
+    def brief(self) -> list[str]:
+        """scf's lines without skipped names, which are often many."""
+        return replace(self, skipped=()).printed
+
+
+def _verdict(lines: Sequence[str]) -> Verdict | None:
+    word, _, text = lines[0].partition(" ")
+    if lines[0] in FAILING:
+        call = Call.read(lines[1]) if len(lines) > 3 else None
+        sides = [] if call is None else [Answer.read(line.partition(" ")[2]) for line in lines[2:4]]
+        return Verdict(lines[0], call, *sides)
+    if lines[0] in (*HOLDING, UNFINISHED):
+        return Verdict(lines[0])
+    place = re.fullmatch("at ([0-9]+)", text)
+    return Verdict(UNDECIDED, at=int(place[1])) if word == UNDECIDED and place else None
+
+
+def named_call(line: str, pointer: int | None = 0) -> NamedCall | None:
+    """Parses a line of `--calls`, which lacks the instruction pointer."""
+    match = NAMED_CALL_LINE.fullmatch(line)
+    if not match:
+        return None
+    number, answered = int(match[1]), ANSWERED.fullmatch(match[4])
+    verdict = Verdict(match[3])
+    if verdict.fails and answered:
+        call = Call(number, pointer=pointer, arguments=tuple(int(argument, 16) for argument in answered[1].split()))
+        verdict = Verdict(match[3], call, Answer.read(answered[2]), Answer.read(answered[3]))
+    return NamedCall(line, number, tuple(match[2].split(",")), verdict)
+
+
+def report(text: str, pointer: int | None = 0) -> Report:
+    """Parses the output of `scf compare`, but for what was left out of a profile. The records of lines get this
+    instruction pointer, None if it matters and is unknown."""
+    lines = client.lines_of(text)
+    count = next((at for at, line in enumerate(lines) if line.startswith(LEFT_OUT)), len(lines))
+    calls = tuple(filter(None, (named_call(line, pointer) for line in lines[1:count])))
+    verdict, fault = (_verdict(lines[:count]), Fault.read(lines[0])) if count else (None, None)
+    return Report(tuple(lines[:count]), verdict, fault, calls)
+
+
+def behind_left_out(printed: bytes) -> tuple[Report, bytes]:
+    """What `scf compile --left-out` prints: a report on what is left out of the profile, and the filter.
+
+    A line between them has the length of each name. It is the last that begins so, whatever the names are: no filter
+    has so many bytes without a zero.
+    """
+    begin = printed.rindex(LEFT_OUT_END)
+    end, at = printed.index(b"\n", begin), 0
+    names: dict[str, list[str]] = {}
+    for word, lengths in zip(LEFT_OUT, printed[begin + len(LEFT_OUT_END):end].split(b" other")):
+        names[word] = []
+        for length in map(int, lengths.split()):
+            at += len(word)
+            names[word].append(printed[at:at + length].decode("utf-8", "surrogateescape"))
+            at += length + 1
+    skipped, others = map(tuple, names.values())
+    return Report((), skipped=skipped, architectures=others), printed[end + 1:]
+
+
+def checked(status: int, checked_report: Report, is_by_call: bool = False) -> Report:
+    """A report with a verdict; raises Refusal if it has a fault instead, and ToolError if it isn't parsed completely,
+    since the relation is taken to hold for a syscall without a line."""
+    if checked_report.fault is not None:
+        raise Refusal(checked_report.fault.line, status)
+    expected = None if checked_report.verdict is None else checked_report.verdict.status
+    if status != expected or is_by_call and len(checked_report.calls) != len(checked_report.lines) - 1:
+        raise program.ToolError(f"scf ended with status {status} and unexpected output", program.IO_ERROR)
+    return checked_report
+
+
+def most_telling(checked_report: Report, table: Table, calls_of: Callable[[], Sequence[NamedCall]]) -> Report:
+    """A report of a difference with the most telling example: a native syscall with a name that one side allows and the
+    other denies, if there is one among those that differ."""
+    def is_telling(verdict: Verdict) -> bool:
+        return verdict.call is not None and verdict.call.is_native and verdict.call.pointer is not None and \
+            verdict.is_allowed_and_denied and bool(table.names_of(verdict.call.number))
+
+    whole = checked_report.verdict
+    if whole is None or not whole.fails or whole.call is None or is_telling(whole):
+        return checked_report
+    shown = next((named.verdict for named in calls_of() if is_telling(named.verdict)), whole)
+    beside = checked_report.lines[3].partition(" ")[0]
+    return replace(checked_report, lines=Report.of(shown, beside).lines, verdict=shown)
+
+
+def compared(filters: Sequence[bytes], profile: bytes, tables: Tables, words: Sequence[str]) -> Report:
+    """scf's report on filters compared with a profile by these options, `checked`."""
+    done = client.compare(words, bundles.of_comparison(filters, profile, tables))
+    return checked(done.status, report(done.text), "--calls" in words)
+
+
+@dataclass(frozen=True)
+class Decision:
+    """The output of `scf run` or `scf decide` for a record: an answer and how many instructions ran, or a fault."""
+
+    line: str
+    answer: Answer | None = None
+    steps: int | None = None
+    fault: Fault | None = None
+
+
+def decision(text: str) -> Decision:
+    line = text.split("\n", 1)[0]
+    match = re.fullmatch(r"(\w+ \w+)(?: steps ([0-9]+)| at [0-9]+:[0-9]+)?", line)
+    answer = Answer.read(match[1]) if match else None
+    if answer is None or match is None:
+        return Decision(line, fault=Fault.read(line))
+    return Decision(line.partition(" at ")[0], answer, int(match[2]) if match[2] else None)

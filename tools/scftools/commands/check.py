@@ -1,0 +1,55 @@
+"""Says whether the kernel accepts filters, and of a fault what it means and what to do.
+
+    scf check [--json] FILTER..
+
+Each FILTER may be a file or a pipe, and one of them `-` for standard input. Its contents say whether it is a raw filter
+or text: hexadecimal (as xxd, `xxd -p` and `hexdump -C` print it), a C array (`{ 0x20, 0, 0, 4 },`, BPF_STMT and
+BPF_JUMP, or bytes), decimals of `tcpdump -ddd`, or scf's assembler text. Which text a filter was read from is said on
+standard error; what is known to be no filter is refused. All tools that take filters take them so.
+
+For each of them scf's line comes first; the lines after it are marked by `# `: the file, if there are several, and what
+a fault is and what to do about it. Without a FILTER scf reads a raw one from standard input, and nothing is added to
+its line.
+
+The exit status is the worst of all filters: 0 accepted, 1 refused, 2 usage error, 3 an input or the output failed; 125
+scf can't be run.
+
+Examples:
+
+    scf check filter.bpf
+    scf check *.bpf
+    scf check --json filter.bpf
+"""
+from ..base import output
+from ..ask import client, explanation
+from ..cli import words
+from ..forms import filters
+
+
+def as_json(name, data, done):
+    """One filter and what `scf check` said of it."""
+    fault = client.Fault.read(done.line)
+    return {"file": name, "status": done.status,
+            **({"fault": fault.as_json(explanation.of_fault(fault))} if fault else {"instructions": len(data) // 8})}
+
+
+def main():
+    parser = words.Parser(__doc__, command="check")
+    parser.add("--json", "filters")
+    options = parser.parse_args()
+    parser.one_standard_input(options.filters)
+    statuses, objects = [], []
+    for name in options.filters:
+        data = filters.read(name).data
+        done = client.run(["check"], data)
+        statuses.append(done.status)
+        if options.json:
+            objects.append(as_json(name, data, done))
+            continue
+        output.put_line(done.line)
+        if len(options.filters) > 1:
+            output.put_line(f"# {name}")
+        output.put_lines(output.notes(explanation.of_line(done.line)))
+    if options.json:
+        output.put_json({"status": client.worst(statuses), "filters": objects})
+    return client.worst(statuses)

@@ -1,0 +1,49 @@
+"""Says what a line of scf or an exit status means, and what to do about it.
+
+    scf explain [--table FILE] [LINE ..]
+
+LINE is a fault, a verdict, an answer, the syscall that shows a difference, a finding of `scf lint`, or an exit status;
+what a log puts before it doesn't matter. Faults are explained by the sentences of docs/FAULTS.md, and syscalls have the
+names of FILE. Without a LINE standard input is copied, and below each line that scf can explain stands what it means,
+marked by `# `:
+
+    scf compare <bundle | scf explain
+
+Exit status: 0 a line is explained; 1 nothing is known of it; 2 usage error; 3 an input or the output failed.
+
+Examples:
+
+    scf explain fault filter Empty
+    scf explain "no more"
+    scf explain unfinished
+"""
+import os
+
+from ..base import inputs, output, program
+from ..model import tables
+from ..cli import words
+from ..report import meanings
+
+
+def main():
+    parser = words.Parser(__doc__)
+    parser.add("--table", help="the syscall table [default: tables/x86_64.table]")
+    parser.add_argument("line", metavar="LINE", nargs="*", help="a line [default: those of standard input]")
+    options = parser.parse_args()
+    table = tables.read(options.table)
+    if options.line:
+        sentences = meanings.of(" ".join(options.line), table)
+        if not sentences:
+            raise program.ToolError("scf prints no such line, and has no such exit status: see scf help",
+                                    program.NEGATIVE)
+        output.put_lines(sentences)
+        return program.SUCCESS
+    if os.isatty(0):
+        parser.error("the following arguments are required: LINE")
+    is_explained = False
+    for line in inputs.read_whole("-", "text").decode("utf-8", "surrogateescape").splitlines():
+        sentences = meanings.of(line, table)
+        is_explained = is_explained or bool(sentences)
+        output.put_line(line)
+        output.put_lines(output.notes(sentences))
+    return program.SUCCESS if is_explained else program.NEGATIVE

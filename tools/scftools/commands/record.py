@@ -1,0 +1,84 @@
+"""Runs a program under strace, and writes a log of its syscalls that `scf needs` reads, or the least profile.
+
+    scf record [--profile BASE] [FILE] -- PROGRAM [ARGUMENT ..]
+
+The program has the terminal, input and output as ever, and runs to its end; what it starts is recorded, too. FILE,
+which is overwritten, gets what `strace -f -n -e raw=all --quiet=attach -o FILE PROGRAM ..` writes: each syscall with
+its number and its registers whole, so that `needs` knows both halves of each argument. `scf needs FILE PROFILE` reads
+it, and has options for the runtime that starts the program and for another architecture. Without FILE it is a new
+file here, called by the program: ls.log, or with --profile ls.json; standard error says so.
+
+With --profile FILE gets, in place of the log, the smallest profile that allows what was recorded, as `needs --profile`
+makes it of BASE; what isn't in it goes to standard error. Only what the program did in this run is recorded: run
+whatever it has to be able to do.
+
+A traced program gets no privileges of set-user-ID, set-group-ID or file capabilities, unless root traces it, and it is
+slower.
+
+Exit status: the program's, or the signal that ended it; 1 BASE is refused; 2 usage error; 3 FILE can't be written;
+125 strace isn't installed or scf can't be run; 126 PROGRAM isn't executable; 127 there is no PROGRAM.
+
+Examples:
+
+    scf record log -- ls -l /
+    scf record --profile profile.json least.json -- ls -l /
+    scf record -- ls / && scf needs ls.log profile.json
+"""
+import os
+import sys
+import tempfile
+
+from ..base import output, program
+from ..ask import client
+from ..cli import words
+from ..forms import profile_inputs, refusals
+from ..logs import requirements, tracing
+
+RECORDING_OPTIONS = ("-f", "-n", "-e", "raw=all", "--quiet=attach")
+
+
+def read_words():
+    parser = words.Parser(__doc__)
+    parser.add_argument("--profile", metavar="BASE",
+                        help="write the smallest profile that allows what was recorded, with BASE's default and "
+                             "architectures")
+    parser.add_argument("file", metavar="FILE", nargs="?",
+                        help="the log, or with --profile the new profile [default: PROGRAM.log or PROGRAM.json]")
+    own_words, traced = tracing.split(sys.argv[1:])
+    if not traced:
+        tracing.check_separated(parser, own_words, "record")
+    options = parser.parse_args(own_words)
+    if not traced:
+        parser.error("no program is given: it stands behind --")
+    options.traced = traced
+    if options.file is None:
+        options.file = tracing.new_name(traced, ".log" if options.profile is None else ".json")
+        program.say(f"writes {options.file}")
+    # (before the program runs for nothing)
+    os.close(os.open(options.file, os.O_WRONLY | os.O_CREAT | os.O_CLOEXEC, 0o666))
+    return options
+
+
+def least(options, judges):
+    """Records the program, and writes the smallest profile that allows what it did; the program's status."""
+    judges.of(judges.own.oci)
+    with tempfile.TemporaryDirectory(prefix="scf-record-") as folder:
+        log = os.path.join(folder, "log")
+        status = tracing.run(log, RECORDING_OPTIONS, options.traced)
+        text, remarks = requirements.least_profile(requirements.read([log], judges), judges)
+    with open(options.file, "w", encoding="utf-8") as file:
+        file.write(text)
+    program.say(*remarks)
+    return status
+
+
+def main():
+    options = read_words()
+    if options.profile is None:
+        return tracing.end_as(tracing.run(options.file, RECORDING_OPTIONS, options.traced))
+    judges = requirements.Judges(profile_inputs.read(options.profile, None).data, None, None)
+    try:
+        return tracing.end_as(least(options, judges))
+    except client.Refusal as why:
+        output.put_lines(refusals.lines_of(why, judges.profile, judges.listed))
+        return why.status

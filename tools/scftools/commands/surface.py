@@ -1,0 +1,129 @@
+"""Says for each syscall whether filters allow, delegate or deny it, or on what that depends.
+
+    scf surface [--arch ARCH] [--machine NAME] [--conditions | --examples] [--limit N]
+                [--splits N] [--table FILE] [--caps LIST] [--json] [--html FILE] FILTER..
+                [--beside OTHER..]
+    scf surface [--arch ARCH] [--conditions | --examples] [--limit N] [--splits N]
+                [--table FILE] [--json] [--html FILE] [--force] --pid PID [--beside OTHER..]
+
+The FILTERs form one stack, oldest first; with --pid it is that of a running process, as the kernel keeps it, and each
+distinct stack of its threads has a block of its own. A profile, as `scf ask` takes it, stands for the filter that scf
+compiles of it. Each syscall in the table is always allowed, always denied, always delegated (to a supervisor or
+tracer), or it depends on the arguments; then an example of each is shown. The first line counts them; a line before it
+names a filter that is for another machine. The next lines say whether any syscall of another ABI of the machine is
+allowed, with the same counts of an ABI of which one is, and how many numbers that the table doesn't name are allowed.
+With --machine arm64 all this is said of aarch64 and arm, with --arch of that architecture alone. Then come the syscalls
+by purpose (tables/calls.groups), on a terminal as a table, otherwise a line each: the group, the disposition, the
+number, the names, and an answer. --beside shows the syscalls that differ under another stack of filters; it stands
+last. --html writes the same as a page without scripts, which replaces FILE at once.
+
+With --conditions a syscall with several answers has them all instead of examples, with the conditions on its arguments:
+
+    socket denied (EINVAL) where domain == AF_NETLINK and protocol == NETLINK_AUDIT, else allowed
+
+Arguments have the names of their manual page, or are a0 to a5; they are compared as whole registers, those of i386, x32
+and arm as lower halves. `prot & ~PROT_READ == 0` allows no bit but PROT_READ, and `sig in {SIGINT, SIGTERM, ..}` is
+any of these values. Such a line is printed only if comparisons of scf prove it. If no profile gives an answer, as
+ALLOW with data, or the answers take many conditions and the dispositions fewer, the latter alone are told; where no
+profile says the conditions, there are examples. Filters that take too many steps have examples alone, and standard
+error says that their conditions are `unfinished`; --limit N gives them N steps, if that is more than they have. With
+--examples each syscall has a call for each of its regions, with its answer: the sets of records that take one path
+through the filters.
+
+Each disposition is proved: by the regions of all records, as `scf answers` prints them, which also have the examples;
+where a test isn't decided, by comparisons of scf with profiles that deny, allow or delegate everything. If scf can't
+decide, the line says `undecided` or `unfinished`, with the examples that were found. KILL_PROCESS, KILL_THREAD, TRAP
+and ERRNO deny a syscall, USER_NOTIF and TRACE delegate it, LOG and ALLOW allow it.
+
+Exit status: 0 everything is decided; 1 a filter or the table is refused, a thread has no filter, or with --beside they
+differ; 2 usage error; 3 an input or the output failed; 4 something is undecided.
+
+Examples:
+
+    scf surface filter.bpf
+    scf surface old.bpf --beside new.bpf
+    scf surface --caps docker --machine arm64 engine.json
+"""
+from ..base import inputs, output, program
+from ..model import architectures, tables
+from ..ask import client, other_abis
+from ..cli import words
+from ..forms import engines, filters, profile_inputs, refusals
+from ..report import stack_surfaces, surface_output
+from scfhost import processes
+
+
+def read_words():
+    parser = words.Parser(__doc__, processes.NEEDS.replace("This needs", "--pid needs", 1))
+    parser.add_argument("--conditions", action="store_true",
+                        help="say which arguments get which answer, instead of examples")
+    parser.add_argument("--beside", metavar="OTHER", nargs="+", default=[],
+                        help="show the syscalls that differ under these filters, oldest first; stands last")
+    parser.add_argument("--pid", metavar="PID", help="the filters of a process instead of files")
+    parser.add("--arch")
+    parser.add("--machine", help="the machine whose syscalls are looked at, and for whose containers an engine's "
+                                 "profile is resolved [default: this one]")
+    parser.add_argument("--examples", action="store_true", help="show a call for each region, with its answer")
+    parser.add("--force", "--limit", "--splits")
+    parser.add("--table", help=words.OWN_TABLE)
+    parser.add("--caps", "--json", "--html")
+    parser.add_argument("filters", metavar="FILTER", nargs="*",
+                        help="a filter, of several the oldest first, or a profile; - is standard input")
+    options = parser.parse_args()
+    if options.pid is None and not options.filters:
+        parser.error("give a FILTER or --pid")
+    if options.pid is not None and options.filters:
+        parser.error("give FILTERs or --pid, not both")
+    if options.beside and (options.arch is not None or options.machine not in (None, "amd64")):
+        parser.error("give either --arch or --beside, which compares the syscalls of all architectures of this machine")
+    if options.conditions and options.examples:
+        parser.error("give either --conditions or --examples")
+    if options.force and options.pid is None:
+        parser.error("--force needs --pid")
+    options.pid = None if options.pid is None else processes.number_in(options.pid, parser)
+    parser.one_standard_input([*options.filters, *options.beside, options.table])
+    return options
+
+
+def looked_at(options):
+    """The stacks of a process's threads."""
+    kernel = processes.Kernel()
+    return processes.read_or_end(lambda: processes.look_at_process(
+        kernel, processes.process_of(kernel, options.pid), is_forced=options.force), True, options.json)
+
+
+def filter_in(name, options):
+    """The filter of a file, or the one that scf compiles of a profile."""
+    data = inputs.read(name, "profile")
+    if not profile_inputs.looks_like_profile(data):
+        return filters.filter_in(name, data)
+    profile = profile_inputs.profile_in(data, name, options.caps, machine=options.machine)
+    judged = profile.judged(tables.read(None), False)
+    try:
+        return filters.Filter(name, client.compile_profile(profile.data, judged))
+    except client.Refusal as why:
+        sentences = refusals.sentences(why.fault, profile.data, judged, profile.origins) if why.fault else ()
+        raise program.ToolError(" ".join([f"{inputs.label(name)}: {why.line}.", *sentences]), why.status) from why
+
+
+def main():
+    options = read_words()
+    machine = engines.MACHINE_NAMES[options.machine or engines.machine_here()]
+    architecture = architectures.judged_in(options.arch or machine)
+    stack, beside = (filters.read_stack(names, lambda name: filter_in(name, options))
+                     for names in (options.filters, options.beside))
+    settings = stack_surfaces.Settings(tables.read(options.table, architecture), beside, architecture,
+                                       architecture.oci == machine and machine in other_abis.OF_MACHINES,
+                                       options.conditions, options.examples)
+    inspection = None if options.pid is None else looked_at(options)
+    blocks = [stack_surfaces.of_stack(stack, settings)] if inspection is None else \
+        stack_surfaces.of_process(inspection, settings)
+    if options.html is not None:
+        from ..report import pages  # pylint: disable=import-outside-toplevel
+
+        output.replace_file(options.html, pages.of_surfaces(blocks, settings.table))
+    if options.json:
+        output.put_json(stack_surfaces.as_json(blocks, inspection))
+    else:
+        output.put_lines(stack_surfaces.lines(blocks, inspection, surface_output.width_of_terminal()))
+    return client.worst(block.status for block in blocks)

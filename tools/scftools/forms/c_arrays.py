@@ -1,0 +1,167 @@
+"""Filters as C arrays: of struct sock_filter, `{ 0x20, 0, 0, 4 },` or BPF_STMT and BPF_JUMP, and of bytes."""
+from __future__ import annotations
+
+import itertools
+import operator
+import re
+from collections.abc import Iterable, Iterator, Sequence
+
+from ..base.values import Any
+from ..model import constants, tables
+
+# (patterns are compiled when they are first used, which is rare; a comment may lack its end)
+C_COMMENT = r"(?ms)/\*.*?(\*/|\Z)|//[^\n]*|^[ \t]*#[ \t]*include[^\n]*"
+# What may stand before an array and behind it: `static struct sock_filter filter[] =`, `unsigned int length = 8;`.
+HEAD = r"[A-Za-z_][\w\s]{0,200}\[[\w\s]{0,40}\]\s*=\s*(?={)"
+ARRAY_TAIL = r"\s*;(?:\s*(?:[A-Za-z_]\w*\s+){1,6}=\s*\d+\s*;)?\s*"
+CAST = r"\(\s*(?:(?:unsigned|short|int|long|char|__u(?:8|16|32)|uint(?:8|16|32)_t)\s*)+\)"
+OFFSET = (r"(?:__builtin_)?offsetof\s*\(\s*struct\s+seccomp_data\s*,\s*(nr|arch|instruction_pointer|"
+          r"args\s*\[\s*([0-5])\s*\])\s*\)")
+# linux/seccomp.h: struct seccomp_data
+FIELDS = {"nr": 0, "arch": 4, "instruction_pointer": 8}
+MACRO = r"(?s)(BPF_STMT|BPF_JUMP)\s*\((.*)\)"
+C_TOKEN = r"\s*(?:(0[xX][0-9a-fA-F]{1,40}|[0-9]{1,40})[uUlL]*\b|([A-Za-z_]\w*)|(<<|>>|[-|&+~()]))"
+# The operators, by the names of Python's syntax trees.
+SHIFTS = (operator.lshift, operator.rshift)
+OPERATIONS = {"BitOr": operator.or_, "BitAnd": operator.and_, "LShift": SHIFTS[0], "RShift": SHIFTS[1],
+              "Add": operator.add, "Sub": operator.sub, "Invert": operator.invert, "USub": operator.neg}
+X32_BIT = {"__X32_SYSCALL_BIT": 0x40000000, "X32_SYSCALL_BIT": 0x40000000}
+# The most numbers, operators and brackets of an expression; and the most instructions that are read, one more than a
+# filter may have (linux/bpf_common.h: BPF_MAXINSNS).
+LONGEST_EXPRESSION, MOST_ROWS = 99, 4097
+
+
+class NotAnArray(Exception):
+    """A text isn't an array of instructions, or has something that only a compiler knows."""
+
+
+def _number_of(name: str) -> int:
+    bare = re.sub("^(?:SYS_|__NR_)", "", name)
+    if bare != name:
+        number = tables.read(None).number_of(bare)
+    else:
+        number = X32_BIT.get(name, constants.numbers().get(name))
+    if number is None:
+        raise NotAnArray(f"'{name[:40]}' is no constant that this tool knows")
+    return number
+
+
+def _words(text: str) -> Iterator[str]:
+    """The numbers, constants and operators of an expression, as Python has them."""
+    bare = re.sub(OFFSET, lambda match: str(16 + 8 * int(match[2]) if match[2] else FIELDS[match[1]]),
+                  re.sub(CAST, "", text)).strip()
+    at, pattern = 0, re.compile(C_TOKEN)
+    while at < len(bare):
+        match = pattern.match(bare, at)
+        if not match:
+            raise NotAnArray(f"'{bare[at:at + 20].strip()}' isn't a constant expression")
+        at = match.end()
+        number, name, operator_of = match.groups()
+        base = 16 if number and number[:2].lower() == "0x" else 8 if number and re.fullmatch("0[0-7]+", number) else 10
+        yield operator_of or str(int(number, base) if number else _number_of(name))
+
+
+def value_of(text: str) -> int:
+    """The value of a constant expression of C, modulo 2^64. Python binds its operators as C does."""
+    import ast  # pylint: disable=import-outside-toplevel
+
+    def value(node: Any) -> int:
+        if isinstance(node, ast.Constant):
+            return node.value
+        operation = OPERATIONS.get(type(getattr(node, "op", None)).__name__)
+        if operation is None:
+            raise NotAnArray(f"'{text[:60]}' isn't a constant expression")
+        parts = list(map(value, [node.operand] if isinstance(node, ast.UnaryOp) else [node.left, node.right]))
+        if operation in SHIFTS and (not 0 <= parts[1] < 64 or parts[0] < 0):
+            raise NotAnArray(f"{parts[0]} can't be shifted by {parts[1]}")
+        return operation(*parts)
+
+    words = list(itertools.islice(_words(text), LONGEST_EXPRESSION + 1))
+    if len(words) > LONGEST_EXPRESSION:
+        raise NotAnArray("an expression is too long, or nested too deep")
+    try:
+        return value(ast.parse(" ".join(words), mode="eval").body) % (1 << 64)
+    except SyntaxError as error:
+        raise NotAnArray(f"'{text[:60]}' isn't a constant expression") from error
+
+
+def _split(text: str) -> Iterator[str]:
+    """The elements of a list, which commas outside of brackets separate; the last comma may end it."""
+    depth = begun = 0
+    for match in re.finditer(r"[(){}\[\],]", text):
+        if match[0] == ",":
+            if not depth:
+                yield text[begun:match.start()].strip()
+                begun = match.end()
+        else:
+            depth += 1 if match[0] in "({[" else -1
+    if text[begun:].strip():
+        yield text[begun:].strip()
+
+
+def _row(text: str) -> list[str]:
+    """The four fields of an element, by its form."""
+    macro = re.fullmatch(MACRO, text)
+    fields = list(_split(macro[2] if macro else text[1:-1]))
+    if macro and macro[1] == "BPF_STMT" and len(fields) == 2:
+        return [fields[0], "0", "0", fields[1]]
+    if macro and macro[1] == "BPF_JUMP" and len(fields) == 4:
+        return [fields[0], fields[2], fields[3], fields[1]]
+    if macro or text[:1] != "{" or text[-1:] != "}" or len(fields) != 4:
+        raise NotAnArray(f"'{text[:60]}' isn't an instruction: {{ code, jt, jf, k }}, BPF_STMT or BPF_JUMP")
+    return fields
+
+
+def _fields(text: str) -> tuple[int, int, int, int]:
+    values = [value_of(field_text) for field_text in _row(text)]
+    # a number of 32 bits, which `~` and `-` make negative here
+    values[3] %= 1 << 32 if values[3] >= (1 << 64) - (1 << 32) else 1 << 64
+    for name, value, end in zip(("code", "jt", "jf", "k"), values, (1 << 16, 1 << 8, 1 << 8, 1 << 32)):
+        if value >= end:
+            raise NotAnArray(f"{name} {value:#x} of '{text[:60]}' is too large")
+    return values[0], values[1], values[2], values[3]
+
+
+def _elements(text: str) -> list[str]:
+    """The elements of the array in a text, which holds nothing else."""
+    head = re.match(HEAD, text)
+    if head:
+        end = text.rfind("}") + 1
+        if not re.fullmatch(ARRAY_TAIL, text[end:]):
+            raise NotAnArray(f"text follows the array: '{text[end:end + 40].strip()}'")
+        text = text[head.end():end].strip()
+    pieces = list(_split(text))
+    if len(pieces) == 1 and pieces[0][:1] == "{" and pieces[0][-1:] == "}":
+        inner = list(_split(pieces[0][1:-1]))
+        # braces around all elements, or one instruction
+        return inner if head or len(inner) != 4 or inner[0][:1] in ("{", "B") else pieces
+    return pieces
+
+
+def _without_comments(text: str) -> str:
+    """A text without its comments and includes. A comment that has no end stays, which no array has."""
+    return re.sub(C_COMMENT, lambda match: match[0] if match[1] == "" else " ", text).strip()
+
+
+def packed(rows: Iterable[Sequence[int]]) -> bytes:
+    """The bytes of instructions, each a code, jt, jf and k (struct sock_filter in linux/filter.h)."""
+    return b"".join(code.to_bytes(2, "little") + bytes((jt, jf)) + k.to_bytes(4, "little") for code, jt, jf, k in rows)
+
+
+def looks_like_array(text: str) -> bool:
+    """Whether a text is meant to be such an array."""
+    bare = _without_comments(text)
+    row = re.match(r"\{\s*(?:[{(0-9]|BPF_)|BPF_(?:STMT|JUMP)\b|0x[0-9a-fA-F]{2}\s*,", bare)
+    return bool(re.match(HEAD, bare) or row)
+
+
+def rows_in(text: str) -> list[tuple[int, int, int, int]] | bytes:
+    """The instructions (code, jt, jf and k) of an array, at most MOST_ROWS, or the bytes of one of bytes; raises
+    NotAnArray if a text isn't one, or only a compiler can read it."""
+    elements = _elements(_without_comments(text))
+    if elements and all(re.fullmatch("0[xX][0-9a-fA-F]{1,2}|[0-9]{1,3}", element) for element in elements):
+        values = [int(element, 0 if element[:2].lower() == "0x" else 10) for element in elements]
+        if max(values) > 255 or len(values) % 8:
+            raise NotAnArray("the bytes aren't a multiple of 8, each below 256")
+        return bytes(values)
+    return [_fields(element) for element in elements[:MOST_ROWS]]

@@ -1,0 +1,449 @@
+"""Engines' profiles: what a container engine makes of its own profile for one container, the resolved profile.
+
+The rules are those of moby (profiles/seccomp) and of containers-common (pkg/seccomp), which agree but for the members
+that only one of them reads (`ENGINES`) and for the errnos by name, which are containers-common's alone.
+"""
+from __future__ import annotations
+
+import errno
+import json
+import re
+from collections.abc import Callable, Iterator, Sequence
+
+from ..base import output
+from ..base.values import Any, dataclass, field
+from ..model import architectures, profiles
+from ..model.answers import ACTIONS_WITH_DATA, Answer
+from ..model.profiles import NUMBER_TYPE, SECCOMP_MEMBERS, TEXT_TYPE, VERSION_TYPE, Origin, where_in
+
+# What a container has by default: moby's oci/caps, and containers-common's containers.conf.
+DOCKER = (
+    "CHOWN DAC_OVERRIDE FSETID FOWNER MKNOD NET_RAW SETGID SETUID SETFCAP SETPCAP NET_BIND_SERVICE SYS_CHROOT KILL "
+    "AUDIT_WRITE"
+)
+PODMAN = "CHOWN DAC_OVERRIDE FOWNER FSETID KILL NET_BIND_SERVICE SETFCAP SETGID SETPCAP SETUID SYS_CHROOT"
+SETS = {"docker": DOCKER.split(), "podman": PODMAN.split(), "none": []}
+# linux/capability.h
+CAPABILITIES = (
+    "CHOWN DAC_OVERRIDE DAC_READ_SEARCH FOWNER FSETID KILL SETGID SETUID SETPCAP LINUX_IMMUTABLE NET_BIND_SERVICE "
+    "NET_BROADCAST NET_ADMIN NET_RAW IPC_LOCK IPC_OWNER SYS_MODULE SYS_RAWIO SYS_CHROOT SYS_PTRACE SYS_PACCT "
+    "SYS_ADMIN SYS_BOOT SYS_NICE SYS_RESOURCE SYS_TIME SYS_TTY_CONFIG MKNOD LEASE AUDIT_WRITE AUDIT_CONTROL SETFCAP "
+    "MAC_OVERRIDE MAC_ADMIN SYSLOG WAKE_ALARM BLOCK_SUSPEND AUDIT_READ PERFMON BPF CHECKPOINT_RESTORE"
+).split()
+# The machines that engines resolve profiles for: their names in `arches`, and the OCI names of their own syscalls, in
+# `archMap` and `architectures`.
+MACHINE_NAMES = {row.machine: oci for oci, row in architectures.JUDGED.items() if row.machine}
+
+
+def machine_here() -> str:
+    """The engines' name of this machine."""
+    return next(name for name, oci in MACHINE_NAMES.items() if oci == architectures.of_machine())
+
+
+# The members that an engine doesn't read of those that another one does: moby since version 23, moby 20.10, and
+# containers-common. Without an engine all are read.
+ENGINES = {
+    "docker": ("errno", "defaultErrno"),
+    "docker-20.10": ("errno", "defaultErrno", "defaultErrnoRet", "flags", "listenerPath", "listenerMetadata"),
+    "podman": ("minKernel",),
+}
+# The members of the top that stay as they are.
+PASSED_ON = ("flags", "listenerPath", "listenerMetadata")
+# The names of errnos that containers-common takes (pkg/seccomp/errno_list.go).
+ERRNO_NAMES = (
+    "EPERM ENOENT ESRCH EIO ENXIO E2BIG ENOEXEC EBADF ECHILD EDEADLK ENOMEM EACCES EFAULT ENOTBLK EBUSY EEXIST EXDEV "
+    "ENODEV ENOTDIR EISDIR EINVAL ENFILE EMFILE ENOTTY ETXTBSY EFBIG ENOSPC ESPIPE EROFS EMLINK EPIPE EDOM ERANGE "
+    "EAGAIN EINPROGRESS EALREADY ENOTSOCK EDESTADDRREQ EMSGSIZE EPROTOTYPE ENOPROTOOPT EPROTONOSUPPORT "
+    "ESOCKTNOSUPPORT EOPNOTSUPP EPFNOSUPPORT EAFNOSUPPORT EADDRINUSE EADDRNOTAVAIL ENETDOWN ENETUNREACH ENETRESET "
+    "ECONNABORTED ECONNRESET ENOBUFS EISCONN ENOTCONN ESHUTDOWN ETOOMANYREFS ETIMEDOUT ECONNREFUSED ELOOP "
+    "ENAMETOOLONG EHOSTDOWN EHOSTUNREACH ENOTEMPTY EUSERS EDQUOT ESTALE EREMOTE ENOLCK ENOSYS EILSEQ ENOMEDIUM "
+    "EMEDIUMTYPE EOVERFLOW ECANCELED EIDRM ENOMSG ENOTSUP EBADMSG ENOTRECOVERABLE EOWNERDEAD"
+).split()
+# The most digits of a number that any member may have; the most letters of a stranger's text and the most texts of a
+# list that a note repeats; the most notes.
+MAX_DIGITS, MAX_TOLD, MAX_LISTED, MAX_NOTES = 20, 64, 3, 1000
+# The most names of all entries together that are passed on to libseccomp, each once for each of its alternatives: the
+# kernel takes no filter that is a sixteenth so long.
+MAX_RULES = 1 << 16
+
+
+class Refused(Exception):
+    """The engines refuse the profile, or it is ambiguous."""
+
+
+@dataclass(frozen=True)
+class Setting:
+    """The container for which entries are chosen: its capabilities, its kernel and its machine; and which architectures
+    are kept."""
+
+    capabilities: Sequence[str]
+    kernel: tuple[int, int]
+    # Whether only the machine's own is handed on of the architectures that the engine names.
+    is_native: bool = False
+    # One of ENGINES; without one the members of all are read.
+    engine: str | None = None
+    # Unknown members that aren't conditions; None if all of them aren't.
+    ignored: Sequence[str] | None = ()
+    # Where the capabilities come from, if no word names them.
+    source: str | None = None
+    # One of MACHINES.
+    machine: str = field(default_factory=machine_here)
+    # Whether each entry has a comment that stays: the lines of a sandbox's list.
+    keeps_comments: bool = False
+
+    @property
+    def native(self) -> str:
+        """The OCI name of the machine's own architecture."""
+        return MACHINE_NAMES[self.machine]
+
+    @property
+    def unread(self) -> Sequence[str]:
+        return ENGINES[self.engine] if self.engine is not None else ()
+
+
+def excerpt(value: Any) -> str:
+    """Untrusted text or another value in a note, truncated."""
+    if isinstance(value, (list, dict)):
+        return "a list" if isinstance(value, list) else "an object"
+    text = value if isinstance(value, str) else json.dumps(value)
+    return output.cut(text, MAX_TOLD)
+
+
+def excerpts(texts: Sequence[Any]) -> str:
+    return output.some([excerpt(text) for text in texts], MAX_LISTED)
+
+
+def answer_of(action: str, number: int | None) -> Answer:
+    """The answer that a runtime hands libseccomp for an action and its errno, of which libseccomp takes 16 bits."""
+    answer = Answer.of_profile(action, None if number is None else number & 0xFFFF)
+    return answer if answer.action in ACTIONS_WITH_DATA else Answer.of_profile(action, None)
+
+
+def members(pairs: list[tuple[str, Any]]) -> dict[str, Any]:
+    members_found = dict(pairs)
+    if len(members_found) < len(pairs):
+        seen: set[str] = set()
+        for name, _ in pairs:
+            if name in seen:
+                raise Refused(f"the member '{excerpt(name)}' is repeated in one object")
+            seen.add(name)
+    return members_found
+
+
+def refuse_fraction(text: str) -> Any:
+    raise Refused(f"the number {excerpt(text)} isn't an integer")
+
+
+def parse_integer(text: str) -> int | float:
+    if len(text.lstrip("-")) > MAX_DIGITS:
+        raise Refused(f"the number {excerpt(text)} has more than 64 bits")
+    # Go takes -0 for no number without a sign
+    return int(text) if text != "-0" else -0.0
+
+
+def read(data: bytes) -> Any:
+    try:
+        return json.loads(data.decode("utf-8"), object_pairs_hook=members, parse_float=refuse_fraction,
+                          parse_constant=refuse_fraction, parse_int=parse_integer)
+    except UnicodeDecodeError as error:
+        raise Refused("the profile isn't UTF-8") from error
+    except RecursionError as error:
+        raise Refused("the profile is nested too deep") from error
+    except json.JSONDecodeError as error:
+        raise Refused(f"the profile isn't JSON: {profiles.malformed(error)}") from error
+
+
+def to_bytes(profile: dict[str, Any]) -> bytes:
+    """The bytes of a resolved profile for scf."""
+    try:
+        return json.dumps(profile).encode()
+    except RecursionError as error:
+        raise Refused("the profile is nested too deep") from error
+
+
+def printed(profile: dict[str, Any]) -> str:
+    """The text of a resolved profile, made entry by entry, of which there may be many."""
+    try:
+        entries = [json.dumps(entry, indent=4).replace("\n", "\n        ") for entry in profile["syscalls"]]
+        text = json.dumps({**profile, "syscalls": []}, indent=4)
+    except RecursionError as error:
+        raise Refused("the profile is nested too deep") from error
+    if entries:
+        text = text.removesuffix("[]\n}") + "[\n        " + ",\n        ".join(entries) + "\n    ]\n}"
+    return text + "\n"
+
+
+def _check_one(value: Any, kind: str, where: str, name: str) -> None:
+    """Refuses a member that isn't a string, a number or a kernel version as the engines read it."""
+    if kind == NUMBER_TYPE:
+        if type(value) is not int or not 0 <= value < 1 << 64:
+            raise Refused(f"{where_in(where, name)} isn't an integer from 0 to 2^64-1")
+    elif not isinstance(value, str):
+        what = "isn't a string" if kind == TEXT_TYPE else "isn't a kernel version such as 4.8"
+        raise Refused(f"{where_in(where, name)} {what}")
+    elif kind == VERSION_TYPE:
+        version_of(value, where_in(where, name))
+
+
+def _check_list(value: Any, kind: Any, where: str, setting: Setting) -> None:
+    if not isinstance(value, list) or (kind == TEXT_TYPE and not all(isinstance(item, str) for item in value)):
+        raise Refused(f"{where} isn't a list" + " of strings" * (kind == TEXT_TYPE))
+    if kind != TEXT_TYPE:
+        parent, _, name = where.rpartition(": ")
+        for index, element in enumerate(value):
+            check(element, kind, where_in(parent or "the profile", name, index), setting)
+
+
+def check(value: Any, members: dict[str, Any], where: str, setting: Setting) -> None:
+    """Refuses an object that the engines refuse for what stands in its members, or that they read otherwise than it is
+    spelled. A member that is null is absent."""
+    if not isinstance(value, dict):
+        raise Refused(f"{where} isn't an object")
+    for name, member in value.items():
+        kind = members.get(name)
+        if kind is None:
+            read_as = next((member for member in members if profiles.folded(member) == profiles.folded(name)), None)
+            if read_as is not None:
+                raise Refused(profiles.Misread(where, name, read_as).describe())
+        elif member is None or name in setting.unread:
+            pass
+        elif isinstance(kind, dict):
+            check(member, kind, where_in(where, name), setting)
+        elif isinstance(kind, list):
+            _check_list(member, kind[0], where_in(where, name), setting)
+        else:
+            _check_one(member, kind, where, name)
+
+
+def members_in(value: Any, members: dict[str, Any], where: str) -> Iterator[tuple[str, str, Any, Any]]:
+    """The members of an object and of those in it: where each stands, its name, its value, and its kind, None if no
+    engine reads it."""
+    for name, member in value.items():
+        kind = members.get(name)
+        yield where, name, member, kind
+        if member is not None and isinstance(kind, dict):
+            yield from members_in(member, kind, where_in(where, name))
+        elif member is not None and isinstance(kind, list) and isinstance(kind[0], dict):
+            for index, inner in enumerate(member):
+                yield from members_in(inner, kind[0], where_in(where, name, index))
+
+
+def members_of(value: dict[str, Any] | None, setting: Setting) -> dict[str, Any]:
+    """The members of an object that aren't null and that the engine reads."""
+    return {name: member for name, member in (value or {}).items() if member is not None and name not in setting.unread}
+
+
+def version_of(text: str, where: str) -> tuple[int, int]:
+    """The version of a kernel that moby reads (KernelVersion.UnmarshalJSON); of an empty one all kernels are."""
+    if not text:
+        return 0, 0
+    parts = re.fullmatch(r"([0-9]+)\.([0-9]+)", text) if len(text) <= MAX_TOLD else None
+    version = (int(parts[1]), int(parts[2])) if parts else (0, 0)
+    if version == (0, 0) or max(version) > 255:
+        raise Refused(f"{where} isn't a kernel version such as 4.8")
+    return version
+
+
+def why_left_out(entry: dict[str, Any], setting: Setting, where: str) -> str | None:
+    """Why the engines leave an entry out, or None where they keep it."""
+    excludes, includes = (members_of(entry.get(name), setting) for name in ("excludes", "includes"))
+    held = setting.capabilities
+    without = [capability for capability in excludes.get("caps", ()) if capability in held]
+    lacking = [capability for capability in includes.get("caps", ()) if capability not in held]
+    arches, most, least = includes.get("arches"), excludes.get("minKernel"), includes.get("minKernel")
+    if setting.machine in excludes.get("arches", ()):
+        return f"not on {setting.machine}"
+    if without:
+        return f"only without {without[0]}"
+    if most is not None and setting.kernel >= version_of(most, f"{where}: excludes: minKernel"):
+        return f"only below kernel {most}" if most else "for no kernel, since excludes: minKernel is empty"
+    if arches and setting.machine not in arches:
+        return f"only on {excerpts(arches)}"
+    if lacking:
+        return f"only with {excerpts(lacking)}"
+    if least is not None and setting.kernel < version_of(least, f"{where}: includes: minKernel"):
+        return f"only from kernel {least} on"
+    return None
+
+
+def at_most(notes: Sequence[str]) -> Iterator[str]:
+    """Notes, of which there may be too many to print."""
+    yield from notes[:MAX_NOTES]
+    if len(notes) > MAX_NOTES:
+        yield f"{len(notes) - MAX_NOTES} more such lines"
+
+
+class Resolver:
+    """Makes a resolved profile, and reports what is left out and why."""
+
+    def __init__(self, setting: Setting, tell: Callable[[str], None]):
+        self.setting = setting
+        self.tell = tell
+        self.notes = 0
+        # of each entry of the resolved profile
+        self.origins: list[Origin] = []
+
+    def note(self, text: str) -> None:
+        self.notes += 1
+        if self.notes <= MAX_NOTES:
+            self.tell(text)
+
+    def errno_of(self, holder: dict[str, Any], name: str, number: str, where: str) -> Any:
+        """An errno: by its name or as a text where that stands, else the number (getErrno of containers-common)."""
+        text = holder.get(name)
+        if not text:
+            return holder.get(number)
+        is_number = len(text) <= MAX_TOLD and re.fullmatch("[0-9]+", text) and int(text) < 1 << 32
+        if not is_number and text not in ERRNO_NAMES:
+            raise Refused(f"{where}: {name} '{excerpt(text)}' isn't an errno that podman knows")
+        value = int(text) if is_number else getattr(errno, text)
+        if holder.get(number) not in (None, value):
+            self.note(f"{where}: {name} '{text}' is used, not {number} {excerpt(holder[number])}")
+        return value
+
+    def architectures_of(self, top: dict[str, Any]) -> list[str]:
+        """The architectures that the engine hands on."""
+        names, mapped, native = top.get("architectures", []), top.get("archMap", []), self.setting.native
+        if names and mapped:
+            raise Refused("the profile has both architectures and archMap, and the engines take one")
+        for mapping in mapped:
+            if mapping.get("architecture") == native:
+                names = [native, *(mapping.get("subArchitectures") or [])]
+                break
+        others = [name for name in names if name != native]
+        if self.setting.is_native and others:
+            if native not in names:
+                raise Refused(f"the profile isn't for {native}")
+            self.note(f"architectures left out: {excerpts(others)}")
+            return [native]
+        return names
+
+    def entry_of(self, entry: dict[str, Any], where: str) -> dict[str, Any] | None:
+        """The resolved form of an entry, or None if it has no name."""
+        if entry.get("name") and entry.get("names"):
+            raise Refused(f"{where} has both name and names, and the engines take one")
+        names = [entry["name"]] if entry.get("name") else entry.get("names", [])
+        members = {"names": names, "action": entry.get("action", "")}
+        number = self.errno_of(entry, "errno", "errnoRet", where)
+        if number is not None:
+            members["errnoRet"] = number
+        if entry.get("args"):
+            members["args"] = [members_of(condition, self.setting) for condition in entry["args"]]
+        if self.setting.keeps_comments:
+            members["comment"] = entry["comment"]
+        return members if names else None
+
+    def seccomp_of(self, value: Any) -> Any:
+        """The seccomp object of a profile, or of a whole config.json."""
+        if isinstance(value, dict) and value.get("defaultAction") is None and value.get("linux") is not None:
+            check(value, {"linux": {}}, "the profile", self.setting)
+            check(value["linux"], {"seccomp": {}}, "linux", self.setting)
+            return value["linux"].get("seccomp")
+        return value
+
+    def tell_unread(self, top: dict[str, Any]) -> None:
+        """Reports the members that nothing reads, and refuses those that may be conditions; of those that only other
+        engines read each once."""
+        of_others: dict[str, str] = {}
+        for where, name, member, kind in members_in(top, SECCOMP_MEMBERS, "the profile"):
+            is_ignored = self.setting.ignored is None or name in self.setting.ignored
+            if kind is None and where.startswith("entry ") and not is_ignored:
+                raise Refused(f"{where} has a member '{excerpt(name)}', which no engine reads, and which may be a "
+                              f"condition: --ignore {excerpt(name)} ignores it")
+            if kind is None:
+                self.note(f"{where}: nothing reads '{excerpt(name)}'")
+            elif member is not None and name in self.setting.unread:
+                of_others.setdefault(name, where)
+        for name, where in of_others.items():
+            self.note(f"{where}: {self.setting.engine} doesn't read '{name}'")
+
+    def resolved(self, value: Any) -> dict[str, Any]:
+        """The profile that the engine makes in this setting."""
+        value = self.seccomp_of(value)
+        check(value, SECCOMP_MEMBERS, "linux.seccomp" if value is None else "the profile", self.setting)
+        top = members_of(value, self.setting)
+        if not top.get("defaultAction"):
+            raise Refused("there is no defaultAction")
+        self.tell_unread(value)
+        profile = {"defaultAction": top["defaultAction"]}
+        number = self.errno_of(top, "defaultErrno", "defaultErrnoRet", "the profile")
+        if number is not None:
+            profile["defaultErrnoRet"] = number
+        architectures = self.architectures_of(top)
+        if architectures:
+            profile["architectures"] = architectures
+        profile.update((name, top[name]) for name in PASSED_ON if name in top)
+        profile["syscalls"] = [made for at, entry in enumerate(top.get("syscalls", []))
+                               for made in self.resolved_entry(at, entry)]
+        return profile
+
+    def resolved_entry(self, at: int, raw_entry: dict[str, Any]) -> list[dict[str, Any]]:
+        """The entry at this index, where the engine keeps it."""
+        entry = members_of(raw_entry, self.setting)
+        why = why_left_out(entry, self.setting, f"entry {at}")
+        made = None if why else self.entry_of(entry, f"entry {at}")
+        origin = Origin(at, excerpts([entry["name"]] if entry.get("name") else entry.get("names", [])))
+        if made is None:
+            self.note(f"{origin.describe()} left out: {why or 'it has no name'}")
+            return []
+        self.origins.append(origin)
+        return [made]
+
+    def keep_first(self, profile: dict[str, Any]) -> None:
+        """Leaves names out of an entry without conditions that another such entry answers otherwise: the first one
+        whose answer isn't the default's. Runtimes give libseccomp no entry with the default's."""
+        default = answer_of(profile["defaultAction"], profile.get("defaultErrnoRet"))
+        answers = [answer_of(entry["action"], entry.get("errnoRet")) for entry in profile["syscalls"]]
+        first: dict[str, Answer] = {}
+        for entry, answer in zip(profile["syscalls"], answers):
+            if not entry.get("args") and answer != default:
+                for name in entry["names"]:
+                    first.setdefault(name, answer)
+        for entry, answer in zip(profile["syscalls"], answers):
+            if entry.get("args"):
+                continue
+            for name in entry["names"]:
+                if first.get(name, answer) != answer:
+                    self.note(f"{excerpt(name)} left out of an entry with {excerpt(entry['action'])}: another entry "
+                              f"has it with {first[name].oci}")
+            entry["names"] = [name for name in entry["names"] if first.get(name, answer) == answer]
+        self.origins = [origin for entry, origin in zip(profile["syscalls"], self.origins) if entry["names"]]
+        profile["syscalls"] = [entry for entry in profile["syscalls"] if entry["names"]]
+
+
+def resolve(value: Any, setting: Setting, tell: Callable[[str], None],
+            keeps_first: bool = False) -> tuple[dict[str, Any], list[Origin]]:
+    """The resolved profile, and the origin of each entry; on request without later answers to a syscall."""
+    resolver = Resolver(setting, tell)
+    profile = resolver.resolved(value)
+    if keeps_first:
+        resolver.keep_first(profile)
+    if resolver.notes > MAX_NOTES:
+        tell(f"{resolver.notes - MAX_NOTES} more such lines")
+    return profile, resolver.origins
+
+
+def capabilities_of(text: str) -> list[str]:
+    """The capabilities of a list of names, with or without CAP_, in which a name of a set stands for it; a ValueError
+    where there is no such capability."""
+    names: list[str] = []
+    for word in filter(None, (word.strip() for word in text.split(","))):
+        name = word.upper()
+        name = name[4:] if name.startswith("CAP_") else name
+        if word not in SETS and name not in CAPABILITIES:
+            raise ValueError(f"'{word}' isn't a capability")
+        names += SETS.get(word, [name])
+    return sorted({f"CAP_{name}" for name in names})
+
+
+def capabilities_in(mask: int) -> list[str]:
+    """The capabilities of a set of bits, as a process's status has them (proc_pid_status(5))."""
+    return sorted(f"CAP_{name}" for bit, name in enumerate(CAPABILITIES) if mask >> bit & 1)
+
+
+def kernel_of(text: str) -> tuple[int, int]:
+    """The version of a kernel, of which two numbers count; a ValueError where it is none."""
+    parts = re.match(r"([0-9]{1,9})\.([0-9]{1,9})", text)
+    if not parts:
+        raise ValueError(f"'{text}' isn't a kernel version such as 6.1")
+    return int(parts[1]), int(parts[2])

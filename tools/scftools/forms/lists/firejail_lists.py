@@ -1,0 +1,311 @@
+"""firejail's profiles, as far as they state what syscalls its filters deny (firejail-profile(5)); a line may also be an
+option of firejail(1), as --seccomp.drop=LIST.
+
+The rules are those of firejail 0.9.72 for x86-64 alone. Its main filter goes by seccomp.keep, else by seccomp.drop,
+else by seccomp; the filters of protocol, memory-deny-write-execute and restrict-namespaces are loaded beside it. They
+look at the lower half of an argument. The groups are those of the installed firejail. Files that a profile
+includes are read from /etc/firejail.
+"""
+from __future__ import annotations
+
+import os
+import re
+import struct
+from collections.abc import Callable, Iterator
+
+from ...base.values import Pattern, dataclass, field
+from ...model import constants, tables
+from ...model.answers import ALLOW, ENOSYS, Answer
+from ...model.architectures import NATIVE
+from ...model.entries import Condition
+from . import sandbox_rules
+from .sandbox_rules import KILL, LOG, LOWER_HALF, ListError, Policy, Rule, UnknownRules, error_at
+from .unit_restrictions import NAMESPACES, Restriction, SettingError, among, masked, with_all, with_any
+from scfhost.units import answer_of_errno
+
+ENOTSUP = Answer("ERRNO", 95)
+SETTINGS = ("seccomp", "seccomp.drop", "seccomp.keep", "seccomp.block-secondary", "seccomp-error-action", "protocol",
+            "memory-deny-write-execute", "restrict-namespaces")
+SIGN = Pattern(rb"(?m)^(?:--)?(?:seccomp(?:\.(?:32\.)?(?:drop|keep)|\.32|\.block-secondary)?|protocol|"
+               rb"memory-deny-write-execute|restrict-namespaces)(?:[ =][^\n]*)?$|^include [^\n /]+\.(?:inc|local|profile)$")
+# Where firejail keeps the files that profiles include and its configuration, and its compiler of filters.
+PROFILES, CONFIGURATION = "/etc/firejail", "firejail.config"
+COMPILERS = tuple(f"/usr/{folder}/firejail/fseccomp" for folder in (
+    "lib/x86_64-linux-gnu", "lib", "lib64", "local/lib"))
+# The deepest nesting of includes, and the most files; the most words of a line that `ignore` compares; how long the
+# compiler may take, in seconds, and how much it may write.
+DEEPEST_INCLUDE, MOST_INCLUDED, MOST_IGNORED, COMPILER_SECONDS, MOST_FILTER_BYTES = 16, 64, 8, 10, 1 << 15
+# The instructions of its filters before those of syscalls, of which each compares a number: BPF_JMP|BPF_JEQ|BPF_K.
+HEAD_INSTRUCTIONS, COMPARE_NUMBER = 7, 0x15
+# The groups that seccomp.keep allows in any case, and that are denied without a list.
+ALWAYS_ALLOWED, DENIED_GROUP, DENIED_WITHOUT_DEBUGGERS = "@default-keep", "@default", "@default-nodebuggers"
+FAMILIES = {"unix": "AF_UNIX", "inet": "AF_INET", "inet6": "AF_INET6",
+            "netlink": "AF_NETLINK", "packet": "AF_PACKET", "bluetooth": "AF_BLUETOOTH"}
+# The bits of the lower half of an argument.
+BITS = range(32)
+# Actions, the strictest first (seccomp(2)).
+ORDER = ("KILL_THREAD", "ERRNO", "LOG", "ALLOW")
+
+
+@dataclass
+class StatedSettings:
+    """What a profile and the files that it includes state, each with the line of the profile."""
+
+    of: dict[str, tuple[str, int]] = field(default_factory=dict)
+    ignored: set[str] = field(default_factory=set)
+    # how many files were included
+    included: int = 0
+    allows_debuggers: bool = False
+    remarks: list[str] = field(default_factory=list)
+
+    def ignores(self, name: str, value: str) -> bool:
+        """Whether a line is ignored: its first words are those behind `ignore`."""
+        words = f"{name} {value}".split()
+        return any(" ".join(words[:count]) in self.ignored for count in range(1, min(len(words), MOST_IGNORED) + 1))
+
+
+def _contents(path: str, most: int) -> bytes:
+    with open(path, "rb") as file:
+        data = file.read(most + 1)
+    if len(data) > most:
+        raise ListError(f"'{path}' has more than {most} bytes")
+    return data
+
+
+def group_numbers(group: str) -> list[int]:
+    """The numbers of a group's syscalls, as the installed firejail compiles them into a filter that denies them, and
+    into a second one for those that firejail needs itself."""
+    import subprocess  # pylint: disable=import-outside-toplevel
+    import tempfile  # pylint: disable=import-outside-toplevel
+
+    compiler = next((path for path in COMPILERS if os.access(path, os.X_OK)), None)
+    if compiler is None:
+        raise UnknownRules("it names a group of firejail, which isn't installed")
+    with tempfile.TemporaryDirectory() as folder:
+        paths = [os.path.join(folder, name) for name in ("first", "second")]
+        try:
+            done = subprocess.run([compiler, "drop", *paths, group], stdin=subprocess.DEVNULL, check=False,
+                                  stdout=subprocess.DEVNULL, stderr=subprocess.DEVNULL, timeout=COMPILER_SECONDS)
+        except (OSError, subprocess.TimeoutExpired) as error:
+            raise UnknownRules(f"'{compiler}' can't be run") from error
+        filters = [_contents(path, MOST_FILTER_BYTES) for path in paths if os.path.exists(path)]
+    if done.returncode:
+        raise ListError(f"'{group}' isn't a group of the installed firejail")
+    instructions = [instruction for data in filters
+                    for instruction in [*struct.iter_unpack("<HBBI", data)][HEAD_INSTRUCTIONS:]]
+    return list(dict.fromkeys(k for code, _, _, k in instructions if code == COMPARE_NUMBER))
+
+
+def _included(name: str, at: int, settings: StatedSettings) -> bytes:
+    """The contents of a file that a profile includes; nothing of one that isn't there, as firejail goes on then."""
+    settings.included += 1
+    if settings.included > MOST_INCLUDED:
+        raise ListError(f"it includes more than {MOST_INCLUDED} files")
+    name = name.replace("${CFG}/", "").removeprefix(f"{PROFILES}/")
+    if not re.fullmatch(r"[A-Za-z0-9_+-][A-Za-z0-9_.+-]{0,200}", name):
+        raise error_at(at, f"only files of {PROFILES} are included, not '{name}'")
+    try:
+        return _contents(os.path.join(PROFILES, name), sandbox_rules.MOST_LIST_BYTES)
+    except FileNotFoundError:
+        if not name.endswith(".local"):
+            settings.remarks.append(f"line {at}: {PROFILES} has no {name}")
+        return b""
+    except OSError as error:
+        raise error_at(at, f"'{name}' can't be read: {error.strerror}") from error
+
+
+def read_lines(data: bytes, settings: StatedSettings, outer: int | None = None, depth: int = 0) -> None:
+    """Reads the lines of a file, which the line `outer` of the profile includes."""
+    if depth > DEEPEST_INCLUDE:
+        raise ListError("files include each other too deep")
+    for number, line in sandbox_rules.lines_of(data):
+        at = number if outer is None else outer
+        name, _, value = re.sub(r"\s+", " ", line.strip()).removeprefix("--").replace("=", " ", 1).partition(" ")
+        if not name or name.startswith("#"):
+            continue
+        if name.startswith("?") and any(word in value for word in ("seccomp", "protocol")):
+            raise error_at(at, "whether its condition holds isn't known", UnknownRules)
+        if name in (*SETTINGS, "include", "allow-debuggers") and settings.ignores(name, value):
+            continue
+        if name == "include":
+            read_lines(_included(value, at, settings), settings, at, depth + 1)
+        elif name == "ignore":
+            settings.ignored.add(value)
+        elif name == "allow-debuggers":
+            settings.allows_debuggers = True
+        elif name in SETTINGS:
+            settings.of[name] = value, at
+        elif name.startswith("seccomp.32"):
+            settings.remarks.append(f"line {at}: {name} is for i386, which the profile leaves out")
+        elif name.startswith("seccomp"):
+            raise error_at(at, f"'{name}' isn't a setting of firejail 0.9.72")
+
+
+@dataclass
+class GroupReader:
+    """Reads lists of syscalls; asks for the numbers of a group once."""
+
+    ask: Callable[[str], list[int]] = group_numbers
+    groups: dict[str, list[int]] = field(default_factory=dict)
+
+    def names_of(self, word: str, at: int) -> list[str]:
+        """The names of a word: a group's, a number's behind `$`, or its own."""
+        if not re.fullmatch(r"@[a-z-]{1,64}|\$[0-9]{1,9}|\w{1,64}", word, re.A):
+            raise error_at(at, f"'{word}' isn't a syscall")
+        if word[0] not in "@$":
+            return [word]
+        if word[0] == "@" and word not in self.groups:
+            self.groups[word] = self.ask(word)
+        table = tables.of_architecture(NATIVE) or tables.Table(b"")
+        names = []
+        for number in self.groups[word] if word[0] == "@" else [int(word[1:])]:
+            if not table.names_of(number):
+                raise error_at(at, f"no name is known of the syscall {number}, and a profile has names alone")
+            names.append(table.names_of(number)[0])
+        return names
+
+    def answers_in(self, text: str, at: int, plain: Answer, negated: Answer,
+                   settings: StatedSettings) -> dict[str, Answer]:
+        """The answers of a list: of a name behind `!`, or with an errno, before those of other names."""
+        exceptions: dict[str, Answer] = {}
+        others: dict[str, Answer] = {}
+        for word in filter(None, text.split(",")):
+            name, colon, action = word.removeprefix("!").partition(":")
+            if action == "log":
+                settings.remarks.append(f"line {at}: firejail leaves {word} out")
+                continue
+            answer = _answer_of(action, at) if colon else negated if word.startswith("!") else plain
+            names = exceptions if colon or word.startswith("!") else others
+            for called in self.names_of(name, at):
+                names.setdefault(called, answer)
+        return {**others, **exceptions}
+
+
+def _answer_of(text: str, at: int) -> Answer:
+    """The answer of an error action."""
+    if text.lower() in ("kill", "log"):
+        return KILL if text.lower() == "kill" else LOG
+    try:
+        return answer_of_errno(text)
+    except SettingError as why:
+        raise error_at(at, str(why)) from why
+
+
+def _families(text: str, at: int) -> Restriction:
+    """Denies a socket whose family isn't one of a list: one with another value below 64, or a higher bit."""
+    values = []
+    for word in text.split(","):
+        if word not in FAMILIES:
+            raise error_at(at, f"'{word}' isn't a protocol of firejail")
+        values.append(constants.numbers()[FAMILIES[word]])
+    others = [masked(0, LOWER_HALF, value) for value in range(1 << 6) if value not in values]
+    return Restriction(ENOTSUP, [*others, *(masked(0, 1 << bit, 1 << bit) for bit in BITS[6:])],
+                       [masked(0, LOWER_HALF, value) for value in sorted(values)])
+
+
+def _namespaces(text: str, at: int, answer: Answer) -> dict[str, Restriction]:
+    """Denies making or joining some namespaces, or any."""
+    words = text.split(",") if text else list(NAMESPACES)
+    if not set(words) <= NAMESPACES.keys():
+        raise error_at(at, f"'{text}' aren't namespaces")
+    flags, no_flag = sorted({constants.numbers()[NAMESPACES[word]] for word in words}), masked(1, LOWER_HALF, 0)
+    of_clone = [flag for flag in flags if flag != constants.numbers()["CLONE_NEWTIME"]]
+    entered = [masked(1, sum(flags) | 1 << bit, 1 << bit) for bit in BITS if 1 << bit not in flags]
+    return {"clone": with_any(0, of_clone, answer), "clone3": Restriction(ENOSYS),
+            "unshare": with_any(0, flags, answer),
+            "setns": Restriction(answer, [*with_any(1, flags).denied, no_flag], entered)}
+
+
+def _personality(answer: Answer) -> Restriction:
+    """Denies another personality than 0 and 0xffffffff, which asks for the present one: of the lower half some bit is
+    set and the next one isn't, or it has more bits."""
+    mixed = [masked(0, 1 << bit | 1 << (bit + 1) % len(BITS), 1 << bit) for bit in BITS]
+    return Restriction(answer, [*mixed, (Condition(0, "SCMP_CMP_GT", LOWER_HALF, 0),)], among(0, (0, LOWER_HALF)))
+
+
+def _memory(answer: Answer) -> dict[str, Restriction]:
+    """Denies memory that is to be written and executed."""
+    write, execute, attach = (constants.numbers()[name] for name in ("PROT_WRITE", "PROT_EXEC", "SHM_EXEC"))
+    return {"mmap": with_all(2, (write, execute), answer),
+            **dict.fromkeys(("mprotect", "pkey_mprotect"), with_any(2, [execute], answer)),
+            "shmat": with_any(2, [attach], answer), "memfd_create": Restriction(answer)}
+
+
+def _main_list(settings: StatedSettings, reader: GroupReader, answer: Answer) -> tuple[Answer, dict[str, Answer], int]:
+    """The default of the main filter, its answers by names, and the line that they stand on."""
+    of = settings.of
+    if "seccomp.keep" in of:
+        text, at = of["seccomp.keep"]
+        always = dict.fromkeys(reader.names_of(ALWAYS_ALLOWED, at), ALLOW)
+        return answer, {**always, **reader.answers_in(text, at, ALLOW, answer, settings)}, at
+    if "seccomp.drop" in of:
+        text, at = of["seccomp.drop"]
+        return ALLOW, reader.answers_in(text, at, answer, ALLOW, settings), at
+    text, at = of.get("seccomp") or of.get("seccomp.block-secondary") or ("", 0)
+    if not at:
+        return ALLOW, {}, 0
+    group = DENIED_GROUP if settings.allows_debuggers else DENIED_WITHOUT_DEBUGGERS
+    return ALLOW, reader.answers_in(f"{group},{text}" if "seccomp" in of else group, at, answer, ALLOW, settings), at
+
+
+def _restrictions(settings: StatedSettings, answer: Answer) -> dict[str, tuple[Restriction, int]]:
+    """What the filters beside the main one deny, by names, each with its line."""
+    readers: dict[str, Callable[[str, int], dict[str, Restriction]]] = {
+        "protocol": lambda text, at: {"socket": _families(text, at)},
+        "memory-deny-write-execute": lambda _, __: _memory(answer),
+        "restrict-namespaces": lambda text, at: _namespaces(text, at, answer),
+        "seccomp.block-secondary": lambda _, __: {"personality": _personality(answer)}}
+    return {name: (restriction, settings.of[setting][1]) for setting, restrictions_of in readers.items()
+            if setting in settings.of for name, restriction in restrictions_of(*settings.of[setting]).items()}
+
+
+def _rules_of(name: str, main: tuple[Answer, int], restricted: tuple[Restriction, int] | None) -> Iterator[Rule]:
+    """The rules of a syscall that one or two filters answer: the stricter answer counts, and of two errnos that of the
+    newer filter, which is the one of protocol, else the main one."""
+    (answer, at), (restriction, restricted_at) = main, restricted or (None, 0)
+    denies = restriction is not None and (
+        ORDER.index(restriction.answer.action) < ORDER.index(answer.action) or
+        restriction.answer.action == answer.action and name == "socket")
+    if not denies:
+        yield Rule(name, answer, (), at)
+        return
+    yield from (Rule(name, restriction.answer, conditions, restricted_at) for conditions in restriction.denied)
+    yield from (Rule(name, answer, conditions, at or restricted_at) for conditions in restriction.allowed)
+
+
+def _global_action() -> str:
+    """The error action of the machine's configuration. Raises UnknownRules if that changes the filters otherwise."""
+    action = "EPERM"
+    try:
+        data = _contents(os.path.join(PROFILES, CONFIGURATION), sandbox_rules.MOST_LIST_BYTES)
+    except OSError:
+        return action
+    for line in data.decode("utf-8", "replace").split("\n"):
+        name, _, value = line.strip().partition(" ")
+        if name == "seccomp-error-action":
+            action = value.strip()
+        elif name == "seccomp-filter-add" or name == "seccomp" and value.strip() == "no":
+            raise UnknownRules(f"{CONFIGURATION} has {name}, which changes the filters")
+    return action
+
+
+def policy_of(settings: StatedSettings, reader: GroupReader) -> Policy:
+    """The rules that settings have together."""
+    text, at = settings.of.get("seccomp-error-action") or (_global_action(), 0)
+    answer = _answer_of(text, at)
+    default, answers, line = _main_list(settings, reader, answer)
+    restrictions = _restrictions(settings, answer)
+    policy = Policy(default, remarks=list(dict.fromkeys(settings.remarks)))
+    policy.add_known(rule for name in dict.fromkeys([*answers, *restrictions])
+                     for rule in _rules_of(name, (answers.get(name, default), line), restrictions.get(name)))
+    policy.remarks.append("the profile is for x86-64 alone, and kills i386 and x32 syscalls, which firejail answers "
+                          "otherwise")
+    return policy
+
+
+def read(data: bytes) -> Policy:
+    settings = StatedSettings()
+    read_lines(data, settings)
+    if not any(name in settings.of for name in SETTINGS if name != "seccomp-error-action"):
+        raise ListError("it has no setting of seccomp that counts")
+    return policy_of(settings, GroupReader())

@@ -1,0 +1,39 @@
+"""Sandboxes whose own lists of syscalls commands take as profiles: LXC, snapd and firejail."""
+from __future__ import annotations
+
+from collections.abc import Callable
+
+from ...base import program
+from ...base.values import Pattern, dataclass
+from ..engines import Refused
+from . import firejail_lists, lxc_policies, snap_templates
+from .sandbox_rules import ListError, Policy
+
+
+@dataclass(frozen=True)
+class Sandbox:
+    """A sandbox, and what its list is called: what only such a list has, and its reader, which raises ListError."""
+
+    name: str
+    kind: str
+    sign: Pattern
+    read: Callable[[bytes], Policy]
+
+    def profile_of(self, data: bytes, label: str) -> tuple[bytes, list[str]]:
+        """The profile of a list, and notes on it; raises ToolError."""
+        try:
+            policy = self.read(data)
+            return policy.data(), list(policy.notes())
+        except (ListError, Refused) as why:
+            status = why.status if isinstance(why, ListError) else program.NEGATIVE
+            raise program.ToolError(f"{label}, {self.kind}: {why}", status) from why
+
+
+SANDBOXES = (Sandbox("LXC", "an LXC policy", lxc_policies.SIGN, lxc_policies.read),
+             Sandbox("snapd", "a snap's seccomp template", snap_templates.SIGN, snap_templates.read),
+             Sandbox("firejail", "a firejail profile", firejail_lists.SIGN, firejail_lists.read))
+
+
+def sandbox_of(data: bytes) -> Sandbox | None:
+    """The sandbox whose list a text is."""
+    return next((sandbox for sandbox in SANDBOXES if sandbox.sign.search(data)), None)

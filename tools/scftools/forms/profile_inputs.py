@@ -1,0 +1,217 @@
+"""Profiles as commands take them: a profile or a whole config.json, Kubernetes' SeccompProfile objects (of the Security
+Profiles Operator), whose spec is one, lists of other sandboxes, and with --caps an engine's own. What is known to be
+something else is refused, and named."""
+from __future__ import annotations
+
+import os
+import re
+from collections.abc import Iterator, Sequence
+
+from ..base import inputs, output, program
+from ..base.values import Any, Pattern, dataclass, field, replace
+from ..model import profiles, tables
+from ..model.architectures import JUDGED, NATIVE
+from ..model.profiles import SANDBOX, DerivedProfile, Origin
+from ..model.tables import Table, Tables
+from ..ask.explanation import join_names
+from . import engines, filters, kubernetes
+
+TYPE_CHECKING = False
+if TYPE_CHECKING:
+    from .lists.sandboxes import Sandbox
+
+# What other commands print of a container, by members that it has, and what to take instead.
+INSPECTIONS = (
+    ("crictl inspect", (b'"runtimeSpec"', b'"defaultAction"'), "its .info.runtimeSpec, as with jq"),
+    ("podman inspect", (b'"HostConfig"', b'"OCIConfigPath"'),
+     "the file that `podman inspect -f '{{.OCIConfigPath}}' NAME` names"),
+    ("docker inspect", (b'"HostConfig"',), "/run/containerd/io.containerd.runtime.v2.task/moby/ID/config.json, as long "
+                                           "as the container runs"))
+ID = Pattern(rb'"Id":\s*"([0-9a-f]{64})"')
+# Members of a SeccompProfile's spec that aren't a profile's.
+OF_SPEC_ALONE = ("baseProfileName", "disabled")
+
+
+@dataclass(frozen=True)
+class ProfileInput:
+    """A profile for scf: as it stands in a file, as an engine resolves it, or as a runtime is given it."""
+
+    data: bytes
+    # where each entry of one that was resolved comes from in the user's file
+    origins: Sequence[Origin] | None = None
+    # by the OCI name of an architecture, the least number of a record that runc answers with ENOSYS
+    stub: dict[str, int] = field(default_factory=dict)
+    # the entries that an engine passes on to a runtime, also those of which libseccomp knows no name
+    passed_on: Sequence[Origin] = ()
+    # the runtime, and the profile without names that libseccomp doesn't know, and without libseccomp's rules for i386
+    runtime: Any = None
+    profile: dict[str, Any] = field(default_factory=dict)
+    # what is to be known of the whole; and entry by entry, what an engine left out or the runtime reads otherwise
+    remarks: Sequence[str] = ()
+    notes: Sequence[str] = ()
+
+    @property
+    def places(self) -> list[int] | None:
+        """The index of each entry in the user's file, if it was resolved."""
+        return None if self.origins is None else [origin.index for origin in self.origins]
+
+    def read_by(self, runtime: str | None) -> ProfileInput:
+        """The same, read with TRAP's data if that is what `--runtime` names."""
+        return self if runtime != SANDBOX else replace(self, data=profiles.read_as(self.data, SANDBOX))
+
+    def judged(self, table: Table, is_native: bool) -> Tables:
+        """The tables that it is judged by, and how it is read."""
+        return replace(tables.of_profile(self.data, table, is_native), stub=self.stub)
+
+    def stub_notes(self, stub: dict[str, int]) -> Iterator[str]:
+        """The notes on a filter that begins with a stub at these numbers."""
+        yield stub_note(stub)
+        names = {name for entry in self.profile["syscalls"] for name in entry["names"]}
+        for architecture, first in stub.items():
+            row, table = JUDGED[architecture], tables.of_architecture(architecture) or tables.Table(b"")
+            covered = sorted(name for name, number in table.numbered() if name in names and row.first + number >= first)
+            if covered:
+                yield (f"so it answers {row.name}'s {output.some(covered, engines.MAX_LISTED)}, though the profile "
+                       "names them, unless socketcall or ipc makes them: libseccomp tells runc no number of theirs")
+
+    def describe(self) -> Iterator[str]:
+        """Notes on the profile and its entries."""
+        yield from engines.at_most(self.notes)
+        yield from self.remarks
+        if self.stub:
+            first, *more = self.stub_notes(self.stub)
+            yield f"not in the profile: {first}"
+            yield from more
+
+
+def stub_note(stub: dict[str, int]) -> str:
+    """The note on a filter that begins with runc's stub."""
+    firsts = [("" if name == NATIVE else f"of {JUDGED[name].name} ") + f"from {first - JUDGED[name].first} on"
+              for name, first in stub.items()]
+    return f"runc answers the numbers {join_names(firsts)}, above all that the profile names, with ENOSYS"
+
+
+def _refuse_others(data: bytes, label: str) -> None:
+    """Refuses what isn't a profile, where that is known."""
+    if data.startswith(b"\x7fELF"):
+        raise program.ToolError(f"{label} is an ELF file (a program, library or object), not a profile")
+    if filters.are_codes(data):
+        raise program.ToolError(f"{label} is a raw filter, not a profile: `scf diff` compares two filters, and "
+                                "`scf profile-of` prints the profile of one")
+    for command, members, instead in INSPECTIONS if data.lstrip().startswith((b"[", b"{")) else ():
+        if all(member in data for member in members):
+            match = ID.search(data)
+            instead = instead.replace("/ID/", f"/{match[1].decode()}/") if match else instead
+            raise program.ToolError(f"{label} is what `{command}` prints: take {instead}")
+
+
+def _sandbox_of(data: bytes) -> Sandbox | None:
+    """The sandbox whose list a text is; none of JSON and of a raw filter."""
+    if data.lstrip(b" \t\r\n")[:1] in (b"{", b"[") or b"\0" in data:
+        return None
+    from .lists import sandboxes  # pylint: disable=import-outside-toplevel
+
+    return sandboxes.sandbox_of(data)
+
+
+def looks_like_profile(data: bytes) -> bool:
+    """Whether an input is meant to be a profile, and not a filter: an object, which no C array is, YAML, or a sandbox's
+    list."""
+    is_object = data.lstrip(b" \t\r\n")[:1] == b"{" and not re.match(rb"\s*\{\s*(?:[{(0-9]|BPF_)", data)
+    return is_object or kubernetes.is_yaml(data) or _sandbox_of(data) is not None
+
+
+def plain(data: bytes, name: str) -> bytes:
+    """A profile as runtimes read it: of a SeccompProfile its spec, of a sandbox's list its rules, all else as it is.
+    Refuses what isn't one."""
+    label = inputs.label(name)
+    _refuse_others(data, label)
+    sandbox = _sandbox_of(data)
+    if sandbox is not None:
+        text, notes = sandbox.profile_of(data, label)
+        program.say(f"{label} is {sandbox.kind}: its rules are the profile", *engines.at_most(notes))
+        profile = DerivedProfile(text)
+        profile.has_comments = True
+        return profile
+    try:
+        spec = kubernetes.spec_of(data)
+    except engines.Refused as why:
+        raise program.ToolError(f"{label}: {why}", program.NEGATIVE) from why
+    if spec is None:
+        return data
+    program.say(f"{label} is a {kubernetes.KIND} of Kubernetes: its spec is the profile")
+    profile = DerivedProfile(spec)
+    profile.within = "spec"
+    return profile
+
+
+def setting_of(caps: str, engine: str | None = None, machine: str | None = None) -> engines.Setting:
+    """A container with these capabilities on this kernel, and by default on this machine."""
+    try:
+        return engines.Setting(engines.capabilities_of(caps), engines.kernel_of(os.uname().release), engine=engine,
+                               machine=machine or engines.machine_here())
+    except ValueError as why:
+        raise program.ToolError(str(why)) from why
+
+
+def _resolved(data: bytes, name: str, caps: str, machine: str | None) -> ProfileInput:
+    """An engine's profile resolved for a container with these capabilities."""
+    setting = setting_of(caps, machine=machine)
+    try:
+        resolved, origins = engines.resolve(engines.read(data), setting, lambda _: None, True)
+        profile = DerivedProfile(engines.to_bytes(resolved))
+    except engines.Refused as why:
+        raise program.ToolError(f"{inputs.label(name)}: {why}", program.NEGATIVE) from why
+    more = "" if machine is None else f" --machine {machine}"
+    program.say(f"{inputs.label(name)} is resolved as by resolve-profile --keep-first --caps {caps}{more}, which says "
+                f"what is left out; entries that remain: {len(resolved['syscalls'])}")
+    return ProfileInput(profile, origins)
+
+
+def read_engines(name: str) -> bytes:
+    """A profile that an engine may have made for itself."""
+    return plain(inputs.read_whole(name, "engine's profile"), name)
+
+
+def read(name: str, caps: str | None = None, is_runtimes: bool = False) -> ProfileInput:
+    """The profile in a file, a pipe or standard input."""
+    data = inputs.read(name, "profile") if caps is None else inputs.read_whole(name, "engine's profile")
+    return profile_in(data, name, caps, is_runtimes)
+
+
+def tell_unread(data: bytes, path: str, is_strict: bool) -> None:
+    """Says which members of a profile aren't read, which may be misspelt; or refuses it."""
+    of_spec = OF_SPEC_ALONE if isinstance(data, DerivedProfile) else ()
+    unread = [member for member in profiles.unread_members(data) if member[1] not in of_spec]
+    if not unread:
+        return
+    where, name, known_names = unread[0]
+    near = tables.nearest_member(name, known_names)
+    nearest = f"; the nearest is '{near}'" if near is not None else ""
+    others = f", and of {len(unread) - 1} more" * (len(unread) > 1)
+    remark = f"{inputs.label(path)}: nothing reads the member '{output.cut(name)}' of {where}{others}{nearest}"
+    if is_strict:
+        raise program.ToolError(remark, program.NEGATIVE)
+    program.say(remark)
+
+
+def profile_in(data: bytes, name: str, caps: str | None = None, is_runtimes: bool = False,
+               is_strict: bool = False, machine: str | None = None) -> ProfileInput:
+    """The profile in what was read of an input, with `caps` an engine's, for a machine. Refuses one with members that
+    only podman reads otherwise than scf, or, if a runtime is said to apply it, that any program in Go does; and if
+    strict, with members that nothing reads. scf itself refuses the other members of engines."""
+    if caps is None and len(data) > inputs.LIMITS["profile"]:
+        # scf says so
+        return ProfileInput(data)
+    data = plain(data, name)
+    if caps is not None:
+        return _resolved(data, name, caps, machine)
+    remark = profiles.errno_by_name(data)
+    if remark is not None:
+        hint = "--runtime podman takes it" if is_runtimes else "scf resolve-profile resolves it"
+        raise program.ToolError(f"{remark}, which only podman reads: {hint}", program.NEGATIVE)
+    misread = profiles.misread_members(data) if is_runtimes else []
+    if misread:
+        raise program.ToolError(misread[0].describe(), program.NEGATIVE)
+    tell_unread(data, name, is_strict)
+    return ProfileInput(data)

@@ -1,0 +1,366 @@
+"""Container runtimes: what decides beside a profile's words how runc and crun read it.
+
+scf reads a profile as they do (`--reading`; RUNTIMES.md has the rules). The tools know the rest: which engine
+resolves the profile before, what a runtime refuses beside it, the names that this machine's libseccomp knows, its rules
+of socketcall and ipc, and where runc's stub begins.
+"""
+from __future__ import annotations
+
+import os
+from collections.abc import Iterator, Sequence
+
+from ..base import inputs, program
+from ..base.values import Any, dataclass, replace
+from ..model import architectures, libseccomp, multiplexed, profiles, tables
+from ..model.answers import MAX_ERRNO, Answer
+from ..model.architectures import JUDGED, NATIVE, NUMBERS, PREFIX
+from ..model.profiles import SANDBOX
+from ..model.tables import Tables
+from ..cli.words import Parser
+from . import engines, profile_inputs
+from .engines import Origin, Refused, Setting, answer_of, excerpt, excerpts
+from .profile_inputs import ProfileInput
+
+RUNC, CRUN = "runc", "crun"
+ERRNO, NOTIFY = "SCMP_ACT_ERRNO", "SCMP_ACT_NOTIFY"
+# Actions of a default beside which runc's stub isn't put before the filter (isAllowAction of patchbpf).
+WITHOUT_STUB = ("SCMP_ACT_ALLOW", "SCMP_ACT_LOG", "SCMP_ACT_TRACE")
+# The most conditions of an entry that crun reads.
+CRUN_CONDITIONS = 6
+
+
+@dataclass(frozen=True)
+class Runtime:
+    """A runtime by the name that a user gives it: the program, whose name is scf's of its reading, and the engine whose
+    default it is, which resolves a profile before."""
+
+    name: str
+    program: str
+    engine: str | None = None
+
+
+RUNTIMES = {runtime.name: runtime
+            for runtime in (Runtime(RUNC, RUNC), Runtime(CRUN, CRUN), Runtime("docker", RUNC, "docker"),
+                            Runtime("podman", CRUN, "podman"))}
+RUNTIME_HELP = ("read a profile as this container runtime does: runc and crun take a resolved one; docker (moby with "
+                "runc) and podman (with crun) also resolve an engine's own. An entry whose answer is the default's is "
+                "ignored, of two entries without conditions the first counts, and names that this machine's libseccomp "
+                "doesn't know are left out")
+
+
+def reading_of(name: str | None) -> str:
+    """scf's reading of a profile for what `--runtime` names."""
+    return RUNTIMES[name].program if name in RUNTIMES else name or profiles.STRICT
+
+
+def add_option(parser: Parser, is_sandboxes: bool = False) -> None:
+    """Adds `--runtime`; with the reading of a profile that says what a program's own sandbox answers."""
+    also = ((SANDBOX,), "; sandbox goes by the words, with errnoRet beside SCMP_ACT_TRAP as its data") if is_sandboxes \
+        else ((), "")
+    parser.add_argument("--runtime", choices=(*RUNTIMES, *also[0]), help=RUNTIME_HELP + also[1])
+
+
+def add_options(parser: Parser, without_caps: str = "podman for podman, or docker", is_sandboxes: bool = False) -> None:
+    """Adds `--runtime`, and what says how an engine resolves a profile; without `--caps` for which capabilities."""
+    add_option(parser, is_sandboxes)
+    parser.add_argument("--engine", choices=tuple(engines.ENGINES),
+                        help="the engine whose rules resolve the profile: Docker since 23.0, Docker 20.10 or podman "
+                             "[default: that of --runtime, or all members that one of them reads]")
+    parser.add_argument("--caps", metavar="LIST",
+                        help="the container's capabilities, such as CAP_KILL,SYS_ADMIN; docker, podman and none are "
+                             f"sets, as in docker,SYS_ADMIN [default: {without_caps}]")
+    parser.add_argument("--kernel", metavar="X.Y", help="the kernel that the engine runs on [default: this one]")
+    parser.add_argument("--arch-map", choices=("native", "all"),
+                        help="which architectures of archMap are passed on: the machine's own, or all [default: all, "
+                             "as the engine does]")
+    parser.add_argument("--ignore", metavar="MEMBER", action="append",
+                        help="ignore a member of entries that no engine reads, which may be a condition")
+
+
+def is_engines(options: Any) -> bool:
+    """Whether some word says that a profile is an engine's."""
+    return any(getattr(options, name, None) is not None
+               for name in ("engine", "caps", "kernel", "arch_map", "ignore", "machine"))
+
+
+def setting_of_words(options: Any, parser: Parser) -> Setting:
+    """The container that an engine resolves profiles for."""
+    engine = options.engine or (RUNTIMES[options.runtime].engine if options.runtime in RUNTIMES else None)
+    is_podman = engine == "podman"
+    try:
+        return Setting(engines.capabilities_of(options.caps if options.caps is not None else
+                                               "podman" if is_podman else "docker"),
+                       engines.kernel_of(options.kernel or os.uname().release), options.arch_map == "native", engine,
+                       options.ignore or (), machine=getattr(options, "machine", None) or engines.machine_here())
+    except ValueError as why:
+        parser.error(str(why))
+
+
+def _short_errno(holder: dict[str, Any], name: str) -> dict[str, int]:
+    """The member of an errno, of which libseccomp takes 16 bits."""
+    return {} if holder.get(name) is None else {name: holder[name] & 0xFFFF}
+
+
+def _has_all(conditions: Sequence[dict[str, Any]]) -> bool:
+    """Whether every syscall meets these conditions, since they compare nothing: masks without a bit."""
+    return all(condition.get("op") == "SCMP_CMP_MASKED_EQ" and not condition.get("value") for condition in conditions)
+
+
+class _Application:
+    """The making of what a runtime is given out of a resolved profile, on a machine with this OCI name of its own
+    architecture."""
+
+    def __init__(self, runtime: Runtime, native: str):
+        self.runtime, self.native = runtime, native
+        self.is_runc = runtime.program == RUNC
+        self.most_conditions = None if self.is_runc else CRUN_CONDITIONS
+        self.library = libseccomp.installed()
+        # a name's number on an architecture: by the library, or without one by the tables
+        self.number_of = _number_in_tables if self.library is None else self.library.number_of
+        self.remarks: list[str] = []
+        self.unknown: dict[str, None] = {}
+
+    def refuse(self, why: str) -> None:
+        raise Refused(f"{self.runtime.program} refuses the profile: {why}")
+
+    def check_action(self, action: str, number: int | None, where: str) -> None:
+        """Refuses an action, or its errno, that the runtime or libseccomp refuses."""
+        if action not in profiles.OCI_ACTIONS:
+            self.refuse(f"{where} has an unknown action: '{excerpt(action)}'")
+        if number is None:
+            return
+        if action not in profiles.WITH_ERRNO:
+            if not self.is_runc:
+                self.refuse(f"{where} has an errno beside {action}")
+            if not any(remark.startswith("an errno") for remark in self.remarks):
+                self.remarks.append("an errno beside an action that takes none is ignored: the first is that of "
+                                    f"{where}")
+        elif not self.is_runc and number >= 1 << 32:
+            self.refuse(f"the errno {number} of {where}")
+        elif action == ERRNO and number & 0xFFFF > MAX_ERRNO:
+            self.refuse(f"libseccomp takes no errno above {MAX_ERRNO}, and {where} has {number & 0xFFFF}")
+
+    def check_supervisor(self, profile: dict[str, Any], origins: Sequence[Origin]) -> None:
+        """Refuses what runc refuses of a profile whose calls a supervisor answers."""
+        if profile["defaultAction"] == NOTIFY:
+            self.refuse(f"{NOTIFY} can't be the default action")
+        for entry, origin in zip(profile["syscalls"], origins):
+            if entry["action"] == NOTIFY and "write" in entry["names"]:
+                self.refuse(f"entry {origin.index} has write with {NOTIFY}")
+            if entry["action"] == NOTIFY and "listenerPath" not in profile:
+                self.refuse(f"it has {NOTIFY} and no listenerPath")
+
+    def entry_of(self, entry: dict[str, Any], where: str) -> dict[str, Any]:
+        """An entry as libseccomp is given it, without the names that it doesn't know; and of an errno the 16 bits."""
+        self.check_action(entry["action"], entry.get("errnoRet"), where)
+        if self.is_runc and "" in entry["names"]:
+            self.refuse(f"a name of {where} is empty")
+        numbers = {name: self.number_of(name, self.native) for name in entry["names"]}
+        self.unknown.update({name: None for name, number in numbers.items() if number is None})
+        count, most = len(entry.get("args", ())), self.most_conditions
+        if most is not None and count > most:
+            self.remarks.append(f"{where} has {count} conditions, of which crun takes the first {most}")
+        names = [name for name, number in numbers.items() if number is not None]
+        return {**entry, "names": names, **_short_errno(entry, "errnoRet")}
+
+    def notes_on(self, profile: dict[str, Any], origins: Sequence[Origin]) -> Iterator[str]:
+        """Which entries the runtime reads otherwise than by their words (Readings.antt has the rules)."""
+        who, default = self.runtime.program, answer_of(profile["defaultAction"], profile.get("defaultErrnoRet"))
+        handed: list[tuple[Sequence[str], Answer, Origin]] = []
+        unconditional: dict[str, tuple[Answer, Origin]] = {}
+        for entry, origin in zip(profile["syscalls"], origins):
+            answer = answer_of(entry["action"], entry.get("errnoRet"))
+            if answer == default:
+                yield f"{who} leaves out {origin.describe()}: its answer is the default's"
+                continue
+            handed.append((entry["names"], answer, origin))
+            conditions = entry.get("args", [])[:self.most_conditions]
+            is_repeated = len({condition.get("index", 0) for condition in conditions}) < len(conditions)
+            if is_repeated:
+                yield f"{who} reads the conditions of {origin.describe()} as alternatives: two are on one argument"
+            if any(map(_has_all, [[condition] for condition in conditions] if is_repeated else [conditions])):
+                for name in entry["names"]:
+                    unconditional.setdefault(name, (answer, origin))
+        for names, answer, origin in handed:
+            covered: dict[int, list[str]] = {}
+            for name in names:
+                first_answer, first = unconditional.get(name, (answer, origin))
+                if first_answer != answer:
+                    covered.setdefault(first.index, []).append(name)
+            for index, covered_names in covered.items():
+                yield (f"{who} leaves {excerpts(covered_names)} out of entry {origin.index}: entry {index}, which has "
+                       "no conditions, covers all such syscalls")
+
+    def stub_of(self, profile: dict[str, Any]) -> dict[str, int]:
+        """By architecture the least number of a record that runc answers with ENOSYS (findLastSyscalls of patchbpf)."""
+        if not self.is_runc or profile["defaultAction"] in WITHOUT_STUB:
+            return {}
+        names = {name for entry in profile["syscalls"] for name in entry["names"]}
+        greatest = {architecture: max([self.number_of(name, architecture) or 0 for name in names], default=0)
+                    for architecture in JUDGED if architecture in profile.get("architectures", ())}
+        return {architecture: number + 1 for architecture, number in greatest.items() if number > 0}
+
+    def read_as(self, handed: dict[str, Any]) -> profiles.DerivedProfile:
+        """The text of a profile that the runtime reads, and of which names libseccomp makes no rule where."""
+        data = profiles.DerivedProfile(engines.to_bytes(handed))
+        data.reading = self.runtime.program
+        names = {name for entry in handed["syscalls"] for name in entry["names"]}
+        confined = {self.native, architectures.of_machine(), *handed.get("architectures", ())}
+        for architecture in confined.intersection(JUDGED):
+            table = tables.of_architecture(architecture) or tables.Table(b"")
+            absent = frozenset(name for name in names.intersection(table.names())
+                               if (self.number_of(name, architecture) or 0) < 0
+                               and not multiplexed.is_multiplexed(name, architecture))
+            if absent:
+                data.absent = {**data.absent, architecture: absent}
+        return data
+
+    def tell(self, listed: Sequence[str]) -> None:
+        """Notes what the runtime confines beside the list, and the names that are left out."""
+        if listed and self.native not in listed:
+            self.remarks.append(f"{JUDGED[self.native].name} syscalls are confined too, though architectures lacks "
+                                f"{self.native}")
+        if self.library is None:
+            self.remarks.append("libseccomp.so.2 isn't installed: names that the runtime's own doesn't know may be "
+                                "left in")
+        elif self.unknown:
+            names = excerpts(list(self.unknown))
+            self.remarks.append(f"left out, since this machine's libseccomp {self.library.version} doesn't know "
+                                f"them: {names}")
+
+    def run(self, profile: dict[str, Any], origins: Sequence[Origin]) -> ProfileInput:
+        """A resolved profile as the runtime is given it. Raises Refused."""
+        self.check_action(profile["defaultAction"], profile.get("defaultErrnoRet"), "the default")
+        if self.is_runc:
+            self.check_supervisor(profile, origins)
+        entries = [(self.entry_of(entry, f"entry {origin.index}"), origin)
+                   for entry, origin in zip(profile["syscalls"], origins)]
+        given = {**profile, **_short_errno(profile, "defaultErrnoRet"),
+                 "syscalls": [entry for entry, _ in entries if entry["names"]]}
+        if not self.is_runc and "architectures" in profile:
+            # crun takes them in small letters, and without the prefix
+            given["architectures"] = [PREFIX + name.removeprefix(PREFIX).upper() for name in profile["architectures"]]
+        for name in given.get("architectures", ()):
+            if name not in NUMBERS:
+                self.refuse(f"it knows no architecture '{excerpt(name)}'")
+        self.tell(given.get("architectures", ()))
+        handed, places = multiplexed.with_rules(given, most=self.most_conditions)
+        given_origins = [origin for entry, origin in entries if entry["names"]]
+        return ProfileInput(self.read_as(handed), [given_origins[place] for place in places], self.stub_of(given),
+                            origins, self.runtime, given, self.remarks, list(self.notes_on(given, given_origins)))
+
+
+def _number_in_tables(name: str, architecture: str) -> int | None:
+    """The number of a name in a table that comes with scf, as in a record; below 0 if only others have it, None if
+    none has."""
+    numbers = tables.of_architectures(JUDGED, tables.of_architecture(NATIVE) or tables.Table(b"")).numbers_of(name)
+    if architecture in numbers:
+        return JUDGED[architecture].first + numbers[architecture]
+    return -1 if numbers else None
+
+
+def _refuse_engines(seccomp: Any, program_name: str) -> None:
+    """Refuses what only engines read, where there is none."""
+    top = seccomp if isinstance(seccomp, dict) else {}
+    listed = top.get("syscalls")
+    entries = [entry for entry in listed if isinstance(entry, dict)] if isinstance(listed, list) else []
+    unread = [name for name in ("archMap", "defaultErrno") if top.get(name)]
+    unread += [name for name in ("includes", "excludes", "name", "errno") if any(entry.get(name) for entry in entries)]
+    if unread:
+        engine = "podman" if program_name == RUNC else "docker"
+        raise Refused(f"{program_name} doesn't read {unread[0]}: it is an engine's profile, which --runtime docker "
+                      "resolves for runc, --runtime podman for crun, and `scf resolve-profile --engine "
+                      f"{engine} --runtime {program_name}` for {engine} with {program_name}")
+
+
+def setting_of(runtime: Runtime, caps: str | None = None, machine: str | None = None) -> Setting:
+    """The container that a runtime's engine resolves a profile for: by default with the engine's capabilities, on this
+    machine, and on this kernel."""
+    return profile_inputs.setting_of(runtime.engine or "none" if caps is None else caps, runtime.engine, machine)
+
+
+def applied(value: Any, name: str, setting: Setting | None = None, keeps_first: bool = False) -> ProfileInput:
+    """The profile as the runtime of a name is given it, of a profile's value, or of a whole config.json, that
+    `engines.read` read; on request without later answers to a syscall. Raises Refused if the runtime, or the engine
+    before it, refuses it or reads it otherwise than it is spelled."""
+    runtime = RUNTIMES[name]
+    setting = setting or setting_of(runtime)
+    notes: list[str] = []
+    is_config = isinstance(value, dict) and value.get("linux") is not None
+    if is_config and value.get("defaultAction") is not None:
+        raise Refused("both defaultAction and linux are at the top: is it a profile or a config.json?")
+    if is_config or setting.engine is None:
+        # of a whole config.json the engine has done its part, and the other members aren't read
+        setting = replace(setting, engine=None, ignored=None)
+    resolver = engines.Resolver(setting, notes.append)
+    if setting.engine is None:
+        _refuse_engines(resolver.seccomp_of(value), runtime.program)
+    resolved = resolver.resolved(value)
+    if keeps_first:
+        resolver.keep_first(resolved)
+    profile = _Application(runtime, setting.native).run(resolved, resolver.origins)
+    remarks = list(profile.remarks)
+    if setting.engine is not None and setting.source is not None:
+        names = ", ".join(capability[4:] for capability in setting.capabilities) or "none"
+        remarks.append(f"resolved for the capabilities of {setting.source}: {names}")
+    return replace(profile, remarks=remarks, notes=list(dict.fromkeys([*notes, *profile.notes])))
+
+
+def as_read(value: dict[str, Any], judged: Tables) -> tuple[bytes, Tables]:
+    """A resolved profile of this value and its tables as another one was read whose tables are given: with the rules
+    and the stub that the same runtime makes."""
+    if judged.reading in profiles.BY_WORDS:
+        return profiles.read_as(engines.to_bytes(value), judged.reading), judged
+    given = applied(value, judged.reading)
+    return given.data, replace(judged, stub=given.stub)
+
+
+def applied_in(data: bytes, path: str, name: str, setting: Setting, is_strict: bool | None = False) -> ProfileInput:
+    """The profile that was read of a file, as a runtime is given it; ends the tool where it refuses it, or if strict
+    for members that nothing reads; without a word on these if that is None."""
+    data = profile_inputs.plain(data, path)
+    try:
+        given = applied(engines.read(data), name, setting)
+    except Refused as why:
+        raise program.ToolError(f"{path}: {why}", program.NEGATIVE) from why
+    if is_strict is not None:
+        profile_inputs.tell_unread(data, path, is_strict)
+    return given
+
+
+def is_made(options: Any) -> bool:
+    """Whether an engine or a runtime makes another profile of the one that a command line names."""
+    return options.runtime in RUNTIMES or options.caps is not None
+
+
+def text_of(options: Any) -> bytes:
+    """The text of the profile that a command line names; words that don't go together are refused. Of a text that is
+    too long scf says so, if it gets it."""
+    runtime = RUNTIMES.get(options.runtime)
+    if options.machine is not None and options.caps is None and (runtime is None or runtime.engine is None):
+        raise program.ToolError("--machine goes with an engine's profile: give --caps, or --runtime docker or podman, "
+                                "too")
+    if options.caps is not None and options.runtime is not None and (runtime is None or runtime.engine is None):
+        how = "" if runtime is None else \
+            f": `scf resolve-profile --runtime {runtime.name} --engine .. --caps ..` makes it"
+        raise program.ToolError("--caps resolves an engine's profile, and --runtime "
+                                f"{options.runtime} takes a resolved one{how}")
+    return (inputs.read_whole if is_made(options) else inputs.read)(options.profile, "profile")
+
+
+def input_in(data: bytes, options: Any, is_strict: bool | None = False) -> ProfileInput:
+    """The profile in what was read of the input that a command line names: with `--runtime` as that runtime reads it,
+    and what is to be known of that is printed."""
+    runtime = RUNTIMES.get(options.runtime)
+    if runtime is None:
+        given = profile_inputs.profile_in(data, options.profile, options.caps, False, bool(is_strict), options.machine)
+        return given.read_by(options.runtime)
+    setting = setting_of(runtime, options.caps, options.machine)
+    given = applied_in(data, options.profile, runtime.name, setting, is_strict)
+    program.say(*given.describe())
+    return given
+
+
+def read(options: Any) -> ProfileInput:
+    """The profile that a command line names."""
+    return input_in(text_of(options), options, options.strict)

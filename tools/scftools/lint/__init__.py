@@ -1,0 +1,1 @@
+"""What is odd or dangerous in a profile. It uses what report uses, and report."""

@@ -1,0 +1,233 @@
+"""Entries without effect: a profile without them answers every syscall as before, by a verdict of `scf compare`; and
+entries that give one syscall two answers, with an example.
+
+What an entry alone answers is found by sets of arguments. Entries and names that answer nothing alone are left out, the
+last first, and scf compares the profile with itself without all of them. So all reported entries can be removed
+together, and each by itself. As a runtime reads them, an entry without conditions has all calls of a syscall, even if
+others answer it otherwise, and the greatest number that a profile names says where runc's stub begins.
+"""
+from __future__ import annotations
+
+from collections.abc import Iterator, Sequence
+
+from ..base.values import dataclass, replace
+from ..model.answers import Answer
+from ..model.architectures import JUDGED
+from ..model.argument_sets import FULL_SET, Sets, Steps, TooMany
+from ..model.calls import Call
+from ..model.entries import Entry, Object
+from ..model.profiles import BY_WORDS
+from ..model.tables import Tables
+from ..ask import verdicts
+from ..ask.verdicts import SAME, Verdict
+from ..forms import runtimes
+from .findings import Owners
+
+# The most pairs of entries to check.
+PAIRS = 10000
+ONE, BY_DEFAULT, BY_NONE, TOGETHER, INSTEAD = "one", "default", "none", "together", "instead"
+
+
+@dataclass(frozen=True)
+class Needless:
+    """An entry, or some of its names, without effect, and why: another entry covers it, the default answers the same,
+    no syscall meets it, several other entries cover it together, or a runtime takes another one's answer instead."""
+
+    place: int
+    names: tuple[str, ...]
+    is_whole: bool
+    why: str
+    others: tuple[int, ...] = ()
+
+
+# A name of an entry, by the entry's index; and a syscall: the OCI name of an architecture, and a number of its table.
+EntryName = tuple[int, str]
+ArchitectureNumber = tuple[str, int]
+
+
+class Met:
+    """The sets of arguments that meet the conditions of entries, on each architecture. Raises TooMany."""
+
+    def __init__(self) -> None:
+        steps = Steps()
+        self._sets = {architecture.bits: Sets(architecture.bits, steps) for architecture in JUDGED.values()}
+        self._found: dict[tuple[int, int], int] = {}
+
+    def of(self, name: str) -> Sets:
+        """The sets of an architecture, by its OCI name."""
+        return self._sets[JUDGED[name].bits]
+
+    def by(self, entry: Entry, name: str) -> int:
+        """What meets an entry."""
+        key = entry.place, self.of(name).bits
+        if key not in self._found:
+            sets = self.of(name)
+            self._found[key] = sets.union(map(sets.of_conditions, entry.alternatives))
+        return self._found[key]
+
+    def are_all(self, others: Sequence[Entry], name: str, arguments: int = FULL_SET) -> bool:
+        """Whether some arguments, or all, each meet one of some entries. Takes away what meets an entry that the least
+        of them meet, until none are left or these meet no entry."""
+        sets = self.of(name)
+        while arguments:
+            sets.spend(len(others))
+            least = sets.least(arguments)
+            other = next((entry for entry in others if entry.is_met(least)), None)
+            if other is None:
+                return False
+            arguments = sets.without(arguments, self.by(other, name))
+        return True
+
+    def is_within(self, entry: Entry, others: Sequence[Entry], name: str) -> bool:
+        """Whether all that meets an entry meets one of others."""
+        return self.are_all(others, name, self.by(entry, name))
+
+
+def _takes_all(entry: Entry) -> bool:
+    """Whether an entry has no condition that compares anything, by which a runtime gives it all calls of a syscall."""
+    return all(condition.op == "SCMP_CMP_MASKED_EQ" and not condition.value for condition in entry.conditions)
+
+
+class Search:
+    """The entries of a profile, its filter for all architectures that are judged, and the names of entries that can be
+    left out."""
+
+    def __init__(self, judged: Tables, top: Object, data: bytes, default: Answer, entries: Sequence[Entry]):
+        self.judged, self.top, self.filter, self.default, self.met = judged, top, data, default, Met()
+        self.entries = {entry.place: entry for entry in entries}
+        self.gone: set[EntryName] = set()
+        # names of which it is undecided, each with the verdict
+        self.undecided: list[tuple[EntryName, Verdict]] = []
+        names = dict.fromkeys(name for entry in entries for name in entry.names)
+        self._syscalls: dict[str, Sequence[ArchitectureNumber]] = {
+            name: tuple(judged.numbers_of(name).items()) for name in names}
+        self._having: dict[ArchitectureNumber, dict[EntryName, Entry]] = {}
+        for entry in entries:
+            for name in entry.names:
+                for call in self._syscalls[name]:
+                    self._having.setdefault(call, {})[entry.place, name] = entry
+
+    def _beside(self, entry: Entry, call: ArchitectureNumber) -> list[Entry]:
+        """The other entries that have a syscall, without what is removed. Only as a runtime reads them one may answer
+        otherwise, and has all calls."""
+        others = (other for named, other in self._having[call].items()
+                  if named not in self.gone and other.place != entry.place)
+        return [other for other in others if other.answer == entry.answer
+                or other.answer != self.default and _takes_all(other)
+                and not (_takes_all(entry) and entry.place < other.place)]
+
+    def _is_greatest(self, entry: Entry, name: str) -> bool:
+        """Whether an entry alone names the greatest number of an architecture, behind which runc's stub begins."""
+        stub = self.judged.stub
+        return bool(stub) and any(
+            stub.get(oci) == JUDGED[oci].first + number + 1
+            and all(at in self.gone or at[0] == entry.place for at in self._having[oci, number])
+            for oci, number in self._syscalls[name])
+
+    def _answers(self, entry: Entry, call: ArchitectureNumber) -> bool:
+        """Whether an entry alone answers some arguments of a syscall. Raises TooMany."""
+        beside = self._beside(entry, call)
+        return not beside and not entry.conditions or not self.met.is_within(entry, beside, call[0])
+
+    def _has_effect(self, entry: Entry, name: str) -> bool:
+        """Whether an entry alone answers some syscall by a name, and differently than the default."""
+        try:
+            return self._is_greatest(entry, name) or entry.answer != self.default and any(
+                self._answers(entry, call) for call in self._syscalls[name])
+        except TooMany:
+            return True
+
+    def _leave_out(self) -> None:
+        """Leaves out what has no effect: whole entries first, then names of others, from the last on."""
+        of_others: list[tuple[Entry, list[str]]] = []
+        for entry in reversed(self.entries.values()):
+            needless = [name for name in entry.names if not self._has_effect(entry, name)]
+            if len(needless) == len(entry.names):
+                self.gone.update((entry.place, name) for name in needless)
+            else:
+                of_others.append((entry, needless))
+        for entry, needless in of_others:
+            self.gone.update([(entry.place, name) for name in needless if not self._has_effect(entry, name)])
+
+    def verdict(self) -> Verdict:
+        """What scf says of the profile without what is left out."""
+        remaining = (replace(entry, names=tuple(name for name in entry.names if (entry.place, name) not in self.gone))
+                     for entry in self.entries.values())
+        syscalls = [entry.as_json() for entry in remaining if entry.names]
+        profile, judged = runtimes.as_read({**self.top, "syscalls": syscalls}, self.judged)
+        return verdicts.compared([self.filter], profile, judged, judged.words).verdict
+
+    def _why(self, entry: Entry, names: Sequence[str]) -> tuple[str, tuple[int, ...]]:
+        if entry.answer == self.default:
+            return BY_DEFAULT, ()
+        calls = [call for name in names for call in self._syscalls[name]]
+        having = [{other.place for other in self._beside(entry, call)} for call in calls]
+        try:
+            if all(self.met.is_within(entry, [], oci) for oci, _ in calls):
+                return BY_NONE, ()
+            for place in sorted(set.intersection(*having)):
+                other = self.entries[place]
+                if all(self.met.is_within(entry, [other], oci) for oci, _ in calls):
+                    return ONE if other.answer == entry.answer else INSTEAD, (place,)
+        except TooMany:
+            pass
+        return TOGETHER, tuple(sorted(set.union(*having)))
+
+    def run(self) -> Iterator[Needless]:
+        """What is without effect, all together, by entry; afterwards `undecided` has what is undecided."""
+        self._leave_out()
+        verdict = self.verdict() if self.gone else None
+        if verdict is not None and verdict.word != SAME:
+            self.undecided, self.gone = [(left_out, verdict) for left_out in sorted(self.gone)], set()
+        for entry in self.entries.values():
+            names = tuple(name for name in entry.names if (entry.place, name) in self.gone)
+            if names:
+                is_whole = len(names) == len(entry.names) and not entry.has_others
+                yield Needless(entry.place, names, is_whole, *self._why(entry, names))
+
+
+@dataclass(frozen=True)
+class Conflict:
+    """Two entries that give a syscall two answers, on which architectures, and an example on the first of them."""
+
+    first: Entry
+    second: Entry
+    name: str
+    owners: Owners
+    call: Call
+
+
+def _pairs(entries: Sequence[Entry], judged: Tables) -> Iterator[tuple[Entry, Entry, str, list[str]]]:
+    """Pairs of entries with different answers to one syscall, and the architectures that have it, in the order of the
+    second."""
+    having: dict[ArchitectureNumber, list[Entry]] = {}
+    taken = {call for entry in entries if judged.reading not in BY_WORDS and _takes_all(entry)
+             for name in entry.names for call in judged.numbers_of(name).items()}
+    for entry in entries:
+        for name in entry.names:
+            others: dict[int, tuple[Entry, list[str]]] = {}
+            for call in (call for call in judged.numbers_of(name).items() if call not in taken):
+                for other in having.setdefault(call, []):
+                    if other.answer != entry.answer:
+                        others.setdefault(other.place, (other, []))[1].append(call[0])
+                having[call].append(entry)
+            yield from ((other, entry, name, on) for other, on in others.values())
+
+
+def conflicts(judged: Tables, default: Answer, entries: Sequence[Entry], most: int) -> Iterator[Conflict]:
+    """Entries that conflict, each two once, at most so many of them. Raises TooMany."""
+    seen: set[tuple[int, int]] = set()
+    met = Met()
+    counting = [entry for entry in entries if judged.reading in BY_WORDS or entry.answer != default]
+    for count, (first, second, name, on) in enumerate(_pairs(counting, judged)):
+        if count >= PAIRS or len(seen) >= most:
+            return
+        places = first.place, second.place
+        both = {} if places in seen else {oci: met.of(oci).both(met.by(first, oci), met.by(second, oci)) for oci in on}
+        where = [oci for oci, arguments in both.items() if arguments]
+        if where:
+            seen.add(places)
+            architecture = JUDGED[where[0]]
+            call = Call(architecture.first + judged.numbers_of(name)[architecture.oci], architecture.number,
+                        arguments=met.of(architecture.oci).least(both[architecture.oci]))
+            yield Conflict(first, second, name, Owners.of(where, on, judged), call)

@@ -1,0 +1,267 @@
+"""Syscalls that `lint` looks for in what a profile allows: those that make a sandbox useless (tables/dangerous.calls),
+those that need another one, as sleeps need restart_syscall, those that libc replaces only if they are ENOSYS, and those
+that do what a denied one does, whose denial is void.
+
+What is allowed, with which arguments and by which entry, is what the profile's regions say.
+"""
+from __future__ import annotations
+
+import functools
+from collections.abc import Collection, Iterator, Mapping, Sequence
+
+from ..base import program
+from ..base.values import Pattern, dataclass
+from ..model.answers import ENOSYS, Answer
+from ..model.architectures import Architecture
+from ..model.argument_sets import Sets, Steps
+from ..model.entries import Condition, Entry
+from ..model.tables import Table, Tables
+from ..ask.answer_sets import arguments_of
+from ..ask.regions import Numbers, Region
+from ..ask.verdicts import UNFINISHED
+from .findings import Finding, Owners, by_owners, listed
+
+LINE = Pattern(r"(\w+) (?:\[(\d) has (0x[0-9a-f]+)\] )?(\S.*)")
+
+
+def _has(index: int, mask: int, value: int) -> Condition:
+    return Condition(index, "SCMP_CMP_MASKED_EQ", mask, value)
+
+
+# What the kernel ends with -ERESTART_RESTARTBLOCK (hrtimer_nanosleep and its like, do_restart_poll,
+# futex_wait_restart): sleeps that aren't until a time (TIMER_ABSTIME is 1), poll, and FUTEX_WAIT and FUTEX_WAIT_BITSET
+# (0 and 9 under FUTEX_CMD_MASK) with a timeout. Others, as ppoll and select, begin anew or end with EINTR. Those of
+# time64 are i386's and arm's.
+_IS_NO_TIME = (_has(1, 1, 0),)
+_WAITS = [(_has(1, 0x7F, operation), Condition(3, "SCMP_CMP_NE", 0, 0)) for operation in (0, 9)]
+RESTARTED: tuple[tuple[str, tuple[Condition, ...]], ...] = (
+    ("nanosleep", ()), ("clock_nanosleep", _IS_NO_TIME), ("clock_nanosleep_time64", _IS_NO_TIME), ("poll", ()),
+    *((name, waits) for name in ("futex", "futex_time64") for waits in _WAITS))
+
+
+@dataclass(frozen=True)
+class Needed:
+    """A syscall that must be allowed with any arguments if one of its users is; the kind of finding if it isn't, and
+    why it is called."""
+
+    kind: str
+    name: str
+    users: tuple[tuple[str, tuple[Condition, ...]], ...]
+    why: str
+
+
+# The program itself doesn't call these (arch/x86/kernel/signal.c; vdso and libc return from a handler by sigreturn(2)).
+# On i386 and arm those without SA_SIGINFO do so by sigreturn (setup_frame in signal_32.c and arch/arm/kernel/signal.c).
+NEEDED = (
+    Needed("no-restart", "restart_syscall", RESTARTED, "a thread stopped in such a syscall, by SIGSTOP or a "
+           "debugger, calls it to continue, and"),
+    Needed("no-return", "rt_sigreturn", (("rt_sigaction", ()),), "each signal handler ends with it, and it"),
+    Needed("no-return", "sigreturn", (("rt_sigaction", ()), ("sigaction", ()), ("signal", ())),
+           "each signal handler without SA_SIGINFO ends with it, and it"))
+# What libc calls instead of newer syscalls if they fail with ENOSYS, and not with any other errno (glibc's
+# __clone_internal and faccessat); with arguments of a thread and of a fork, by linux/sched.h.
+FALLBACKS = (("clone3", "clone", (0x3D0F00, 0x1200011)), ("faccessat2", "faccessat", (0,)))
+# Each syscall with those that do all of it by other arguments, as their manual pages say.
+SIBLINGS = {
+    "open": "openat openat2", "creat": "open openat openat2", "mkdir": "mkdirat", "mknod": "mknodat", "link": "linkat",
+    "symlink": "symlinkat", "unlink": "unlinkat", "rmdir": "unlinkat", "rename": "renameat renameat2",
+    "renameat": "renameat2", "chmod": "fchmodat fchmodat2", "chown": "fchownat", "lchown": "fchownat",
+    "utime": "utimes futimesat utimensat", "utimes": "utimensat", "execve": "execveat", "fork": "clone clone3",
+    "vfork": "clone clone3", "accept": "accept4", "setuid": "setresuid", "setgid": "setresgid",
+    "setreuid": "setresuid", "setregid": "setresgid", "settimeofday": "clock_settime", "adjtimex": "clock_adjtime",
+    "init_module": "finit_module", "tkill": "tgkill", "setrlimit": "prlimit64"}
+# How a syscall is allowed.
+ALWAYS, SOMETIMES = "always", "sometimes"
+
+
+@dataclass(frozen=True)
+class Dangerous:
+    """Why a syscall is dangerous, and which argument bits make it so."""
+
+    reason: str
+    conditions: tuple[Condition, ...] = ()
+
+
+@functools.lru_cache(None)
+def dangerous() -> dict[str, Dangerous]:
+    """The syscalls that make a sandbox useless, from the list."""
+    calls: dict[str, Dangerous] = {}
+    for line in program.lines_of("dangerous.calls"):
+        parts = LINE.fullmatch(line.strip())
+        if parts:
+            bits = int(parts[3], 16) if parts[3] else None
+            conditions = () if bits is None else (_has(int(parts[2]), bits, bits),)
+            calls[parts[1]] = Dangerous(parts[4], conditions)
+    return calls
+
+
+@functools.lru_cache(None)
+def meant() -> dict[str, list[tuple[Condition, ...]]]:
+    """The syscalls that are looked for, each with the conditions of which its arguments are to meet some."""
+    conditions_of: dict[str, list[tuple[Condition, ...]]] = {}
+    for name, conditions in (*((name, danger.conditions) for name, danger in dangerous().items()),
+                             *(user for needed in NEEDED for user in (*needed.users, (needed.name, ())))):
+        conditions_of.setdefault(name, []).append(conditions)
+    return conditions_of
+
+
+class Watch:
+    """What a profile with these regions allows of the list to an architecture, with some or with all arguments; nothing
+    is known if they are None, which is unfinished."""
+
+    def __init__(self, architecture: Architecture, table: Table, profile_regions: Sequence[Region] | None):
+        self.architecture, self.table, self.is_finished = architecture, table, profile_regions is not None
+        self._numbers, self._sets = Numbers(profile_regions, architecture), Sets(architecture.bits, Steps())
+        self._allowed: dict[str, tuple[Region, tuple[int, ...]] | None] = {}
+
+    def has(self, name: str) -> bool:
+        return self.table.number_of(name) is not None
+
+    def regions_of(self, name: str) -> list[Region]:
+        """The regions of a syscall; none if it has no number."""
+        number = self.table.number_of(name)
+        return [] if number is None else self._numbers.of(self.architecture.first + number)
+
+    def allowed(self, name: str) -> tuple[Region, tuple[int, ...]] | None:
+        """A region in which a syscall is allowed with arguments that are meant, and these; None if there is none."""
+        if name not in self._allowed:
+            self._allowed[name] = self._find_allowed(name)
+        return self._allowed[name]
+
+    def _find_allowed(self, name: str) -> tuple[Region, tuple[int, ...]] | None:
+        sets = self._sets
+        for region in self.regions_of(name):
+            if region.answer is not None and region.answer.allows:
+                arguments = sets.both(arguments_of(sets, region), sets.union(map(sets.of_conditions, meant()[name])))
+                if arguments:
+                    return region, sets.least(sets.possible(arguments))
+        return None
+
+    def denied(self, name: str) -> Region | None:
+        """A region in which a syscall isn't allowed."""
+        return next((region for region in self.regions_of(name)
+                     if region.answer is not None and not region.answer.allows), None)
+
+    def how(self, name: str) -> str | None:
+        """How a syscall is allowed, None if it isn't: a verdict if that is undecided."""
+        if not self.is_finished:
+            return UNFINISHED
+        return None if self.allowed(name) is None else SOMETIMES if self.denied(name) else ALWAYS
+
+    def at(self, name: str, first: int = 0) -> Region | None:
+        """The region of a syscall with this first argument, and zeros behind it."""
+        given = {index: first if index == 0 else 0 for index in range(6)}
+        return next((region for region in self.regions_of(name) if region.has(given)), None)
+
+    def users(self, needed: Needed) -> list[str]:
+        """The users of a syscall that are allowed, or of which that is undecided."""
+        return [name for name in dict.fromkeys(name for name, _ in needed.users)
+                if self.has(name) and (not self.is_finished or self.allowed(name))]
+
+    def lacks(self, needed: Needed) -> bool | None:
+        """Whether a syscall isn't always allowed, but users of it are, and whether that is decided; None if it is."""
+        if not self.users(needed) or self.is_finished and not self.denied(needed.name):
+            return None
+        return self.is_finished
+
+    def keeps_from(self, newer: str, older: str, first_arguments: Sequence[int]) -> Region | None:
+        """The denial of a newer syscall by which libc doesn't call the older one, which is allowed; None if there is
+        none."""
+        denied, instead = self.at(newer), [self.at(older, argument) for argument in first_arguments]
+        is_kept = denied and denied.answer.denies and denied.answer != ENOSYS and \
+            any(region and region.answer.allows for region in instead)
+        return denied if is_kept else None
+
+    def void(self, name: str, conditional: Collection[str]) -> tuple[int, Answer, tuple[str, ...]] | None:
+        """The entry that denies a syscall, its answer, and what is allowed instead; None if nothing is. Names for which
+        an entry has conditions are left out."""
+        denied = self.at(name)
+        if name in conditional or denied is None or denied.entry is None or denied.answer == ENOSYS or \
+                not denied.answer.denies:
+            return None
+        others = {sibling: self.at(sibling) for sibling in SIBLINGS[name].split() if sibling not in conditional}
+        allowed = tuple(sibling for sibling, region in others.items() if region is not None and region.answer.allows)
+        return (denied.entry, denied.answer, allowed) if allowed else None
+
+
+def _allowed(name: str, danger: Dangerous, watch: Watch, owners: Owners) -> Finding:
+    """A dangerous syscall that is allowed, always or with some arguments, or of which that is undecided."""
+    number, how, allowed = watch.table.number_of(name) or 0, watch.how(name), watch.allowed(name)
+    more: dict[str, object] = {"name": name, "number": number, "reason": danger.reason}
+    if allowed is None:
+        return Finding("dangerous-call", f"undecided whether {owners.named(name, number)} is allowed: {how}"
+                       f"{owners.also}", {**more, **owners.as_json()}, False)
+    region, arguments = allowed
+    shown = list(map(hex, arguments))
+    some = "" if how == ALWAYS else f" with some arguments, such as {' '.join(shown)},"
+    called = owners.named(" or ".join(watch.table.names_of(number)), number)
+    return Finding("dangerous-call", f"{called} is allowed{some} {region.by}: {danger.reason}{owners.also}",
+                   {**more, "is_always": how == ALWAYS, "arguments": shown, "entry": region.entry,
+                    **owners.as_json()})
+
+
+def _allowed_by_default(names: Sequence[str], owners: Owners) -> Finding:
+    """Several dangerous syscalls that the default always allows, so that one change of the profile denies them all."""
+    return Finding("dangerous-call", f"the default allows {len(names)} syscalls{owners.where} that make a sandbox "
+                   f"useless: {listed(names, 'and')}",
+                   {"names": list(names), "reasons": {name: dangerous()[name].reason for name in names},
+                    "is_always": True, "entry": None, **owners.as_json()})
+
+
+def of_dangerous(judged: Tables, watches: Mapping[str, Watch]) -> Iterator[Finding]:
+    """The dangerous syscalls that are allowed, or of which that is undecided; what the default allows together."""
+    by_default: dict[Owners, list[str]] = {}
+    for name, danger in dangerous().items():
+        how = {oci: watch.how(name) for oci, watch in watches.items() if watch.has(name)}
+        for answer, owners in by_owners(how, judged):
+            allowed = watches[owners.first].allowed(name)
+            if answer == ALWAYS and allowed and allowed[0].entry is None:
+                by_default.setdefault(owners, []).append(name)
+            else:
+                yield _allowed(name, danger, watches[owners.first], owners)
+    for owners, names in by_default.items():
+        yield _allowed_by_default(names, owners) if len(names) > 1 else \
+            _allowed(names[0], dangerous()[names[0]], watches[owners.first], owners)
+
+
+def _lacking(needed: Needed, watch: Watch, owners: Owners) -> Finding:
+    users, denied = watch.users(needed), watch.denied(needed.name)
+    more: dict[str, object] = {"names": users, **owners.as_json()}
+    called = owners.named(needed.name, watch.table.number_of(needed.name) or 0)
+    if denied is None:
+        return Finding(needed.kind, f"undecided whether {called} is always allowed{owners.also}", more, False)
+    return Finding(needed.kind, f"{listed(users, 'and')} {'is' if len(users) == 1 else 'are'} allowed, and {called} "
+                   f"is not: {needed.why} is answered {denied.by} {denied.answer.describe()}{owners.also}",
+                   {**more, "entry": denied.entry})
+
+
+def of_needed(judged: Tables, watches: Mapping[str, Watch]) -> Iterator[Finding]:
+    """A finding if a syscall isn't always allowed, but others that need it are, or if that is undecided."""
+    for needed in NEEDED:
+        is_decided = {name: watch.lacks(needed) for name, watch in watches.items() if watch.has(needed.name)}
+        yield from (_lacking(needed, watches[owners.first], owners) for _, owners in by_owners(is_decided, judged))
+
+
+def of_fallbacks(judged: Tables, watches: Mapping[str, Watch]) -> Iterator[Finding]:
+    """A finding if a newer syscall is denied so that libc doesn't call the older one, which is allowed."""
+    for newer, older, first_arguments in FALLBACKS:
+        numbers = judged.numbers_of(newer)
+        denials = {name: watches[name].keeps_from(newer, older, first_arguments) for name in numbers}
+        denial_of = {name: denial and (denial.answer, denial.by, denial.entry) for name, denial in denials.items()}
+        for (answer, by, entry), owners in by_owners(denial_of, judged):
+            yield Finding("no-fallback", f"{owners.named(newer, numbers[owners.first])} is answered {by} {answer}, and "
+                          f"{older} is allowed: libc calls {older} instead only after ENOSYS, which is errno "
+                          f"{ENOSYS.data}{owners.also}",
+                          {"name": newer, "instead": older, "entry": entry, **owners.as_json()})
+
+
+def of_siblings(judged: Tables, watches: Mapping[str, Watch], entries: Sequence[Entry]) -> Iterator[Finding]:
+    """Denials by an entry that another syscall makes void. One with ENOSYS isn't meant to keep a program from anything,
+    but to lead it to the other one; entries with conditions are left out."""
+    conditional = {name for entry in entries if entry.conditions for name in entry.names}
+    for name in dict.fromkeys(name for entry in entries for name in entry.names if name in SIBLINGS):
+        void = {oci: watches[oci].void(name, conditional) for oci in judged.numbers_of(name)}
+        for (entry, answer, others), on in by_owners(void, judged):
+            yield Finding("sibling-allowed", f"{name} is denied{on.where} by entry {entry} ({answer}), and "
+                          f"{listed(others, 'and')}, which can do the same, {'is' if len(others) == 1 else 'are'} "
+                          "allowed", {"entry": entry, "name": name, "allowed": list(others), **on.as_json()})

@@ -1,0 +1,228 @@
+"""Audit records: what the kernel writes of a syscall that a filter answers, and of one that an audit rule logs.
+
+They are read as the kernel's log, auditd and journald have them, and as ausearch prints them, raw or interpreted.
+The kernel writes a record of KILL_THREAD, KILL_PROCESS, LOG and actions without a name if actions_logged has them, and
+one of another action if also the filter that gives the answer was loaded with SECCOMP_FILTER_FLAG_LOG (seccomp_log in
+kernel/seccomp.c). It has neither the arguments nor the data of the action (audit_seccomp in kernel/auditsc.c).
+"""
+from __future__ import annotations
+
+import os
+import re
+from collections.abc import Iterator
+
+from ..base import output, program
+from ..base.values import Pattern, dataclass
+from ..model import architectures
+from ..model.answers import ACTIONS
+from ..model.calls import SKIPPED
+from ..model.tables import Table
+
+ACTIONS_LOGGED = "/proc/sys/kernel/seccomp/actions_logged"
+KERNEL_LOG = "/dev/kmsg"
+# Where auditd keeps the records that it takes from the kernel (log_file of auditd.conf(5)).
+AUDITD_LOG = "/var/log/audit/audit.log"
+# The most bytes of a message in it (PRINTKRB_RECORD_MAX in include/linux/printk.h is less).
+LONGEST = 1 << 13
+# What may stand before a record, in which a process has no word: of dmesg a level, a facility, a time and a thread; of
+# journald and syslog a time, the machine's name and that of who wrote it; of auditd the machine's name.
+STAMP = (r"(?:[A-Z][a-z]{2} (?:[ 0-9][0-9]|[0-9]{4}-[0-9]{2}-[0-9]{2}) [0-9:.]{8,15}(?: [A-Z0-9+-]{1,6})?|"
+         r"[0-9][0-9T:.,+-]{9,40}Z?|\[[ A-Za-z0-9:.<>+]{1,40}\])")
+LOGGED = rf"(?:{STAMP} )?(?:[A-Za-z0-9_.-]{{1,255}} )?"
+OF_KERNEL = (rf"(?:(?:<[0-9]{{1,3}}>)?(?:[a-z0-9]{{1,9}} {{0,9}}:[a-z]{{1,9}} {{0,9}}: ?)?"
+             rf"(?:{STAMP}(?:\[ {{0,9}}[CT][0-9]{{1,10}}\])? )?|{LOGGED}kernel: (?:{STAMP} )?)")
+OF_AUDITD = rf"(?:{LOGGED}audisp[a-z-]{{1,9}}(?:\[[0-9]{{1,10}}\])?: )?(?:node=\S{{1,255}} )?"
+# How the two kinds of records begin: by their number (linux/audit.h), auditd's name, and journald's, where a record is
+# one that it took from the kernel itself.
+RECORD_KINDS = Pattern(rf"\A(?:(?:{OF_KERNEL}(?:audit: )?|{OF_AUDITD})type=(1326|SECCOMP|1300|SYSCALL) (?:msg=)?"
+                       rf"(?=audit\()|{LOGGED}audit(?:\[[0-9]{{1,10}}\])?: (SECCOMP|SYSCALL) )")
+SECCOMP_KINDS, SYSCALL_KINDS = ("1326", "SECCOMP"), ("1300", "SYSCALL")
+# Records of other types, and ausearch's lines between those of one event.
+OTHER = Pattern(rf"\A(?:(?:{OF_KERNEL}(?:audit: )?|{OF_AUDITD})type=[A-Z0-9_\[\]]{{1,40}} (?:msg=)?audit\(|"
+                r"(?:----|time->.*|<no matches>)\Z)")
+# The fields that the kernel writes behind all that a process may choose. A name in quotes has no blank and no quote;
+# one with such characters is in hexadecimal. ausearch -i prints names as they are.
+TAIL = Pattern(r" sig=(\S+)(?: arch=(\S+))? syscall=(\S+) compat=(\S+) ip=(\S+) code=(\S+)")
+WHO = Pattern(r" pid=(\S+) comm=(\"[^\"]*\"|\S+)")
+# (the text of an errno, which ausearch -i prints, has no hundred characters)
+CALL = Pattern(r" arch=(\S+) syscall=(\S+)(?: per=\S+)?(?: success=\S+ exit=.{0,100}?)?"
+               r" a0=(\S+) a1=(\S+) a2=(\S+) a3=(\S+) ")
+# When a record was written, in seconds since 1970, and its serial number, which no two of a kind share.
+STAMP_OF_RECORD = Pattern(r"audit\((([0-9]{1,12}\.[0-9]{3}):[0-9]{1,20})\)")
+# auditd puts these before what it adds to a record itself, which names what the kernel's part has as numbers.
+ENRICHED = "\x1d"
+# The kernel leaves out records if too many come at once (kauditd_printk_skb in kernel/audit.c).
+SUPPRESSED = Pattern(rf"\A{OF_KERNEL}audit: kauditd_printk_skb: ([0-9]{{1,9}}) callbacks suppressed")
+# What ausearch -i calls the actions: those that kill alike (auparse/seccomp-code-table.h of audit 3.0).
+CODES = {"kill": ("KILL_PROCESS", "KILL_THREAD"), "trap": ("TRAP",), "errno": ("ERRNO",),
+         "user-notify": ("USER_NOTIF",), "trace": ("TRACE",), "log": ("LOG",), "allow": ("ALLOW",)}
+UNKNOWN_CODE = Pattern(r"unknown-seccomp-code\((0x[0-9a-f]{1,8})\)")
+
+
+class Malformed(Exception):
+    """A record with a value that the kernel doesn't write: what it is."""
+
+
+@dataclass(frozen=True)
+class SeccompRecord:
+    """An audit record of seccomp: its syscall, the high halves that the answer may have, and the process."""
+
+    number: int
+    architecture: int
+    pointer: int
+    halves: tuple[int, ...]
+    process: int | None
+    name: str
+    # its time and serial number, None if the line doesn't have them as numbers
+    stamp: str | None
+
+    @property
+    def time(self) -> float | None:
+        """Seconds since 1970."""
+        return None if self.stamp is None else float(self.stamp.partition(":")[0])
+
+
+@dataclass(frozen=True)
+class SyscallRecord:
+    """An audit record of a syscall that a rule of auditctl logs: its first four arguments, as they are printed."""
+
+    number: int
+    architecture: int
+    arguments: tuple[str, ...]
+
+
+def _number(text: str, what: str, most: int, base: int = 10) -> int:
+    """A field as a number, from 0 to `most`."""
+    if not re.fullmatch("[0-9]{1,20}" if base == 10 else "(?:0x)?[0-9a-fA-F]{1,16}", text) or int(text, base) > most:
+        raise Malformed(f"{what}={output.cut(text)} isn't {'an address' if base == 16 else f'a number up to {most}'}")
+    return int(text, base)
+
+
+def architecture_of(text: str | None) -> int:
+    """`arch=`: in hexadecimal, or by a name."""
+    if text is None:
+        raise Malformed("the record has no arch=, without which its syscall isn't known")
+    name = architectures.name_in(text)
+    if name is not None:
+        return architectures.NUMBERS[name]
+    if not re.fullmatch("[0-9a-fA-F]{1,8}", text):
+        raise Malformed(f"arch={output.cut(text)} isn't an architecture")
+    return int(text, 16)
+
+
+def named_number(name: str, architecture: int, tables: dict[str, Table]) -> int | None:
+    """The number of a syscall by its name in an architecture, None if no table has it."""
+    table = tables.get(architectures.profile_name(architecture) or "")
+    return None if table is None else table.number_of(name)
+
+
+def number_of(text: str, architecture: int, tables: dict[str, Table]) -> int:
+    """`syscall=`: a number, -1, or a name."""
+    if text == "-1":
+        return SKIPPED
+    if re.fullmatch("[0-9]{1,20}", text):
+        return _number(text, "syscall", 0xFFFFFFFF)
+    number = named_number(text, architecture, tables)
+    if number is None:
+        raise Malformed(f"syscall={output.cut(text)}: the table has no such name: print the record without -i")
+    return number
+
+
+def halves_of(text: str) -> tuple[int, ...]:
+    """`code=`: the high half of an answer, without its data; more than one by the name of those that kill."""
+    if text in CODES:
+        return tuple(half for half, name in ACTIONS.items() if name in CODES[text])
+    unknown = UNKNOWN_CODE.fullmatch(text)
+    text = unknown[1] if unknown else text
+    if not re.fullmatch("0x[0-9a-f]{1,8}", text):
+        raise Malformed(f"code={output.cut(text)} isn't an action")
+    if int(text, 16) & 0xFFFF:
+        raise Malformed(f"code={text} has data, which the kernel leaves out")
+    return (int(text, 16) >> 16,)
+
+
+def name_of(text: str) -> str:
+    """`comm=`: in quotes, in hexadecimal, or by ausearch -i as it is."""
+    if text.startswith('"'):
+        return text.strip('"')
+    if re.fullmatch("(?:[0-9A-F]{2}){1,256}", text):
+        return bytes.fromhex(text).decode("latin-1")
+    return text[:256]
+
+
+def kind_of(line: str) -> tuple[str, int] | None:
+    """Which record a line has, by its type's name, and where it begins."""
+    match = RECORD_KINDS.search(line)
+    return (match[1] or match[2], match.end() - 1) if match else None
+
+
+def record_in(line: str, at: int, tables: dict[str, Table]) -> SeccompRecord:
+    """The record of seccomp that begins there; the last fields count, since those before may have a process's words."""
+    text = line[at:].partition(ENRICHED)[0]
+    tails, who = list(TAIL.finditer(text)), WHO.search(text)
+    if not tails:
+        raise Malformed("the record is cut: it has no sig= arch= syscall= compat= ip= code=")
+    _, arch, number, _, pointer, code = tails[-1].groups()
+    architecture, stamp = architecture_of(arch), STAMP_OF_RECORD.search(line, at, at + 64)
+    process = who[1] if who and re.fullmatch("[0-9]{1,10}", who[1]) else None
+    return SeccompRecord(number_of(number, architecture, tables), architecture,
+                         _number(pointer, "ip", (1 << 64) - 1, 16), halves_of(code), int(process) if process else None,
+                         name_of(who[2]) if who else "", stamp[1] if stamp else None)
+
+
+def syscall_in(line: str, at: int, tables: dict[str, Table]) -> SyscallRecord:
+    """The record of a syscall that begins there. The kernel writes the arguments in hexadecimal."""
+    text = line[at:].partition(ENRICHED)[0]
+    match = CALL.search(text)
+    if not match:
+        raise Malformed("the record is cut: it has no arch= syscall= a0= a1= a2= a3=")
+    arch, number, *arguments = match.groups()
+    architecture = architecture_of(arch)
+    return SyscallRecord(number_of(number, architecture, tables), architecture, tuple(
+        f"0x{value}" if re.fullmatch("[0-9a-f]{1,16}", value) else value for value in arguments))
+
+
+def is_own_record(message: bytes) -> bool:
+    """Whether a message of /dev/kmsg is an audit record of the kernel: one of facility 0, which messages that programs
+    write there never have, and that begins as one, since the kernel puts words of processes into others."""
+    head, _, text = message.partition(b";")
+    number = head.partition(b",")[0]
+    return number.isdigit() and int(number) >> 3 == 0 and text.startswith(b"audit: type=")
+
+
+def is_of(line: str, process: int, since: float | None) -> bool:
+    """Whether a line has a record of a process, and none that is older than this."""
+    who, stamp = WHO.search(line), STAMP_OF_RECORD.search(line)
+    is_older = since is not None and stamp is not None and float(stamp[2]) < since
+    return who is not None and who[1] == str(process) and not is_older
+
+
+def kernel_lines() -> Iterator[str]:
+    """The audit records in this machine's kernel log, oldest first (/dev/kmsg)."""
+    try:
+        log = os.open(KERNEL_LOG, os.O_RDONLY | os.O_NONBLOCK | os.O_CLOEXEC)
+    except OSError as error:
+        raise program.ToolError(f"the kernel's log can't be read: {KERNEL_LOG}: {error.strerror}",
+                                program.IO_ERROR) from error
+    try:
+        while True:
+            try:
+                message = os.read(log, LONGEST)
+            except BrokenPipeError:
+                # the kernel has written over what was to be read
+                continue
+            except BlockingIOError:
+                return
+            if is_own_record(message):
+                yield message.partition(b";")[2].partition(b"\n")[0].decode("latin-1")
+    finally:
+        os.close(log)
+
+
+def actions_logged() -> str | None:
+    """The actions that this kernel may log, None if it doesn't say."""
+    try:
+        with open(ACTIONS_LOGGED, encoding="ascii") as file:
+            return output.escaped(file.read(256).strip())
+    except (OSError, UnicodeDecodeError):
+        return None

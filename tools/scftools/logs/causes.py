@@ -1,0 +1,278 @@
+"""Causes: why a syscall was denied, delegated or logged, by a profile and by filters, in lines and as JSON."""
+from __future__ import annotations
+
+import functools
+from collections.abc import Callable, Iterator, Sequence
+
+from ..base import output, program
+from ..base.values import dataclass, field
+from ..model import tables
+from ..model.answers import ERRNOS
+from ..model.calls import Call
+from ..model.tables import Table, Tables
+from ..ask import client, reasons
+from ..ask.client import Refusal
+from ..ask.trials import Trial
+from ..ask.verdicts import FOR_OTHER_ABI
+from ..forms import refusals
+from ..forms.filters import Filter
+from ..report import decisions, listing
+from . import amendment
+from .amendment import Amendment
+from .diagnosis import CONTRADICTS, FITS, UNKNOWN_FIT, Case, AnsweringStack, cases, rank, verdict_of
+from .events import CORE, RECORD, STRACE, Event
+
+# What a source doesn't have.
+LACKS = {
+    RECORD: "the record has neither the arguments nor the data of the action, nor which filter gave it",
+    CORE: "the core doesn't have the action, nor which filter gave it",
+    STRACE: "strace doesn't show which filter gave the answer",
+}
+
+
+@dataclass(frozen=True)
+class Side:
+    """What a profile, or a stack of filters, answers to an event; or why scf refuses it."""
+
+    # "the profile", "the filter" or "the filters"
+    name: str
+    cases: tuple[Case, ...] = ()
+    verdict: str = UNKNOWN_FIT
+    refusal: Refusal | None = None
+    # whether the syscall is of an architecture that the profile names, and that isn't judged
+    is_undetermined: bool = False
+
+    @property
+    def are(self) -> bool:
+        return self.name.endswith("s")
+
+
+@dataclass(frozen=True)
+class Inputs:
+    """What events are explained by: a profile, filters oldest first, and the settings for scf."""
+
+    trial: Trial
+    profile: bytes | None = None
+    filters: Sequence[Filter] = ()
+    # whether the profile is judged for x86-64 alone
+    is_native: bool = False
+
+    @property
+    def table(self) -> Table:
+        return self.trial.tables.native
+
+    @property
+    def judged(self) -> Tables:
+        """The tables of the architectures that the profile is judged for."""
+        return tables.of_profile(self.profile or b"", self.table, self.is_native)
+
+    @functools.cached_property
+    def of_filters(self) -> AnsweringStack:
+        """What the filters answer. Raises Refusal."""
+        return AnsweringStack.of_filters([each.data for each in self.filters])
+
+    @functools.cached_property
+    def of_profile(self) -> AnsweringStack:
+        """What the profile answers. Raises Refusal."""
+        return AnsweringStack.of_profile(self.profile or b"", self.judged)
+
+
+@dataclass
+class Cause:
+    """An event, how often it was found, what is given beside it, and what changes of the profile allow it."""
+
+    event: Event
+    count: int
+    given: Inputs
+    profile: Side | None = None
+    filters: Side | None = None
+    changes: list[Amendment] = field(default_factory=list)
+    # of a failed syscall, whether a process that ended with a failure had no other denied one after it
+    has_ended: bool = False
+
+    @property
+    def sides(self) -> list[Side]:
+        return [side for side in (self.profile, self.filters) if side is not None]
+
+    @property
+    def status(self) -> int:
+        verdicts = {CONTRADICTS: program.NEGATIVE, UNKNOWN_FIT: program.UNKNOWN, FITS: program.SUCCESS}
+        return client.worst(verdicts[side.verdict] if side.refusal is None else side.refusal.status
+                            for side in self.sides)
+
+
+def _side(name: str, stack_of: Callable[[], AnsweringStack], event: Event) -> Side:
+    try:
+        answers = tuple(cases(stack_of(), event))
+    except Refusal as why:
+        return Side(name, refusal=why)
+    return Side(name, answers, verdict_of(answers))
+
+
+def of(event: Event, count: int, given: Inputs, common: Event | None = None) -> Cause:
+    """What a profile and filters say of an event; of several, with what is `common` to all, which the changes allow."""
+    cause = Cause(event, count, given)
+    if given.filters:
+        name = "the filter" if len(given.filters) == 1 else "the filters"
+        cause.filters = _side(name, lambda: given.of_filters, event)
+    if given.profile is None:
+        return cause
+    reason = reasons.of(given.profile, given.judged, event.call.words())
+    if decisions.is_undetermined(reason, event.call, given.profile, given.judged):
+        cause.profile = Side("the profile", is_undetermined=True)
+        return cause
+    cause.profile = _side("the profile", lambda: given.of_profile, event)
+    denied = next((case for case in cause.profile.cases if not case.answer.allows), None)
+    if denied is not None:
+        reason = reasons.of(given.profile, given.judged, denied.call.words())
+        cause.changes = list(amendment.amendments(given.profile, common or event, reason, given.trial))
+    return cause
+
+
+def _arguments(call: Call, table: Table) -> str:
+    """The arguments of a call, and the call as C has it."""
+    shown = call.as_c(table)
+    return " ".join(map(hex, call.arguments)) + (f": {shown}" if shown else "")
+
+
+def _of_event(cause: Cause) -> Iterator[str]:
+    """What the source says, and what it doesn't."""
+    event = cause.event
+    kind = "failures" if event.outcome.is_result else "records"
+    more = f"; such {kind}: {cause.count}" if cause.count > 1 else ""
+    yield f"{event.who()}: the syscall is {event.call.describe(cause.given.table)}{more}"
+    if cause.has_ended:
+        yield "it is the last denied syscall of a process that ended with a failure"
+    if event.outcome.is_result:
+        code = event.outcome.data or 0
+        yield (f"it failed with {ERRNOS.get(code, f'errno {code}')}: by ERRNO {code}, by a tracer or a supervisor, or "
+               f"by the kernel itself, which strace doesn't show")
+    else:
+        data = "" if event.outcome.data is None or len(event.outcome.actions) == 1 else \
+            f", with {event.outcome.data} as data"
+        yield f"the action is {event.outcome.describe()}{data}"
+    arguments = {index: values[0] for index, values in enumerate(event.arguments) if values and len(values) == 1}
+    if arguments and not event.unknown:
+        yield f"its arguments: {_arguments(event.with_values(arguments), cause.given.table)}"
+    elif arguments:
+        yield ("its arguments, as far as they are shown: "
+               + ", ".join(f"{index} is {value:#x}" for index, value in arguments.items()))
+    yield LACKS[event.source]
+
+
+def _relation(side: Side, event: Event) -> str:
+    """How the answers of a party stand beside an event that they contradict."""
+    s, them = "" if side.are else "s", "them" if side.are else "it"
+    ranks, of_event = [rank(case.answer.word >> 16) for case in side.cases], [*map(rank, event.outcome.halves)]
+    others = f"another filter of the process answered so, or it isn't under {side.name}"
+    if min(ranks) > max(of_event):
+        itself = "the kernel itself, or " if event.outcome.is_result else ""
+        return f"{side.name} {'are' if side.are else 'is'} more permissive: {itself}{others}"
+    if max(ranks) < min(of_event):
+        return f"{side.name} would have answered more strictly: the process isn't under {them}"
+    return f"{side.name} answer{s} otherwise: {others}"
+
+
+def _of_verdict(side: Side, event: Event) -> Iterator[str]:
+    """Whether a party answers as the event was answered."""
+    s = "" if side.are else "s"
+    if side.verdict == CONTRADICTS:
+        yield _relation(side, event)
+    elif side.verdict == UNKNOWN_FIT:
+        yield f"whether {side.name} answer{s} so with other arguments isn't known"
+    elif all(case.fits and case.is_for_all for case in side.cases):
+        yield f"so {side.name} answer{s} it"
+    else:
+        yield f"so {side.name} answer{s} it with such arguments, and not with all"
+
+
+def _of_case(case: Case, event: Event, table: Table) -> Iterator[str]:
+    """For which arguments a case is."""
+    if not case.is_for_all:
+        yield f"for example with args {_arguments(case.call, table)}"
+    elif event.unknown:
+        yield "whatever the arguments are" if len(event.unknown) == 6 else "whatever the other arguments are"
+
+
+def _of_side(side: Side | None, cause: Cause, of_case: Callable[[Case, Cause], Iterator[str]]) -> Iterator[str]:
+    """What a party answers, in each way that the arguments may be."""
+    if side is None:
+        return
+    if side.refusal is not None:
+        yield from refusals.lines_of(side.refusal, cause.given.profile or b"", cause.given.judged)
+    elif side.is_undetermined:
+        yield FOR_OTHER_ABI
+    else:
+        for case in side.cases:
+            yield from of_case(case, cause)
+        yield from output.notes(_of_verdict(side, cause.event))
+
+
+def _of_profile(case: Case, cause: Cause) -> Iterator[str]:
+    """The profile's answer, and by which entry it is."""
+    given = cause.given
+    reason = reasons.of(given.profile, given.judged, case.call.words())
+    yield reason.line
+    call = None if case.is_for_all and cause.event.unknown else case.call
+    yield from output.notes([case.answer.describe(), *reasons.describe(reason, given.profile, call),
+                             *_of_case(case, cause.event, given.table)])
+
+
+def _of_filters(case: Case, cause: Cause) -> Iterator[str]:
+    """The filters' answer, which of them gives it, and its last tests."""
+    given = cause.given
+    yield case.answer.line
+    givers = listing.deciding_filters(given.filters, case.call.words(), case.answer)
+    giver = listing.to_show(givers)
+    yield from output.notes([case.answer.describe(), *_of_case(case, cause.event, given.table),
+                             *decisions.of_givers(given.filters, givers),
+                             *(giver.last_tests(case.call, given.table) if giver is not None else ())])
+
+
+def _of_changes(cause: Cause) -> Iterator[str]:
+    """The changes of the profile that allow the syscall."""
+    for change in cause.changes:
+        whose = "" if cause.given.judged.is_native else " to an x86-64 syscall"
+        yield f"this change of the profile allows {change.describe()}, and no other answer{whose} changes:"
+        yield from (f"  {step}" for step in change.steps())
+
+
+def lines(cause: Cause) -> Iterator[str]:
+    """What is printed of an event: scf's lines, and those of the tool marked by `# `."""
+    yield from output.notes(_of_event(cause))
+    yield from _of_side(cause.profile, cause, _of_profile)
+    yield from _of_side(cause.filters, cause, _of_filters)
+    yield from output.notes(_of_changes(cause))
+
+
+def _side_json(side: Side, cause: Cause, of_case: Callable[[Case], dict[str, object]]) -> dict[str, object]:
+    table, refusal = cause.given.table, side.refusal
+    value: dict[str, object] = {"verdict": side.verdict, "cases": [
+        {"call": case.call.as_json(table), "answer": case.answer.as_json(), "is_for_all": case.is_for_all,
+         "fits": case.fits, **of_case(case)} for case in side.cases]}
+    return value if refusal is None else {**value, "fault": refusal.fault.as_json() if refusal.fault else refusal.line}
+
+
+def as_json(cause: Cause) -> dict[str, object]:
+    event, given = cause.event, cause.given
+
+    def of_profile(case: Case) -> dict[str, object]:
+        profile = given.profile or b""
+        return reasons.as_json(reasons.of(profile, given.judged, case.call.words()), profile, None)
+
+    def of_filters(case: Case) -> dict[str, object]:
+        givers = listing.deciding_filters(given.filters, case.call.words(), case.answer)
+        return {"filters": [giver.filter.name for giver in givers]}
+
+    value: dict[str, object] = {
+        "status": cause.status, "source": event.source, "process": event.process, "name": event.name,
+        "count": cause.count, "call": event.call.as_json(given.table), "actions": list(event.outcome.actions),
+        "data": event.outcome.data,
+        "arguments": [None if values is None else list(map(hex, values)) for values in event.arguments]}
+    if cause.profile is not None:
+        value["profile"] = _side_json(cause.profile, cause, of_profile)
+    if cause.filters is not None:
+        value["filters"] = _side_json(cause.filters, cause, of_filters)
+    if event.outcome.is_result:
+        value["has_ended"] = cause.has_ended
+    return {**value, "changes": [change.as_json() for change in cause.changes]}

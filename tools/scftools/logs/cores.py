@@ -1,0 +1,145 @@
+"""Cores: which syscall ended a process by SIGSYS, by the notes of its core (core(5), elf(5)).
+
+The kernel notes the signal with the syscall's number, architecture and address, and the data of the filter's answer as
+errno (force_sig_seccomp in kernel/signal.c); and the registers as they were at the syscall, with its arguments.
+"""
+from __future__ import annotations
+
+# (the module signal makes enums of its constants)
+from _signal import SIGSYS
+import itertools
+import struct
+from collections.abc import Iterator
+
+from ..base import inputs, program
+from ..base.values import dataclass
+from ..model.answers import I386_NUMBER
+from ..model.calls import Call
+from .events import CORE, KILLS, Event, Outcome
+from scfhost.ptrace import REGISTERS
+from scfhost.restart import ARGUMENT_REGISTERS
+
+# linux/elf.h, linux/elf-em.h, linux/elfcore.h
+MAGIC, CORE_FILE, NOTES, MACHINE_386, MACHINE_X86_64 = b"\x7fELF", 4, 4, 3, 62
+PRSTATUS, PRPSINFO, SIGINFO = 1, 3, 0x53494749
+# asm-generic/siginfo.h
+SYS_SECCOMP, SYS_USER_DISPATCH = 1, 2
+# The registers of a core of i386 (struct user_regs_struct in asm/user_32.h), by the names of x86-64's.
+REGISTERS_386 = ("rbx", "rcx", "rdx", "rsi", "rdi", "rbp", "rax", "ds", "es", "fs", "gs", "orig_rax", "rip")
+# The most notes that are read, and the most bytes of one.
+MOST_NOTES, LONGEST_NOTE = 1 << 16, 1 << 12
+
+
+@dataclass(frozen=True)
+class Layout:
+    """Where what is read stands, for a class of ELF: the header's fields from 0x18 on; a program header, and in it its
+    offset and size; in the note of a thread its process and registers; in that of the signal its union; in that of the
+    process its name."""
+
+    header: struct.Struct
+    segment: struct.Struct
+    offsets: tuple[int, int]
+    process: int
+    registers: tuple[int, struct.Struct, tuple[str, ...]]
+    union: tuple[int, struct.Struct]
+    name: int
+
+
+LAYOUTS = {
+    (2, MACHINE_X86_64): Layout(struct.Struct("<QQQIHHH"), struct.Struct("<IIQQQQQQ"), (2, 5), 32,
+                                (112, struct.Struct("<27Q"), REGISTERS), (16, struct.Struct("<QiI")), 40),
+    (1, MACHINE_386): Layout(struct.Struct("<IIIIHHH"), struct.Struct("<IIIIIIII"), (1, 4), 24,
+                             (72, struct.Struct("<13I"), REGISTERS_386), (12, struct.Struct("<IiI")), 28),
+}
+
+
+def refused(why: str) -> program.ToolError:
+    return program.ToolError(f"the core {why}", program.IO_ERROR)
+
+
+def layout_of(data: bytes) -> Layout:
+    """How a core is laid out; raises ToolError if it is none of an x86 process."""
+    if data[:4] == b"\x28\xb5\x2f\xfd":
+        raise refused("is compressed: `coredumpctl dump PID -o FILE` writes it as it was")
+    if data[:4] != MAGIC or len(data) < 0x34:
+        raise refused("isn't an ELF file")
+    kind, machine = struct.unpack_from("<HH", data, 0x10)
+    if kind != CORE_FILE:
+        raise refused("isn't one, but a program or a library")
+    layout = LAYOUTS.get((data[4], machine))
+    if layout is None or data[5] != 1:
+        raise refused(f"is of another machine than x86-64 and i386 (class {data[4]}, machine {machine})")
+    return layout
+
+
+def notes_of(data: bytes, layout: Layout) -> Iterator[tuple[int, memoryview]]:
+    """The notes of a core by their types, in order."""
+    if len(data) < 0x18 + layout.header.size:
+        raise refused("is cut")
+    _, at, _, _, _, size, count = layout.header.unpack_from(data, 0x18)
+    if size != layout.segment.size:
+        raise refused(f"has program headers of {size} bytes")
+    for index in range(count):
+        if at + (index + 1) * size > len(data):
+            raise refused("is cut, or its program headers stand too far behind")
+        fields = layout.segment.unpack_from(data, at + index * size)
+        if fields[0] == NOTES:
+            yield from _notes_in(data, fields[layout.offsets[0]], fields[layout.offsets[1]])
+
+
+def _notes_in(data: bytes, at: int, size: int) -> Iterator[tuple[int, memoryview]]:
+    end = at + size
+    if end > len(data):
+        raise refused(f"is cut, or its notes aren't in its first {inputs.LIMITS['core']} bytes")
+    while at + 12 <= end:
+        name, length, kind = struct.unpack_from("<III", data, at)
+        begin = at + 12 + (name + 3 & ~3)
+        at = begin + (length + 3 & ~3)
+        if at > end:
+            raise refused("has a note that is cut")
+        yield kind, memoryview(data)[begin:begin + length]
+
+
+def _signal(note: bytes, layout: Layout) -> tuple[int, int, int, int]:
+    """The data, the address, the number and the architecture; raises ToolError for another signal than a filter's."""
+    offset, union = layout.union
+    if len(note) < offset + union.size:
+        raise refused("has a note of the signal that is cut")
+    signal, data, code = struct.unpack_from("<iii", note)
+    if signal != SIGSYS:
+        raise refused(f"is of signal {signal}, and not of SIGSYS ({SIGSYS}), by which a filter ends a process")
+    if code != SYS_SECCOMP:
+        raise refused("is of a SIGSYS that is no filter's: " + (
+            "it is of syscall user dispatch" if code == SYS_USER_DISPATCH else f"a process sent it (si_code {code})"))
+    address, number, architecture = union.unpack_from(note, offset)
+    return data & 0xFFFF, address, number & 0xFFFFFFFF, architecture
+
+
+def event_of(data: bytes) -> Event:
+    """The syscall that ended the process of a core."""
+    layout = layout_of(data)
+    notes: dict[int, bytes] = {}
+    for kind, note in itertools.islice(notes_of(data, layout), MOST_NOTES):
+        # the first note of a thread is of the one that the signal ended
+        if kind not in notes:
+            notes[kind] = bytes(note[:LONGEST_NOTE])
+    if SIGINFO not in notes:
+        raise refused("has no note of the signal (NT_SIGINFO)")
+    answered, pointer, number, architecture = _signal(notes[SIGINFO], layout)
+    offset, registers, names = layout.registers
+    status = notes.get(PRSTATUS, b"")
+    arguments, process = (None,) * 6, None
+    if len(status) >= offset + registers.size and architecture in ARGUMENT_REGISTERS:
+        values = dict(zip(names, registers.unpack_from(status, offset)))
+        mask = 0xFFFFFFFF if architecture == I386_NUMBER else 0xFFFFFFFFFFFFFFFF
+        arguments = tuple((values[register] & mask,) for register in ARGUMENT_REGISTERS[architecture])
+        process = struct.unpack_from("<i", status, layout.process)[0]
+    name = notes.get(PRPSINFO, b"")[layout.name:layout.name + 16].partition(b"\0")[0].decode("latin-1")
+    outcome = Outcome(("TRAP", *KILLS), data=answered)
+    plain = Call(number, architecture, pointer)
+    event = Event(CORE, plain, outcome, arguments, process, name)
+    return Event(CORE, event.with_values(next(event.ways())), outcome, arguments, process, name)
+
+
+def read(name: str) -> Event:
+    return event_of(inputs.read(name, "core"))

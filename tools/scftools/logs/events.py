@@ -1,0 +1,407 @@
+"""Events: syscalls that a filter denied, delegated or logged, as far as a log, a core or strace tells of them; and the
+syscalls of a strace log that failed."""
+from __future__ import annotations
+
+import itertools
+import re
+from collections.abc import Iterable, Iterator
+
+from ..base.values import Pattern, dataclass, field, replace
+from ..model import tables
+from ..model.answers import ACTIONS, DOES, MAX_ERRNO, NUMBERS_OF_ERRNOS, Answer
+from ..model.architectures import JUDGED, Architecture
+from ..model.calls import Call
+from ..model.tables import Table
+from . import audit_records, journals, strace
+from .audit_records import Malformed
+from .confinement import SUPERSEDED, Confinement
+
+# The most distinct events and failed syscalls that are kept of a text, the most failed ones of a process that are
+# remembered for its end, and the most values that unknown bits of arguments may take; and the most audit records whose
+# stamps are remembered.
+EVENTS, FAILURES, OF_PROCESS, WAYS, STAMPS = 200, 1000, 100, 8, 1 << 16
+RECORD, CORE, STRACE = "the record", "the core", "strace's line"
+# What may end a process with a core, and with SIGSYS that strace doesn't show as a signal first (`__seccomp_filter` of
+# kernel/seccomp.c: TRAP sends SIGSYS, and the others end the process themselves).
+KILLS = ("KILL_THREAD", "KILL_PROCESS", "UNNAMED")
+# What may let a syscall fail.
+FAILS = ("ERRNO", "TRACE", "USER_NOTIF")
+SIGSYS_LINE = Pattern(r"--- SIGSYS \{([^}]{0,1000})\} ---")
+MEMBER = Pattern(r"\b(si_\w+)=(\w+)")
+KILLED = Pattern(r"\+\+\+ killed by SIGSYS")
+# How a process ends that failed: by a signal, or with another status than 0.
+ENDED_BADLY = Pattern(r"\+\+\+ (?:killed by|exited with [1-9])")
+FAILED = Pattern(r" *= -1 (?:(E[A-Z0-9]+) \(|\(errno ([0-9]{1,4})\))")
+
+
+@dataclass(frozen=True)
+class Outcome:
+    """What is known of an answer: the actions that it may have; of one without a name its high half; and its data, or
+    the errno with which the syscall failed."""
+
+    actions: tuple[str, ...]
+    half: int | None = None
+    data: int | None = None
+    is_result: bool = False
+
+    @property
+    def halves(self) -> list[int]:
+        """The high halves that the answer may have, but those of actions without a name that aren't known."""
+        named = [half for half, name in ACTIONS.items() if name in self.actions]
+        return named if self.half is None else [*named, self.half]
+
+    def has(self, answer: Answer) -> bool:
+        """Whether this may be the answer."""
+        if answer.action not in self.actions:
+            return False
+        if answer.action == "UNNAMED":
+            return self.half in (None, answer.data >> 16) and self.data in (None, answer.data & 0xFFFF)
+        if self.is_result:
+            # what a tracer or a supervisor answers isn't known
+            return answer.action != "ERRNO" or min(answer.data, MAX_ERRNO) == self.data
+        return self.data in (None, answer.data)
+
+    def describe(self) -> str:
+        """The actions, and what the kernel does with the syscall."""
+        if self.half is not None and self.actions == ("UNNAMED",):
+            return f"UNNAMED {self.half << 16:#010x}: {DOES['UNNAMED']}"
+        if len(self.actions) > 1:
+            return f"{', '.join(self.actions[:-1])} or {self.actions[-1]}"
+        answer = Answer(self.actions[0], self.data or 0)
+        if self.actions == ("ERRNO",) and self.data is None:
+            return "ERRNO: the syscall isn't executed, and returns an errno"
+        return answer.describe() if self.data is not None else f"{answer.action}: {answer.does()}"
+
+
+@dataclass(frozen=True)
+class Event:
+    """A syscall, and what is known of the answer to it: what tells of it, the process, and the values that each of the
+    six arguments may have; None if they aren't known, which the call has as 0."""
+
+    source: str
+    call: Call
+    outcome: Outcome
+    arguments: tuple[tuple[int, ...] | None, ...] = (None,) * 6
+    process: int | None = None
+    name: str = ""
+    # seconds since 1970
+    time: float | None = None
+
+    @property
+    def key(self) -> tuple[object, ...]:
+        """What events have in common that are reported together."""
+        return (self.source, self.call.number, self.call.architecture, self.outcome, self.arguments, self.name)
+
+    @property
+    def unknown(self) -> list[int]:
+        """The arguments of which no value is known."""
+        return [index for index, values in enumerate(self.arguments) if values is None]
+
+    def ways(self) -> Iterator[dict[int, int]]:
+        """The values of the known arguments, in each way that they may be; at most WAYS of them."""
+        pairs = [(index, values) for index, values in enumerate(self.arguments) if values is not None]
+        for values in itertools.islice(itertools.product(*(values for _, values in pairs)), WAYS):
+            yield dict(zip((index for index, _ in pairs), values))
+
+    def with_values(self, values: dict[int, int]) -> Call:
+        """The call with these arguments, and 0 as the others."""
+        return replace(self.call, arguments=tuple(values.get(index, 0) for index in range(6)))
+
+    def who(self) -> str:
+        """The process, as far as it is known."""
+        if self.process is None:
+            return self.name or "a process"
+        return f"process {self.process}" + (f" ({self.name})" if self.name else "")
+
+
+@dataclass
+class Failure:
+    """A syscall that failed: how often, and where it failed last, by the order of all failures of the log."""
+
+    event: Event
+    count: int = 0
+    last: int = 0
+
+
+@dataclass
+class Failures:
+    """The failed syscalls of a strace log that are behind the loading of a filter, if the log shows one."""
+
+    of: dict[tuple[object, ...], Failure] = field(default_factory=dict)
+    # those of each process that ended with a failure, the last one first
+    of_ended: list[list[tuple[object, ...]]] = field(default_factory=list)
+    # how many there are, how many stand before the loading of a filter, and how many are of more kinds than are kept
+    count: int = 0
+    before_load: int = 0
+    beyond: int = 0
+
+    def add(self, event: Event) -> None:
+        self.count += 1
+        if event.key not in self.of and len(self.of) >= FAILURES:
+            self.beyond += 1
+            return
+        failure = self.of.setdefault(event.key, Failure(event))
+        failure.event, failure.count, failure.last = event, failure.count + 1, self.count
+
+    def shows_load(self) -> None:
+        """The first filter is loaded: what failed before isn't its answer."""
+        self.before_load += self.count
+        self.of, self.of_ended, self.count, self.beyond = {}, [], 0, 0
+
+
+@dataclass
+class EventLog:
+    """What a text has: its events with how often each stands in it, faulty records, records that the kernel left out,
+    and what failed in a strace log."""
+
+    events: dict[tuple[object, ...], list] = field(default_factory=dict)
+    failures: Failures = field(default_factory=Failures)
+    # the last syscall of a strace log, if it failed and may be under a filter
+    last_failure: Event | None = None
+    # each with its line, from 1 on
+    faults: list[tuple[int, str]] = field(default_factory=list)
+    suppressed: int = 0
+    # what coredumpctl lists
+    cores: journals.Cores = field(default_factory=journals.Cores)
+    # events beyond the most that are kept
+    beyond: int = 0
+
+    def add(self, event: Event) -> None:
+        if event.key in self.events:
+            self.events[event.key][1] += 1
+        elif len(self.events) < EVENTS:
+            self.events[event.key] = [event, 1]
+        else:
+            self.beyond += 1
+
+
+class _Records:
+    """The audit records of a log. journald has one twice if auditd doesn't run: from the kernel's log, and from audit,
+    which journalctl prints without the record's stamp."""
+
+    def __init__(self) -> None:
+        self._stamps: dict[str, None] = {}
+        # how many records with and without a stamp have everything else in common
+        self._counts: dict[audit_records.SeccompRecord, list[int]] = {}
+
+    def is_new(self, record: audit_records.SeccompRecord) -> bool:
+        """Adds a record; whether it isn't one that was added before."""
+        if record.stamp in self._stamps:
+            return False
+        has_stamp = record.stamp is not None
+        self._stamps.update({record.stamp: None} if has_stamp else {})
+        counts = self._counts.setdefault(replace(record, stamp=None), [0, 0])
+        counts[has_stamp] += 1
+        for every, most in ((self._stamps, STAMPS), (self._counts, strace.PENDING)):
+            if len(every) > most:
+                every.pop(next(iter(every)))
+        return counts[has_stamp] > counts[not has_stamp]
+
+
+def of_record(record: audit_records.SeccompRecord) -> Event:
+    call = Call(record.number, record.architecture, record.pointer)
+    actions = tuple(ACTIONS.get(half, "UNNAMED") for half in record.halves)
+    outcome = Outcome(actions, record.halves[0] if actions == ("UNNAMED",) else None)
+    return Event(RECORD, call, outcome, process=record.process, name=record.name, time=record.time)
+
+
+class _Ends(strace.Log):
+    """A strace log, of which the last syscall of each process is kept, those that SIGSYS ended, and those that
+    failed."""
+
+    def __init__(self, tables_of: dict[str, Table]):
+        super().__init__(lambda *_: (), tables_of)
+        # the last syscall of each process
+        self.last: dict[str | None, _Printed] = {}
+        self.killed: list[_Printed] = []
+        # each SIGSYS: the process, the signal's members, and the syscall before it
+        self.signals: list[tuple[str | None, str, _Printed | None]] = []
+        self.failures, self.confinement = Failures(), Confinement()
+        # the last syscall, if it failed and may be under a filter
+        self.last_failure: Event | None = None
+        # of each process what failed, the last at the end
+        self._failed: dict[str | None, dict[tuple[object, ...], None]] = {}
+
+    def _call(self, who: str | None, line: strace.Line, name: re.Match[str], is_cut: bool = False) -> None:
+        if line.text.startswith(strace.FORKS):
+            self._forked(who, line.text)
+        self._confine(who, line, name, is_cut)
+        self.last.pop(who, None)
+        architecture = self.architecture_of(who, name[1], line.nr)
+        nr = self.number_of(architecture, name[1])
+        # (what socketcall and ipc do strace prints by its own name)
+        if nr is None or line.nr not in (None, nr):
+            self._count(self.foreign, line.number)
+            return
+        printed = _Printed(who, line.text[:strace.LONGEST_BEGINNING], name, nr, JUDGED[architecture])
+        self.last[who] = printed
+        if len(self.last) > strace.PENDING:
+            self.last.pop(next(iter(self.last)))
+        self.last_failure = None
+        if " = -1 " in line.text:
+            self._fails(who, printed.failure())
+
+    def _confine(self, who: str | None, line: strace.Line, name: re.Match[str], is_cut: bool) -> None:
+        was_shown = self.confinement.is_shown
+        self.confinement.takes(who, line.text, name, is_cut or self._is_long)
+        if self.confinement.is_shown and not was_shown:
+            self._failed = {}
+            self.failures.shows_load()
+
+    def _fails(self, who: str | None, event: Event | None) -> None:
+        if event is None:
+            return
+        if self.confinement.is_shown and not self.confinement.has(who):
+            self.failures.before_load += 1
+            return
+        self.last_failure = event
+        self.failures.add(event)
+        failed = self._failed.setdefault(self.confinement.process_of(who), {})
+        failed.pop(event.key, None)
+        failed[event.key] = None
+        for every, most in ((failed, OF_PROCESS), (self._failed, strace.PENDING)):
+            if len(every) > most:
+                every.pop(next(iter(every)))
+
+    def _ends(self, who: str | None, text: str) -> None:
+        superseded = SUPERSEDED.match(text)
+        if superseded:
+            self.confinement.supersedes(who, superseded[1])
+            return
+        process, is_bad = self.confinement.process_of(who), ENDED_BADLY.match(text) is not None
+        failed = self._failed.pop(process, None) if is_bad or process == who else None
+        if failed and is_bad and len(self.failures.of_ended) < EVENTS:
+            self.failures.of_ended.append([*reversed(failed)])
+        self.confinement.forget(who)
+
+    def _add(self, who: str | None, line: strace.Line) -> None:
+        self.confinement.begins(who, self._makers)
+        super()._add(who, line)
+        signal = SIGSYS_LINE.match(line.text)
+        if signal and len(self.signals) < EVENTS:
+            self.signals.append((who, signal[1], self.last.pop(who, None)))
+        elif line.text.startswith("+++ "):
+            self._ends(who, line.text)
+            ended = self.last.pop(who, None)
+            if ended and KILLED.match(line.text) and len(self.killed) < EVENTS:
+                self.killed.append(ended)
+
+
+@dataclass(frozen=True)
+class _Printed:
+    """A syscall as strace prints it: its process, the text, the match of its name, its number in the table of its
+    architecture, and this."""
+
+    who: str | None
+    text: str
+    name: re.Match[str]
+    number: int
+    architecture: Architecture
+
+    @property
+    def record(self) -> tuple[int, int]:
+        """The numbers that a record of it has, the syscall's and the architecture's."""
+        return self.architecture.first + self.number, self.architecture.number
+
+    @property
+    def end(self) -> int:
+        """Where its result stands; behind the text if it has none."""
+        end = strace.arguments_in(self.text, self.name.end())[1]
+        return len(self.text) if end is None else end
+
+    def is_its_number(self) -> bool:
+        """Whether it returned its own number, as the kernel shows one that it kills for."""
+        result = strace.RESULT.match(self.text, self.end)
+        return result is not None and result[1] in (str(self.record[0]), hex(self.record[0]))
+
+    def event(self, outcome: Outcome, pointer: int | None = None) -> Event:
+        shown = strace.registers_in(self.text, self.name, self.architecture.oci)
+        return Event(STRACE, Call(*self.record, pointer), outcome, tuple(shown.get(at) for at in range(6)),
+                     int(self.who) if self.who else None)
+
+    def failure(self) -> Event | None:
+        """Its failure, if it failed: by a filter, a supervisor or tracer, or the kernel itself."""
+        match = FAILED.match(self.text, self.end)
+        if match is None:
+            return None
+        code = NUMBERS_OF_ERRNOS.get(match[1]) if match[1] else int(match[2])
+        return None if code is None else self.event(Outcome(FAILS, data=code, is_result=True))
+
+
+def _of_signal(who: str | None, members: str, call: _Printed | None, tables_of: dict[str, Table]) -> Event:
+    """SIGSYS as strace shows it: by TRAP, with the data as si_errno."""
+    values = dict(MEMBER.findall(members))
+    if values.get("si_code") != "SYS_SECCOMP":
+        raise Malformed("SIGSYS isn't a filter's: its si_code isn't SYS_SECCOMP")
+    name, code = values.get("si_syscall", "").removeprefix("__NR_"), values.get("si_errno", "0")
+    architecture = audit_records.architecture_of(values.get("si_arch"))
+    number = int(name, 0) if re.fullmatch("0x[0-9a-f]{1,8}|0|[1-9][0-9]{0,8}", name) else \
+        audit_records.named_number(name, architecture, tables_of)
+    if number is None:
+        raise Malformed(f"si_syscall={name[:64]}: the table has no such name")
+    data = int(code, 0) if re.fullmatch("0x[0-9a-f]{1,4}|0|[1-9][0-9]{0,4}", code) else NUMBERS_OF_ERRNOS.get(code)
+    address = re.fullmatch("0x([0-9a-f]{1,16})", values.get("si_call_addr", ""))
+    outcome, pointer = Outcome(("TRAP",), data=data), int(address[1], 16) if address else None
+    if call is not None and call.record == (number, architecture):
+        return call.event(outcome, pointer)
+    return Event(STRACE, Call(number, architecture, pointer), outcome, process=int(who) if who else None)
+
+
+def _of_ends(ends: _Ends, log: EventLog) -> None:
+    """Adds the events of a strace log: each SIGSYS; and what failed."""
+    for who, members, call in ends.signals:
+        try:
+            log.add(_of_signal(who, members, call, ends.tables))
+        except Malformed as why:
+            log.faults.append((0, str(why)))
+    numbered = [printed for printed in ends.killed if printed.is_its_number()]
+    if not ends.signals or numbered:
+        # of a process with several threads all are killed, and the syscalls of the others don't end
+        for printed in numbered or ends.killed:
+            log.add(printed.event(Outcome(KILLS if numbered else ("KILL_THREAD",))))
+    log.failures, log.last_failure = ends.failures, ends.last_failure
+
+
+class _LogReader:
+    """What the lines of a log of any kind have."""
+
+    def __init__(self, lines: Iterable[str], table: Table):
+        self.log, self._lines, self._ends = EventLog(), iter(lines), _Ends(tables.of_architectures(JUDGED, table).of)
+        self._records = _Records()
+
+    def _take(self, number: int, line: str) -> None:
+        is_entry = line.startswith('{"')
+        if line == "[" or line.startswith("[{"):
+            self.log.cores.take_list(line, self._lines)
+        elif not self._is_record(journals.message_in(line) if is_entry else line) and not is_entry and \
+                not self.log.cores.take(line):
+            self._ends.add(number, line)
+
+    def _is_record(self, line: str) -> bool:
+        """Takes what the kernel writes; whether it is that."""
+        kind, suppressed = audit_records.kind_of(line), audit_records.SUPPRESSED.search(line)
+        # a text that a program writes may look like a record
+        if (kind is None and suppressed is None) or strace.is_own(line):
+            return False
+        if suppressed:
+            self.log.suppressed += int(suppressed[1])
+        elif kind is not None and kind[0] in audit_records.SECCOMP_KINDS:
+            record = audit_records.record_in(line, kind[1], self._ends.tables)
+            if self._records.is_new(record):
+                self.log.add(of_record(record))
+        return True
+
+    def read(self) -> EventLog:
+        for number, line in enumerate(self._lines, 1):
+            try:
+                self._take(number, line)
+            except Malformed as why:
+                self.log.faults += [(number, str(why))] * (len(self.log.faults) < EVENTS)
+        self._ends.end()
+        _of_ends(self._ends, self.log)
+        return self.log
+
+
+def read(lines: Iterable[str], table: Table) -> EventLog:
+    """The events in the lines of a log of any kind."""
+    return _LogReader(lines, table).read()

@@ -1,0 +1,388 @@
+"""The needs of a program, as a profile answers them: the syscalls in logs, each judged by scf in its architecture; and
+those of the runtime that starts it.
+
+All that the profile answers is known by its regions: those of a syscall with the arguments that the log shows.
+"""
+from __future__ import annotations
+
+import itertools
+import json
+from collections.abc import Iterable, Iterator, Sequence
+
+from ..base import output, program
+from ..base.values import dataclass
+from ..model import entries, profiles, tables
+from ..model.answers import ALLOWED, DEPENDS, KILL_PROCESS, Answer
+from ..model.architectures import JUDGED, NATIVE, Architecture, of_machine
+from ..model.calls import Call
+from ..model.entries import EQUAL, Object
+from ..model.profiles import ALLOWING
+from ..model.tables import Table, Tables
+from ..ask import client, reasons, regions
+from ..ask.regions import Lookup
+from ..ask.verdicts import UNDECIDED, UNFINISHED
+from ..forms.engines import PASSED_ON
+from . import strace, traces
+from .strace import Seen
+from .traces import Trace
+
+NOT_ALLOWED = "not allowed"
+# What in a log isn't judged, by its name in JSON.
+UNJUDGED = {"foreign": "syscalls not judged, since scf has no table of their architecture",
+            "cut": "syscalls not judged, since the log lacks their beginning or end",
+            "more": "syscalls not judged, since there are too many with other arguments",
+            "lines": "lines not judged, since they can't be parsed",
+            "lost": "syscalls not judged, since the log has lost them"}
+TAKEN = ("a log that doesn't say its architecture is taken as {}'s, since the profile doesn't list {}: --arch names "
+         "another")
+# The most entries with conditions for one name, and the most syscalls to judge, each with each of its values.
+CONDITIONS, MOST_WAYS = 64, 2000
+# What each least profile allows where an architecture has it: a process calls these, which a log needn't show, to
+# continue after a stop or a signal, and to end.
+ALWAYS_CALLED = ("restart_syscall", "rt_sigreturn", "exit", "exit_group", "sigreturn")
+# What a container runtime itself calls behind the filter, before it executes the container's program; runc is written
+# in Go, whose own calls come and go. Taken from the kernel's records of containers of runc 1.1 and crun 1.8 under a
+# profile that logs, with and without noNewPrivileges, as root and as a user, with and without a terminal, and created
+# and started by podman: crun waits for the start in pselect6 and read.
+OF_RUNTIMES = {
+    "runc": "capget capset chdir close epoll_ctl execve faccessat2 fchown fcntl fstat fstatfs futex getcwd getdents64 "
+            "getpid getppid newfstatat openat prctl read setgid setgroups setuid write",
+    "crun": "capset close execve prctl pselect6 read rt_sigaction rt_sigprocmask setresgid setresuid write",
+}
+
+
+@dataclass(frozen=True)
+class TracedCall:
+    """A syscall in a log: its architecture, its number in the table of this, its name, and the values of the arguments
+    that a condition tests; None if one isn't known."""
+
+    architecture: Architecture
+    number: int
+    name: str
+    arguments: tuple[tuple[int, tuple[int, ...] | None], ...]
+    seen: Seen
+
+    @property
+    def unknown(self) -> list[int]:
+        return [index for index, values in self.arguments if values is None]
+
+    @property
+    def unsure(self) -> list[int]:
+        """The arguments of which not one value alone is known."""
+        return [index for index, values in self.arguments if values is None or len(values) > 1]
+
+    def known_values(self) -> Iterator[dict[int, int]]:
+        """The values of the known arguments, in each way that they may be."""
+        pairs = [(index, values) for index, values in self.arguments if values is not None]
+        for values in itertools.product(*(values for _, values in pairs)):
+            yield dict(zip((index for index, _ in pairs), values))
+
+    def call(self, values: dict[int, int]) -> Call:
+        """A record of the syscall with these arguments, and 0 as the others."""
+        architecture = self.architecture
+        return Call(architecture.first + self.number, architecture.number,
+                    arguments=tuple(values.get(index, 0) for index in range(6)))
+
+    @property
+    def shown_name(self) -> str:
+        return self.architecture.marked(self.name)
+
+    def describe(self) -> str:
+        shown = "".join(f" arg {index} {values[0]:#x}" for index, values in self.arguments
+                        if values is not None and len(values) == 1)
+        return self.architecture.marked(f"{self.number} {self.name}{shown}")
+
+
+@dataclass(frozen=True)
+class Judgement:
+    """The result for a syscall: allowed, not allowed, or it depends; with examples and their answers."""
+
+    traced: TracedCall
+    disposition: str
+    line: str = ""
+    allowed: Call | None = None
+    denied: tuple[Call, Answer] | None = None
+    # whether the profile doesn't list its architecture
+    is_foreign: bool = False
+
+
+@dataclass
+class Needs:
+    """The result: the syscalls that were judged, and what wasn't."""
+
+    judged: list[Judgement]
+    # names that the table doesn't have, and other kinds of UNJUDGED, each with how often it was met
+    unnamed: dict[str, int]
+    unjudged: dict[str, int]
+    # what is the matter with the first record that can't be read
+    fault: str = ""
+    # whether there are several logs, whose names lines then say
+    are_several: bool = False
+    # as what a log is taken that doesn't say its architecture, if that isn't this machine's
+    taken: str = ""
+
+    @property
+    def unlisted(self) -> list[Architecture]:
+        """The architectures of syscalls that the profile doesn't list."""
+        return list(dict.fromkeys(judgement.traced.architecture for judgement in self.judged if judgement.is_foreign))
+
+    def of(self, disposition: str) -> list[Judgement]:
+        return [judgement for judgement in self.judged if judgement.disposition == disposition]
+
+    @property
+    def isnt_whole(self) -> bool:
+        """Whether something in the log wasn't judged, or there was nothing to judge."""
+        return bool(self.unnamed or any(self.unjudged.values()) or not self.judged)
+
+    @property
+    def status(self) -> int:
+        if self.of(NOT_ALLOWED):
+            return program.NEGATIVE
+        return program.UNKNOWN if self.of(DEPENDS) or self.of(UNDECIDED) or self.isnt_whole else program.SUCCESS
+
+
+class Judge:
+    """A profile, its regions for one architecture, and what its conditions test of each syscall there."""
+
+    def __init__(self, profile: bytes, architecture: str, table: Table):
+        answered = regions.of_profile(profile, Tables({architecture: table}, profiles.reading_of(profile)))
+        self._lookup = Lookup(answered)
+        top = entries.read(profile)
+        if top is None:
+            raise program.ToolError("the profile's JSON can't be parsed by this tool", program.IO_ERROR)
+        self.top: Object = top
+        looked: dict[int | None, set[int]] = {}
+        for entry in entries.entries_of(top, table.number_of):
+            for name in entry.names if entry.conditions else ():
+                looked.setdefault(table.number_of(name), set()).update(condition.index
+                                                                       for condition in entry.conditions)
+        self.looked = {name: tuple(sorted(indices)) for number, indices in looked.items() if number is not None
+                       for name in (*table.names_of(number), f"syscall_{number:#x}")}
+
+    def of(self, traced: TracedCall) -> Judgement:
+        call = traced.call({})
+        allowed, denied = [], []
+        for values in traced.known_values():
+            for region in self._lookup.of_number(call):
+                if region.answer is not None and region.has(values):
+                    shown = region.call_of(call.number, call.architecture, values)
+                    if shown is None:
+                        return Judgement(traced, UNDECIDED, UNDECIDED)
+                    (allowed if region.answer.disposition == ALLOWED else denied).append((shown, region))
+        if not self._lookup.is_finished:
+            return Judgement(traced, UNDECIDED, UNFINISHED)
+        if denied:
+            call, by = denied[0]
+            return Judgement(traced, DEPENDS if allowed else NOT_ALLOWED, by.line, allowed[0][0] if allowed else None,
+                             (call, by.answer), by.line == reasons.FOREIGN)
+        if allowed:
+            return Judgement(traced, ALLOWED, allowed=allowed[0][0])
+        return Judgement(traced, NOT_ALLOWED, reasons.FOREIGN, denied=(call, KILL_PROCESS), is_foreign=True)
+
+
+class Judges:
+    """A profile, which judges each syscall in its architecture. `own` is the architecture of what doesn't say it: the
+    machine's, or, if the profile doesn't list that, the first that it lists."""
+
+    def __init__(self, profile: bytes, named: Architecture | None, table: str | None):
+        self.profile, machine = profile, JUDGED[of_machine()]
+        listed = tables.of_profile(profile, tables.read(None)).of
+        self.own = named or (machine if machine.oci in listed else JUDGED[next(iter(listed))])
+        self.taken = "" if self.own in (named, machine) else TAKEN.format(self.own.name, machine.name)
+        # of all architectures, by OCI names; a table that is handed in is that of the log's own
+        self.tables = tables.of_architectures(JUDGED, tables.read(None)).of
+        self.tables[self.own.oci] = tables.read(table, self.own)
+        # a profile without a list is for its machine's own
+        names = profiles.architectures_of(profile) or [strace.modes_of(self.own.oci)[strace.OWN_MODE]]
+        self.listed = Tables({name: self.tables[name]
+                              for name in tables.of_architectures(names, self.tables[NATIVE]).of},
+                             profiles.reading_of(profile))
+        self._of: dict[str, Judge] = {}
+        self._looked: dict[str, dict[str, tuple[int, ...]]] = {}
+
+    def of(self, architecture: str) -> Judge:
+        """The judge of an architecture's syscalls; if the profile doesn't list it, one to which they are foreign."""
+        at = next(name for name in (architecture, self.own.oci, *self.listed.of) if name in self.listed.of)
+        if at not in self._of:
+            self._of[at] = Judge(self.profile, at, self.tables[at])
+        return self._of[at]
+
+    def looked_at(self, architecture: str, name: str) -> tuple[int, ...]:
+        """The arguments of a syscall that a condition tests."""
+        if architecture not in self._looked:
+            self._looked[architecture] = self.of(architecture).looked if architecture in self.listed.of else {}
+        return self._looked[architecture].get(name, ())
+
+
+def find(log: Trace, judges: Judges) -> Needs:
+    """The calls of a log, by their architectures and numbers, each judged."""
+    counts = log.foreign.count, log.cut.count, log.not_remembered.count, log.unread.count, log.lost.count
+    needs = Needs([], {}, dict(zip(UNJUDGED, counts)), log.fault, taken=judges.taken)
+    traced: list[TracedCall] = []
+    for (architecture, name, values), seen in log.calls.items():
+        in_architecture, number = JUDGED[architecture], log.number_of(architecture, name)
+        if number is None:
+            shown = in_architecture.marked(name)
+            needs.unnamed[shown] = needs.unnamed.get(shown, 0) + seen.count
+        else:
+            arguments = tuple(zip(judges.looked_at(architecture, name), values))
+            traced.append(TracedCall(in_architecture, number, name, arguments, seen))
+    ways, order = 0, list(JUDGED)
+    for call in sorted(traced,
+                       key=lambda call: (order.index(call.architecture.oci), call.number, call.name, call.seen.line)):
+        ways += sum(1 for _ in call.known_values())
+        if ways <= MOST_WAYS and not client.is_spent():
+            needs.judged.append(judges.of(call.architecture.oci).of(call))
+        else:
+            needs.unjudged["more"] += call.seen.count
+    return needs
+
+
+def _where(seen: Seen, are_several: bool) -> str:
+    """Where a syscall stands in the logs."""
+    if not seen.line:
+        return f"made by {seen.log} itself, before it executes the program"
+    log = f"'{seen.log}'" if are_several else "the log"
+    return f"{'once' if seen.count == 1 else f'{seen.count} times, first'} in line {seen.line} of {log}"
+
+
+def _of_judged(judgement: Judgement, are_several: bool) -> Iterator[str]:
+    """The lines of a syscall that isn't allowed, or not always."""
+    if judgement.disposition == NOT_ALLOWED:
+        yield f"{judgement.traced.describe()} {judgement.line}"
+    elif judgement.disposition == DEPENDS:
+        unsure = judgement.traced.unsure
+        args = f"arg {unsure[0]}" if len(unsure) == 1 else f"args {', '.join(map(str, unsure))}"
+        yield f"{judgement.traced.describe()} depends on {args}"
+        if judgement.allowed and judgement.denied:
+            call, answer = judgement.denied
+            yield f"# allowed with {_arguments(judgement.allowed)}; with {_arguments(call)} it is {answer}"
+    else:
+        yield f"{judgement.traced.describe()} {judgement.line}"
+    yield f"# {_where(judgement.traced.seen, are_several)}"
+
+
+def _arguments(call: Call) -> str:
+    return f"args {' '.join(map(hex, call.arguments))}"
+
+
+def log_remarks(needs: Needs) -> Iterator[str]:
+    """Lines on the log's architectures, and on what in it wasn't judged."""
+    if needs.taken:
+        yield needs.taken
+    for architecture in needs.unlisted:
+        yield (f"{architecture.name} syscalls aren't allowed, since the profile doesn't list {architecture.oci}: "
+               "engines' filters kill for them")
+    elsewhere = tables.names_elsewhere() if needs.unnamed else ()
+    for name, count in sorted(needs.unnamed.items())[:tables.MOST_LISTED]:
+        yield (f"not judged, since the table doesn't have it: {name}, times: {count}"
+               + ("; it is a syscall of other architectures alone" if name in elsewhere else ""))
+    if len(needs.unnamed) > tables.MOST_LISTED:
+        yield f"more such names: {len(needs.unnamed) - tables.MOST_LISTED}"
+    for kind, count in needs.unjudged.items():
+        if count:
+            yield f"{UNJUDGED[kind]}: {count}"
+        if kind == "lines" and needs.fault:
+            yield needs.fault
+    if not needs.judged:
+        yield "the log has no syscall"
+
+
+def lines(needs: Needs) -> Iterator[str]:
+    """The text output: what isn't allowed, what depends, and counts."""
+    for disposition in (NOT_ALLOWED, DEPENDS, UNDECIDED):
+        for judgement in needs.of(disposition):
+            yield from _of_judged(judgement, needs.are_several)
+    yield from output.notes(log_remarks(needs))
+    counts = ", ".join(f"{disposition} {len(needs.of(disposition))}"
+                       for disposition in (ALLOWED, NOT_ALLOWED, DEPENDS, UNDECIDED)
+                       if disposition != UNDECIDED or needs.of(UNDECIDED))
+    yield f"# syscalls, each with the arguments that conditions test: {counts}"
+
+
+def count_lines(needs: Needs) -> list[str]:
+    """How often the logs have each syscall, the most frequent first: lines NAME COUNT."""
+    counts: dict[str, int] = {}
+    for judgement in needs.judged:
+        name = judgement.traced.shown_name
+        counts[name] = counts.get(name, 0) + judgement.traced.seen.count
+    return [f"{name} {count}" for name, count in sorted(counts.items(), key=lambda item: (-item[1], item[0]))]
+
+
+def as_json(needs: Needs, table: Table) -> dict[str, object]:
+    calls = []
+    for judgement in needs.judged:
+        traced = judgement.traced
+        shown: dict[str, object] = {
+            **({} if traced.architecture.oci == NATIVE else {"architecture": traced.architecture.name}),
+            "number": traced.number, "name": traced.name, "disposition": judgement.disposition,
+            "count": traced.seen.count,
+            "line": traced.seen.line, "log": traced.seen.log,
+            "depends_on": traced.unsure if judgement.disposition == DEPENDS else [],
+            "arguments": {str(index): None if values is None else list(map(hex, values))
+                          for index, values in traced.arguments}}
+        if judgement.denied:
+            shown["not_allowed"] = {"call": judgement.denied[0].as_json(table), "answer": judgement.denied[1].as_json(),
+                                    **reasons.members_of(judgement.line)}
+        if judgement.allowed and judgement.disposition == DEPENDS:
+            shown["allowed"] = judgement.allowed.as_json(table)
+        if judgement.disposition == UNDECIDED:
+            shown["verdict"] = judgement.line
+        calls.append(shown)
+    return {"status": needs.status, "calls": calls,
+            "not_judged": {"names": needs.unnamed, **needs.unjudged}}
+
+
+def _entries(calls: Iterable[TracedCall], always: Iterable[str]) -> Iterator[dict[str, object]]:
+    """The entries that allow the syscalls, with the values of known arguments that conditions test."""
+    ruled: dict[str, dict[tuple[tuple[int, int], ...], None]] = {}
+    for call in calls:
+        for values in call.known_values():
+            ruled.setdefault(call.name, {})[tuple(values.items())] = None
+    plain = dict.fromkeys(name for name, rules in ruled.items() if () in rules or len(rules) > CONDITIONS)
+    plain.update(dict.fromkeys(always))
+    if plain:
+        yield {"names": list(plain), "action": "SCMP_ACT_ALLOW"}
+    for name, rules in ruled.items():
+        for rule in rules if name not in plain else ():
+            yield {"names": [name], "action": "SCMP_ACT_ALLOW",
+                   "args": [{"index": index, "value": value, "op": EQUAL} for index, value in rule]}
+
+
+def least_profile(needs: Needs, judges: Judges) -> tuple[str, list[str]]:
+    """The smallest profile that allows the syscalls of the log, as JSON, and what isn't in it."""
+    top = judges.of(judges.own.oci).top
+    default = top["defaultAction"]
+    profile: dict[str, object] = {"defaultAction": default}
+    if default in ALLOWING:
+        profile = {"defaultAction": "SCMP_ACT_ERRNO"}
+    elif "defaultErrnoRet" in top:
+        profile["defaultErrnoRet"] = top["defaultErrnoRet"]
+    profile.update((name, top[name]) for name in ("architectures", *PASSED_ON) if name in top)
+    calls = [judgement.traced for judgement in needs.judged if not judgement.is_foreign]
+    named = [call for call in calls if judges.tables[call.architecture.oci].number_of(call.name) is not None]
+    seen = {judges.own.oci, *(call.architecture.oci for call in named)}
+    always = (name for name in ALWAYS_CALLED
+              if any(judges.tables[architecture].number_of(name) is not None for architecture in seen))
+    profile["syscalls"] = list(_entries(named, always))
+    remarks = list(log_remarks(needs))
+    remarks += [f"{call.shown_name} has no name, and isn't in the profile" for call in calls if call not in named]
+    remarks += [f"{call.shown_name}: the log doesn't show arguments {', '.join(map(str, call.unknown))} as numbers: "
+                "they may be any" for call in named if call.unknown]
+    return json.dumps(profile, indent=4) + "\n", remarks
+
+
+def read(names: Sequence[str], judges: Judges, runtime: str | None = None) -> Needs:
+    """The syscalls of some logs, with those that a runtime makes before it executes the program, judged. Raises
+    Refusal."""
+    architecture = judges.own.oci
+    # this checks the profile before a log is read
+    judges.of(architecture)
+    log = traces.read(names, judges.looked_at, judges.tables, architecture)
+    log.begin(runtime or "")
+    for name in OF_RUNTIMES[runtime].split() if runtime else ():
+        if log.number_of(architecture, name) is not None:
+            log.keep(0, architecture, name, {})
+    needs = find(log, judges)
+    needs.are_several = len(names) > 1
+    return needs

@@ -1,0 +1,95 @@
+"""Runs a program under strace, which leaves it its input, output, status and signals."""
+from __future__ import annotations
+
+# (the module signal makes enums of its constants)
+import _signal as signal
+import os
+import stat
+from collections.abc import Sequence
+
+from ..base import output, program
+from ..cli.words import Parser
+
+# The statuses of what runs another program, as of env(1): it isn't executable, there is none.
+NOT_EXECUTABLE, NOT_THERE = 126, 127
+# The signals that a terminal sends to all of its programs: the traced one decides what becomes of it.
+OF_TERMINAL = (signal.SIGINT, signal.SIGQUIT)
+
+
+def split(words: Sequence[str]) -> tuple[list[str], list[str]]:
+    """The words before the first `--`, and those behind it."""
+    at = list(words).index("--") if "--" in words else len(words)
+    return list(words[:at]), list(words[at + 1:])
+
+
+def new_name(words: Sequence[str], ending: str) -> str:
+    """The name of a new file here, called by a program. Raises ToolError if it is there."""
+    name = os.path.basename(words[0]) + ending
+    if os.path.lexists(name):
+        raise program.ToolError(f"'{output.escaped(name)}' is there already: name it to write over it, or another one")
+    return name
+
+
+def _places_of(name: str) -> list[str]:
+    """Where execvp(3) looks for a program."""
+    return [name] if "/" in name else [os.path.join(folder, name) for folder in os.get_exec_path()]
+
+
+def check_separated(parser: Parser, words: Sequence[str], command: str) -> None:
+    """Ends a tool with a usage error if a program stands among its own words, which should be behind `--`."""
+    for at, word in enumerate(words):
+        if any(os.path.isfile(path) and os.access(path, os.X_OK) for path in _places_of(word)):
+            shown = " ".join([*words[:at], "--", *words[at:]])
+            parser.error(f"'{output.escaped(word)}' is a program, and stands behind --: `scf {command} "
+                         f"{output.escaped(shown)}`")
+
+
+def _path_of(name: str) -> str:
+    """The file of a program. Raises ToolError if there is none."""
+    shown, status = output.escaped(name), NOT_THERE
+    for path in _places_of(name):
+        if os.path.isfile(path):
+            if os.access(path, os.X_OK):
+                return path
+            status = NOT_EXECUTABLE
+    what = f"there is no program '{shown}'" if status == NOT_THERE else f"'{shown}' isn't executable"
+    raise program.ToolError(what, status)
+
+
+def _gains_privileges(path: str) -> bool:
+    """Whether a program has set-user-ID, set-group-ID or capabilities: the kernel gives a traced one none of them."""
+    if os.stat(path).st_mode & (stat.S_ISUID | stat.S_ISGID):
+        return True
+    try:
+        return bool(os.getxattr(path, "security.capability"))
+    except OSError:
+        return False
+
+
+def run(log: str, options: Sequence[str], words: Sequence[str]) -> int:
+    """Runs a program with its arguments while strace writes its log, and waits for both. The result is the program's
+    status, or a signal's number below zero. Raises ToolError if there is no such program, or no strace."""
+    path = _path_of(words[0])
+    if os.geteuid() and _gains_privileges(path):
+        program.say(f"'{words[0]}' gets no privileges while it is traced: it may do other things than else")
+    try:
+        tracer = os.posix_spawnp("strace", ["strace", *options, "-o", log, "--", *words], os.environ,
+                                 setsigdef=(signal.SIGPIPE,))
+    except FileNotFoundError:
+        raise program.ToolError("strace isn't installed: its package is called strace", program.NOT_BUILT) from None
+    for number in OF_TERMINAL:
+        signal.signal(number, signal.SIG_IGN)
+    for number in (signal.SIGTERM, signal.SIGHUP):
+        signal.signal(number, lambda came, _: os.kill(tracer, came))
+    _, status = os.waitpid(tracer, 0)
+    for number in (*OF_TERMINAL, signal.SIGTERM, signal.SIGHUP):
+        signal.signal(number, signal.SIG_DFL)
+    return os.waitstatus_to_exitcode(status)
+
+
+def end_as(status: int) -> int:
+    """Ends by the signal that ended the program, or returns its status."""
+    if status < 0:
+        output.flush()
+        os.kill(os.getpid(), -status)
+    return status if status >= 0 else 128 - status

@@ -1,0 +1,59 @@
+"""Bundles: several inputs as one, which is how scf reads them, since it opens no file itself."""
+from __future__ import annotations
+
+from collections.abc import Iterable, Sequence
+
+from ..base.values import Pattern
+from .architectures import JUDGED
+from .tables import Tables
+
+TABLES = tuple(architecture.kind for architecture in JUDGED.values())
+# Of a table's architecture the first number that runc's stub answers.
+STUBS = tuple(f"stub-{table}" for table in TABLES)
+# How often syscalls of a table are called: `scf compile` cuts its searches by that.
+COUNTS = tuple(f"counts-{table}" for table in TABLES)
+# The kinds of a filter and of a profile of the other side: `scf compare` reads them, filters with --beside.
+BESIDE, BESIDE_PROFILE = "beside", "beside-profile"
+PART_KINDS = ("filter", "profile", BESIDE, BESIDE_PROFILE, *TABLES, *STUBS, *COUNTS)
+# The most bytes that scf reads; it refuses a longer bundle.
+LONGEST_BUNDLE = 1 << 24
+# How a bundle begins, and no filter, no text of one and no profile does.
+BEGINNING = Pattern(f"(?:{'|'.join(PART_KINDS)}) ".encode())
+
+
+def bundle(parts: Iterable[tuple[str, bytes]]) -> bytes:
+    """The parts, each after a header with its kind and its length in bytes."""
+    pieces: list[bytes] = []
+    length = 0
+    for kind, data in parts:
+        pieces += b"%s %d\n" % (kind.encode(), len(data)), data
+        length += len(pieces[-2]) + len(data)
+        if length > LONGEST_BUNDLE:
+            break
+    return b"".join(pieces)
+
+
+def of_stack(filters: Sequence[bytes]) -> bytes:
+    """The bundle for `scf decide`: filters, oldest first."""
+    return bundle(("filter", data) for data in filters)
+
+
+def of_comparison(filters: Sequence[bytes], profile: bytes, tables: Tables) -> bytes:
+    """The bundle for `scf compare`: filters, oldest first, a profile and tables."""
+    return bundle([*(("filter", data) for data in filters), ("profile", profile), *tables.parts])
+
+
+def of_stacks(filters: Sequence[bytes], right: Sequence[bytes], table: bytes | None = None) -> bytes:
+    """The bundle for `scf compare --beside`: two stacks, each oldest first, and with --calls a call table."""
+    of_table = [] if table is None else [("table", table)]
+    return bundle([*(("filter", data) for data in filters), *((BESIDE, data) for data in right), *of_table])
+
+
+def of_profiles(left: bytes, right: bytes, tables: Tables) -> bytes:
+    """The bundle for `scf answers --differences`: two profiles, and the tables of both."""
+    return bundle([("profile", left), (BESIDE_PROFILE, right), *tables.parts])
+
+
+def of_compilation(profile: bytes, tables: Tables, counts: Iterable[tuple[str, bytes]] = ()) -> bytes:
+    """The bundle for `scf compile` and `scf ask`: a profile and tables, and how often syscalls are called."""
+    return bundle([("profile", profile), *tables.parts, *counts])

@@ -1,0 +1,268 @@
+"""Arguments of syscalls, of which kind each is, and constants of C, by which they are given and shown: AF_INET.
+
+tables/x86_64.arguments says how many arguments each syscall has and of which kind, and tables/x86_64.constants which
+constants an argument may be. The constants' numbers on x86-64 are those of tables/arguments.symbols. On some other
+architectures some have another number, or none (tables/arguments.unlike). For further ones no constant is known. """
+from __future__ import annotations
+
+import bisect
+import functools
+import itertools
+import operator
+import re
+from collections.abc import Mapping, Sequence
+
+from ..base import program
+from ..base.values import Pattern, dataclass, field
+from . import architectures, tables
+from .architectures import I386
+
+# Of an argument the kernel reads 32 bits or fewer; a whole register; an address.
+HALF, WHOLE, ADDRESS = "i", "w", "p"
+# The syscalls that have other arguments on an architecture than on x86-64: clone, whose last two are swapped; of 32
+# bits those with a number of 64, which takes two arguments; and on i386 those that read all of theirs from memory.
+SWAPPED = ("clone",)
+SPLIT_SYSCALLS = (*SWAPPED, "fadvise64", "fallocate", "fanotify_mark", "pread64", "pwrite64", "readahead",
+                  "sync_file_range")
+OTHER_KINDS = {**{name: SPLIT_SYSCALLS if row.register_bits == 32 else SWAPPED
+                  for name, row in architectures.JUDGED.items() if row.swaps_clone},
+               I386: (*SPLIT_SYSCALLS, "mmap", "select")}
+C_IDENTIFIER = Pattern(r"[A-Za-z_]\w*", re.A)
+
+
+@functools.lru_cache(None)
+def kinds() -> dict[str, str]:
+    """A letter for each argument of x86-64's syscalls, by their names."""
+    rows = (line.split() for line in program.lines_of("x86_64.arguments"))
+    return {name: letters.strip("-") for letters, *names in rows for name in names}
+
+
+@functools.lru_cache(None)
+def kinds_on(name: str) -> dict[str, str]:
+    """The letters of arguments on an architecture by its OCI name, for syscalls whose arguments are those of x86-64."""
+    others = OTHER_KINDS.get(name, ())
+    return {called: letters for called, letters in kinds().items() if called not in others}
+
+
+def number_in(text: str) -> int | None:
+    """Parses a number as scf's options do: decimal, or hexadecimal after 0x."""
+    if re.fullmatch("0[xX][0-9a-fA-F]{1,40}", text):
+        return int(text, 16)
+    return int(text) if re.fullmatch("[0-9]{1,40}", text) else None
+
+
+@functools.lru_cache(None)
+def numbers() -> dict[str, int]:
+    """The constants and their numbers on x86-64."""
+    return {name: int(number) for name, number in map(str.split, program.lines_of("arguments.symbols"))}
+
+
+@functools.lru_cache(None)
+def _unlike() -> dict[str, set[str]]:
+    """By the OCI name of an architecture the constants that aren't there what they are on x86-64."""
+    sets: dict[str, set[str]] = {architectures.NATIVE: set()}
+    for architecture, *names in map(str.split, program.lines_of("arguments.unlike")):
+        sets.setdefault(architectures.name_in(architecture) or architecture, set()).update(names)
+    return sets
+
+
+@functools.lru_cache(None)
+def numbers_on(architecture: str) -> dict[str, int]:
+    """The constants that are on the architecture of this OCI name what they are on x86-64, and their numbers."""
+    unlike = _unlike().get(architecture)
+    return {} if unlike is None else {name: number for name, number in numbers().items() if name not in unlike}
+
+
+def number_of(name: str, architecture: str) -> int:
+    """The number of a constant on the architecture of this OCI name; raises ToolError if it isn't known."""
+    unlike = _unlike().get(architecture)
+    shown = architecture.removeprefix(architectures.PREFIX).lower()
+    if unlike is None:
+        *first, last = (row.name for oci, row in architectures.JUDGED.items() if oci in _unlike())
+        raise program.ToolError(f"constants are known for {', '.join(first)} and {last}: for {shown}, give the number "
+                                f"of '{name}'")
+    if name not in numbers():
+        near = tables.most_like(name.upper(), numbers())
+        raise program.ToolError(f"no constant is known by the name '{name}'"
+                                + (f"; the nearest is {near}" if near else ""))
+    if name in unlike:
+        raise program.ToolError(f"{name} isn't the same on {shown} as on x86-64: give its number")
+    return numbers()[name]
+
+
+def _part(text: str, whole: str, architecture: str) -> int:
+    number = number_in(text)
+    if number is None and not C_IDENTIFIER.fullmatch(text):
+        raise program.ToolError(f"'{whole}' is neither a number nor constants joined by |")
+    return number_of(text, architecture) if number is None else number
+
+
+def _width(architecture: str) -> int:
+    row = architectures.JUDGED.get(architecture)
+    return 64 if row is None else row.register_bits
+
+
+def _negative(text: str, architecture: str) -> str | None:
+    number, width = number_in(text[1:]), _width(architecture)
+    if text[:1] != "-" or number is None:
+        return None
+    if number > 1 << width - 1:
+        raise program.ToolError(f"{text} has more than {width} bits")
+    return hex(-number % (1 << width))
+
+
+def argument_in(text: str, architecture: str) -> str:
+    """An argument as scf takes it: given as a number, as a negative one (-1), or as constants and numbers with `|`.
+
+    A negative number has 64 bits, on i386 and arm 32. What is neither is left to scf, which refuses it. Raises
+    ToolError if a constant isn't known on the architecture of this OCI name.
+    """
+    negative = _negative(text, architecture)
+    if negative is not None:
+        return negative
+    parts = [part.strip() for part in text.split("|")]
+    octal = next((part for part in parts if re.fullmatch("0[0-7]{1,30}", part) and int(part) != int(part, 8)), None)
+    if octal is not None:
+        raise program.ToolError(f"{octal} is ambiguous: write {hex(int(octal, 8))} for C's octal number, or "
+                                f"{int(octal)} for the decimal one")
+    if "|" not in text and not C_IDENTIFIER.fullmatch(text):
+        return text
+    arguments = (_part(part, text, architecture) for part in parts)
+    return hex(functools.reduce(operator.or_, arguments) % (1 << _width(architecture)))
+
+
+# More constants than these are shown as a number, and of so many zeros at the end of a call each by itself. Numbers
+# below SMALL are shown in decimal, and negative ones down to its negative.
+MOST_NAMES_OF_VALUE, MOST_ZEROS, SMALL = 6, 2, 1 << 16
+WORD_VALUES, REGISTER_VALUES = 1 << 32, 1 << 64
+
+
+@dataclass
+class Family:
+    """The constants of one kind of argument. The bits of `mask` are one number, by `of_mask`; each other bit, or some
+    bits together, has a name of its own in `bits`."""
+
+    mask: int = 0
+    patterns: list[tuple[bool, str]] = field(default_factory=list)
+    of_mask: dict[int, str] = field(default_factory=dict)
+    bits: dict[int, str] = field(default_factory=dict)
+    # of each constant the index of its pattern
+    ranks: dict[str, int] = field(default_factory=dict)
+
+    def add(self, word: str) -> None:
+        """Takes a word of the table: the mask, or a pattern of names that are in the family, or after `-` are not."""
+        if word.startswith("0"):
+            self.mask = int(word, 0)
+        else:
+            self.patterns.append((word[0] != "-", word.removeprefix("-")))
+
+    def fill(self, numbers_by_name: dict[str, int], ordered: Sequence[str]) -> None:
+        """Finds its constants, whose names are also given in order. Of two with one number the first in the table is
+        kept."""
+        rank_of = {}
+        for rank, (_, pattern) in enumerate(self.patterns):
+            prefix = pattern.partition("*")[0]
+            form = re.compile(re.escape(pattern).replace(r"\*", r"\w*"))
+            for name in itertools.islice(ordered, bisect.bisect_left(ordered, prefix), None):
+                if not name.startswith(prefix):
+                    break
+                if form.fullmatch(name):
+                    rank_of[name] = rank
+        for name, number in numbers_by_name.items():
+            rank = rank_of.get(name)
+            # a bit of the sign of 32 bits would be 33 bits of a register
+            if rank is not None and self.patterns[rank][0] and number > -SMALL:
+                number, self.ranks[name] = number % WORD_VALUES, rank
+                if number & ~self.mask == 0:
+                    self.of_mask.setdefault(number, name)
+                elif number & self.mask == 0:
+                    self.bits.setdefault(number, name)
+        # what has more bits goes first, as O_SYNC before O_DSYNC
+        self.bits = dict(sorted(self.bits.items(), key=lambda item: (-bin(item[0]).count("1"), item[0])))
+
+    def describe(self, value: int) -> str | None:
+        """A value below 2^32 by its constants, or None if it has none."""
+        low, remainder = value & self.mask, value & ~self.mask
+        names = [self.of_mask[low]] if low in self.of_mask and (low or self.mask or not remainder) else []
+        named, remainder = self._of_bits(remainder if names else remainder + low)
+        names += named
+        if not names or len(names) > MOST_NAMES_OF_VALUE:
+            return None
+        return "|".join(sorted(names, key=lambda name: self.ranks[name]) + ([hex(remainder)] if remainder else []))
+
+    def _of_bits(self, value: int) -> tuple[list[str], int]:
+        """The constants of bits, and those bits that have none."""
+        names = []
+        for number, name in self.bits.items():
+            if value & number == number:
+                names.append(name)
+                value -= number
+        return names, value
+
+    def bit_names(self, value: int) -> str | None:
+        """A mask below 2^32 by the constants of its bits, or None if one of them has none."""
+        names, remainder = self._of_bits(value)
+        return "|".join(sorted(names, key=lambda name: self.ranks[name])) if names and not remainder else None
+
+
+@functools.lru_cache(None)
+def _families(architecture: str = architectures.NATIVE) -> tuple[dict[str, Family], dict[str, list[str]]]:
+    """The families by their names, of constants that are on an architecture what they are on x86-64; and the family of
+    each argument by the syscall, `-` for none."""
+    families: dict[str, Family] = {}
+    calls: dict[str, list[str]] = {}
+    for first, *words in map(str.split, program.lines_of("x86_64.constants")):
+        if first == "=":
+            for word in words[1:]:
+                families.setdefault(words[0], Family()).add(word)
+        else:
+            calls[first] = words
+    numbers_by_name = numbers_on(architecture)
+    ordered = sorted(numbers_by_name)
+    for family in families.values():
+        family.fill(numbers_by_name, ordered)
+    return families, calls
+
+
+def _number_text(value: int, kind: str) -> str:
+    if kind == ADDRESS:
+        return hex(value) if value else "NULL"
+    if value >= REGISTER_VALUES - SMALL:
+        return str(value - REGISTER_VALUES)
+    return str(value) if value < SMALL else hex(value)
+
+
+def _value_text(value: int, kind: str, family: Family | None) -> str:
+    """An argument as C would have it. Of an `int` the sign of 64 bits is that of 32."""
+    masked = value
+    if kind == HALF and value >= REGISTER_VALUES - WORD_VALUES // 2:
+        masked = value % WORD_VALUES
+    named = family.describe(masked) if family is not None and masked < WORD_VALUES else None
+    return _number_text(value, kind) if named is None else named
+
+
+def family_of(name: str, index: int, values: Mapping[int, int],
+              architecture: str = architectures.NATIVE) -> Family | None:
+    """The constants of an argument on the architecture of this OCI name, given the arguments that are known, by their
+    indices."""
+    families, calls = _families(architecture)
+    words = calls.get(name, [])
+    first = next((at for at, word in enumerate(words) if word in families), index)
+    if first != index and values.get(first, WORD_VALUES) < WORD_VALUES:
+        words = calls.get(f"{name}[{families[words[first]].describe(values[first])}]", words)
+    return families.get(words[index]) if index < len(words) else None
+
+
+def call_text(name: str, values: Sequence[int]) -> str:
+    """A syscall of x86-64 as C would have it: socket(AF_NETLINK, 0, NETLINK_AUDIT). `..` stands for three zeros or more
+    at the end; syscall(SYS_NAME, ..) for a call with more arguments than it is known to have."""
+    letters = kinds().get(name, "")
+    is_whole = name in kinds() and not any(values[len(letters):])
+    shown = []
+    for index, value in enumerate(values[:len(letters)] if is_whole else values):
+        kind = letters[index] if index < len(letters) else WHOLE
+        shown.append(_value_text(value, kind, family_of(name, index, dict(enumerate(values)))))
+    zeros = next((at for at, value in enumerate(reversed(values[:len(shown)])) if value), len(shown))
+    if zeros > MOST_ZEROS:
+        shown = [*shown[:len(shown) - zeros], ".."]
+    return f"{name}({', '.join(shown)})" if is_whole else f"syscall({', '.join([f'SYS_{name}', *shown])})"

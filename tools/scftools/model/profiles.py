@@ -1,0 +1,329 @@
+"""The parts of a profile that the tools read themselves: its default, its names, an entry by its index, the members
+that a runtime reads as others, and where JSON is malformed. Only scf judges the profile; if something can't be read
+here, the tools say nothing about it.
+"""
+from __future__ import annotations
+
+import functools
+import json
+import re
+from collections.abc import Iterator, Sequence
+
+from ..base import json_places
+from ..base.values import Any, Pattern, dataclass
+from . import entries
+from .entries import LONGEST_NUMBER
+
+DEEPEST_JSON = 127
+# Half of a character, which stands alone.
+SURROGATE = Pattern("[\ud800-\udfff]")
+# A member of YAML.
+YAML_MEMBER = Pattern(r"^[A-Za-z_][A-Za-z0-9_.-]{0,80}:(?:\s|\Z)", re.M)
+# The default actions that allow what no rule names.
+ALLOWING = ("SCMP_ACT_ALLOW", "SCMP_ACT_LOG")
+OCI_ACTIONS = tuple(f"SCMP_ACT_{action}" for action in
+                    "ALLOW LOG ERRNO TRACE TRAP NOTIFY KILL KILL_THREAD KILL_PROCESS".split())
+# The actions that take an errno; a sandbox's reading has also TRAP's data so.
+WITH_ERRNO, TRAP = ("SCMP_ACT_ERRNO", "SCMP_ACT_TRACE"), "SCMP_ACT_TRAP"
+# The members of a profile, in the form of the OCI runtime specification (config-linux.md: Seccomp) and in those of the
+# engines (profiles/seccomp of moby, pkg/seccomp of containers-common), each with what its value is: a text, a whole
+# number from 0 to 2^64-1, a version of a kernel, a list of what stands in it, or an object of such members.
+TEXT_TYPE, NUMBER_TYPE, VERSION_TYPE = "text", "number", "version"
+FILTER = {"caps": [TEXT_TYPE], "arches": [TEXT_TYPE], "minKernel": VERSION_TYPE}
+ARGUMENT = {"index": NUMBER_TYPE, "value": NUMBER_TYPE, "valueTwo": NUMBER_TYPE, "op": TEXT_TYPE}
+ENTRY = {"names": [TEXT_TYPE], "name": TEXT_TYPE, "action": TEXT_TYPE, "errnoRet": NUMBER_TYPE, "errno": TEXT_TYPE,
+         "args": [ARGUMENT], "comment": TEXT_TYPE, "includes": FILTER, "excludes": FILTER}
+ARCH_MAP = {"architecture": TEXT_TYPE, "subArchitectures": [TEXT_TYPE]}
+SECCOMP_MEMBERS = {
+    "defaultAction": TEXT_TYPE, "defaultErrnoRet": NUMBER_TYPE, "defaultErrno": TEXT_TYPE,
+    "architectures": [TEXT_TYPE], "archMap": [ARCH_MAP], "syscalls": [ENTRY], "flags": [TEXT_TYPE],
+    "listenerPath": TEXT_TYPE, "listenerMetadata": TEXT_TYPE}
+CONFIG_MEMBERS = {**SECCOMP_MEMBERS, "linux": {"seccomp": SECCOMP_MEMBERS}}
+
+# Letters that encoding/json of Go takes for others in the name of a member (equalFoldRight in fold.go): of ASCII those
+# of the other case, and U+017F and U+212A.
+_FOLD = {**{upper: upper + 32 for upper in range(ord("A"), ord("Z") + 1)}, 0x17F: ord("s"), 0x212A: ord("k")}
+
+# How a profile is read unless a container runtime reads it (`--reading` of scf): by its words, or so with TRAP's data.
+STRICT, SANDBOX = BY_WORDS = "strict", "sandbox"
+
+
+class ReadProfile(bytes):
+    """A profile, and how it is read."""
+
+    reading: str = STRICT
+
+
+class DerivedProfile(ReadProfile):
+    """A profile that a tool made of another one: no line and no column of it is one of the user's file. `within` is the
+    member of the file that it is, or None if the file has other entries; `absent` has by architectures the names of
+    which a runtime's libseccomp makes no rule there, though a table has them."""
+
+    within: str | None = None
+    # whether the comment of each entry has the lines of the file that it stands on
+    has_comments: bool = False
+    absent: dict[str, frozenset[str]] = {}
+
+
+def reading_of(data: bytes) -> str:
+    """How a profile is read."""
+    return data.reading if isinstance(data, ReadProfile) else STRICT
+
+
+def read_as(data: bytes, reading: str) -> ReadProfile:
+    """A profile that is read so."""
+    profile = type(data)(data) if isinstance(data, ReadProfile) else ReadProfile(data)
+    profile.__dict__.update(getattr(data, "__dict__", {}), reading=reading)
+    return profile
+
+
+def takes_errno(action: str, reading: str) -> bool:
+    """Whether an errno beside an action is its data."""
+    return action in WITH_ERRNO or (action, reading) == (TRAP, SANDBOX)
+
+
+@dataclass(frozen=True)
+class Profile:
+    """A profile's default action, and the names of its entries in order, with repetitions."""
+
+    default: str
+    names: list[str]
+
+    @property
+    def allows_by_default(self) -> bool:
+        return self.default in ALLOWING
+
+
+@functools.lru_cache(2)
+def _top(data: bytes) -> dict[str, Any]:
+    """The seccomp object of a profile, or of a whole config.json; nothing in it if it can't be read."""
+    return entries.read(data, dict) or {}
+
+
+def architectures_of(data: bytes) -> tuple[str, ...]:
+    """The OCI names in a profile's list of architectures; none if it has no list, or it can't be read."""
+    if b"architectures" not in data and b"\\u" not in data:
+        return ()
+    names = _top(data).get("architectures")
+    return tuple(name for name in names if isinstance(name, str)) if isinstance(names, list) else ()
+
+
+def _listed(top: dict[str, Any]) -> list[object]:
+    """The entries of an object; none if it has no list of them."""
+    listed = top.get("syscalls")
+    return listed if isinstance(listed, list) else []
+
+
+def entry_at(data: bytes, place: int) -> object:
+    """The entry at an index of `syscalls`, from 0 on, or None if it can't be read."""
+    return next(iter(_listed(_top(data))[place:place + 1]), None)
+
+
+@functools.lru_cache(2)
+def read(data: bytes) -> Profile | None:
+    """The default and the names of a profile, or None if it can't be read."""
+    top = _top(data)
+    try:
+        texts = [top["defaultAction"], *(name for entry in top.get("syscalls") or () for name in entry["names"])]
+    except (LookupError, TypeError):
+        return None
+    return Profile(texts[0], texts[1:]) if all(isinstance(text, str) for text in texts) else None
+
+
+@functools.lru_cache(1024)
+def folded(name: str) -> str:
+    """A member's name as a Go program compares it; two names that fold to the same are one member to it."""
+    return name.translate(_FOLD)
+
+
+@dataclass(frozen=True)
+class Misread:
+    """A member that a runtime or engine in Go reads as another one: one in another spelling, or one that is repeated in
+    an object, of which the last counts."""
+
+    # the object that has it, as "entry 3: args 0"; "the profile" at the top
+    where: str
+    # its spelling, and the member that it is read as
+    name: str
+    read_as: str
+
+    def describe(self) -> str:
+        if self.name == self.read_as:
+            return f"{self.where} has the member '{self.name}' more than once: programs in Go take the last"
+        spelled = self.name.encode("ascii", "backslashreplace").decode()
+        return f"{self.where} has a member '{spelled}', which programs in Go read as '{self.read_as}'"
+
+
+class Pairs(list):
+    """The members of an object in order, as pairs of a name and a value, with repeated ones."""
+
+
+def where_in(where: str, name: str, index: int | None = None) -> str:
+    """The name of a nested value, such as "entry 3: args 0"."""
+    if name == "syscalls":
+        return "syscalls" if index is None else f"entry {index}"
+    member = name if index is None else f"{name} {index}"
+    return member if where == "the profile" else f"{where}: {member}"
+
+
+def _misread_in(value: object, members: object, where: str) -> Iterator[Misread]:
+    """The misread members of an object, and of objects in it."""
+    if not isinstance(value, Pairs) or not isinstance(members, dict):
+        return
+    names, seen = {folded(name): name for name in members}, set()
+    for name, inner in value:
+        read_as = names.get(folded(name))
+        if read_as is None:
+            continue
+        if name != read_as or name in seen:
+            yield Misread(where, name, read_as)
+        seen.add(name)
+        kind = members[read_as]
+        if isinstance(kind, dict):
+            yield from _misread_in(inner, kind, where_in(where, read_as))
+        elif isinstance(kind[0], dict) and isinstance(inner, list) and not isinstance(inner, Pairs):
+            for index, item in enumerate(inner):
+                yield from _misread_in(item, kind[0], where_in(where, read_as, index))
+
+
+def misread_members(data: bytes) -> list[Misread]:
+    """The members of a profile, or of a whole config.json, that a Go program reads differently than scf: those in
+    another spelling, by letters of another case, U+017F or U+212A, and those that are repeated in an object. None are
+    found if the profile can't be read."""
+    try:
+        top = json.loads(data.decode("utf-8"), object_pairs_hook=Pairs, parse_int=str, parse_float=str)
+        return list(_misread_in(top, CONFIG_MEMBERS, "the profile"))
+    except (ValueError, RecursionError):
+        return []
+
+
+def _objects(top: dict[str, Any]) -> Iterator[tuple[str, object, dict[str, Any]]]:
+    """The objects of a profile in which something is read: each with where it is, and the members that are known."""
+    yield "the profile", top, SECCOMP_MEMBERS
+    for index, entry in enumerate(_listed(top)):
+        where = where_in("the profile", "syscalls", index)
+        yield where, entry, ENTRY
+        conditions = entry.get("args") if isinstance(entry, dict) else None
+        for at, condition in enumerate(conditions if isinstance(conditions, list) else ()):
+            yield where_in(where, "args", at), condition, ARGUMENT
+
+
+def unread_members(data: bytes) -> Iterator[tuple[str, str, Sequence[str]]]:
+    """The members of a profile that no program reads, or Go's alone: where each is, its name, and the known ones."""
+    top = _top(data)
+    for where, value, members in _objects(top) if "defaultAction" in top else ():
+        if isinstance(value, dict) and not value.keys() <= members.keys():
+            yield from ((where, name, tuple(members)) for name in value if name not in (*members, "comment"))
+
+
+def errno_by_name(data: bytes) -> str | None:
+    """Where a profile has an errno by name, which only podman reads, or None if it has none."""
+    top = _top(data) if any(member in data for member in (b'errno"', b'defaultErrno"', b"\\u")) else {}
+    holders = [("the profile", "defaultErrno", top), *((f"entry {at}", "errno", entry)
+                                                       for at, entry in enumerate(_listed(top)))]
+    errnos = ((where, name, holder.get(name)) for where, name, holder in holders if isinstance(holder, dict))
+    return next((f"{where} has {name} {json.dumps(value)}" for where, name, value in errnos if value), None)
+
+
+def _too_deep(text: str) -> int | None:
+    """Where JSON nests deeper than scf's parser allows, if that is found."""
+    depth = 0
+    try:
+        for at, token in json_places.tokens(text):
+            depth += {"[": 1, "{": 1, "]": -1, "}": -1}.get(token, 0)
+            if depth > DEEPEST_JSON:
+                return at
+    except json_places.TooManyTokens:
+        pass
+    return None
+
+
+def _refuse(number: str) -> None:
+    raise ValueError(f"the profile has {number}, which isn't a JSON number")
+
+
+def _odd_value(text: str) -> str | None:
+    """A value that Python's reader takes, and scf's doesn't, if it is found: NaN and the like, a number out of range,
+    an unpaired surrogate. Raises TooManyTokens."""
+    for at, path, token in json_places.values(text):
+        why = None
+        if token in ("NaN", "Infinity", "-Infinity"):
+            why = f"is {token}, which isn't a JSON number"
+        elif token[0] in "-0123456789" and len(token) <= LONGEST_NUMBER and abs(float(token)) == float("inf"):
+            why = "is a number out of range"
+        elif token[0] == '"' and "\\u" in token and SURROGATE.search(json.loads(token)):
+            why = "has an unpaired surrogate"
+        if why is not None:
+            return f"at {json_places.place(text, at)} {json_places.path_text(path) or 'the profile'} {why}"
+    return None
+
+
+def _foreign_syntax(text: str, at: int) -> str | None:
+    """Syntax that people take for JSON, at an index of a text that is not; None if there is none."""
+    mark, before, behind = text[at:at + 1], text[:at].rstrip()[-1:], text[at + 1:].lstrip()[:1]
+    if text[at:at + 2] in ("//", "/*") or mark == "#":
+        return "a comment, which JSON doesn't allow,"
+    if mark in ("]", "}") and before == "," or mark == "," and behind in ("]", "}"):
+        return "a trailing comma, which JSON doesn't allow,"
+    if mark == "'":
+        return "single quotes in place of double ones"
+    return "a byte order mark, which JSON doesn't allow," if mark == "\ufeff" else None
+
+
+def malformed(error: json.JSONDecodeError) -> str:
+    """A sentence on what is malformed in a text, and where."""
+    text, at = error.doc, error.pos
+    if YAML_MEMBER.search(text) and text.lstrip()[:1] not in ("{", "["):
+        return "it is YAML: convert it to JSON, as `yq -o json` does"
+    what = _foreign_syntax(text, at)
+    # where a comma lacks, the next value isn't the one that is meant
+    within = json_places.where_in(text, at - ("delimiter" in error.msg))
+    where = f"at {json_places.place(text, at)}"
+    description = f"the JSON is malformed {where}: {error.msg}" if what is None else f"it has {what} {where}"
+    return description + (f" ({within})" if within else "")
+
+
+def where_json_ends(data: bytes) -> str:
+    """Where and why a profile is malformed that scf refuses as `Json`."""
+    try:
+        text = data.decode("utf-8")
+    except UnicodeDecodeError as error:
+        before = data[:error.start].decode("utf-8")
+        return f"the profile isn't UTF-8 from {json_places.place(before, len(before))} on"
+    if not text.strip():
+        return "the profile is empty"
+    deep = _too_deep(text)
+    if deep is not None:
+        return f"at {json_places.place(text, deep)} the profile is nested more than {DEEPEST_JSON} deep"
+    why = "Python's JSON parser accepts it: look for unpaired surrogates, and for numbers out of range"
+    try:
+        json.loads(text, parse_int=str, parse_float=str, parse_constant=_refuse)
+    except json.JSONDecodeError as error:
+        return malformed(error)
+    except RecursionError:
+        return f"the profile is nested more than {DEEPEST_JSON} deep"
+    except ValueError as error:
+        why = str(error)
+    try:
+        return _odd_value(text) or why
+    except json_places.TooManyTokens:
+        return why
+
+
+@dataclass(frozen=True)
+class Origin:
+    """Where an entry of a resolved profile comes from: its index in the user's profile, and its first names there."""
+
+    index: int
+    names: str
+
+    def describe(self) -> str:
+        return f"entry {self.index}" + (f" ({self.names})" if self.names else "")
+
+
+def original_entries(numbers: dict[str, int], origins: Sequence[Origin]) -> Iterator[str]:
+    """The entries of the user's profile for those that a fault in the resolved one names."""
+    named = [numbers[name] for name in ("entry", "first", "second") if name in numbers]
+    places = [origins[index].describe() for index in named if index < len(origins)]
+    if places:
+        yield f"in the original file that is {' and '.join(dict.fromkeys(places))}"

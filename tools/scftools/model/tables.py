@@ -1,0 +1,225 @@
+"""Syscall tables: the names of numbers, which tables go with a profile, and what names are that no table has."""
+from __future__ import annotations
+
+import functools
+from collections.abc import Collection, Iterable, Sequence
+
+from ..base import inputs, program
+from ..base.values import Pattern, dataclass, field, replace
+from . import architectures, profiles
+from .architectures import JUDGED, NATIVE, Architecture
+
+TABLE_LINE = Pattern(rb"(?m)^[ \t]*([A-Za-z_][A-Za-z0-9_]*)[ \t]+0*([0-9]{1,10})[ \t]*\r?$")
+# At most so many unknown names are listed, and longer ones get no nearest name.
+MOST_LISTED, LONGEST_NAME = 20, 64
+# The least similarity of a nearest name (difflib's ratio), two swapped letters in a name of four, and of a member.
+NEAR, NEAR_MEMBER = 0.75, 0.7
+
+
+class Table:
+    """A syscall table: its bytes as scf takes them, and its names, which are parsed when they are needed.
+
+    scf judges the table; malformed lines are skipped here.
+    """
+
+    def __init__(self, data: bytes):
+        self.data = data
+
+    @functools.cached_property
+    def _parsed(self) -> tuple[dict[int, list[str]], dict[str, int]]:
+        """The names of each number, and the number of each name."""
+        names: dict[int, list[str]] = {}
+        numbers: dict[str, int] = {}
+        for entry in TABLE_LINE.finditer(self.data):
+            name, number = entry[1].decode(), int(entry[2])
+            names.setdefault(number, []).append(name)
+            numbers.setdefault(name, number)
+        return names, numbers
+
+    def names_of(self, number: int) -> list[str]:
+        """The names of a number, in the table's order."""
+        return self._parsed[0].get(number, [])
+
+    def number_of(self, name: str) -> int | None:
+        return self._parsed[1].get(name)
+
+    def names(self) -> Iterable[str]:
+        return self._parsed[1].keys()
+
+    def numbered(self) -> Iterable[tuple[str, int]]:
+        """The names, each with its number."""
+        return self._parsed[1].items()
+
+    def numbers(self) -> Iterable[int]:
+        return self._parsed[0].keys()
+
+    def without(self, names: Collection[str]) -> Table:
+        """The table without some names."""
+        entries = [(line, TABLE_LINE.fullmatch(line)) for line in self.data.split(b"\n")]
+        return Table(b"\n".join(line for line, entry in entries if entry is None or entry[1].decode() not in names))
+
+
+def read(name: str | None, architecture: Architecture = JUDGED[NATIVE]) -> Table:
+    """The table in a file, or by default the one of an architecture that comes with scf."""
+    table = of_architecture(architecture.oci) if name is None else None
+    return table or Table(inputs.read_whole(architecture.file if name is None else name, "table"))
+
+
+@functools.lru_cache(None)
+def of_architecture(name: str) -> Table | None:
+    """The table that comes with scf of an architecture, by its OCI name, or None if none does. x32's has its numbers
+    without 0x40000000."""
+    try:
+        with open(JUDGED[name].file, "rb") as file:
+            return Table(file.read())
+    except (KeyError, FileNotFoundError):
+        return None
+
+
+@dataclass(frozen=True)
+class Tables:
+    """The tables of the architectures that a profile is judged for, by OCI names in scf's order; and how the profile is
+    read: by its words or as a runtime reads it, with the least number of a record that runc's stub answers, by
+    architecture."""
+
+    of: dict[str, Table]
+    reading: str = profiles.STRICT
+    stub: dict[str, int] = field(default_factory=dict)
+
+    @property
+    def is_native(self) -> bool:
+        """Whether they are x86-64's alone."""
+        return list(self.of) == [NATIVE]
+
+    @functools.cached_property
+    def _numbers(self) -> dict[str, dict[str, int]]:
+        """The numbers of each syscall."""
+        numbers: dict[str, dict[str, int]] = {}
+        for oci, table in self.of.items():
+            for name, number in table.numbered():
+                numbers.setdefault(name, {})[oci] = number
+        return numbers
+
+    def numbers_of(self, name: str) -> dict[str, int]:
+        """The numbers of a syscall in those that have it, by OCI names."""
+        return self._numbers.get(name, {})
+
+    def number_of(self, name: str) -> int | None:
+        """The number of a syscall in the first one that has it."""
+        return next(iter(self.numbers_of(name).values()), None)
+
+    def has(self, name: str) -> bool:
+        """Whether any of them has a syscall by this name."""
+        return self.number_of(name) is not None
+
+    @property
+    def names(self) -> list[str]:
+        """The common names of the architectures."""
+        return architectures.names_of(list(self.of))
+
+    @property
+    def native(self) -> Table:
+        """The table of x86-64, or of another one, where x86-64 isn't judged."""
+        return self.of.get(NATIVE) or next(iter(self.of.values()))
+
+    @property
+    def reading_words(self) -> list[str]:
+        """The option by which scf reads the profile."""
+        return [] if self.reading == profiles.STRICT else [f"--reading={self.reading}"]
+
+    @property
+    def words(self) -> list[str]:
+        """The options by which scf judges these architectures, and reads the profile."""
+        return [*([] if self.is_native else ["--architectures"]), *self.reading_words]
+
+    @property
+    def parts(self) -> list[tuple[str, bytes]]:
+        """The parts of a bundle."""
+        stubs = [(f"stub-{JUDGED[name].kind}", str(first).encode()) for name, first in self.stub.items()
+                 if name in self.of]
+        return [*((JUDGED[name].kind, table.data) for name, table in self.of.items()), *stubs]
+
+    def only(self, name: str) -> Tables:
+        """The table of one of the architectures."""
+        return replace(self, of={name: self.of[name]})
+
+
+def native_alone(data: bytes) -> Tables:
+    """A table of x86-64 and no other, for a profile that is read by its words."""
+    return Tables({NATIVE: Table(data)})
+
+
+def of_architectures(names: Iterable[str], table: Table, default: str = NATIVE) -> Tables:
+    """The tables of those architectures with these OCI names that scf judges, with this one for x86-64's, or another's
+    own; this one alone if scf judges none of them."""
+    tables = {name: table if name == default else of_architecture(name) for name in JUDGED if name in set(names)}
+    known_tables = {name: its for name, its in tables.items() if its is not None}
+    return Tables(known_tables or {default: table})
+
+
+def of_profile(profile: bytes, table: Table, is_native: bool = False, default: str = NATIVE) -> Tables:
+    """The tables of the architectures that a profile names, with this one for x86-64's, or another's own; on request
+    this one alone. A profile that names none is for this machine's own, and one that a runtime reads for that, too."""
+    reading, names = profiles.reading_of(profile), profiles.architectures_of(profile)
+    if not names or reading not in profiles.BY_WORDS:
+        names = (architectures.of_machine(), *names)
+    tables = Tables({default: table}) if is_native else of_architectures(names, table, default)
+    absent = profile.absent if isinstance(profile, profiles.DerivedProfile) else {}
+    return Tables({name: each.without(absent[name]) if name in absent else each for name, each in tables.of.items()},
+                  reading)
+
+
+@functools.lru_cache(None)
+def names_elsewhere() -> set[str]:
+    """The names of syscalls that Linux has only on other architectures."""
+    try:
+        return set(map(str.strip, program.lines_of("other_architectures.names")))
+    except FileNotFoundError:
+        return set()
+
+
+@dataclass(frozen=True)
+class Skipped:
+    """The names in a profile that no table has, by what they are."""
+
+    # Linux has them only on other architectures
+    elsewhere: list[str]
+    # x86-64 syscalls in the table that comes with scf, which this table leaves out
+    left_out: list[str]
+    # unknown names, each with the nearest name in a table
+    unknown: list[tuple[str, str | None]]
+
+
+def most_like(name: str, names: Iterable[str], least: float = NEAR) -> str | None:
+    """The name most similar to this one, None if none is so similar, or if it is a long one."""
+    if len(name) > LONGEST_NAME:
+        return None
+    from difflib import get_close_matches  # pylint: disable=import-outside-toplevel
+
+    return next(iter(get_close_matches(name, list(names), 1, least)), None)
+
+
+def nearest_member(name: str, members: Iterable[str]) -> str | None:
+    """The member of an object most similar to this one, whatever its letters' case; None if none is similar."""
+    by_letters = {member.lower(): member for member in members}
+    return by_letters.get(most_like(name.lower(), by_letters, NEAR_MEMBER) or "")
+
+
+def nearest(name: str, *among: Table) -> str | None:
+    """The name in the tables most similar to this one in small letters, or None if none is similar."""
+    return most_like(name.lower(), dict.fromkeys(name for table in among for name in table.names()))
+
+
+def classify(names: Sequence[str], judged: Tables) -> Skipped:
+    """The kinds of names that no table has; each once, in order."""
+    elsewhere, table = names_elsewhere(), read(None)
+    skipped = Skipped([], [], [])
+    for name in dict.fromkeys(names):
+        if name in elsewhere:
+            skipped.elsewhere.append(name)
+        elif table.number_of(name) is not None:
+            (skipped.left_out if NATIVE in judged.of else skipped.elsewhere).append(name)
+        else:
+            near = nearest(name, *judged.of.values()) if len(skipped.unknown) < MOST_LISTED else None
+            skipped.unknown.append((name, near))
+    return skipped

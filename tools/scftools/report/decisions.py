@@ -1,0 +1,290 @@
+"""Answers of filters or a profile to syscalls: the records of a command line, and what gives the answer."""
+from __future__ import annotations
+
+import re
+from collections.abc import Callable, Iterable, Iterator, Sequence
+
+from ..base import inputs, output, program
+from ..base.values import Any, dataclass, replace
+from ..model import architectures, profiles, tables
+from ..model.answers import FIRST_X32, X86_64, Answer
+from ..model.calls import OPTIONS, SKIPPED, Call
+from ..model.constants import argument_in, number_in
+from ..model.profiles import Origin
+from ..model.tables import Table, Tables
+from ..ask import client, explanation, reasons
+from ..ask.client import Fault
+from ..ask.explanation import join_names
+from ..ask.reasons import Reason
+from ..ask.verdicts import FOR_OTHER_ABI, UNDETERMINED, Decision
+from ..cli.words import Parser
+from ..forms import refusals
+from ..forms.filters import Filter
+from ..forms.refusals import faulty_filters
+from . import listing
+from .listing import Giver
+
+# No name of a syscall and no number is longer; and the most syscalls of a list, for each of which scf is run, and
+# which together take some seconds.
+LONGEST_WORD, MOST_CALLS = 256, 2048
+FIELD_HELP = {"ip": "the instruction pointer", **{f"a{index}": f"argument {index}" for index in range(6)}}
+
+
+@dataclass(frozen=True)
+class Query:
+    """A record whose answer is wanted: the options of scf as texts; scf checks the numbers."""
+
+    texts: tuple[tuple[str, str], ...]
+
+    def words(self) -> list[str]:
+        return [f"--{name}={text}" for name, text in self.texts]
+
+    @property
+    def call(self) -> Call | None:
+        """The record, if each text is a number."""
+        texts = {"arch": hex(X86_64), **dict(self.texts)}
+        numbers = [number_in(texts.get(name, "0")) for name in OPTIONS]
+        return None if None in numbers else Call(*numbers[:3], tuple(numbers[3:]))
+
+
+def add_numbers(parser: Parser) -> None:
+    """Adds the options for a record's fields beside its number."""
+    parser.add_argument("--arch", metavar="ARCH",
+                        help="the architecture of the syscalls: a name such as i386 or aarch64, or its number, as the "
+                             "audit log has it (c000003e) [default: x86-64]")
+    for name in OPTIONS[2:]:
+        takes = "" if name == "ip" else ": a number, or constants such as AF_INET or CLONE_NEWUSER|SIGCHLD"
+        parser.add_argument(f"--{name}", metavar="N",
+                            help=f"{FIELD_HELP[name]}{takes if name == 'a0' else ''} [default: 0]")
+
+
+def add_options(parser: Parser) -> None:
+    """Adds the options that give records, and --json."""
+    parser.add_argument("--nr", metavar="NUMBER|NAME", action="append", default=[],
+                        help="a syscall by number or name, or several with commas between; may be repeated")
+    parser.add_argument("--calls-from", metavar="FILE",
+                        help=f"more syscalls, one a line, at most {MOST_CALLS}: a number or a name, and any arguments "
+                             "from the first on; - is standard input")
+    add_numbers(parser)
+    parser.add("--table", "--json")
+    parser.record_words = record_words
+
+
+@dataclass(frozen=True)
+class Numbering:
+    """How the fields of a record are given: a syscall by a name of its architecture's table or by a number, an argument
+    by constants or a number. `table` is that of x86-64."""
+
+    table: Table
+    # --arch as given, or None
+    architecture: str | None
+
+    @property
+    def abi(self) -> str:
+        """The OCI name of the architecture, or of one that has none its text."""
+        if self.architecture is None:
+            return architectures.NATIVE
+        number = number_in(architectures.number_in(self.architecture))
+        return (architectures.name_in(self.architecture)
+                or (None if number is None else architectures.profile_name(number)) or self.architecture)
+
+    def number_of(self, text: str) -> str:
+        """The number, as scf takes it, of a syscall given by name or number."""
+        is_x32 = self.abi == architectures.X32
+        if re.match("[A-Za-z_]", text):
+            return str(self._named(text) + (FIRST_X32 if is_x32 else 0))
+        if text == "-1":
+            return hex(SKIPPED)
+        number = number_in(text)
+        # an x32 number has bit 30, whether or not it was given with it
+        return hex(number | FIRST_X32) if is_x32 and number is not None and number < FIRST_X32 else text
+
+    def _named(self, name: str) -> int:
+        is_native = self.abi == architectures.NATIVE
+        table = self.table if is_native else tables.of_architecture(self.abi)
+        if table is None:
+            raise program.ToolError(f"there is no table of --arch {self.architecture}: give the number of '{name}'")
+        # C's constants for it are SYS_read and __NR_read
+        bare = re.sub("^(?:SYS_|__NR_)", "", name)
+        number = table.number_of(bare if table.number_of(name) is None else name)
+        if number is None:
+            near, whose = tables.nearest(bare, table), "the table" if is_native else f"{self.architecture}'s table"
+            raise program.ToolError(f"{whose} has no syscall '{name}'"
+                                    + (f"; the nearest name is '{near}'" if near else ""))
+        return number
+
+    def argument(self, text: str) -> str:
+        """An argument as scf takes it."""
+        return argument_in(text, self.abi)
+
+
+def _lines_of(name: str) -> Iterator[list[str]]:
+    """The words of each line of a list of syscalls; a line that begins with `#` is a comment."""
+    count = 0
+    for line in inputs.read_whole(name, "list of syscalls").decode("utf-8", "surrogateescape").split("\n"):
+        words = line.split()
+        if words and not words[0].startswith("#"):
+            if len(words) > 7 or "\0" in line or max(map(len, words)) > LONGEST_WORD:
+                raise program.ToolError(f"a line of the list isn't a syscall and up to six numbers: {line[:80]}")
+            count += 1
+            if count > MOST_CALLS:
+                raise program.ToolError(f"the list has more than {MOST_CALLS} syscalls")
+            yield words
+
+
+def rest_of(options: Any, numbering: Numbering) -> tuple[tuple[str, str], ...]:
+    """The given fields of a record beside its number."""
+    texts = {name: getattr(options, name) for name in OPTIONS[1:] if getattr(options, name) is not None}
+    for name, text in texts.items():
+        texts[name] = architectures.number_in(text) if name == "arch" else numbering.argument(text)
+    return tuple(texts.items())
+
+
+def one_query(options: Any, table: Table) -> Query | None:
+    """The record that a command line gives, or None."""
+    number, numbering = options.nr, Numbering(table, options.arch)
+    fields = rest_of(options, numbering)
+    if number is None and not fields:
+        return None
+    return Query((("nr", numbering.number_of("0" if number is None else number)), *fields))
+
+
+def queries(options: Any, table: Table) -> list[Query]:
+    """The records that a command line gives, in order; without a syscall the program's default, of number 0."""
+    numbering = Numbering(table, options.arch)
+    fields = rest_of(options, numbering)
+    numbers = [number for text in options.nr for number in text.split(",")]
+    listed = [Query((("nr", numbering.number_of(number)), *fields)) for number in numbers]
+    if options.calls_from is not None:
+        for number, *arguments in _lines_of(options.calls_from):
+            own_fields = tuple(zip(OPTIONS[3:], map(numbering.argument, arguments)))
+            other_fields = tuple(pair for pair in fields if pair[0] not in dict(own_fields))
+            listed.append(Query((("nr", numbering.number_of(number)), *other_fields, *own_fields)))
+        return listed
+    return listed or [Query((("nr", numbering.number_of("0")), *fields))]
+
+
+def record_words(options: Any) -> list[str] | None:
+    """The options of scf for the record that a command line gives; None if it gives several."""
+    if options.calls_from is not None or getattr(options, "expect", None) is not None:
+        return None
+    record_queries = queries(options, tables.read(options.table))
+    return record_queries[0].words() if len(record_queries) == 1 else None
+
+
+def of_givers(filters: Sequence[Filter], givers: Sequence[Giver]) -> Iterator[str]:
+    """Which filter of several gives the answer."""
+    names = [giver.filter.name for giver in givers]
+    if len(filters) < 2:
+        return
+    if len(names) == len(filters):
+        yield f"{'both' if len(names) == 2 else f'all {len(names)}'} filters answer so"
+    elif names:
+        which = "the filter that answers so is" if len(names) == 1 else "the filters that answer so are"
+        yield f"{which} {join_names(names)}"
+
+
+@dataclass(frozen=True)
+class Reply:
+    """The answer of filters or a profile to a syscall: scf's status and lines, the syscall, and the answer or a fault;
+    and what gives the answer, in lines and as members in JSON, which takes time to find."""
+
+    status: int
+    lines: Sequence[str]
+    call: Call | None
+    answer: Answer | None = None
+    fault: Fault | None = None
+    # what the fault is, and what to do
+    sentences: Callable[[], Iterable[str]] = tuple
+    reasons: Callable[[], Iterable[str]] = tuple
+    members: Callable[[], dict[str, object]] = dict
+
+    def notes(self, table: Table) -> Iterator[str]:
+        """The lines after scf's."""
+        yield from self.sentences()
+        if self.answer:
+            yield from explanation.of_answer(self.call, self.answer, table)
+        yield from self.reasons()
+
+    def as_json(self, table: Table) -> dict[str, object]:
+        members: dict[str, object] = {"status": self.status}
+        if self.call:
+            members["call"] = self.call.as_json(table)
+        if self.answer:
+            members["answer"] = self.answer.as_json(explains=True)
+        if self.fault:
+            members["fault"] = self.fault.as_json(self.sentences())
+        return {**members, **self.members()}
+
+
+def _reply(status: int, lines: Sequence[str], query: Query, decision: Decision, table: Table) -> Reply:
+    """The reply of filters, without what gives the answer."""
+    fault = decision.fault
+    return Reply(status, lines, query.call, decision.answer, fault,
+                 lambda: explanation.of_fault(fault) if fault else ())
+
+
+def of_stack(filters: Sequence[Filter], query: Query, table: Table) -> Reply:
+    """The reply of a stack, with the filter that gives the answer, and the path through it."""
+    run = listing.run_stack(filters, query.words())
+    decision, givers = run.decision, run.givers(run.decision.answer)
+    giver = listing.to_show(givers)
+
+    def reasons() -> Iterator[str]:
+        yield from refusals.of_stack(filters, decision.fault)
+        yield from of_givers(filters, givers)
+        if giver is not None:
+            yield f"the path in {giver.describe()}: {giver.path.describe()}"
+
+    def members() -> dict[str, object]:
+        files = [giver.filter.name for giver in givers]
+        if decision.fault:
+            files = faulty_filters(filters, decision.fault)
+        return {**({"filters": files} if len(filters) > 1 and (giver or decision.fault) else {}),
+                **({"path": giver.as_json()} if giver else {})}
+
+    return replace(_reply(run.status, [decision.line] if decision.line else [], query, decision, table),
+                   reasons=reasons, members=members)
+
+
+def of_run(bpf_filter: Filter, query: Query, table: Table, with_path: bool) -> Reply:
+    """The reply of one filter, with the number of instructions that run, and on request their path."""
+    path = listing.path_of(bpf_filter.data, query.words(), with_path)
+    members: dict[str, object] = {} if path.decision.steps is None else {"steps": path.decision.steps}
+    if path.indexes:
+        members["path"] = Giver(bpf_filter, True, path).as_json()
+    return replace(_reply(path.status, path.lines, query, path.decision, table), members=lambda: members)
+
+
+def is_undetermined(reason: Reason, call: Call, profile: bytes, judged: Tables) -> bool:
+    """Whether a syscall is of an architecture that the profile names, and that isn't judged."""
+    return reason.is_foreign and call.abi not in judged.of and call.abi in profiles.architectures_of(profile)
+
+
+def of_profile(profile: bytes, query: Query, judged: Tables, origins: Sequence[Origin] | None = None) -> Reply:
+    """The reply of a profile, with its reason; of a resolved profile with the entries' indexes in the user's file."""
+    reason, call = reasons.of(profile, judged, query.words()), query.call
+    if call is not None and is_undetermined(reason, call, profile, judged):
+        return Reply(program.UNKNOWN, [FOR_OTHER_ABI], call, reasons=lambda: explanation.of_call(call, judged.native),
+                     members=lambda: {"reason": UNDETERMINED})
+    fault = reason.fault
+    return Reply(reason.status, [reason.line] if reason.line else [], call, reason.answer, fault,
+                 lambda: refusals.sentences(fault, profile, judged, origins) if fault else (),
+                 lambda: reasons.describe(reason, profile, call, origins),
+                 lambda: reasons.as_json(reason, profile, call, origins))
+
+
+def print_replies(options: Any, table: Table, answer: Callable[[Query], Reply]) -> int:
+    """Prints the reply to each query of a command line; returns the worst status."""
+    statuses, objects = [], []
+    for query in queries(options, table):
+        reply = answer(query)
+        statuses.append(reply.status)
+        if options.json:
+            objects.append(reply.as_json(table))
+            continue
+        output.put_lines(reply.lines)
+        output.put_lines(output.notes(reply.notes(table)))
+    if options.json:
+        output.put_json({"status": client.worst(statuses), "calls": objects})
+    return client.worst(statuses)

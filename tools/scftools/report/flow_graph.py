@@ -1,0 +1,227 @@
+"""The control flow of a filter as a graph for graphviz (dot(1)), folded so that long filters are readable.
+
+Tests of one word after another, such as a search for the syscall number, are one node, whose edges have the ranges of
+the word that lead to each target; the instructions before them belong to it. All returns of an answer are one node.
+"""
+from __future__ import annotations
+
+import heapq
+from collections.abc import Iterable, Iterator, Sequence
+
+from ..base import output
+from ..base.values import dataclass, field
+from ..model import answers, architectures
+from ..model.answers import FIRST_X32
+from ..model.tables import Table
+from ..ask.regions import GREATEST_WORD
+from ..forms.filters import BY_X, JEQ, JGE, JGT, JUMP, RETURN_CONSTANT
+from .listing import ARCHITECTURE, NUMBER, RETURNS, Instruction, Known, instructions, known_facts, name_of, word_name
+
+# The most ranges that an edge names.
+MOST_RANGES = 12
+# Ranges of values, in their order, each with its first and its last one.
+Ranges = list[tuple[int, int]]
+MARK = ", penwidth=3, color=red"
+COLOURS = {answers.ALLOWED: "palegreen", answers.DELEGATED: "khaki", answers.DENIED: "lightpink"}
+
+
+def split(ranges: Ranges, first: int) -> tuple[Ranges, Ranges]:
+    """The values below `first`, and the others."""
+    return ([(low, min(high, first - 1)) for low, high in ranges if low < first],
+            [(max(low, first), high) for low, high in ranges if high >= first])
+
+
+def merged(first: Ranges, second: Ranges) -> Ranges:
+    """The values of both, with neighbours as one range."""
+    ranges: Ranges = []
+    for low, high in heapq.merge(first, second):
+        if ranges and low <= ranges[-1][1] + 1:
+            ranges[-1] = ranges[-1][0], max(high, ranges[-1][1])
+        else:
+            ranges.append((low, high))
+    return ranges
+
+
+def _sides(insn: Instruction, ranges: Ranges) -> tuple[Ranges, Ranges]:
+    """The values for which a test holds, and the others."""
+    test = insn.code & 0xF0
+    if test == JEQ:
+        below, remaining = split(ranges, insn.k)
+        equal, above = split(remaining, insn.k + 1)
+        return equal, merged(below, above)
+    below, remaining = split(ranges, insn.k + (test == JGT))
+    return remaining, below
+
+
+@dataclass
+class Node:
+    """A node: the indexes of its instructions, the word that it tests, if any, and where the values of that lead."""
+
+    indexes: list[int]
+    word: int | None = None
+    known: Known = Known()
+    targets: dict[int, Ranges] = field(default_factory=dict)
+
+
+class Graph:
+    """The nodes of a filter that instruction 0 reaches, by their first instructions."""
+
+    def __init__(self, data: bytes) -> None:
+        self.insns = instructions(data)
+        self.known = known_facts(self.insns)
+        self.nodes: dict[int, Node] = {}
+        # the first return of each answer
+        self.returns: dict[int, int] = {}
+        for index, insn in enumerate(self.insns):
+            if insn.code == RETURN_CONSTANT:
+                self.returns.setdefault(insn.k, index)
+        waiting = [self.behind_jumps(0)]
+        while waiting:
+            index = waiting.pop()
+            if index < len(self.insns) and index not in self.nodes:
+                self.nodes[index] = self._node(index)
+                waiting += self.nodes[index].targets
+
+    def behind_jumps(self, index: int) -> int:
+        """The first instruction from there on that isn't an unconditional jump; of equal returns the first."""
+        while index < len(self.insns) and self.insns[index].code == JUMP:
+            index += 1 + self.insns[index].k
+        if index < len(self.insns) and self.insns[index].code == RETURN_CONSTANT:
+            return self.returns[self.insns[index].k]
+        return index
+
+    def _word_tested(self, index: int) -> int | None:
+        """The word that a test compares with a constant, if ranges of it say how it goes on."""
+        insn = self.insns[index]
+        is_of_ranges = insn.is_test and not insn.code & BY_X and insn.code & 0xF0 in (JEQ, JGT, JGE)
+        return self.known[index].word if is_of_ranges else None
+
+    def _node(self, first: int) -> Node:
+        """The instructions from there on up to a test, or to what returns."""
+        indexes, index = [first], first
+        while not self.insns[index].is_test and self.insns[index].kind != RETURNS:
+            index = self.behind_jumps(index + 1)
+            if index >= len(self.insns) or self.insns[index].kind == RETURNS:
+                return Node(indexes, targets={index: []})
+            indexes.append(index)
+        word = self._word_tested(index)
+        if word is not None:
+            return self._switch(indexes, index, word)
+        return Node(indexes, targets={self.behind_jumps(target): [] for target in self.insns[index].targets(index)})
+
+    def _switch(self, indexes: list[int], index: int, word: int) -> Node:
+        """The tests of a word from there on: no jump goes backwards, so each is met after all that lead to it."""
+        node, waiting = Node(indexes, word, self.known[index]), {index: [(0, GREATEST_WORD)]}
+        while waiting:
+            at = min(waiting)
+            ranges = waiting.pop(at)
+            if at < len(self.insns) and self._word_tested(at) == word:
+                if at not in node.indexes:
+                    node.indexes.append(at)
+                for target, side in zip(self.insns[at].targets(at), _sides(self.insns[at], ranges)):
+                    target = self.behind_jumps(target)
+                    if side:
+                        waiting[target] = merged(waiting.get(target, []), side)
+            else:
+                node.targets[at] = merged(node.targets.get(at, []), ranges)
+        return node
+
+
+def _value_text(value: int, node: Node, table: Table) -> str:
+    if node.word == NUMBER:
+        its = node.known.architectures
+        return "x32" if value == FIRST_X32 and answers.X86_64 in its else name_of(value, its, table)
+    if node.word == ARCHITECTURE:
+        return architectures.shown_name(value) or hex(value)
+    return hex(value)
+
+
+def _range_text(low: int, high: int, node: Node, table: Table) -> str:
+    first = _value_text(low, node, table)
+    if low == high:
+        return first
+    return f"from {first} on" if high == GREATEST_WORD else f"{first} to {_value_text(high, node, table)}"
+
+
+def _edge_text(ranges: Ranges, is_rest: bool, node: Node, table: Table) -> str:
+    """Which values of a word lead to a target."""
+    if is_rest:
+        return "all others"
+    shown = [_range_text(low, high, node, table) for low, high in ranges[:MOST_RANGES]]
+    more = f"and {len(ranges) - MOST_RANGES} more ranges" if len(ranges) > MOST_RANGES else ""
+    return "\n".join([*shown, *[more] * bool(more)])
+
+
+def quoted(text: str) -> str:
+    """A text of dot's language, each line of it at the left."""
+    lines = [output.escaped(line).replace("\\", "\\\\").replace('"', '\\"') for line in text.split("\n")]
+    return '"' + "".join(f"{line}\\l" for line in lines) + '"'
+
+
+def digraph(statements: Iterable[str]) -> str:
+    """The text of a graph with these nodes and edges."""
+    head = ["digraph filter {", "    node [shape=box, fontname=monospace];", "    edge [fontname=monospace];"]
+    return "\n".join([*head, *(f"    {statement}" for statement in statements), "}"]) + "\n"
+
+
+def answer_node(name: str, label: str, disposition: str | None, more: str = "") -> str:
+    """The node of an answer, coloured by its disposition, None if that isn't known."""
+    return (f"{name} [shape=ellipse, style=filled, fillcolor={COLOURS.get(disposition, 'white')}, "
+            f"label={quoted(label)}{more}];")
+
+
+class Drawing:
+    """The text of a graph; the instructions that run on a syscall are marked."""
+
+    def __init__(self, graph: Graph, lines: Sequence[str], table: Table, path: Sequence[int] = ()) -> None:
+        self.graph, self.table = graph, table
+        # the lines of a listing, each without the spaces that align it
+        self.lines = [" ".join(line.split()) for line in lines]
+        # the nodes on the path, in their order, and the edges between them
+        self.way = list(map(graph.behind_jumps, path[:1]))
+        for index in map(graph.behind_jumps, path[1:]):
+            # (a node may contain the first instruction of another one)
+            if index in graph.nodes[self.way[-1]].targets:
+                self.way.append(index)
+        self.edges = set(zip(self.way, self.way[1:]))
+
+    def name_of(self, index: int) -> str:
+        """The name of a node; of a return the answer's."""
+        insns = self.graph.insns
+        if index >= len(insns):
+            return "end"
+        return f"r{insns[index].k}" if insns[index].code == RETURN_CONSTANT else f"n{index}"
+
+    def _label(self, node: Node) -> str:
+        if node.word is None:
+            return "\n".join(self.lines[index] for index in node.indexes)
+        before = [self.lines[index] for index in node.indexes if not self.graph.insns[index].is_test]
+        tests = len(node.indexes) - len(before)
+        shown = f"{tests} tests, the last is {max(node.indexes)}" if tests > 1 else f"{node.indexes[-1]}"
+        return "\n".join([*before, f"{word_name(node.word)}? ({shown})"])
+
+    def _nodes(self) -> Iterator[str]:
+        for index, node in sorted(self.graph.nodes.items()):
+            name, mark = self.name_of(index), MARK if index in self.way else ""
+            insn = self.graph.insns[index]
+            if insn.code == RETURN_CONSTANT:
+                answer = answers.Answer.of_word(insn.k)
+                yield answer_node(name, answer.named(), answer.disposition, mark)
+            else:
+                yield f"{name} [label={quoted(self._label(node))}{mark}];"
+
+    def _edges(self) -> Iterator[str]:
+        for index, node in sorted(self.graph.nodes.items()):
+            sizes = {target: sum(high - low + 1 for low, high in ranges) for target, ranges in node.targets.items()}
+            fallback = max(sizes, key=lambda target: sizes[target], default=None) if node.word is not None else None
+            for at, (target, ranges) in enumerate(node.targets.items()):
+                if node.word is not None:
+                    label = _edge_text(ranges, target == fallback and len(ranges) > 1, node, self.table)
+                else:
+                    label = ("yes", "no")[at] if len(node.targets) > 1 else ""
+                mark = MARK if (index, target) in self.edges else ""
+                yield f"{self.name_of(index)} -> {self.name_of(target)} [label={quoted(label)}{mark}];"
+
+    def text(self) -> str:
+        """The graph in dot's language."""
+        return digraph([*self._nodes(), *self._edges()])

@@ -1,0 +1,323 @@
+"""Listings of filters: instruction indexes, jump targets, and names of syscalls and answers; and paths: which
+instructions run on a syscall, by `scf run --path` and `scf decide --path`, and the last tests among them."""
+from __future__ import annotations
+
+import itertools
+from collections.abc import Iterator, Sequence
+
+from ..base import output
+from ..base.values import Pattern, dataclass, replace
+from ..model import bundles
+from ..model.answers import ACTIONS, FIRST_X32, X86_64, Answer
+from ..model.architectures import shown_name
+from ..model.calls import Call, number_text
+from ..model.tables import Table
+from ..ask import client, verdicts
+from ..ask.verdicts import Decision
+from ..forms.filters import BY_X, INSTRUCTION, JEQ, JGE, JGT, JSET, JUMP, LOAD_WORD, RETURN_CONSTANT, Filter
+
+# The 32-bit words of a record, by their index (struct seccomp_data in linux/seccomp.h).
+NUMBER, ARCHITECTURE, ARGUMENTS, END = 0, 1, 4, 16
+WORDS = {NUMBER: "the syscall number", ARCHITECTURE: "the architecture", 2: "the instruction pointer, low half",
+         3: "the instruction pointer, high half"}
+# The most architectures whose names of one number are listed.
+MOST_NAMED = 3
+# linux/bpf_common.h: instruction classes, and the one BPF_MISC code that changes the accumulator.
+LOAD_CLASS, ALU, JUMPS, RETURNS, TXA = 0, 4, 5, 6, 0x87
+# The codes that the kernel takes as scf's assembler has them, of a constant and of X, and the others.
+OF_BOTH = dict(zip((*range(0x04, 0x84, 0x10), 0xA4), "add sub mul div or and lsh rsh xor".split()))
+TESTS = {JUMPS | test: name for name, test in (("jeq", JEQ), ("jgt", JGT), ("jge", JGE), ("jset", JSET))}
+TEXTS = {LOAD_WORD: "ld [{k}]", 0x80: "ld len", 0x81: "ldx len", 0x00: "ld #{k:#x}", 0x01: "ldx #{k:#x}",
+         0x60: "ld M[{k}]", 0x61: "ldx M[{k}]", 0x02: "st M[{k}]", 0x03: "stx M[{k}]", 0x84: "neg", JUMP: "ja {k}",
+         RETURN_CONSTANT: "ret #{k:#x}", 0x16: "ret a", 0x07: "tax", TXA: "txa",
+         **{code | by: f"{name} {operand}{', {jt}, {jf}' * (code in TESTS)}" for code, name in (OF_BOTH | TESTS).items()
+            for by, operand in ((0, "#{k:#x}"), (BY_X, "x"))}}
+PATH = Pattern(r"path((?: [0-9]+)+)")
+# At most so many of the last tests are printed.
+MOST_TESTS = 12
+
+
+@dataclass(frozen=True)
+class Instruction:
+    """An instruction of a filter (struct sock_filter in linux/filter.h)."""
+
+    code: int
+    if_true: int
+    if_false: int
+    k: int
+
+    @property
+    def kind(self) -> int:
+        return self.code & 7
+
+    @property
+    def word(self) -> int | None:
+        """The index of the word that it loads, or None."""
+        return self.k // 4 if self.code == LOAD_WORD and self.k < 4 * END and self.k % 4 == 0 else None
+
+    @property
+    def is_test(self) -> bool:
+        return self.kind == JUMPS and self.code != JUMP
+
+    @property
+    def changes_a(self) -> bool:
+        return self.kind in (LOAD_CLASS, ALU) or self.code == TXA
+
+    @property
+    def text(self) -> str:
+        """Its line, as `scf dis` prints it: `raw` if its code is another one, or has no use for what a field has."""
+        text, fields = TEXTS.get(self.code, ""), {"k": self.k, "jt": self.if_true, "jf": self.if_false}
+        if not text or any(value and f"{{{name}" not in text for name, value in fields.items()):
+            return f"raw {self.code:#06x}, {self.if_true}, {self.if_false}, {self.k:#x}"
+        return text.format(**fields)
+
+    def targets(self, index: int) -> list[int]:
+        """The indexes of its successors, given its own."""
+        if self.kind == RETURNS:
+            return []
+        if self.code == JUMP:
+            return [index + 1 + self.k]
+        if self.kind == JUMPS:
+            return [index + 1 + self.if_true, index + 1 + self.if_false]
+        return [index + 1]
+
+
+def instructions(data: bytes) -> list[Instruction]:
+    return [Instruction(*fields) for fields in INSTRUCTION.iter_unpack(data)]
+
+
+@dataclass(frozen=True)
+class Known:
+    """Facts that hold at an instruction on every path to it: the word in A, and which architectures the record may
+    have, of those that a filter tests and x86-64; None stands for all others."""
+
+    word: int | None = None
+    architectures: frozenset[int | None] = frozenset([X86_64, None])
+
+    def beside(self, other: Known) -> Known:
+        """The facts where two paths meet."""
+        return Known(self.word if self.word == other.word else None, self.architectures | other.architectures)
+
+
+def _after(insn: Instruction, facts: Known) -> Iterator[Known]:
+    """The facts after an instruction, for each of its targets."""
+    if insn.changes_a:
+        yield replace(facts, word=insn.word)
+    elif insn.code == JUMP | JEQ and facts.word == ARCHITECTURE:
+        yield replace(facts, architectures=facts.architectures & {insn.k})
+        yield replace(facts, architectures=facts.architectures - {insn.k})
+    else:
+        yield facts
+        yield facts
+
+
+def known_facts(insns: Sequence[Instruction]) -> list[Known]:
+    """The facts at each instruction; all jumps go forwards."""
+    at_first = Known(None, frozenset([X86_64, None, *(insn.k for insn in insns if insn.code == JUMP | JEQ)]))
+    facts: dict[int, Known] = {0: at_first}
+    for index, insn in enumerate(insns):
+        if index in facts:
+            for target, after in zip(insn.targets(index), _after(insn, facts[index])):
+                if after.architectures:
+                    facts[target] = facts[target].beside(after) if target in facts else after
+    return [facts.get(index, at_first) for index in range(len(insns))]
+
+
+def _name_on(k: int, architecture: int, table: Table) -> str:
+    """The name of a syscall number on an architecture."""
+    named = " or ".join(Call(k, architecture).names(table))
+    if architecture != X86_64:
+        return f"{named or f'number {k}'} of {shown_name(architecture) or hex(architecture)}"
+    return f"x32 {named}" if named and k >= FIRST_X32 else named or number_text(k)
+
+
+def name_of(k: int, its: frozenset[int | None], table: Table) -> str:
+    """The names of a syscall number that a filter tests: x86-64's, unless other architectures alone come there or come
+    there, too."""
+    if None in its:
+        return _name_on(k, X86_64, table) if X86_64 in its else f"number {k} of other architectures"
+    if len(its) > MOST_NAMED:
+        return f"number {k} of several architectures"
+    return " or ".join(_name_on(k, number, table)
+                       for number in sorted(its, key=lambda number: (number != X86_64, number)))
+
+
+def word_name(word: int) -> str:
+    """The name of a word of a record, by its index."""
+    at = word - ARGUMENTS
+    return WORDS.get(word) or f"argument {at // 2}, {'high' if at % 2 else 'low'} half"
+
+
+def _tested(insn: Instruction, facts: Known, table: Table) -> str | None:
+    """The syscall or architecture that a test compares with."""
+    test = insn.code & 0xF0
+    if insn.code & BY_X or facts.word not in (NUMBER, ARCHITECTURE):
+        return None
+    if facts.word == ARCHITECTURE:
+        return shown_name(insn.k) if test == JEQ else None
+    if insn.k == FIRST_X32 and test in (JGE, JSET) and X86_64 in facts.architectures:
+        return "x32"
+    name = name_of(insn.k, facts.architectures, table)
+    return {JEQ: name, JGT: f"above {name}", JGE: f"from {name} on"}.get(test)
+
+
+def _meaning(index: int, insn: Instruction, facts: Known, table: Table, count: int) -> str | None:
+    """The comment on an instruction, or None."""
+    if insn.word is not None:
+        return word_name(insn.word)
+    if insn.code == RETURN_CONSTANT:
+        action, data = ACTIONS.get(insn.k >> 16, "an unknown action"), insn.k & 0xFFFF
+        return Answer(action, data).named() if data or action == "ERRNO" else action
+    if insn.kind != JUMPS or (insn.code != JUMP and insn.code & 0xF0 not in (JEQ, JGT, JGE, JSET)):
+        return None
+    shown = [f"{target}" if target < count else f"{target}, which is out of range" for target in insn.targets(index)]
+    what = _tested(insn, facts, table) if insn.code != JUMP else None
+    return (f"{what}: " if what else "") + f"to {shown[0]}" + (f", else {shown[1]}" if len(shown) > 1 else "")
+
+
+def meanings(data: bytes, table: Table) -> list[str | None]:
+    """The meaning of each instruction, None where the instruction alone says as much."""
+    insns = instructions(data)
+    return [_meaning(index, insn, facts, table, len(insns))
+            for index, (insn, facts) in enumerate(zip(insns, known_facts(insns)))]
+
+
+def listing_lines(data: bytes, lines: Sequence[str], table: Table) -> Iterator[str]:
+    """The lines of `scf dis`, each after its index and before its comment."""
+    index_width, line_width = len(str(len(lines) - 1)), max(map(len, lines), default=0)
+    for index, (line, meaning) in enumerate(zip(lines, meanings(data, table))):
+        yield f"{index:{index_width}}  " + (f"{line:{line_width}}  // {meaning}" if meaning else line)
+
+
+@dataclass(frozen=True)
+class Path:
+    """A filter's answer to a syscall, and the indexes of the instructions that run; none after a fault."""
+
+    status: int
+    lines: tuple[str, ...]
+    decision: Decision
+    indexes: tuple[int, ...] = ()
+
+    def describe(self) -> str:
+        """The indexes; three or more consecutive ones as a range."""
+        return " ".join(f"{first}-{last}" if last - first > 1 else " ".join(map(str, range(first, last + 1)))
+                        for first, last in output.runs(self.indexes))
+
+
+def _path(status: int, lines: Sequence[str]) -> Path:
+    """The answer of a run in its first line, and the path in the second one, if there is one."""
+    match = PATH.fullmatch("".join(lines[1:2]))
+    return Path(status, tuple(lines), verdicts.decision("".join(lines[:1])),
+                tuple(map(int, match[1].split())) if match else ())
+
+
+def path_of(data: bytes, words: Sequence[str], with_path: bool = True) -> Path:
+    """A filter's answer to the record that scf's options give, and on request the path to it."""
+    done = client.run(["run", *["--path"] * with_path, *words], data)
+    return _path(done.status, done.lines)
+
+
+@dataclass(frozen=True)
+class Giver:
+    """A filter that gives its stack's answer, with its path, and whether it is the only filter."""
+
+    filter: Filter
+    is_alone: bool
+    path: Path
+
+    def describe(self) -> str:
+        return "the filter" if self.is_alone else self.filter.name
+
+    def last_tests(self, call: Call, table: Table, name: str = "") -> Iterator[str]:
+        """The last tests on its path, with a line before them that calls the filter so."""
+        before, lines = last_tests(self.filter.data, self.path, call, table)
+        yield (f"the last tests on the path in {name or self.describe()}"
+               + (f", after {before} others:" if before else ":"))
+        yield from lines
+
+    def as_json(self) -> dict[str, object]:
+        return {"filter": self.filter.name, "indexes": list(self.path.indexes)}
+
+
+@dataclass(frozen=True)
+class StackRun:
+    """The answer of a stack of filters to a syscall or a fault, and the path of each filter, oldest first."""
+
+    status: int
+    filters: Sequence[Filter]
+    decision: Decision
+    paths: Sequence[Path]
+
+    def givers(self, answer: Answer | None) -> list[Giver]:
+        """The filters, oldest first, that give this answer; if it is the stack's, the kernel takes it from the last of
+        them.
+
+        It runs the newest first, and of equal actions keeps the one that it has (seccomp_run_filters in
+        kernel/seccomp.c).
+        """
+        runs = (Giver(bpf_filter, len(self.filters) == 1, path)
+                for bpf_filter, path in zip(self.filters, self.paths))
+        return [giver for giver in runs if giver.path.indexes and giver.path.decision.answer == answer]
+
+
+def run_stack(filters: Sequence[Filter], words: Sequence[str]) -> StackRun:
+    """What a stack answers to the record that scf's options give, and how each of its filters runs."""
+    done = client.run(["decide", *words, "--path"], bundles.of_stack([bpf_filter.data for bpf_filter in filters]))
+    runs = done.lines[1:]
+    return StackRun(done.status, filters, verdicts.decision(done.text),
+                    [_path(done.status, runs[at:at + 2]) for at in range(0, len(runs), 2)])
+
+
+def deciding_filters(filters: Sequence[Filter], words: Sequence[str], answer: Answer) -> list[Giver]:
+    """The filters of a stack, oldest first, that give this answer."""
+    return run_stack(filters, words).givers(answer)
+
+
+def deciding_on_sides(sides: Sequence[tuple[Sequence[Filter], Answer]], words: Sequence[str]) -> list[list[Giver]]:
+    """The filters of several stacks that give these answers, by one start of scf, if all of them fit into a stack."""
+    run = run_stack([bpf_filter for filters, _ in sides for bpf_filter in filters], words)
+    if run.decision.answer is None:
+        return [deciding_filters(filters, words, answer) for filters, answer in sides]
+    paths = iter(run.paths)
+    return [replace(run, filters=filters, paths=[*itertools.islice(paths, len(filters))]).givers(answer)
+            for filters, answer in sides]
+
+
+def to_show(givers: Sequence[Giver]) -> Giver | None:
+    """The filter whose path is shown, of several that give the answer: the newest, whose answer the kernel takes.
+
+    The kernel begins with ALLOW and takes it from no filter: then it is the one that runs the most instructions, since
+    others may not even load the syscall number.
+    """
+    if not givers:
+        return None
+    answer = givers[-1].path.decision.answer
+    is_allowed = answer is not None and answer.action == "ALLOW"
+    return max(reversed(givers), key=lambda giver: len(giver.path.indexes)) if is_allowed else givers[-1]
+
+
+def _tests(insns: Sequence[Instruction], indexes: Sequence[int], call: Call) -> Iterator[tuple[int, str]]:
+    """The indexes of the tests on a path and of its end, each with the value loaded and the branch taken."""
+    halves = (half for value in (call.pointer or 0, *call.arguments) for half in (value & 0xFFFFFFFF, value >> 32))
+    # the 32-bit words of the record, in order (struct seccomp_data in linux/seccomp.h)
+    words, loaded = [call.number, call.architecture, *halves], ""
+    for at, index in enumerate(indexes):
+        insn = insns[index]
+        if insn.is_test:
+            yield index, f"; {loaded}went to {indexes[at + 1]}"
+        elif insn.kind == RETURNS:
+            yield index, ""
+        elif insn.word is not None:
+            loaded = f"loaded {words[insn.word]:#x}, "
+        elif insn.kind == ALU and loaded:
+            loaded = loaded.partition(",")[0] + ", computed with it, "
+        elif insn.changes_a:
+            loaded = ""
+
+
+def last_tests(data: bytes, path: Path, call: Call, table: Table) -> tuple[int, list[str]]:
+    """The last tests on a path and its end, as lines of the listing; and the number of tests before them."""
+    insns = instructions(data)
+    lines = list(listing_lines(data, [insn.text for insn in insns], table))
+    lines_of_tests = [f"{lines[index]}{way}" for index, way in _tests(insns, path.indexes, call)]
+    return max(len(lines_of_tests) - MOST_TESTS, 0), lines_of_tests[-MOST_TESTS:]

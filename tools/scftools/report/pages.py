@@ -1,0 +1,242 @@
+"""Pages of HTML: of a comparison, with the call that shows a difference in C, and of what stacks of filters allow.
+
+A page stands alone: it has no scripts, and a Content-Security-Policy that allows none, nor anything from elsewhere. All
+text is escaped here; what is made of other pieces is a `Markup`.
+"""
+from __future__ import annotations
+
+import base64
+import functools
+import hashlib
+import html
+import time
+from collections import Counter
+from collections.abc import Iterable, Iterator, Sequence
+
+from ..base import output
+from ..base.values import dataclass
+from ..model.answers import ALLOWED, DELEGATED, DENIED, DEPENDS
+from ..model.calls import Call
+from ..model.tables import Table
+from ..ask import client
+from ..ask.verdicts import Report
+from ..lint import watchlist
+from . import surface_output, surfaces
+from .compare import Comparison
+from .stack_surfaces import StackSurface
+from .surface_output import Groups
+from .surfaces import Surface
+
+OF_COMPARISON = ("The first lines are scf's: the verdict is proved for all syscalls that are compared. The others "
+                 "explain it.")
+# How a cell of the matrix says what holds for all syscalls of a group.
+ALL_DENIED, SOME, ALL_ALLOWED = "all denied", "some", "all allowed"
+OF_SURFACES = ("What is allowed, delegated or denied is proved for all x86-64 syscalls and arguments by scf, which "
+               "also gives the examples.")
+STYLE = """
+:root { color-scheme: light dark; --text: #1c1c1c; --page: #fdfdfc; --faint: #5c5c5c; --line: #cfcfca; --band: #f1f1ee;
+  --bad: #a3140f; --warn: #7a4b00; --good: #1b5e2b; --link: #0b4f9e; }
+@media (prefers-color-scheme: dark) {
+  :root { --text: #e6e6e3; --page: #161716; --faint: #a5a5a0; --line: #3d3f3d; --band: #212321; --bad: #ff8f86;
+    --warn: #f0bd6a; --good: #86d594; --link: #8abcff; } }
+* { box-sizing: border-box; }
+body { margin: 0 auto; max-width: 90rem; padding: 1rem; font: 1rem/1.45 system-ui, sans-serif; color: var(--text);
+  background: var(--page); overflow-wrap: break-word; }
+.long, h1, h3, .rows { overflow-wrap: anywhere; } .rows { table-layout: fixed; } .rows ul { padding-left: 1rem; }
+h1 { font-size: 1.5rem; margin: 0 0 .5rem; } h2 { font-size: 1.2rem; margin: 2rem 0 .5rem; }
+h3 { font-size: 1rem; margin: 1rem 0 .25rem; }
+p, ul, dl { margin: .4rem 0; } ul { padding-left: 1.2rem; } dt { color: var(--faint); } dd { margin: 0 0 .3rem 0; }
+a { color: var(--link); } small, .faint { color: var(--faint); }
+code, pre { font: .875rem/1.4 ui-monospace, monospace; }
+pre { overflow-x: auto; background: var(--band); padding: .6rem; border-radius: .3rem; margin: .4rem 0;
+  overflow-wrap: normal; }
+table { border-collapse: collapse; width: 100%; } th, td { text-align: left; vertical-align: top;
+  padding: .35rem .6rem; border-bottom: 1px solid var(--line); } thead th { background: var(--band); }
+.scroll { overflow-x: auto; } .scroll td, .scroll th { white-space: nowrap; overflow-wrap: normal; line-height: 1.5rem;
+  padding: .375rem .625rem; }
+table.scroll { border-collapse: separate; border-spacing: 0; }
+.scroll td:first-child, .scroll th:first-child { position: sticky; left: 0; max-width: 9rem; white-space: normal; }
+.scroll td:first-child { background: var(--page); }
+.bad { color: var(--bad); font-weight: 600; } .warn { color: var(--warn); font-weight: 600; }
+.good { color: var(--good); font-weight: 600; }
+details { margin: .25rem 0; } summary { cursor: pointer; }
+@media (min-width: 60rem) {
+  .rows th:nth-child(4) { width: 22%; } .rows th:nth-child(n+6) { width: 8.5rem; } }
+@media (max-width: 60rem) {
+  .rows thead { display: none; } .rows, .rows tbody { display: block; }
+  .rows tr, .rows td { display: block; border: 0; padding: .1rem 0; }
+  .rows tr { border-bottom: 1px solid var(--line); padding: .6rem 0; }
+  .rows td:empty { display: none; }
+  .rows td[data-label]::before { content: attr(data-label) ": "; color: var(--faint); } }
+"""
+
+
+class Markup(str):
+    """Text that is HTML already."""
+
+
+def escaped(text: object) -> Markup:
+    """Text as HTML, in which control characters are shown as their bytes; what is HTML already stays."""
+    return text if isinstance(text, Markup) else _escaped(str(text))
+
+
+@functools.lru_cache(1 << 12)
+def _escaped(text: str) -> Markup:
+    return Markup(html.escape(output.escaped(text)))
+
+
+def joined(pieces: Iterable[object], between: str = "") -> Markup:
+    return Markup(between.join(escaped(piece) for piece in pieces))
+
+
+def tag(name: str, *pieces: object, **attributes: object) -> Markup:
+    """An element. An attribute is written `class_` for `class`, and `data_label` for `data-label`; None is left out."""
+    shown = "".join(f' {attribute.rstrip("_").replace("_", "-")}="{escaped(value)}"'
+                    for attribute, value in attributes.items() if value is not None)
+    return Markup(f"<{name}{shown}>{joined(pieces)}</{name}>")
+
+
+def listed(items: Iterable[object]) -> Markup:
+    """A list of items; nothing without any."""
+    elements = [tag("li", item) for item in items]
+    return tag("ul", *elements) if elements else Markup("")
+
+
+def table(head: Iterable[object], rows: Iterable[Iterable[object]], kind: str) -> Markup:
+    """A table. If its kind is `rows`, they become blocks with labels on a narrow screen; if it is `scroll`, it
+    scrolls."""
+    names = list(head)
+    body = [tag("tr", *(tag("td", cell, data_label=name if kind == "rows" else None)
+                        for name, cell in zip(names, row))) for row in rows]
+    headings = tag("tr", *(tag("th", heading, scope="col") for heading in names))
+    made = tag("table", tag("thead", headings), tag("tbody", *body), class_=kind)
+    return tag("div", made, class_="scroll") if kind == "scroll" else made
+
+
+def preformatted(lines: Iterable[object]) -> Markup:
+    """Lines as they are."""
+    return tag("pre", joined(lines, "\n"))
+
+
+def document(title: str, *pieces: object) -> str:
+    """The whole page."""
+    digest = base64.b64encode(hashlib.sha256(STYLE.encode()).digest()).decode()
+    policy = f"default-src 'none'; style-src 'sha256-{digest}'; base-uri 'none'; form-action 'none'"
+    return ("<!DOCTYPE html>\n<html lang=\"en\">\n<head>\n<meta charset=\"utf-8\">\n"
+            f"<meta http-equiv=\"Content-Security-Policy\" content=\"{escaped(policy)}\">\n"
+            "<meta name=\"viewport\" content=\"width=device-width, initial-scale=1\">\n"
+            f"<title>{escaped(title)}</title>\n<style>{STYLE}</style>\n</head>\n<body>\n"
+            + "\n".join(escaped(piece) for piece in pieces) + "\n</body>\n</html>\n")
+
+
+def _made_by() -> Markup:
+    """When a page is made, and by which scf."""
+    at, version = time.strftime("%Y-%m-%dT%H:%M:%SZ", time.gmtime()), client.run(["--version"]).text.strip()
+    return tag("p", f"{at} · {version}")
+
+
+def c_call(call: Call, table: Table) -> str:
+    """A syscall as a statement in C; one of another ABI as a comment, since only assembly makes it."""
+    names = table.names_of(call.number) if call.is_native else []
+    arguments = ", ".join(f"{argument:#x}" for argument in call.arguments)
+    if not call.is_native:
+        return f"/* {call.describe(table)}, with {arguments} */"
+    return f"syscall({f'SYS_{names[0]}' if names else call.number}, {arguments});"
+
+
+def of_comparison(comparison: Comparison, report: Report, added: Sequence[str], command: str) -> str:
+    """The page of a comparison, with the lines that `scf compare` adds, and the command that made it."""
+    verdict = report.verdict
+    word = verdict.word if verdict is not None else report.lines[0] if report.lines else "nothing"
+    colour = "good" if verdict is not None and verdict.holds else "bad"
+    shown = [preformatted([c_call(verdict.call, comparison.table)])] if verdict is not None and verdict.call else []
+    return document(f"comparison: {word}", tag("h1", tag("span", word, class_=colour)), _made_by(),
+                    listed(f"{each.name}: {each.count} instructions" for each in comparison.filters), *shown,
+                    preformatted([*report.brief, *(f"# {line}" for line in added)]), tag("p", "To repeat it:"),
+                    preformatted([command]), tag("p", OF_COMPARISON, class_="faint"))
+
+
+@dataclass(frozen=True)
+class Named:
+    """What a stack allows, None if scf refuses it, with what the page calls it."""
+
+    name: str
+    surface: Surface | None
+    description: str
+    digest: str | None = None
+
+    @property
+    def anchor(self) -> str:
+        return self.name.replace(" ", "-")
+
+
+def _cell(rows: list[surfaces.Row]) -> str:
+    counts = Counter(row.said for row in rows)
+    if set(counts) == {DENIED}:
+        return ALL_DENIED
+    if set(counts) == {ALLOWED}:
+        return ALL_ALLOWED
+    shown = [f"{counts[disposition]} {disposition}" for disposition in (ALLOWED, DEPENDS, DELEGATED)
+             if counts[disposition]]
+    unknown = len(rows) - sum(counts[disposition] for disposition in (ALLOWED, DEPENDS, DELEGATED, DENIED))
+    return f"{SOME}: {', '.join(shown + [f'{unknown} not known'] * bool(unknown)) or 'denied'} of {len(rows)}"
+
+
+def stack(named: Named, groups: Groups) -> Iterator[Markup]:
+    """All syscalls of a stack, group by group, each with what decides."""
+    yield tag("h3", f"{named.name}: ", named.description, id=named.anchor)
+    if named.digest is not None:
+        yield tag("p", "SHA-256 ", tag("code", named.digest, class_="long"))
+    if named.surface is None:
+        yield tag("p", "scf refuses this stack.")
+        return
+    yield listed(surface_output.of_whole(named.surface))
+    for group, rows in surface_output.grouped(named.surface.rows, groups):
+        calls = listed(joined([tag("code", " or ".join(row.names)), f" {row.said}",
+                               *(f"; {detail}" for detail in surface_output.details(row))]) for row in rows)
+        yield tag("details", tag("summary", f"{group}: {_cell(rows)}"), tag("div", calls, id=f"{named.anchor}-{group}"))
+
+
+def matrix(stacks: Sequence[Named], groups: Groups) -> Iterator[Markup]:
+    """Groups of syscalls by stacks."""
+    yield tag("h2", "Groups of syscalls by stack")
+    by_stack = [dict(surface_output.grouped(named.surface.rows, groups)) if named.surface is not None else {}
+                for named in stacks]
+    head = ["group", *(tag("a", named.name, href=f"#{named.anchor}") for named in stacks)]
+    lines = [[group, *(tag("a", _cell(rows[group]), href=f"#{named.anchor}-{group}") if group in rows else DENIED
+                       for named, rows in zip(stacks, by_stack))]
+             for group in groups.order if any(group in rows for rows in by_stack)]
+    yield table(head, lines, "scroll")
+
+
+def dangerous(stacks: Sequence[Named], table_of: Table) -> Iterator[Markup]:
+    """The dangerous syscalls by stacks."""
+    yield tag("h2", "Dangerous syscalls by stack")
+    rows_of = [{name: row for row in named.surface.rows for name in row.names} if named.surface is not None else {}
+               for named in stacks]
+    lines: list[list[object]] = []
+    for name, danger in watchlist.dangerous().items():
+        if table_of.number_of(name) is None:
+            continue
+        only = "".join(f" if argument {condition.index} has {condition.value:#x}" for condition in danger.conditions)
+        lines.append([joined([tag("code", name), only]),
+                      *(tag("span", rows[name].said, class_="good" if rows[name].said == DENIED else "warn")
+                        if name in rows else "not known" for rows in rows_of), danger.reason])
+    yield table(["syscall", *(named.name for named in stacks), "why"], lines, "scroll")
+
+
+def of_blocks(blocks: Sequence[StackSurface]) -> Iterator[Named]:
+    """The stacks of `scf surface`, and those that they are compared with."""
+    for at, block in enumerate(block for block in blocks if block.filters):
+        names = ", ".join(bpf_filter.name for bpf_filter in block.filters)
+        yield Named(f"stack {at}", block.surface, names)
+        if block.beside is not None:
+            yield Named(f"beside {at}", block.beside.sides[1], "the filters beside it")
+
+
+def of_surfaces(blocks: Sequence[StackSurface], table_of: Table) -> str:
+    """The page of blocks."""
+    groups, stacks = Groups(), list(of_blocks(blocks))
+    return document("What these filters allow", tag("h1", "What these filters allow"), _made_by(),
+                    tag("p", OF_SURFACES, class_="faint"), *matrix(stacks, groups), *dangerous(stacks, table_of),
+                    tag("h2", "Stacks"), *(piece for named in stacks for piece in stack(named, groups)))

@@ -1,0 +1,532 @@
+"""Profiles of filters: what filters answer to the syscalls of an architecture, as a profile that scf proves to answer
+the same; and which other architectures it also says so of.
+
+Where no profile can say it there are two: the nearest that is nowhere stricter than the filters, and the nearest that
+is nowhere more permissive. What is drafted here is printed only if scf has proved it.
+"""
+from __future__ import annotations
+
+from collections import Counter
+from collections.abc import Iterable, Iterator, Sequence
+
+from ..base import output, program
+from ..base.values import dataclass, field, replace
+from ..model import architectures, constants, profiles, tables
+from ..model.answers import DISPOSITIONS, ENOSYS, FIRST_X32, Answer
+from ..model.architectures import JUDGED, NATIVE, Architecture
+from ..model.argument_sets import EMPTY_SET, FIRST_UNTESTED, FULL_SET, MOST_STEPS, Sets, Steps, TooMany
+from ..model.profiles import SANDBOX, STRICT, TRAP
+from ..model.tables import Table
+from ..ask import answer_sets, client, other_abis, questions, regions
+from ..ask.answer_sets import FIRST_OPEN, FIRST_UPPER, Answers
+from ..ask.client import Refusal
+from ..ask.explanation import join_names
+from ..ask.questions import EVERYTHING, NOTHING, Asker
+from ..ask.regions import Numbers, Region
+from ..ask.verdicts import NO_LESS, NO_MORE, SAME, NamedCall, Report
+from ..forms import engines, profile_inputs, runtimes
+from ..forms.filters import Filter
+from .compare import Comparison
+from .covers import Alternative, Covers
+
+TRAP_DATA_TEXT = "errnoRet beside SCMP_ACT_TRAP is its data: --runtime sandbox reads it, and no container runtime"
+UNFINISHED_TEXT = "unfinished: it takes too many steps to follow the filters: --limit N gives more than {}"
+# How far a draft may be from the filters: it says all that a profile can; one answer for all calls of a number that the
+# filters give to some of them; the utmost answer.
+EXACT, CONSTANT, UTMOST = range(3)
+
+
+def nearest(word: int | None, is_permissive: bool, has_trap_data: bool) -> Answer:
+    """The answer of a profile, which may have TRAP's data, that is nearest to a filter's, with the same disposition."""
+    if word is None:
+        return EVERYTHING if is_permissive else NOTHING
+    answer = Answer.of_word(word)
+    if answer.action == "UNNAMED":
+        return NOTHING
+    is_said = answer.is_of_sandboxes if has_trap_data else answer.is_of_profiles
+    return answer if is_said else Answer(answer.action, 0)
+
+
+def entry_of(names: Sequence[str], answer: Answer, alternative: Alternative) -> dict[str, object]:
+    """An entry of a profile."""
+    args = [{name: value for name, value in condition.as_json().items()
+             if name != "valueTwo" or condition.op == "SCMP_CMP_MASKED_EQ"} for condition in alternative]
+    return {"names": list(names), **answer.members(), **({"args": args} if args else {})}
+
+
+@dataclass(frozen=True)
+class FilterAnswers:
+    """The answers of filters to some syscall numbers of an architecture: those in its table, and those at which the
+    filters' tests change."""
+
+    architecture: Architecture
+    sets: Sets
+    table: Table
+    numbers: Sequence[int]
+    answers: Sequence[Answers]
+    covers: Covers
+    # the least number that runc's stub answers, or one that no table has
+    end: int = FIRST_X32
+    # whether they weren't followed to their end, and nothing is known
+    is_unfinished: bool = False
+    # whether their profile may have TRAP's data
+    has_trap_data: bool = False
+    # the parts of answers, and what they depend on, each found once
+    known_parts: dict[tuple[Answers, bool], dict[Answer, int]] = field(default_factory=dict)
+    known_untested: dict[Answers, str | None] = field(default_factory=dict)
+
+    def with_stub(self) -> FilterAnswers:
+        """The answers without those to the numbers from one on that all get ENOSYS."""
+        stub = ((ENOSYS.word, FULL_SET),)
+        count = next((at for at in range(len(self.numbers), 0, -1) if self.answers[at - 1] != stub), 0)
+        return replace(self, end=self.numbers[count]) if 0 < count < len(self.numbers) else self
+
+    def named(self) -> Iterator[tuple[int, str, Answers]]:
+        """The numbers that the table names, each with its first name and its answers."""
+        for number, answers in zip(self.numbers, self.answers):
+            if number < self.end and self.table.names_of(number):
+                yield number, self.table.names_of(number)[0], answers
+
+    def others(self) -> Iterator[tuple[int, Answers]]:
+        """The other numbers, each with its answers."""
+        for number, answers in zip(self.numbers, self.answers):
+            if number < self.end and not self.table.names_of(number):
+                yield number, answers
+
+    def parts(self, answers: Answers, is_permissive: bool) -> dict[Answer, int]:
+        """The answers of a profile to the calls of a number, each with its arguments, the utmost first. Raises
+        TooMany."""
+        if (answers, is_permissive) not in self.known_parts:
+            self.known_parts[answers, is_permissive] = self._parts(answers, is_permissive)
+        return self.known_parts[answers, is_permissive]
+
+    def _parts(self, answers: Answers, is_permissive: bool) -> dict[Answer, int]:
+        order = sorted(((nearest(word, is_permissive, self.has_trap_data), arguments) for word, arguments in answers),
+                       key=lambda part: DISPOSITIONS.index(part[0].disposition), reverse=is_permissive)
+        remaining, parts = FULL_SET, {}
+        for answer, arguments in order:
+            answered = self.sets.both(remaining, self.sets.possible(arguments))
+            if answered:
+                parts[answer] = self.sets.either(parts.get(answer, EMPTY_SET), answered)
+                remaining = self.sets.without(remaining, answered)
+        return parts
+
+    def unsaid(self, answers: Answers) -> Answer | None:
+        """An answer to the calls of a number that no profile gives, such as ALLOW with data."""
+        return next((Answer.of_word(word) for word, _ in answers
+                     if word is not None and Answer.of_word(word) != nearest(word, True, self.has_trap_data)), None)
+
+    def untested(self, answers: Answers) -> str | None:
+        """Why the answers to a number depend on something that no condition tests, or None. Raises TooMany."""
+        if answers not in self.known_untested:
+            self.known_untested[answers] = self._untested(answers)
+        return self.known_untested[answers]
+
+    def _untested(self, answers: Answers) -> str | None:
+        if self.is_unfinished:
+            return "it is unfinished"
+        if any(word is None for word, _ in answers):
+            return "its answer is computed"
+        variables = set().union(*(self.sets.variables(arguments) for _, arguments in answers))
+        if any(FIRST_UNTESTED <= variable < FIRST_UPPER for variable in variables):
+            return "its answer depends on the instruction pointer"
+        greatest = max(variables, default=0)
+        if greatest >= FIRST_OPEN:
+            return "its answer depends on a comparison or computation that no operator makes"
+        return "its answer depends on the upper half of an argument" if greatest >= FIRST_UPPER else None
+
+    def why_not(self, answers: Answers, default: Answer) -> str | None:
+        """Why no profile with a default answers the calls of a number so, or None."""
+        unsaid = self.unsaid(answers)
+        why = f"no profile gives {unsaid}" if unsaid is not None else self.untested(answers)
+        return f"to find its entries takes too many steps: --limit N gives more than {self.sets.steps.most}" \
+            if why is None and not self.has_entries(answers, default) else why
+
+    def has_entries(self, answers: Answers, default: Answer) -> bool:
+        """Whether entries beside a default give the answers to the calls of a number."""
+        return None not in self.covers_beside(self.parts(answers, True), default).values()
+
+    def covers_beside(self, parts: dict[Answer, int], default: Answer) -> dict[Answer, list[Alternative] | None]:
+        """The alternatives of each answer but the default; None for one that needs too many."""
+        return {answer: self.covers.of_set(arguments) for answer, arguments in parts.items() if answer != default}
+
+
+@dataclass
+class Draft:
+    """A profile that is nowhere stricter, or nowhere more permissive, than the filters are thought to be."""
+
+    filters: FilterAnswers
+    is_permissive: bool
+    # how far it is from the filters, by number; None stands for the numbers that the table doesn't name
+    levels: dict[int | None, int] = field(default_factory=dict)
+
+    def _utmost(self) -> Answer:
+        return EVERYTHING if self.is_permissive else NOTHING
+
+    def default(self) -> Answer:
+        """The default: of the utmost answers to numbers without a name the one that most numbers get."""
+        if self.levels.get(None):
+            return self._utmost()
+        firsts = [next(iter(self.filters.parts(answers, self.is_permissive))) for _, answers in self.filters.others()]
+        ranks = [DISPOSITIONS.index(answer.disposition) for answer in firsts]
+        utmost = (max if self.is_permissive else min)(ranks, default=0)
+        able = dict.fromkeys(answer for answer, rank in zip(firsts, ranks) if rank == utmost) or {self._utmost(): None}
+        counts = Counter(next(iter(self.filters.parts(answers, self.is_permissive)))
+                         for answers in self.filters.answers)
+        return max(able, key=lambda answer: counts[answer])
+
+    def _alternatives(self, numbers: Iterable[int], answers: Answers, level: int,
+                      default: Answer) -> Iterator[tuple[Answer, Alternative]]:
+        """The entries for some numbers with these answers."""
+        parts = self.filters.parts(answers, self.is_permissive)
+        if level == EXACT:
+            covers = self.filters.covers_beside(parts, default)
+            if None not in covers.values():
+                yield from ((answer, alternative) for answer, alternatives in covers.items()
+                            for alternative in alternatives or ())
+                return
+            self.levels.update(dict.fromkeys(numbers, CONSTANT))
+        answer = self._utmost() if level == UTMOST else next(iter(parts))
+        if answer != default:
+            yield answer, ()
+
+    def _add_to(self, entries: dict[tuple[Answer, Alternative], list[str]], default: Answer,
+                known_names: set[str]) -> None:
+        """Adds the names of each entry beside a default, but for syscalls with a known name."""
+        table = self.filters.table
+        # the numbers that get the same entries
+        alike: dict[tuple[Answers, int], dict[int, str]] = {}
+        for number, name, answers in self.filters.named():
+            if known_names.isdisjoint(table.names_of(number)):
+                alike.setdefault((answers, self.levels.get(number, EXACT)), {})[number] = name
+        for (answers, level), names in alike.items():
+            for answer, alternative in self._alternatives(names, answers, level, default):
+                entries.setdefault((answer, alternative), []).extend(names.values())
+        last = table.names_of(self.filters.end - 1)
+        if last and not any(last[0] in names for names in entries.values()):
+            # runc's stub begins after the greatest number that a profile names
+            entries.setdefault((default, ()), []).append(last[0])
+
+    def may_be_same(self) -> bool:
+        """Whether a profile can say the answers to all numbers: no answer is one that profiles lack, the entries of
+        each syscall are found, and all numbers without a name get one answer."""
+        default, filters = self.default(), self.filters
+        named, others = ({answers for *_, answers in numbers} for numbers in (filters.named(), filters.others()))
+        return all(filters.unsaid(answers) is None for answers in named | others) and \
+            all(filters.parts(answers, self.is_permissive) == {default: FULL_SET} for answers in others) and \
+            all(filters.has_entries(answers, default) for answers in named)
+
+    def differs_in_a_name(self) -> bool:
+        """Whether some syscall in the table may get another answer than by the filters, or isn't looked at."""
+        filters, default = self.filters, self.default()
+        return any(number >= filters.end for number in filters.table.numbers()) or \
+            any(self.levels.get(number) or filters.why_not(answers, default) for number, _, answers in filters.named())
+
+    def profile(self, others: Sequence[FilterAnswers] = ()) -> dict[str, object]:
+        """The profile, which also lists other architectures, with those names that it and the ones before lack."""
+        drafts = [self, *(Draft(filters, self.is_permissive) for filters in others)]
+        default, entries = self.default(), {}
+        known_names: set[str] = set()
+        for draft in drafts:
+            draft._add_to(entries, default, known_names)
+            known_names.update(draft.filters.table.names())
+        order = sorted(entries, key=lambda key: (bool(key[1]), -DISPOSITIONS.index(key[0].disposition)))
+        listed = [entry_of(sorted(entries[key]), *key) for key in order]
+        return {**default.default(), "architectures": [draft.filters.architecture.oci for draft in drafts],
+                "syscalls": listed}
+
+
+# What holds of filters beside a profile that is no less, or no more, permissive than they.
+OF_FILTERS = {SAME: SAME, NO_LESS: NO_MORE, NO_MORE: NO_LESS}
+RELATION_TEXTS = {NO_LESS: "nowhere stricter", NO_MORE: "nowhere more permissive"}
+# The other side, and how the profile is there.
+OPPOSITE = {NO_LESS: (NO_MORE, "more permissive"), NO_MORE: (NO_LESS, "stricter")}
+
+
+@dataclass(frozen=True)
+class ProvedProfile:
+    """A profile of which scf proved how permissive it is beside the filters; the OCI names of the architectures that it
+    lists; the syscalls in the table that aren't proved to get the same answer; and by architecture the least number
+    that runc's stub answers, if the profile has one."""
+
+    profile: dict[str, object]
+    relations: tuple[str, ...]
+    architectures: Sequence[str]
+    calls: Sequence[NamedCall] = ()
+    stub: dict[str, int] = field(default_factory=dict)
+
+    @property
+    def default(self) -> Answer:
+        return Answer.of_profile(str(self.profile["defaultAction"]), self.profile.get("defaultErrnoRet"))
+
+    @property
+    def text(self) -> str:
+        return engines.printed(self.profile)
+
+    @property
+    def reading_remarks(self) -> list[str]:
+        """How it must be read, if not by its words."""
+        return [] if reading_of(self.profile) == STRICT else [TRAP_DATA_TEXT]
+
+
+def reading_of(profile: dict[str, object]) -> str:
+    """How a profile is read that was drafted: by its words, unless it has TRAP's data."""
+    holders = [(profile["defaultAction"], "defaultErrnoRet" in profile),
+               *((entry["action"], "errnoRet" in entry) for entry in profile["syscalls"])]
+    return SANDBOX if (TRAP, True) in holders else STRICT
+
+
+def own_steps() -> Steps:
+    """The steps in which filters are followed: as many as --limit gives, if they are more than without."""
+    return Steps(max(MOST_STEPS, constants.number_in(client.limits.get("limit", "")) or 0))
+
+
+@dataclass(frozen=True)
+class ProfileRequest:
+    """Filters, oldest first, the table of an architecture, the architecture, the name of the runtime that reads the
+    profile, the OCI names of other architectures that the profile may list, too, the steps in which profiles are
+    found, the regions of the filters, None if they are unfinished, whether they begin with runc's stub, and whether the
+    profile may have TRAP's data."""
+
+    filters: Sequence[Filter]
+    table: Table
+    architecture: Architecture = JUDGED[NATIVE]
+    runtime: str | None = None
+    others: Sequence[str] = ()
+    steps: Steps = field(default_factory=own_steps)
+    regions: Sequence[Region] | None = None
+    has_stub: bool = False
+    has_trap_data: bool = False
+
+    @property
+    def data(self) -> list[bytes]:
+        return [bpf_filter.data for bpf_filter in self.filters]
+
+    def comparison(self, profile: dict[str, object], relation: str = SAME) -> Comparison:
+        """The comparison of the filters with a profile, which has the stub that they have if the relation is the
+        same."""
+        comparison = Comparison(self.filters, profiles.read_as(engines.to_bytes(profile), reading_of(profile)),
+                                self.table, OF_FILTERS[relation], architecture=self.architecture.oci)
+        if self.runtime is None:
+            return comparison
+        applied = runtimes.applied(engines.read(comparison.profile), self.runtime)
+        return replace(comparison, profile=applied.data, origins=applied.origins,
+                       stub=applied.stub if relation == SAME and self.has_stub else {})
+
+    def compared(self, profile: dict[str, object], relation: str = SAME) -> tuple[Report, dict[str, int]]:
+        """scf's report on whether a profile has this relation to the filters, in each architecture that it lists, and
+        where runc's stub begins.
+
+        Raises Refusal if scf refuses the filters, the table or the limit.
+        """
+        comparison = self.comparison(profile, relation)
+        status, report = comparison.run_unchecked()
+        if report.fault is not None and report.fault.source != "profile":
+            raise Refusal(report.fault.line, status)
+        return report, comparison.stub
+
+    def calls(self, profile: dict[str, object], relation: str) -> list[NamedCall]:
+        """The syscalls in the table of which this relation isn't proved, of a profile that scf takes."""
+        return self.comparison(profile, relation).calls_of(self.architecture.oci)
+
+    def asked(self) -> ProfileRequest:
+        """The request with the regions of the filters. Raises Refusal if scf refuses the filters or the table."""
+        filter_regions = regions.of_filters(self.data)
+        Asker(self.data, self.architecture).check(self.table)
+        return replace(self, regions=filter_regions)
+
+    def answers(self) -> FilterAnswers:
+        """The answers of the filters, number by number; nothing is known if that takes too many steps."""
+        architecture, is_unfinished = self.architecture, self.regions is None
+        sets, numbers = Sets(architecture.bits, self.steps), Numbers(self.regions, architecture)
+        firsts = (turn - architecture.first for turn in numbers.turns())
+        listed = sorted({*self.table.numbers(), *(first for first in firsts if first < FIRST_X32),
+                         *(first for first, _ in questions.gaps(self.table, architecture))})
+        try:
+            by_number = answer_sets.of_numbers(sets, numbers, [architecture.first + number for number in listed])
+        except TooMany:
+            sets, is_unfinished = Sets(architecture.bits, Steps()), True
+        if is_unfinished:
+            by_number = [((None, FULL_SET),)] * len(listed)
+        answers = FilterAnswers(architecture, sets, self.table, listed, by_number, Covers(sets),
+                                is_unfinished=is_unfinished, has_trap_data=self.has_trap_data)
+        is_runc = self.runtime is not None and runtimes.RUNTIMES[self.runtime].program == runtimes.RUNC
+        return answers.with_stub() if is_runc else answers
+
+    def answers_to_others(self) -> list[FilterAnswers]:
+        """The answers of the filters in each other architecture, but those of which they kill every syscall."""
+        pairs = [(JUDGED[name], tables.of_architecture(name)) for name in self.others]
+        return [replace(self, table=table, architecture=architecture).answers() for architecture, table in pairs
+                if table is not None and not self._kills(architecture)]
+
+    def _kills(self, architecture: Architecture) -> bool:
+        """Whether the filters kill every syscall of an architecture."""
+        ranges = Numbers(self.regions, architecture).ranges
+        return ranges is not None and all(region.answer is not None and region.answer.action.startswith("KILL")
+                                          for _, _, here in ranges for region in here)
+
+
+def _same(request: ProfileRequest, answers: FilterAnswers) -> ProvedProfile | None:
+    """The profile that answers as the filters do, if scf proves it; it lists each other architecture, too, of which scf
+    doesn't say otherwise."""
+    draft = Draft(answers, True)
+    if not draft.may_be_same():
+        return None
+    others = request.answers_to_others()
+    while True:
+        profile = draft.profile(others)
+        report, stub = request.compared(profile)
+        if report.verdict is not None and report.verdict.holds:
+            return ProvedProfile(profile, (SAME,), [each.architecture.oci for each in (answers, *others)], stub=stub)
+        failing = None if report.verdict is None or report.verdict.call is None else report.verdict.call.abi
+        if not others or failing == request.architecture.oci:
+            return None
+        remaining = [each for each in others if each.architecture.oci != failing]
+        others = remaining if len(remaining) < len(others) else others[:-1]
+
+
+def _bound(request: ProfileRequest, answers: FilterAnswers, relation: str) -> ProvedProfile | None:
+    """The nearest profile that scf proves to be no less, or no more, permissive than the filters."""
+    draft = Draft(answers, relation == NO_LESS)
+    # in each turn some numbers get a level more
+    for _ in range(2 * UTMOST + 1):
+        if client.is_spent():
+            break
+        profile = draft.profile()
+        report, _ = request.compared(profile, relation)
+        if report.verdict is not None and report.verdict.holds:
+            calls = request.calls(profile, SAME) if draft.differs_in_a_name() else []
+            return ProvedProfile(profile, (relation,), [request.architecture.oci], calls)
+        failed: Iterable[int | None]
+        if report.fault is not None:
+            failed = {number for number, _, number_answers in answers.named() if len(number_answers) > 1}
+        else:
+            failed = {call.number for call in request.calls(profile, relation)}
+        draft.levels.update({number: min(draft.levels.get(number, EXACT) + 1, UTMOST) for number in failed or [None]})
+    return None
+
+
+def _bounds(request: ProfileRequest, answers: FilterAnswers) -> list[ProvedProfile]:
+    """The nearest profiles on both sides of the filters; one that is on both stands once."""
+    bounds = [*filter(None, (_bound(request, answers, relation) for relation in (NO_LESS, NO_MORE)))]
+    if len(bounds) == 2 and bounds[0].profile == bounds[1].profile:
+        return [replace(bounds[0], relations=(NO_LESS, NO_MORE))]
+    return bounds
+
+
+def _other_number(answers: FilterAnswers, default: Answer) -> Iterator[str]:
+    """A line with an example of a number that the table doesn't name, if a profile's default isn't its answer."""
+    for number, number_answers in answers.others():
+        for word, arguments in number_answers:
+            is_known = word is not None and all(variable < FIRST_OPEN for variable in answers.sets.variables(arguments))
+            if is_known and Answer.of_word(word) != default:
+                yield (f"numbers that the table doesn't name differ, such as {number}: filter {Answer.of_word(word)} "
+                       f"profile {default}")
+                return
+
+
+def _differences(request: ProfileRequest, answers: FilterAnswers, proved: ProvedProfile) -> Iterator[str]:
+    """How a profile differs from the filters: each syscall by scf's line, and why no profile answers so."""
+    yield f"proved: {' and '.join(RELATION_TEXTS[relation] for relation in proved.relations)} than the filters"
+    # (of numbers that runc's stub answers nothing is known)
+    whys = {number: "scf doesn't prove more" for number in answers.table.numbers()}
+    for number, _, number_answers in answers.named():
+        whys[number] = answers.why_not(number_answers, proved.default) or whys[number]
+    farther: list[NamedCall] = []
+    if len(proved.relations) == 1:
+        opposite, word = OPPOSITE[proved.relations[0]]
+        farther = request.calls(proved.profile, opposite) if proved.calls else []
+        yield f"syscalls in the table for which the profile is, or may be, {word}: {len(farther)}"
+    for call in farther:
+        yield call.line
+        yield f"{call.names[0]}: {whys[call.number]}"
+    numbers = {call.number for call in farther}
+    alike: dict[str, list[str]] = {}
+    for call in proved.calls:
+        if call.number not in numbers:
+            how = f"only other answers, since {whys[call.number]}" if call.verdict.fails else \
+                f"as permissive, but not proved to get the same answers ({call.verdict.word})"
+            alike.setdefault(how, []).append(call.names[0])
+    yield from (f"{how}: {', '.join(names)}" for how, names in alike.items())
+    yield from _other_number(answers, proved.default)
+
+
+def _covered(request: ProfileRequest, listed: Sequence[str], count: int = 1) -> Iterator[str]:
+    """Which architectures a profile lists, or so many, if it is more than one, or if the filters may allow syscalls of
+    others; and these."""
+    others = [line for name in request.others if name not in listed for line in _allowed(request, JUDGED[name])]
+    if others or len(listed) > 1:
+        who = "the profile covers" if count == 1 else "the profiles cover"
+        yield f"{who} {join_names(architectures.names_of(listed))} syscalls"
+    yield from others
+
+
+def _allowed(request: ProfileRequest, architecture: Architecture) -> Iterator[str]:
+    """A line if scf doesn't prove that the filters deny every syscall of an architecture."""
+    access = other_abis.of_abi(request.data, request.regions, architecture)
+    if not access.are_denied:
+        yield f"{access.describe()}; --arch {architecture.name} prints its profile"
+
+
+@dataclass(frozen=True)
+class Result:
+    """The tool's status and output, its lines on standard error, and the profiles in the output."""
+
+    status: int
+    text: str
+    remarks: Sequence[str]
+    profiles: Sequence[ProvedProfile] = ()
+
+    def as_json(self) -> dict[str, object]:
+        """The result as one object."""
+        remarks = [line[2:] for line in self.text.split("\n") if line.startswith("# ")]
+        return {"status": self.status, "remarks": [*remarks, *self.remarks],
+                "profiles": [{"relations": list(proved.relations), "profile": proved.profile}
+                             for proved in self.profiles]}
+
+
+def _both_sides(request: ProfileRequest, answers: FilterAnswers, bounds: Sequence[ProvedProfile]) -> Iterator[str]:
+    """The nearest profiles on both sides of the filters, each after lines about it."""
+    yield "# no profile was found that scf proves to answer as the filters do"
+    if answers.is_unfinished:
+        yield f"# {UNFINISHED_TEXT.format(request.steps.most)}"
+    if request.runtime is None and answers.with_stub().end != answers.end:
+        yield "# if runc loaded the filter, --runtime runc expects the ENOSYS that it adds"
+    yield from output.notes(_covered(request, [request.architecture.oci], len(bounds)))
+    yield from output.notes(dict.fromkeys(remark for bound in bounds for remark in bound.reading_remarks))
+    for bound in bounds:
+        yield from output.notes(_differences(request, answers, bound))
+        yield bound.text.rstrip("\n")
+    for relation in (NO_LESS, NO_MORE):
+        if not any(relation in bound.relations for bound in bounds):
+            yield f"# no profile was found that is {RELATION_TEXTS[relation]} than the filters"
+
+
+def of_request(request: ProfileRequest, relation: str) -> Result:
+    """The profile of filters; with a relation other than the same, the nearest one that has it."""
+    request = request.asked()
+    try:
+        return _of_answers(request, request.answers(), relation)
+    except TooMany:
+        return Result(program.UNKNOWN, "", [UNFINISHED_TEXT.format(request.steps.most)])
+
+
+def _of_answers(request: ProfileRequest, answers: FilterAnswers, relation: str) -> Result:
+    """The result for filters with these answers. Raises TooMany."""
+    request = replace(request, has_stub=answers.end != FIRST_X32)
+    same = _same(request, answers)
+    if same is not None:
+        stub = [profile_inputs.stub_note(same.stub)] if same.stub else []
+        remarks = [*same.reading_remarks, *_covered(request, same.architectures), *stub]
+        return Result(program.SUCCESS, same.text, remarks, [same])
+    if relation == SAME:
+        bounds = _bounds(request, answers)
+        lines = _both_sides(request, answers, bounds)
+        return Result(program.UNKNOWN, "".join(f"{line}\n" for line in lines), [], bounds)
+    bound = _bound(request, answers, relation)
+    if bound is None:
+        return Result(program.UNKNOWN, "", [f"no profile was found that scf proves to be {RELATION_TEXTS[relation]} "
+                                            "than the filters"])
+    remarks = [*_differences(request, answers, bound), *bound.reading_remarks,
+               *_covered(request, bound.architectures)]
+    return Result(program.SUCCESS, bound.text, remarks, [bound])

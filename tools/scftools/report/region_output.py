@@ -1,0 +1,130 @@
+"""Regions as people read them: the syscalls of an architecture by name, and conditions on arguments as C has them."""
+from __future__ import annotations
+
+from collections.abc import Iterator, Sequence
+
+from ..base.values import dataclass, field
+from ..model.architectures import Architecture
+from ..model.entries import AT_LEAST, AT_MOST, EQUAL, MASKED, NOT_EQUAL, Condition
+from ..model.tables import Table
+from ..ask.regions import FREE, GREATEST_WORD, POINTER, Numbers, Region, Word
+from .listing import ARGUMENTS
+from .row_conditions import condition_text, name_of
+
+
+@dataclass
+class Listed:
+    """Regions that have the same answer for the same reason under the same conditions: the numbers of their syscalls in
+    the table, how many numbers have no name, and one of the regions with one of its numbers."""
+
+    region: Region
+    where: Sequence[str]
+    first: int
+    numbers: list[int] = field(default_factory=list)
+    unnamed: int = 0
+
+
+def _alternatives(word: Word) -> list[list[tuple[str, int]]]:
+    """The intervals of a word, each as orders that hold together."""
+    if len(word.intervals) == 2 and word.intervals[0][0] == 0 and word.intervals[1][1] == GREATEST_WORD and \
+            word.intervals[0][1] + 2 == word.intervals[1][0]:
+        return [[(NOT_EQUAL, word.intervals[0][1] + 1)]]
+    return [[(EQUAL, low)] if low == high else
+            [bound
+             for bound, is_bound in (((AT_LEAST, low), low > 0), ((AT_MOST, high), high < GREATEST_WORD)) if is_bound]
+            for low, high in word.intervals]
+
+
+def _terms(name: str, index: int, word: Word, syscall: str, architecture: Architecture) -> Iterator[str]:
+    """The conditions on a word, which has an argument's name, or another one where it is a part of the argument."""
+    def shown(op: str, value: int, two: int = 0) -> str:
+        text = condition_text(Condition(index, op, value, two), syscall, (), architecture.oci, 32)
+        return name + text[text.index(" "):]
+
+    if word.intervals != FREE.intervals:
+        texts = [" and ".join(shown(*order) for order in orders) for orders in _alternatives(word)]
+        yield texts[0] if len(texts) == 1 else f"({' or '.join(texts)})"
+    if word.mask:
+        yield shown(MASKED, word.mask, word.bits)
+    for mask, bits in word.refuted:
+        yield shown(MASKED, mask, bits).replace(" == ", " != ")
+
+
+def tests_of(region: Region, syscall: str, architecture: Architecture) -> dict[str, list[str]]:
+    """The arguments that decide whether a syscall is in a region, by name: for each its conditions as C has them, which
+    hold together."""
+    tests: dict[str, list[str]] = {}
+    for index in range(POINTER, 6):
+        # (the instruction pointer has no constants)
+        name, of = ("ip", "") if index == POINTER else (name_of(syscall, index), syscall)
+        low, high = (region.words.get(ARGUMENTS + 2 * index + half, FREE) for half in (0, 1))
+        at = max(index, 0)
+        if architecture.bits == 32 and index != POINTER:
+            terms = [*_terms(name, at, low, of, architecture)]
+        elif list(high.intervals) == [(0, 0)]:
+            terms = [*_terms(name, at, low, of, architecture)]
+            if low.intervals[-1][1] == GREATEST_WORD and list(low.intervals) != [(GREATEST_WORD, GREATEST_WORD)]:
+                terms.append(f"{name} >> 32 == 0")
+        else:
+            terms = [*_terms(f"(u32){name}", at, low, of, architecture),
+                     *_terms(f"{name} >> 32", at, high, "", architecture)]
+        if terms:
+            tests[name] = terms
+    return tests
+
+
+def conditions(region: Region, syscall: str, architecture: Architecture) -> list[str]:
+    """The conditions on all arguments of a region's syscalls, which hold together."""
+    return [term for terms in tests_of(region, syscall, architecture).values() for term in terms]
+
+
+def listed(regions: Sequence[Region], table: Table, architecture: Architecture) -> list[Listed]:
+    """The regions of an architecture's syscalls, in the order of the walk."""
+    numbers = Numbers(regions, architecture)
+    of_region: dict[int, list[int]] = {}
+    for number in sorted(table.numbers()):
+        for region in numbers.of(architecture.first + number):
+            of_region.setdefault(id(region), []).append(number)
+    unnamed: dict[int, list[tuple[int, int]]] = {}
+    for first, count, here in numbers.unnamed(table):
+        for region in here:
+            unnamed.setdefault(id(region), []).append((first, count))
+    entries: dict[tuple[object, ...], Listed] = {}
+    for region in regions:
+        numbers_of_region, others = of_region.get(id(region), []), unnamed.get(id(region), [])
+        if numbers_of_region or others:
+            where = conditions(region, table.names_of(numbers_of_region[0])[0] if len(numbers_of_region) == 1 else "",
+                               architecture)
+            first = numbers_of_region[0] if numbers_of_region else others[0][0]
+            one_of = entries.setdefault((region.line, region.is_exact, *where), Listed(region, where, first))
+            one_of.numbers += numbers_of_region
+            one_of.unnamed += sum(count for _, count in others)
+    return list(entries.values())
+
+
+def lines(entries: Sequence[Listed], table: Table, architecture: Architecture, has_examples: bool) -> Iterator[str]:
+    """A line for each: the answer and its reason, the syscalls, and the conditions; on request with a syscall."""
+    for entry in entries:
+        answer, reason = entry.region.answer, entry.region.line.split(" ", 1 if entry.region.answer is None else 2)[-1]
+        names = [" or ".join(table.names_of(number)) for number in entry.numbers]
+        names += [f"{entry.unnamed} numbers without a name"] if entry.unnamed else []
+        yield (f"{'unknown' if answer is None else answer.named()} {reason}{'' if entry.region.is_exact else ' open'}: "
+               f"{', '.join(names)}" + (f" where {' and '.join(entry.where)}" if entry.where else ""))
+        if has_examples:
+            call = entry.region.call_of(architecture.first + entry.first, architecture.number)
+            if call is None:
+                continue
+            shown = call.as_c(table) or f"{call.describe(table)} args {' '.join(map(hex, call.arguments))}"
+            yield f"# such as {shown}" + (f", ip {call.pointer:#x}" if call.pointer else "")
+
+
+def as_json(entries: Sequence[Listed], table: Table, architecture: Architecture) -> list[dict[str, object]]:
+    """The regions as objects, each with a record."""
+    return [{"answer": None if entry.region.answer is None else entry.region.answer.as_json(),
+             **dict(zip(("filter", "index"), map(int, entry.region.line.rpartition(" ")[2].split(":")))),
+             "is_exact": entry.region.is_exact,
+             "syscalls": [{"number": number, "names": table.names_of(number)} for number in entry.numbers],
+             "unnamed": entry.unnamed, "where": list(entry.where),
+             "example": call.as_json(table) if (call := entry.region.call_of(
+                 architecture.first + entry.first, architecture.number)) else None}
+            for entry in entries]

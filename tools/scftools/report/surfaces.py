@@ -1,0 +1,250 @@
+"""Surfaces: what filters allow of each syscall of an architecture, by the regions of all records that scf finds; and
+where these are open by comparisons with profiles of a single answer."""
+from __future__ import annotations
+
+from collections import Counter
+from collections.abc import Iterable, Sequence
+
+from ..base.values import dataclass, field
+from ..model import constants, tables
+from ..model.answers import ALLOWED, DELEGATED, DENIED, DEPENDS, Answer
+from ..model.architectures import JUDGED, NATIVE, Architecture
+from ..model.calls import Call
+from ..model.tables import Table
+from ..ask import other_abis, regions
+from ..ask.questions import IS_ALLOWED, IS_DENIED, IS_NEVER_ALLOWED, IS_NEVER_DENIED, Asker
+from ..ask.regions import Numbers, Region
+from ..ask.verdicts import UNDECIDED, UNFINISHED
+
+TYPE_CHECKING = False
+if TYPE_CHECKING:
+    from .row_conditions import Conditions
+
+MOST_PERMISSIVE_FIRST = (ALLOWED, DELEGATED, DENIED)
+# What may hold for all syscalls of a number, in the order in which it is printed; the last two if scf can't decide.
+ROW_WORDS = (ALLOWED, DEPENDS, DELEGATED, DENIED, UNDECIDED, UNFINISHED)
+# The dispositions that may occur if a relation holds.
+QUESTIONS = {IS_DENIED: {DENIED}, IS_ALLOWED: {ALLOWED}, IS_NEVER_ALLOWED: {DELEGATED, DENIED},
+             IS_NEVER_DENIED: {ALLOWED, DELEGATED}}
+
+
+@dataclass(frozen=True)
+class Shown:
+    """An example and its answer."""
+
+    call: Call
+    answer: Answer
+
+    def describe(self, name: str | None = None) -> str:
+        """The example; given the syscall's name as C would have it, and with the name of an errno."""
+        at = f"ip {self.call.pointer:#x} " if self.call.pointer else ""
+        if name is None:
+            return f"{at}args {' '.join(map(hex, self.call.arguments))} {self.answer}"
+        return f"{at}{constants.call_text(name, self.call.arguments)} {self.answer.named()}"
+
+    def as_json(self) -> dict[str, object]:
+        return {"arguments": [hex(argument) for argument in self.call.arguments],
+                "pointer": hex(self.call.pointer or 0),
+                "answer": self.answer.as_json(explains=True)}
+
+
+class Row:
+    """A number of an architecture, its regions, none if these are unfinished, the dispositions that its syscalls may
+    have, and examples that comparisons add."""
+
+    def __init__(self, number: int, names: list[str], architecture: Architecture, regions_of_number: Sequence[Region]):
+        self.number, self.names, self.architecture, self.regions = number, names, architecture, regions_of_number
+        self.possible = {region.answer.disposition if region.answer is not None else UNDECIDED
+                         for region in regions_of_number}
+        if not self.possible or UNDECIDED in self.possible:
+            self.possible = set(MOST_PERMISSIVE_FIRST)
+        self.more: dict[str, Shown] = {}
+        # which arguments get which answer, and whether to show a syscall of each region, on request
+        self.conditions: Conditions | None = None
+        self.has_examples = False
+
+    def _shown_in(self, region: Region) -> Shown:
+        """A syscall of a region that is decided."""
+        architecture = self.architecture
+        return Shown(region.call_of(architecture.first + self.number, architecture.number), region.answer)
+
+    @property
+    def of_regions(self) -> list[Shown]:
+        """A syscall of each region that is decided."""
+        return [self._shown_in(region) for region in self.regions if region.is_decided]
+
+    def example(self, disposition: str) -> Shown | None:
+        """A syscall with this disposition, if one is known."""
+        for region in self.regions:
+            if region.is_decided and region.answer.disposition == disposition:
+                return self._shown_in(region)
+        return self.more.get(disposition)
+
+    @property
+    def occurring(self) -> set[str]:
+        """The dispositions of which there is an example."""
+        return {region.answer.disposition for region in self.regions if region.is_decided}.union(self.more)
+
+    @property
+    def said(self) -> str:
+        """The disposition of all syscalls of the number, or that it depends or is undecided."""
+        if len(self.possible) == 1:
+            return next(iter(self.possible))
+        return DEPENDS if len(self.occurring) > 1 else UNDECIDED if self.regions else UNFINISHED
+
+    @property
+    def is_decided(self) -> bool:
+        return self.said not in (UNDECIDED, UNFINISHED)
+
+    @property
+    def shown(self) -> dict[str, Shown]:
+        """An example for each disposition that occurs, if it depends or is undecided."""
+        ranks = MOST_PERMISSIVE_FIRST if len(self.possible) > 1 else ()
+        examples = {disposition: self.example(disposition) for disposition in ranks}
+        return {disposition: shown for disposition, shown in examples.items() if shown is not None}
+
+    @property
+    def never(self) -> list[str]:
+        """The dispositions that are proved not to occur."""
+        return [disposition for disposition in (ALLOWED, DENIED) if disposition not in self.possible]
+
+    @property
+    def answer(self) -> Answer | None:
+        """The answer to some syscall of the number."""
+        return next((region.answer for region in self.regions if region.is_decided), None) or \
+            next((shown.answer for shown in self.more.values()), None)
+
+
+@dataclass
+class Unnamed:
+    """How many numbers have no name, how many of them aren't always denied, and how many are undecided."""
+
+    count: int
+    not_denied: int = 0
+    undecided: int = 0
+    # whether all of them are always allowed
+    are_allowed: bool = True
+    # an example that isn't denied
+    shown: Shown | None = None
+
+    def add(self, row: Row, count: int) -> None:
+        """Adds numbers whose syscalls are answered as those of a row."""
+        self.are_allowed = self.are_allowed and row.possible == {ALLOWED}
+        if row.occurring - {DENIED} or DENIED not in row.possible:
+            self.not_denied += count
+            self.shown = self.shown or row.example(ALLOWED) or row.example(DELEGATED)
+        elif row.possible != {DENIED}:
+            self.undecided += count
+
+    @property
+    def _as_shown(self) -> str:
+        return f", such as {self.shown.call.number}: {self.shown.answer}" if self.shown is not None else ""
+
+    def describe(self) -> str:
+        if self.are_allowed:
+            return f"all {self.count} are always allowed"
+        if self.undecided:
+            least = f"at least {self.not_denied} of {self.count} are allowed or delegated with some arguments" \
+                    f"{self._as_shown}; " if self.not_denied else ""
+            return f"{least}{self.undecided} are undecided"
+        if not self.not_denied:
+            return f"all {self.count} are always denied"
+        which = f"all {self.count}" if self.not_denied == self.count else f"{self.not_denied} of {self.count}"
+        return f"{which} are allowed or delegated with some arguments{self._as_shown}"
+
+    def as_json(self) -> dict[str, object]:
+        members: dict[str, object] = {"count": self.count, "not_denied": self.not_denied, "undecided": self.undecided,
+                                    "are_allowed": self.are_allowed}
+        if self.shown is not None:
+            members["example"] = {"number": self.shown.call.number, "answer": self.shown.answer.as_json()}
+        return members
+
+
+@dataclass
+class Surface:
+    """The syscalls that filters allow, and the regions that say so; None if they are unfinished."""
+
+    asker: Asker
+    table: Table
+    regions: Sequence[Region] | None
+    rows: list[Row]
+    # the access of the machine's other ABIs, none if one ABI alone is looked at
+    foreign: list[other_abis.AbiAccess]
+    unnamed: Unnamed
+    # those of other ABIs of which some syscall may be allowed, on request
+    others: list[Surface] = field(default_factory=list)
+    # whether the conditions that are asked for were looked for to the end
+    are_conditions_finished: bool = True
+
+    @property
+    def counts(self) -> Counter[str]:
+        return Counter(row.said for row in self.rows)
+
+    @property
+    def is_decided(self) -> bool:
+        """Whether scf decided everything."""
+        return (all(row.is_decided for row in self.rows) and not self.unnamed.undecided
+                and self.are_conditions_finished
+                and all(access.is_decided for access in self.foreign)
+                and all(surface.is_decided for surface in self.others))
+
+    @property
+    def other_machines(self) -> list[Architecture]:
+        """The architectures of other machines of which some syscall isn't denied, if this machine's are all denied."""
+        known_abis = {self.asker.architecture, *(access.abi for access in self.foreign)}
+        is_denied = {*self.counts} == {DENIED} and not self.unnamed.not_denied and not self.unnamed.undecided and \
+            other_abis.are_none(self.foreign)
+        return [architecture for architecture in JUDGED.values() if is_denied and self.foreign
+                and architecture not in known_abis
+                and other_abis.of_abi(self.asker.filters, self.regions, architecture).not_denied is not None]
+
+    def add_others(self) -> None:
+        """Adds the surfaces of the ABIs that aren't proved to be denied."""
+        for architecture in (access.abi for access in self.foreign if not access.are_denied):
+            table = tables.of_architecture(architecture.oci)
+            if table is not None:
+                self.others.append(of_regions(self.asker.filters, self.regions, table, architecture))
+
+
+def _ask(asker: Asker, rows: Iterable[Row]) -> None:
+    """Adds what comparisons say of rows that regions leave undecided. A line lacks its instruction pointer: if a filter
+    looks at that, a run has to confirm the example."""
+    for question, possible in QUESTIONS.items():
+        asked = [row for row in rows if not row.is_decided]
+        table = b"".join(b"%s %d\n" % (row.names[0].encode(), row.number) for row in asked)
+        lines = {line.number: line.verdict for line in asker.of_named(question, table).calls} if asked else {}
+        for row in asked:
+            verdict = lines.get(row.number)
+            if verdict is None:
+                row.possible &= possible
+            elif verdict.call is not None and verdict.filters is not None and (
+                    not asker.looks_at_pointer or asker.decided(verdict.call) == verdict.filters):
+                row.more.setdefault(verdict.filters.disposition, Shown(verdict.call, verdict.filters))
+
+
+def _of_unnamed(numbers: Numbers, table: Table, architecture: Architecture) -> Unnamed:
+    """The numbers without a name."""
+    unnamed = Unnamed(architecture.last - architecture.first + 1 - len(table.numbers()))
+    for number, count, here in numbers.unnamed(table):
+        unnamed.add(Row(number, [], architecture, here), count)
+    return unnamed
+
+
+def of_regions(filters: Sequence[bytes], filter_regions: Sequence[Region] | None, table: Table,
+               architecture: Architecture, is_machine: bool = False) -> Surface:
+    """The surface of filters with these regions, or None if they are unfinished, to an architecture with this table, or
+    to a machine whose own it is."""
+    asker, numbers = Asker(filters, architecture), Numbers(filter_regions, architecture)
+    rows = [Row(number, table.names_of(number), architecture, numbers.of(architecture.first + number))
+            for number in sorted(table.numbers())]
+    if filter_regions is not None:
+        asker.check(table)
+        _ask(asker, rows)
+    foreign = other_abis.of_machine(filters, filter_regions, architecture.oci) if is_machine else []
+    return Surface(asker, table, filter_regions, rows, foreign, _of_unnamed(numbers, table, architecture))
+
+
+def of_filters(filters: Sequence[bytes], table: Table, architecture: Architecture = JUDGED[NATIVE],
+               is_machine: bool = True) -> Surface:
+    """The surface of filters, oldest first, to an architecture with this table, or to a machine whose own it is."""
+    return of_regions(filters, regions.of_filters(filters), table, architecture, is_machine)
