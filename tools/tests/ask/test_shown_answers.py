@@ -7,7 +7,7 @@ from unittest import mock
 
 from support.common import PROGRAM, Case, filter_of, profile_of
 from support.confined import Confined, here
-from test_filters_of import MOUNT, refuses, refusing
+from host.test_filters_of import MOUNT, refuses, refusing
 from scftools.base import program
 from scftools.model import tables
 from scftools.ask import client

@@ -17,7 +17,7 @@ from scfhost import machine_pass
 PASS = """
 import json, sys, time
 sys.path.insert(0, sys.argv[1])
-from scftools import machine, machine_pass, processes
+from scfhost import machine, machine_pass, processes
 for name, value in json.loads(sys.argv[2]).items():
     setattr(machine_pass, name, (lambda *_: False) if value is None else value)
 begun = time.monotonic()

@@ -6,7 +6,7 @@ import unittest
 
 from support.common import ALLOW, KILL_PROCESS, KILL_THREAD, X32, X86_64, gate, ret
 from support.stand_in import StandIn
-from test_beside import CORNERS, decided, degree, drawn, mutated
+from program.test_beside import CORNERS, decided, degree, drawn, mutated
 from scftools.base.program import ToolError
 from scftools.model import architectures, tables
 from scftools.model.answers import Answer

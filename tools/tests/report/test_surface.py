@@ -19,7 +19,7 @@ from support.common import (ALLOW, EPERM, I386, KILL_PROCESS, KILL_THREAD, LOG, 
                             USER_NOTIF, X32, X86_64, Case, filter_of, gate, insn, jeq, jge, jgt, load, ret, tool)
 from support.confined import NEWEST, OLDEST, Confined, here
 from support.stand_in import StandIn
-from test_why import random_filter
+from report.test_why import random_filter
 from scftools.model import answers, architectures, tables
 from scftools.model.calls import Call
 from scftools.ask import client, questions

@@ -4,7 +4,7 @@ import random
 
 from support.common import ALLOW, EPERM, I386, KILL_PROCESS, X86_64, filter_of, insn, jeq, load, ret
 from support.stand_in import StandIn
-from test_starts import Counting
+from ask.test_starts import Counting
 from scftools.model.calls import Call
 
 # socket of AF_NETLINK is denied, another architecture's syscalls kill.

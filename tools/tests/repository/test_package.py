@@ -13,7 +13,7 @@ import tempfile
 import unittest
 
 from support.common import ALLOW, TOP, Case, for_developers, profile_of, ret
-from test_library import CALLS
+from repository.test_library import CALLS
 
 HAS_OBJECT = os.path.exists(os.path.join(TOP, "crates", "scf", "out", "scf.o"))
 with open(os.path.join(TOP, "VERSION"), encoding="ascii") as version_file:

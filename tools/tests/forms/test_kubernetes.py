@@ -5,7 +5,7 @@ import unittest
 from support.common import Case, filter_of
 from scftools.cli.words import is_object_name
 from scftools.forms import engines, kubernetes
-from test_profile_inputs import HAS_YAML, OBJECT, SPEC, YAML
+from forms.test_profile_inputs import HAS_YAML, OBJECT, SPEC, YAML
 
 READS = {"defaultAction": "SCMP_ACT_ERRNO", "syscalls": [{"names": ["read"], "action": "SCMP_ACT_ALLOW"}]}
 

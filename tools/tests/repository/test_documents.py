@@ -11,7 +11,7 @@ import unittest
 
 from support.common import (ALLOW, CORE, PATIENCE, PROGRAM, SCF, TABLE, TOP, Case, filter_of, for_developers, insn, jeq,
                             load, part, profile_of, ret, source_of)
-from test_texts import CODES
+from program.test_texts import CODES
 
 TOOLS = sorted(entry.name for entry in os.scandir(os.path.join(TOP, "tools")) if entry.is_file())
 

@@ -13,7 +13,7 @@ import unittest
 
 from support.common import CONFINED, TOP, Case, profile_of
 from support.oci import ALLOW, ERRNO
-from test_runtimes import ALONE, BUSYBOX, config
+from forms.test_runtimes import ALONE, BUSYBOX, config
 from scftools.model import architectures, tables
 from scftools.logs import requirements, traces
 

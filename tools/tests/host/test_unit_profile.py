@@ -12,7 +12,7 @@ from support.common import CORE, SCF, TABLE, Case, part, tool
 from support.own_machine import Systemd
 from scftools.forms.lists import unit_restrictions
 from scfhost import units
-from test_audit import Audited
+from host.test_audit import Audited
 
 ALLOW, ERRNO, KILL, LOG = (f"SCMP_ACT_{name}" for name in ("ALLOW", "ERRNO", "KILL_PROCESS", "LOG"))
 OPEN, EPERM, ENOSYS, NO_FAMILY = (ALLOW, None), (ERRNO, 1), (ERRNO, 38), (ERRNO, 97)

@@ -10,7 +10,7 @@ import unittest
 from support.common import (ALLOW, ENOSYS, EPERM, I386, LOG, TABLE, TRACE, UNKNOWN_ZERO, X86_64, Case, filter_of, insn,
                             jeq, jge, load, part, ret)
 from support.stand_in import StandIn
-from test_surface import gate, of_number
+from report.test_surface import gate, of_number
 from scftools.base.program import ToolError
 from scftools.model import architectures, tables
 from scftools.model.calls import Call

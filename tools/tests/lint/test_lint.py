@@ -10,8 +10,8 @@ import sys
 from support import seccomp_library
 from support.common import LOADER, TABLE, TOP, Case, comes, part, profile_of, taken
 from support.stand_in import StandIn
-from test_output import HOSTILE
-from test_runtimes import MOBY, PODMAN
+from base.test_output import HOSTILE
+from forms.test_runtimes import MOBY, PODMAN
 import kernel_profiles
 from scftools.model import constants, tables
 from scftools.model.calls import Call

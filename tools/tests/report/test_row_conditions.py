@@ -8,8 +8,8 @@ import re
 from support import several
 from support.common import ALLOW, EPERM, KILL_PROCESS, Case, jeq, jge, load, ret
 from support.stand_in import StandIn
-from test_profile_of import (AARCH64, ARM, FILES, HOLDS, NATIVE, OWN, TRAP, X32_NAME, X86, Drawn, jset, of_numbers,
-                             of_records, rank_of, tests_of, where)
+from report.test_profile_of import (AARCH64, ARM, FILES, HOLDS, NATIVE, OWN, TRAP, X32_NAME, X86, Drawn, jset,
+                                    of_numbers, of_records, rank_of, tests_of, where)
 from scftools.model import answers, constants, tables
 from scftools.model.calls import Call
 from scftools.report import row_conditions

@@ -6,7 +6,7 @@ import unittest
 
 from support.common import tool
 from support.own_machine import OwnMachine
-from test_audit import STATED, STRICTER, Audited
+from host.test_audit import STATED, STRICTER, Audited
 
 # The plugins that need what a machine of its own lacks.
 CONFIG = """version = 2

@@ -6,7 +6,7 @@ import unittest
 
 from support.common import TABLE, Case, ret, tool
 from support.confined import ended, started
-from test_why import reading
+from report.test_why import reading
 import kernel_profiles
 from kernel_profiles import answer_of
 from scftools.model import tables

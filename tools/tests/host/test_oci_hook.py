@@ -10,7 +10,7 @@ from unittest import mock
 
 from support.common import ALLOW, KILL_PROCESS, PATIENCE, X86_64, comes, insn, jeq, jge, load, ret, tool
 from support.confined import Confined, FakeKernel, here, let_on, status_of
-from test_filters_of import MOUNT, UMOUNT2, refuses, refusing
+from host.test_filters_of import MOUNT, UMOUNT2, refuses, refusing
 from scftools.base import program
 from scftools.model import tables
 from scfhost import hold, hooks, processes, verify

@@ -17,7 +17,7 @@ from support import several
 from support.common import PROGRAM, TOP, Case, insn, jeq, jge, load, ret
 from support.seccomp_library import NEEDED, Conflict, Library
 from support.stand_in import StandIn, unpacked
-from test_library import OUT, RELATIONS, python_module
+from repository.test_library import OUT, RELATIONS, python_module
 from scftools.model import bundles, tables
 from scftools.model.architectures import JUDGED
 from scftools.model.calls import Call

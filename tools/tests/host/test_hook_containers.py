@@ -12,10 +12,10 @@ import time
 from support.common import TOP, comes, tool
 from support.confined import here
 from support.own_machine import podman_settings
-from test_filters_of import ROOT, refuses
-from test_oci_hook import Hook, processes
-from test_processes import EXECUTE
-from test_runtimes import MOBY, PODMAN
+from host.test_filters_of import ROOT, refuses
+from host.test_oci_hook import Hook, processes
+from host.test_processes import EXECUTE
+from forms.test_runtimes import MOBY, PODMAN
 from scfhost import ptrace
 
 BUSYBOX = shutil.which("busybox")

@@ -9,7 +9,7 @@ import subprocess
 import unittest
 
 from support.common import Case, filter_of, profile_of
-from test_audit import process
+from host.test_audit import process
 from scftools.model import tables
 from scftools.ask import verdicts
 from scftools.report import compare

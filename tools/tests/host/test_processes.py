@@ -608,7 +608,7 @@ int main(int argc, char **argv)
 TRY = """
 import sys
 sys.path.insert(0, sys.argv[1])
-from scftools import processes
+from scfhost import processes
 try:
     processes.look_at_process(processes.Kernel(), int(sys.argv[2]), patience=float((sys.argv[3:] or ["10"])[0]))
 except processes.Unreadable as why:

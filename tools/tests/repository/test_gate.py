@@ -54,7 +54,7 @@ class Gate(Case):
     def gate(self, first=WELL, second=WELL, ci="7 passed, 0 failed", injection="echo '4 passed, 0 failed'\n", **more):
         """The status and the lines of ./test, with these modules of tests."""
         self.file("tree/conformance/test_first.py", first)
-        self.file("tree/tools/tests/test_second.py", second)
+        self.file("tree/tools/tests/room/test_second.py", second)
         self.script("tree/dev/fault-injection", f"#!/bin/sh\n{injection}")
         status, out, _ = self.run_words([os.path.join(self.tree, "test")], env=self.environment(CI=ci, **more))
         return status, out.splitlines()

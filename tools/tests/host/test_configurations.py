@@ -6,7 +6,7 @@ import unittest
 from unittest import mock
 
 from support.confined import FakeKernel, here
-from test_filters_of import MOUNT, Confined, comments, refuses, refusing
+from host.test_filters_of import MOUNT, Confined, comments, refuses, refusing
 from scfhost import verify
 
 ONE, TWO = "01" * 32, "ef" * 32

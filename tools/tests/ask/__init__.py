@@ -1,0 +1,1 @@
+"""Tests: what the tools ask the proved program, and how often."""

@@ -1,0 +1,1 @@
+"""Tests: how the tools start, read and print."""

@@ -1,0 +1,1 @@
+"""Tests: commands and what they have in common."""

@@ -1,0 +1,1 @@
+"""Tests: filters and profiles in the forms that users hand over."""

@@ -1,0 +1,1 @@
+"""Tests: processes, containers and units."""

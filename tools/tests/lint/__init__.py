@@ -1,0 +1,1 @@
+"""Tests: what is odd or dangerous in a profile."""

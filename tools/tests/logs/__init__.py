@@ -1,0 +1,1 @@
+"""Tests: what logs, traces and cores tell of syscalls."""

@@ -1,0 +1,1 @@
+"""Tests: architectures, constants and syscalls."""

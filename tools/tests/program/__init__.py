@@ -1,0 +1,1 @@
+"""Tests: the proved program's answers, texts, verdicts and limits."""

@@ -1,0 +1,1 @@
+"""Tests: what is shown of filters and profiles."""

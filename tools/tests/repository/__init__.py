@@ -1,0 +1,1 @@
+"""Tests: the repository: its gate, builds, packages, pages and modules, and libscf."""
