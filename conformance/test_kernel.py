@@ -28,7 +28,7 @@ from scftools.base.values import replace  # noqa: E402
 from scftools.model.answers import ALLOW as ALLOWED, DENIED, I386_NUMBER, X86_64, Answer  # noqa: E402
 from scftools.model.calls import Call  # noqa: E402
 from scftools.ask import regions  # noqa: E402
-from scftools.logs import filter_loads, strace  # noqa: E402
+from scftools.forms import filter_loads, strace  # noqa: E402
 from support.common import ALLOW, Case, insn, jeq, load, ret, taken  # noqa: E402
 from support.stand_in import OF_ANSWERS, OF_CHECKER, StandIn  # noqa: E402
 

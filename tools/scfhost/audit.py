@@ -26,6 +26,7 @@ from scftools.ask.questions import IS_ALLOWED
 from scftools.ask.verdicts import NO_LESS, NO_MORE, OTHERWISE, SAME, Verdict
 from scftools.forms import engines
 from scftools.forms.filters import Filter
+from scftools.forms.stacks import Stack
 from scftools.forms.lists import lxc_policies, sandbox_rules
 from scftools.report import compare_output
 from scftools.report.compare import Comparison, left_out
@@ -33,7 +34,7 @@ from . import container_files, hold, machine, sandbox_programs, unit_profiles, u
 from .container_files import ContainerDescription
 from .machine import Process, Snapshot
 from .owned_files import UnreadableFile
-from .processes import Kernel, Stack
+from .processes import Kernel
 from .verify import Request
 
 # The verdicts. Unconfined rows stand first, then these in this order.

@@ -18,6 +18,7 @@ from collections.abc import Callable, Iterable, Iterator, Sequence
 
 from scftools.base import child
 from scftools.base.values import Any, Pattern, dataclass, field, replace
+from scftools.model import profiles
 from scftools.forms import engines
 from . import containers, owned_files, started_profiles
 from .machine import Process, ancestors
@@ -387,7 +388,7 @@ def with_config(container: ContainerDescription) -> ContainerDescription:
             container.read(container.config, CONFIG_BYTES))))
     except UnreadableFile as why:
         return replace(container, why=str(why))
-    except engines.Refused as why:
+    except profiles.Refused as why:
         return replace(container, why=f"'{container.config}': {why}")
 
 

@@ -12,7 +12,8 @@ import time
 from collections.abc import Callable
 
 from scftools.base import child
-from scftools.forms.filters import BPF_MAXINSNS, INSTRUCTION
+from scftools.model.bpf import BPF_MAXINSNS, INSTRUCTION
+from scftools.forms.stacks import called
 from . import restart
 from .ptrace import (PTRACE_DETACH, PTRACE_EVENT_STOP, PTRACE_INTERRUPT, PTRACE_SECCOMP_GET_FILTER, PTRACE_SEIZE,
                      Kernel, contents)
@@ -46,10 +47,6 @@ class Waiting(Unreadable):
 
 class Ended(Exception):
     """This thread isn't there any more."""
-
-
-def called(thread: int, process: int) -> str:
-    return f"process {process}" if thread == process else f"thread {thread} of process {process}"
 
 
 def why_no_filters(kernel: Kernel) -> str | None:

@@ -22,10 +22,12 @@ from collections.abc import Callable, Sequence
 
 from scftools.base import inputs, output, program
 from scftools.base.values import Any, dataclass
+from scftools.model import profiles
 from scftools.ask import verdicts
 from scftools.forms import engines
+from scftools.forms.stacks import Inspection
 from . import containers, hold, processes, verify
-from .processes import Inspection, Kernel
+from .processes import Kernel
 from .ptrace import has_ended
 from .verify import ContainerError
 from .watchdog import Watchdog, Worker
@@ -113,7 +115,7 @@ def configuration_of(container: ContainerState) -> dict[str, Any] | None:
     name = os.path.join(container.bundle, verify.CONFIG)
     try:
         value = engines.read(contents(name))
-    except (program.ToolError, engines.Refused) as why:
+    except (program.ToolError, profiles.Refused) as why:
         raise ContainerError(f"the container's configuration: {why}") from why
     return verify.seccomp_in(value, name)
 

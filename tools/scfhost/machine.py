@@ -12,9 +12,10 @@ from collections.abc import Iterable, Iterator
 
 from scftools.base import output
 from scftools.base.values import Pattern, dataclass, field
+from scftools.forms.stacks import Stack
 from . import machine_pass
 from .hold import PF_KTHREAD, why_no_filters
-from .processes import Kernel, Stack
+from .processes import Kernel
 from .ptrace import PROC_PID_INIT_INO, contents, has_ended
 
 # How often processes that started meanwhile are looked for.

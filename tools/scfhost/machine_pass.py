@@ -19,9 +19,10 @@ from collections.abc import Callable, Iterator
 
 from scftools.base import child
 from scftools.base.values import Any, Pattern, dataclass
+from scftools.forms.stacks import Inspection, Stack
 from . import processes
 from .hold import Unreadable
-from .processes import Kernel, Stack
+from .processes import Kernel
 from .ptrace import PTRACE_SEIZE, contents, is_executing
 from .restart import Restarts
 
@@ -149,7 +150,7 @@ class _Reader:
                       f"it a second time" for process, thread in inspection.asked_again]
         self.send((number, parts, notes))
 
-    def slices(self, number: int, patience: float) -> Iterator[processes.Inspection]:
+    def slices(self, number: int, patience: float) -> Iterator[Inspection]:
         """Reads the threads of a process, some at a time, until none is new."""
         seen: set[int] = set()
         most, filters = len(self.kernel.threads_of(number)) + MOST_NEW, 0

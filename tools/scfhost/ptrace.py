@@ -8,6 +8,7 @@ import struct
 from collections.abc import Iterator
 
 from scftools.base.values import Pattern
+from scftools.model.calls import REGISTERS
 
 # sys/ptrace.h
 PTRACE_POKEUSER = 6
@@ -18,9 +19,6 @@ PTRACE_INTERRUPT = 0x4207
 PTRACE_SECCOMP_GET_FILTER = 0x420C
 PTRACE_GET_SYSCALL_INFO = 0x420E
 PTRACE_EVENT_STOP = 128
-# sys/user.h: struct user_regs_struct, which the kernel shows to a 64-bit tracer whatever the thread runs.
-REGISTERS = ("r15", "r14", "r13", "r12", "rbp", "rbx", "r11", "r10", "r9", "r8", "rax", "rcx", "rdx", "rsi", "rdi",
-             "orig_rax", "rip", "cs", "eflags", "rsp", "ss", "fs_base", "gs_base", "ds", "es", "fs", "gs")
 WORD_BYTES = 8
 # linux/ptrace.h: the beginning of struct ptrace_syscall_info, which holds the architecture of the syscall.
 SYSCALL_INFO = struct.Struct("<B3xI")

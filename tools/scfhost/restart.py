@@ -16,10 +16,10 @@ from scftools.base import program
 from scftools.base.values import dataclass, replace
 from scftools.model import bundles
 from scftools.model.answers import ALLOWED, DENIED, FIRST_X32, I386_NUMBER, X86_64, Answer
-from scftools.model.calls import Call
+from scftools.model.bpf import INSTRUCTION, RETURN_CONSTANT
+from scftools.model.calls import ARGUMENT_REGISTERS, Call
 from scftools.ask import client, regions, verdicts
 from scftools.ask.regions import Lookup
-from scftools.forms.filters import INSTRUCTION, RETURN_CONSTANT
 from .ptrace import Kernel
 
 # linux/errno.h. What a handler of a signal doesn't interrupt begins anew by each of them but the last, by which it goes
@@ -28,9 +28,6 @@ ERESTARTSYS, ERESTARTNOINTR, ERESTARTNOHAND, ERESTART_RESTARTBLOCK = 512, 513, 5
 BEGIN_ANEW = (ERESTARTSYS, ERESTARTNOINTR, ERESTARTNOHAND)
 # The number of restart_syscall: asm/unistd_64.h, asm/unistd_32.h.
 RESTART = {X86_64: 219, I386_NUMBER: 0}
-# The registers of the six arguments, in their order.
-ARGUMENT_REGISTERS = {X86_64: ("rdi", "rsi", "rdx", "r10", "r8", "r9"),
-                      I386_NUMBER: ("rbx", "rcx", "rdx", "rsi", "rdi", "rbp")}
 # linux/filter.h: BPF_RET | BPF_A, whose answer is computed; linux/seccomp.h: SECCOMP_RET_USER_NOTIF's high half.
 RETURN_COMPUTED, USER_NOTIF = 0x16, 0x7FC0
 # How often scf is asked about the threads of a process, which are stopped meanwhile; calls beyond begin anew. The steps

@@ -7,19 +7,17 @@ empty, all of them are. What other settings deny stands in unit_restrictions.py.
 """
 from __future__ import annotations
 
-import errno
 import functools
 import os
-import re
 from collections.abc import Callable, Collection, Iterator, Sequence
 
 from scftools.base import output, program
-from scftools.base.values import Pattern, dataclass, field
+from scftools.base.values import dataclass, field
 from scftools.model import libseccomp
-from scftools.model.answers import ALLOW, ENOSYS, KILL_PROCESS, MAX_ERRNO, Answer
+from scftools.model.answers import ALLOW, ENOSYS, KILL_PROCESS, Answer
 from scftools.model.architectures import NATIVE
 from scftools.forms.lists import unit_restrictions
-from scftools.forms.lists.unit_restrictions import SettingError
+from scftools.forms.lists.unit_restrictions import KILL_NUMBERS, SettingError, answer_of_errno
 
 PROPERTIES = ("Id", "LoadState", "NeedDaemonReload", "FragmentPath", "DropInPaths", "SystemCallFilter",
               "SystemCallErrorNumber", "SystemCallArchitectures", "SystemCallLog",
@@ -30,13 +28,6 @@ PROPERTIES = ("Id", "LoadState", "NeedDaemonReload", "FragmentPath", "DropInPath
 MANAGER_VERSION, WITH_ENOSYS = "Version", (257, 13)
 # The sections of those units that run processes (systemd.exec(5)).
 SECTIONS = {kind: f"[{kind.capitalize()}]" for kind in ("service", "socket", "mount", "swap")}
-# How `systemctl show` prints the error number of what is killed: SECCOMP_ERROR_NUMBER_KILL, which is INT_MAX - 1; older
-# systemds print 0.
-KILL_NUMBERS = ("2147483646", "0", "kill", "")
-# asm-generic/errno.h; Python's module lacks it.
-ERRNO_NUMBERS = {**{name: number for number, name in errno.errorcode.items()}, "EHWPOISON": 133}
-# An errno as safe_atoi of systemd's basic/parse-util.c reads it: in C's notation, also with the prefixes 0b and 0o.
-ERRNO_NUMBER = Pattern(r"\+?(?:0[xX][0-9a-fA-F]+|0[bB][01]+|0[oO][0-7]+|0[0-7]*|[1-9][0-9]*)|-0", re.A)
 # What each allow-list has beside what it names.
 IMPLIED = "@default"
 # The names of ConditionArchitecture= and SystemCallArchitectures=, and those of the OCI specification.
@@ -117,18 +108,6 @@ class UnitSettings:
         """The names of all lists, and those that are known, each once."""
         lists = [call_list.calls for call_list in (self.filter, self.log) if call_list is not None]
         yield from dict.fromkeys(name for calls in (*lists, self.known_names or ()) for name in calls)
-
-
-def answer_of_errno(text: str) -> Answer:
-    """The answer of an errno by its name or its number, or of the word `kill`."""
-    if text in (KILL_NUMBERS[0], "kill"):
-        return KILL_PROCESS
-    number = getattr(errno, text, ERRNO_NUMBERS.get(text)) if re.fullmatch("E[A-Z0-9]+", text) else None
-    if number is None and len(text) <= 16 and ERRNO_NUMBER.fullmatch(text):
-        number = int(re.sub("^([+-]?)0(?=[0-7])", r"\g<1>0o", text), 0)
-    if number is None or number > MAX_ERRNO:
-        raise SettingError(f"'{text[:64]}' isn't an errno")
-    return Answer("ERRNO", number)
 
 
 def refusal_of(text: str) -> Answer:

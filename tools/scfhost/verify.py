@@ -4,25 +4,25 @@ from __future__ import annotations
 
 import json
 import os
-from collections.abc import Callable, Iterator, Sequence
+from collections.abc import Iterator, Sequence
 
 from scftools.base import output, program
 from scftools.base.values import Any, Pattern, dataclass, field, replace
 from scftools.model import profiles, tables
 from scftools.model.tables import Table
-from scftools.ask import client, reasons, verdicts
+from scftools.ask import reasons, verdicts
 from scftools.ask.verdicts import Report
 from scftools.forms import engines, filters, runtimes
 from scftools.forms.filters import Filter
 from scftools.forms.profile_inputs import ProfileInput
+from scftools.forms.stacks import Inspection, Stack
 from scftools.report import compare_output, stack_comparison
+from scftools.report.blocks import OF_ALL, blocks_of, of_threads
 from scftools.report.compare import Comparison
 from scftools.report.stack_comparison import StackComparison
-from .processes import Inspection, Kernel, Stack, threads_text
+from .processes import Kernel
 from .ptrace import PROC_PID_INIT_INO
 
-# The sources of faults that no stack causes.
-OF_ALL = ("profile", "table", "number", "command", "input")
 # What is compared with if nothing is configured: every syscall is allowed.
 ALLOWS_ALL = b'{"defaultAction": "SCMP_ACT_ALLOW"}'
 # The verdict on threads without a filter, by whether a container's configuration has a profile; None if the profile
@@ -133,7 +133,7 @@ def configuration_in(data: bytes) -> dict[str, Any] | None:
     ContainerError if it is a container's state."""
     try:
         value = engines.read(data)
-    except engines.Refused:
+    except profiles.Refused:
         return None
     if not isinstance(value, dict) or value.get("defaultAction") is not None:
         return None
@@ -226,7 +226,7 @@ def request_of(config: dict[str, Any], runtime: str | None, keeps_first: bool, t
         return Request(text.encode(), table, scope, relation)
     except RecursionError as error:
         raise ContainerError("the container's configuration: the profile is nested too deep") from error
-    except engines.Refused as why:
+    except profiles.Refused as why:
         raise ContainerError(f"the container's configuration: {why}") from why
 
 
@@ -264,39 +264,10 @@ class SavedRequest:
         return stack_comparison.as_json(block.comparison, block.report, block.scope, block.status)
 
 
-def blocks_of(inspection: Inspection, judge: Callable[[Stack], Any],
-              unfiltered: Callable[[Stack, int], Any]) -> list[Any]:
-    """A block for each distinct stack, the worst first, and before all that of threads that aren't confined; a fault of
-    all stacks is reported once."""
-    # strict mode allows four syscalls, which no profile can express
-    unconfined = [unfiltered(stack, program.NEGATIVE)
-                  for stack in inspection.stacks if not stack.filters and not stack.is_strict]
-    made: list[Any] = [unfiltered(stack, program.UNKNOWN) for stack in inspection.stacks if stack.is_strict]
-    for stack in inspection.stacks:
-        if stack.filters and not any(block.is_of_all for block in made):
-            made.append(judge(stack))
-    return unconfined + sorted(made, key=lambda block: client.rank(block.status))
-
-
 def blocks(inspection: Inspection, request: Request | SavedRequest) -> list[Block]:
     """The blocks of stacks that are compared."""
     return blocks_of(inspection, request.judge,
                      lambda stack, status: Block(stack, status, configured=request.configured))
-
-
-def of_threads(stack: Stack, inspection: Inspection) -> Iterator[str]:
-    """Which threads have a stack: a line for each process."""
-    for process, threads in stack.threads.items():
-        who = f"process {process} ({output.escaped(inspection.names[process])})"
-        count = sum(len(other_stack.threads.get(process, ())) for other_stack in inspection.stacks)
-        if len(threads) < count:
-            line = f"{threads_text(threads)} of {who} {'have' if len(threads) > 1 else 'has'} {stack.description}"
-        else:
-            line = f"{who} has {stack.description}" + (f", in each of its {count} threads" if count > 1 else "")
-        if not stack.filters and not stack.is_strict:
-            line += ": they aren't confined" if len(threads) > 1 else ": it isn't confined"
-            line += ", and every syscall is allowed"
-        yield line
 
 
 def lines(made: Sequence[Block], inspection: Inspection, request: Request | SavedRequest, is_verbose: bool = False) -> \

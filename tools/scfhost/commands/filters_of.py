@@ -33,10 +33,10 @@ import tempfile
 
 from scftools.base import inputs, output, program
 from scftools.cli import words
-from scftools.forms import c_arrays, filters
-from scftools.logs import filter_loads, strace, tracing
+from scftools.forms import c_arrays, filter_loads, filters, strace
+from scftools.forms.stacks import Stack, called, threads_text
+from scftools.logs import tracing
 from .. import processes
-from ..processes import Stack
 
 TRACING_OPTIONS = ("-f", "-v", "-e", f"trace={filter_loads.TRACED_CALLS}", "-e", "signal=none",
                   "--quiet=attach,personality")
@@ -71,12 +71,12 @@ def read_words():
 
 def the_one_stack(stacks, process):
     if len(stacks) > 1:
-        shares = "".join(f"; {processes.threads_text(stack.threads[process])}: {stack.description}" for stack in stacks)
+        shares = "".join(f"; {threads_text(stack.threads[process])}: {stack.description}" for stack in stacks)
         raise program.ToolError(f"the threads of process {process} don't have the same filters{shares}; --thread takes "
                                 "those of one thread", program.IO_ERROR)
     if not stacks[0].filters:
         thread = stacks[0].threads[process][0]
-        who = processes.called(thread, process) if len(stacks[0].threads[process]) == 1 else f"process {process}"
+        who = called(thread, process) if len(stacks[0].threads[process]) == 1 else f"process {process}"
         raise program.ToolError(f"{who} has {stacks[0].description}", program.IO_ERROR)
     return stacks[0]
 

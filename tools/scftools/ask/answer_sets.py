@@ -10,7 +10,7 @@ from __future__ import annotations
 from collections.abc import Sequence
 
 from ..model.argument_sets import EMPTY_SET, FIRST_UNTESTED, FULL_SET, Sets
-from ..report.listing import ARCHITECTURE, ARGUMENTS, END
+from ..model.calls import ARCHITECTURE, ARGUMENTS, END
 from .regions import GREATEST_WORD, Numbers, Region, Word
 
 # The first variable of the upper halves of arguments, and of open regions.

@@ -14,10 +14,9 @@ from ..base.values import replace
 from ..model import architectures, bundles
 from ..model.answers import DISPOSITIONS
 from ..model.architectures import JUDGED
-from ..model.calls import Call
+from ..model.bpf import looks_at_pointer
+from ..model.calls import ARCHITECTURE, NUMBER, Call
 from ..model.tables import Table, Tables
-from ..forms.filters import looks_at_pointer
-from ..report.listing import ARCHITECTURE, NUMBER
 from . import client, regions, verdicts
 from .client import Refusal
 from .regions import FREE, GREATEST_WORD, Lookup, Region, TooManyRanges

@@ -12,9 +12,9 @@ from ..base.values import dataclass
 from ..model import bundles, profiles, tables
 from ..model.answers import ALLOW, KILL_PROCESS, Answer
 from ..model.architectures import JUDGED, NATIVE, Architecture
+from ..model.bpf import RETURN_CONSTANT, instruction, looks_at_pointer
 from ..model.calls import Call
 from ..model.tables import Table, Tables
-from ..forms.filters import RETURN_CONSTANT, instruction, looks_at_pointer
 from . import client, verdicts
 from .verdicts import CALLS, NO_LESS, NO_MORE, RELATIONS, SCOPES, Report, Verdict
 

@@ -15,9 +15,8 @@ from ..base import program
 from ..model import architectures, bundles
 from ..model.answers import Answer
 from ..model.architectures import Architecture
-from ..model.calls import Call
+from ..model.calls import ARCHITECTURE, ARGUMENTS, NUMBER, Call
 from ..model.tables import Table, Tables
-from ..report.listing import ARCHITECTURE, ARGUMENTS, NUMBER
 from . import client, reasons
 from .verdicts import UNFINISHED
 

@@ -21,6 +21,8 @@ LIMITS = {"bundle": 1 << 24, "filter": 1 << 15, "profile": 1 << 22, "table": 1 <
           "core": 1 << 24,
           # only for oci-hook: a container's state
           "state": 1 << 20}
+# The most bytes that are read of a line of a log or of rows.
+LONGEST_LINE = 1 << 16
 
 
 def label(name: str) -> str:

@@ -68,7 +68,7 @@ def resolved(path, options):
             return given, [*engines.at_most(given.notes), *given.remarks]
         profile, origins = engines.resolve(value, options.setting, notes.append, options.keep_first)
         return profile_inputs.ProfileInput(engines.to_bytes(profile), origins), notes
-    except engines.Refused as why:
+    except profiles.Refused as why:
         raise program.ToolError(f"{path}: {why}", program.NEGATIVE) from why
 
 

@@ -22,7 +22,7 @@ import os
 from ..base import inputs, output, program
 from ..model import tables
 from ..cli import words
-from ..report import meanings
+from ..logs import meanings
 
 
 def main():

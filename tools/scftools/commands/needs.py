@@ -73,8 +73,8 @@ from ..base import output, program
 from ..model import architectures, profiles
 from ..ask import client
 from ..cli import words
-from ..forms import engines, kubernetes, profile_inputs, refusals
-from ..logs import requirements, strace
+from ..forms import kubernetes, profile_inputs, refusals, strace
+from ..logs import requirements
 
 
 def read_words():
@@ -136,7 +136,7 @@ def main():
     judges = requirements.Judges(profiles.read_as(profile, options.runtime or profiles.STRICT), named, options.table)
     try:
         return tell(options, requirements.read(options.logs, judges, options.runtime), judges)
-    except engines.Refused as why:
+    except profiles.Refused as why:
         raise program.ToolError(str(why), program.NEGATIVE) from why
     except client.Refusal as why:
         output.put_lines(refusals.lines_of(why, judges.profile, judges.listed))

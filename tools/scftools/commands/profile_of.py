@@ -50,11 +50,11 @@ Examples:
     scf profile-of --kubernetes web filter.bpf
 """
 from ..base import output, program
-from ..model import architectures, tables
+from ..model import architectures, profiles, tables
 from ..ask import explanation
 from ..ask.client import Refusal
 from ..cli import words
-from ..forms import engines, filters, kubernetes, runtimes
+from ..forms import filters, kubernetes, runtimes
 from ..report import profile_of
 
 
@@ -91,7 +91,7 @@ def main():
         else:
             program.say(why.line, *explanation.of_line(why.line))
         return why.status
-    except engines.Refused as why:
+    except profiles.Refused as why:
         raise program.ToolError(str(why), program.NEGATIVE) from why
     if options.json:
         output.put_json(result.as_json())

@@ -48,7 +48,7 @@ Examples:
 """
 from ..base import output, program
 from ..base.values import replace
-from ..model import multiplexed
+from ..model import multiplexed, profiles
 from ..cli import words
 from ..forms import engines, kubernetes, profile_inputs, runtimes
 
@@ -81,7 +81,7 @@ def main():
             profile, _ = multiplexed.with_rules(profile, program.say)
         text = engines.printed(profile) if options.kubernetes is None else \
             kubernetes.printed(profile, options.kubernetes)
-    except engines.Refused as why:
+    except profiles.Refused as why:
         raise program.ToolError(str(why), program.NEGATIVE) from why
     output.put(text)
     return program.SUCCESS

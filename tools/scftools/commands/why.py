@@ -65,8 +65,8 @@ from ..base.values import replace
 from ..model import profiles, tables
 from ..ask import trials
 from ..cli import words
-from ..forms import filters, profile_inputs, runtimes
-from ..logs import audit_records, cause_report, causes, events, strace
+from ..forms import filters, profile_inputs, runtimes, strace
+from ..logs import audit_records, cause_report, causes, events
 
 # By how many seconds the clock may differ between a record and the start of a process.
 TOLERANCE = 2.0

@@ -14,7 +14,7 @@ from ..base import output
 from ..base.values import Any, dataclass, field
 from ..model import architectures, profiles
 from ..model.answers import ACTIONS_WITH_DATA, Answer
-from ..model.profiles import NUMBER_TYPE, SECCOMP_MEMBERS, TEXT_TYPE, VERSION_TYPE, Origin, where_in
+from ..model.profiles import NUMBER_TYPE, SECCOMP_MEMBERS, TEXT_TYPE, VERSION_TYPE, Origin, Refused, where_in
 
 # What a container has by default: moby's oci/caps, and containers-common's containers.conf.
 DOCKER = (
@@ -62,13 +62,6 @@ ERRNO_NAMES = (
 # The most digits of a number that any member may have; the most letters of a stranger's text and the most texts of a
 # list that a note repeats; the most notes.
 MAX_DIGITS, MAX_TOLD, MAX_LISTED, MAX_NOTES = 20, 64, 3, 1000
-# The most names of all entries together that are passed on to libseccomp, each once for each of its alternatives: the
-# kernel takes no filter that is a sixteenth so long.
-MAX_RULES = 1 << 16
-
-
-class Refused(Exception):
-    """The engines refuse the profile, or it is ambiguous."""
 
 
 @dataclass(frozen=True)

@@ -145,7 +145,7 @@ def _of_log(text: str) -> bytes | None:
     """The one filter that a program loads."""
     if not LOADING.search(text):
         return None
-    from ..logs import filter_loads  # pylint: disable=import-outside-toplevel
+    from . import filter_loads  # pylint: disable=import-outside-toplevel
 
     filters = {data for stack in filter_loads.stacks_in(text.split("\n")) for data in stack}
     if len(filters) != 1:

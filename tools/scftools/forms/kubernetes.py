@@ -14,9 +14,8 @@ from collections.abc import Iterator
 
 from ..base.values import Any
 from ..model.answers import Answer
-from ..model.profiles import OCI_ACTIONS
+from ..model.profiles import OCI_ACTIONS, Refused
 from . import engines
-from .engines import Refused
 
 API, KIND = "security-profiles-operator.x-k8s.io/v1beta1", "SeccompProfile"
 SPEC_MEMBERS = ("defaultAction", "architectures", "listenerPath", "listenerMetadata", "syscalls", "flags")

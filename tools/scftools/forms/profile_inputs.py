@@ -9,12 +9,12 @@ from collections.abc import Iterator, Sequence
 
 from ..base import inputs, output, program
 from ..base.values import Any, Pattern, dataclass, field, replace
-from ..model import profiles, tables
+from ..model import bpf, profiles, tables
 from ..model.architectures import JUDGED, NATIVE
 from ..model.profiles import SANDBOX, DerivedProfile, Origin
 from ..model.tables import Table, Tables
 from ..ask.explanation import join_names
-from . import engines, filters, kubernetes
+from . import engines, kubernetes
 
 TYPE_CHECKING = False
 if TYPE_CHECKING:
@@ -95,7 +95,7 @@ def _refuse_others(data: bytes, label: str) -> None:
     """Refuses what isn't a profile, where that is known."""
     if data.startswith(b"\x7fELF"):
         raise program.ToolError(f"{label} is an ELF file (a program, library or object), not a profile")
-    if filters.are_codes(data):
+    if bpf.are_codes(data):
         raise program.ToolError(f"{label} is a raw filter, not a profile: `scf diff` compares two filters, and "
                                 "`scf profile-of` prints the profile of one")
     for command, members, instead in INSPECTIONS if data.lstrip().startswith((b"[", b"{")) else ():
@@ -135,7 +135,7 @@ def plain(data: bytes, name: str) -> bytes:
         return profile
     try:
         spec = kubernetes.spec_of(data)
-    except engines.Refused as why:
+    except profiles.Refused as why:
         raise program.ToolError(f"{label}: {why}", program.NEGATIVE) from why
     if spec is None:
         return data
@@ -160,7 +160,7 @@ def _resolved(data: bytes, name: str, caps: str, machine: str | None) -> Profile
     try:
         resolved, origins = engines.resolve(engines.read(data), setting, lambda _: None, True)
         profile = DerivedProfile(engines.to_bytes(resolved))
-    except engines.Refused as why:
+    except profiles.Refused as why:
         raise program.ToolError(f"{inputs.label(name)}: {why}", program.NEGATIVE) from why
     more = "" if machine is None else f" --machine {machine}"
     program.say(f"{inputs.label(name)} is resolved as by resolve-profile --keep-first --caps {caps}{more}, which says "

@@ -13,13 +13,14 @@ from ..base.json_places import Path
 from ..base.values import Any
 from ..model import architectures, profiles
 from ..model.architectures import NATIVE
+from ..model.bpf import LONGEST_STACK, MORE_OF_OLDER
 from ..model.calls import Call
 from ..model.entries import HOLDS, LONGEST_NUMBER
 from ..model.profiles import OCI_ACTIONS, DerivedProfile, Origin
 from ..model.tables import Tables
 from ..ask import client, explanation
 from ..ask.client import Fault, Refusal
-from .filters import LONGEST_STACK, MORE_OF_OLDER, Filter
+from .filters import Filter
 
 NUMBER_END, MOST_ERRNO = 1 << 64, 65535
 # What to do about a conflict in a profile that is read as a runtime does.

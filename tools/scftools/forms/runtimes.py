@@ -14,11 +14,11 @@ from ..base.values import Any, dataclass, replace
 from ..model import architectures, libseccomp, multiplexed, profiles, tables
 from ..model.answers import MAX_ERRNO, Answer
 from ..model.architectures import JUDGED, NATIVE, NUMBERS, PREFIX
-from ..model.profiles import SANDBOX
+from ..model.profiles import SANDBOX, Refused
 from ..model.tables import Tables
 from ..cli.words import Parser
 from . import engines, profile_inputs
-from .engines import Origin, Refused, Setting, answer_of, excerpt, excerpts
+from .engines import Origin, Setting, answer_of, excerpt, excerpts
 from .profile_inputs import ProfileInput
 
 RUNC, CRUN = "runc", "crun"

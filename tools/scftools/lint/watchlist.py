@@ -9,19 +9,17 @@ from __future__ import annotations
 import functools
 from collections.abc import Collection, Iterator, Mapping, Sequence
 
-from ..base import program
-from ..base.values import Pattern, dataclass
+from ..base.values import dataclass
 from ..model.answers import ENOSYS, Answer
 from ..model.architectures import Architecture
 from ..model.argument_sets import Sets, Steps
+from ..model.dangerous_calls import Dangerous, dangerous
 from ..model.entries import Condition, Entry
 from ..model.tables import Table, Tables
 from ..ask.answer_sets import arguments_of
 from ..ask.regions import Numbers, Region
 from ..ask.verdicts import UNFINISHED
 from .findings import Finding, Owners, by_owners, listed
-
-LINE = Pattern(r"(\w+) (?:\[(\d) has (0x[0-9a-f]+)\] )?(\S.*)")
 
 
 def _has(index: int, mask: int, value: int) -> Condition:
@@ -72,27 +70,6 @@ SIBLINGS = {
     "init_module": "finit_module", "tkill": "tgkill", "setrlimit": "prlimit64"}
 # How a syscall is allowed.
 ALWAYS, SOMETIMES = "always", "sometimes"
-
-
-@dataclass(frozen=True)
-class Dangerous:
-    """Why a syscall is dangerous, and which argument bits make it so."""
-
-    reason: str
-    conditions: tuple[Condition, ...] = ()
-
-
-@functools.lru_cache(None)
-def dangerous() -> dict[str, Dangerous]:
-    """The syscalls that make a sandbox useless, from the list."""
-    calls: dict[str, Dangerous] = {}
-    for line in program.lines_of("dangerous.calls"):
-        parts = LINE.fullmatch(line.strip())
-        if parts:
-            bits = int(parts[3], 16) if parts[3] else None
-            conditions = () if bits is None else (_has(int(parts[2]), bits, bits),)
-            calls[parts[1]] = Dangerous(parts[4], conditions)
-    return calls
 
 
 @functools.lru_cache(None)

@@ -9,14 +9,13 @@ import json
 from collections.abc import Collection, Iterator
 
 from ..base.values import dataclass
-from ..model import answers, constants, entries
+from ..model import answers, bpf, constants, entries
+from ..model.bpf import BPF_MAXINSNS
 from ..model.entries import EQUAL, GREATEST_VALUE, LOW_HALF, MASKED, NOT_EQUAL, Object
 from ..ask.client import Refusal
 from ..ask.reasons import Reason
 from ..ask.trials import Trial
 from ..ask.verdicts import SAME
-from ..forms import filters
-from ..forms.filters import BPF_MAXINSNS
 from .events import Event
 
 ALLOW_ACTION = "SCMP_ACT_ALLOW"
@@ -94,8 +93,8 @@ class AmendmentSearch:
 
     def _is_proved(self, change: Amendment) -> bool:
         """Whether scf proves that the changed profile allows these calls, and answers all others as before."""
-        excepted = filters.with_exception(self.filter, self.number, change.conditions, answers.ALLOW.word)
-        if len(excepted) > BPF_MAXINSNS * filters.INSTRUCTION.size:
+        excepted = bpf.with_exception(self.filter, self.number, change.conditions, answers.ALLOW.word)
+        if len(excepted) > BPF_MAXINSNS * bpf.INSTRUCTION.size:
             return False
         try:
             verdict = self.trial.verdict([excepted], change.profile, "--native")

@@ -14,10 +14,8 @@ from collections.abc import Iterator
 from ..base import inputs, program
 from ..base.values import dataclass
 from ..model.answers import I386_NUMBER
-from ..model.calls import Call
+from ..model.calls import ARGUMENT_REGISTERS, REGISTERS, Call
 from .events import CORE, KILLS, Event, Outcome
-from scfhost.ptrace import REGISTERS
-from scfhost.restart import ARGUMENT_REGISTERS
 
 # linux/elf.h, linux/elf-em.h, linux/elfcore.h
 MAGIC, CORE_FILE, NOTES, MACHINE_386, MACHINE_X86_64 = b"\x7fELF", 4, 4, 3, 62

@@ -12,9 +12,10 @@ from ..model.answers import ACTIONS, DOES, MAX_ERRNO, NUMBERS_OF_ERRNOS, Answer
 from ..model.architectures import JUDGED, Architecture
 from ..model.calls import Call
 from ..model.tables import Table
-from . import audit_records, journals, strace
+from ..forms import strace
+from ..forms.confinement import SUPERSEDED, Confinement
+from . import audit_records, counting, journals
 from .audit_records import Malformed
-from .confinement import SUPERSEDED, Confinement
 
 # The most distinct events and failed syscalls that are kept of a text, the most failed ones of a process that are
 # remembered for its end, and the most values that unknown bits of arguments may take; and the most audit records whose
@@ -192,7 +193,7 @@ class _Records:
         self._stamps.update({record.stamp: None} if has_stamp else {})
         counts = self._counts.setdefault(replace(record, stamp=None), [0, 0])
         counts[has_stamp] += 1
-        for every, most in ((self._stamps, STAMPS), (self._counts, strace.PENDING)):
+        for every, most in ((self._stamps, STAMPS), (self._counts, counting.PENDING)):
             if len(every) > most:
                 every.pop(next(iter(every)))
         return counts[has_stamp] > counts[not has_stamp]
@@ -205,7 +206,7 @@ def of_record(record: audit_records.SeccompRecord) -> Event:
     return Event(RECORD, call, outcome, process=record.process, name=record.name, time=record.time)
 
 
-class _Ends(strace.Log):
+class _Ends(counting.Log):
     """A strace log, of which the last syscall of each process is kept, those that SIGSYS ended, and those that
     failed."""
 
@@ -222,7 +223,7 @@ class _Ends(strace.Log):
         # of each process what failed, the last at the end
         self._failed: dict[str | None, dict[tuple[object, ...], None]] = {}
 
-    def _call(self, who: str | None, line: strace.Line, name: re.Match[str], is_cut: bool = False) -> None:
+    def _call(self, who: str | None, line: counting.Line, name: re.Match[str], is_cut: bool = False) -> None:
         if line.text.startswith(strace.FORKS):
             self._forked(who, line.text)
         self._confine(who, line, name, is_cut)
@@ -233,15 +234,15 @@ class _Ends(strace.Log):
         if nr is None or line.nr not in (None, nr):
             self._count(self.foreign, line.number)
             return
-        printed = _Printed(who, line.text[:strace.LONGEST_BEGINNING], name, nr, JUDGED[architecture])
+        printed = _Printed(who, line.text[:counting.LONGEST_BEGINNING], name, nr, JUDGED[architecture])
         self.last[who] = printed
-        if len(self.last) > strace.PENDING:
+        if len(self.last) > counting.PENDING:
             self.last.pop(next(iter(self.last)))
         self.last_failure = None
         if " = -1 " in line.text:
             self._fails(who, printed.failure())
 
-    def _confine(self, who: str | None, line: strace.Line, name: re.Match[str], is_cut: bool) -> None:
+    def _confine(self, who: str | None, line: counting.Line, name: re.Match[str], is_cut: bool) -> None:
         was_shown = self.confinement.is_shown
         self.confinement.takes(who, line.text, name, is_cut or self._is_long)
         if self.confinement.is_shown and not was_shown:
@@ -259,7 +260,7 @@ class _Ends(strace.Log):
         failed = self._failed.setdefault(self.confinement.process_of(who), {})
         failed.pop(event.key, None)
         failed[event.key] = None
-        for every, most in ((failed, OF_PROCESS), (self._failed, strace.PENDING)):
+        for every, most in ((failed, OF_PROCESS), (self._failed, counting.PENDING)):
             if len(every) > most:
                 every.pop(next(iter(every)))
 
@@ -274,7 +275,7 @@ class _Ends(strace.Log):
             self.failures.of_ended.append([*reversed(failed)])
         self.confinement.forget(who)
 
-    def _add(self, who: str | None, line: strace.Line) -> None:
+    def _add(self, who: str | None, line: counting.Line) -> None:
         self.confinement.begins(who, self._makers)
         super()._add(who, line)
         signal = SIGSYS_LINE.match(line.text)

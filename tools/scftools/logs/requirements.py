@@ -22,8 +22,8 @@ from ..ask import client, reasons, regions
 from ..ask.regions import Lookup
 from ..ask.verdicts import UNDECIDED, UNFINISHED
 from ..forms.engines import PASSED_ON
-from . import strace, traces
-from .strace import Seen
+from . import counting, traces
+from .counting import Seen
 from .traces import Trace
 
 NOT_ALLOWED = "not allowed"
@@ -193,7 +193,7 @@ class Judges:
         self.tables = tables.of_architectures(JUDGED, tables.read(None)).of
         self.tables[self.own.oci] = tables.read(table, self.own)
         # a profile without a list is for its machine's own
-        names = profiles.architectures_of(profile) or [strace.modes_of(self.own.oci)[strace.OWN_MODE]]
+        names = profiles.architectures_of(profile) or [counting.modes_of(self.own.oci)[counting.OWN_MODE]]
         self.listed = Tables({name: self.tables[name]
                               for name in tables.of_architectures(names, self.tables[NATIVE]).of},
                              profiles.reading_of(profile))

@@ -17,12 +17,11 @@ from ..base.values import Pattern
 from ..model import architectures
 from ..model.architectures import JUDGED, NATIVE
 from ..model.calls import SKIPPED
-from ..model.profiles import ALLOWING
+from ..model.profiles import ALLOWING, Refused
 from ..model.tables import Table
-from ..forms import kubernetes
-from ..forms.engines import Refused
-from . import audit_records, strace
-from .strace import MOST_NOT_REMEMBERED, MOST_REMEMBERED
+from ..forms import kubernetes, strace
+from . import audit_records, counting
+from .counting import MOST_NOT_REMEMBERED, MOST_REMEMBERED
 
 # How an object of Kubernetes begins as YAML.
 YAML_BEGINNINGS = ("apiVersion:", "kind:")
@@ -55,14 +54,14 @@ HEADINGS = Pattern(r"#| Summary of events:$| +syscall +calls +errors| +\(msec\)|
 LOST = Pattern(audit_records.SUPPRESSED.pattern + r"|\ALOST ([0-9]{1,18}) events!")
 
 
-class Trace(strace.Log):
+class Trace(counting.Log):
     """The syscalls of logs, by their names and the values of those arguments that are asked for."""
 
     def __init__(self, looked_at: Callable[[str, str], tuple[int, ...]], tables: dict[str, Table],
                  own_architecture: str = NATIVE):
         super().__init__(looked_at, tables, own_architecture)
         # syscalls that a log says it lost
-        self.lost = strace.Seen()
+        self.lost = counting.Seen()
         # what is the matter with the first record that can't be read
         self.fault = ""
         # the syscalls of perf trace that were interrupted, by thread and name
@@ -132,7 +131,7 @@ class Trace(strace.Log):
                 return True
         elif line.endswith("..."):
             self._interrupted[thread, begun] = None
-            if len(self._interrupted) > strace.PENDING:
+            if len(self._interrupted) > counting.PENDING:
                 del self._interrupted[next(iter(self._interrupted))]
         self._by_name(number, continued or begun)
         return True

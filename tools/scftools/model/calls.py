@@ -3,11 +3,19 @@ from __future__ import annotations
 
 from ..base.values import Pattern, dataclass
 from . import architectures, constants, tables
-from .answers import FIRST_X32, X86_64
+from .answers import FIRST_X32, I386_NUMBER, X86_64
 from .tables import Table
 
 # The fields of a record, by the names of scf's options, in scf's order.
 OPTIONS = ("nr", "arch", "ip", "a0", "a1", "a2", "a3", "a4", "a5")
+# The 32-bit words of a record, by their index (struct seccomp_data in linux/seccomp.h).
+NUMBER, ARCHITECTURE, ARGUMENTS, END = 0, 1, 4, 16
+# sys/user.h: struct user_regs_struct, which the kernel shows to a 64-bit tracer whatever the thread runs.
+REGISTERS = ("r15", "r14", "r13", "r12", "rbp", "rbx", "r11", "r10", "r9", "r8", "rax", "rcx", "rdx", "rsi", "rdi",
+             "orig_rax", "rip", "cs", "eflags", "rsp", "ss", "fs_base", "gs_base", "ds", "es", "fs", "gs")
+# The registers of the six arguments, in their order.
+ARGUMENT_REGISTERS = {X86_64: ("rdi", "rsi", "rdx", "r10", "r8", "r9"),
+                      I386_NUMBER: ("rbx", "rcx", "rdx", "rsi", "rdi", "rbp")}
 # Bit 31, which no kernel's numbers have; and -1, which a tracer sets to skip a syscall, and which filters still see
 # (Documentation/userspace-api/seccomp_filter.rst of Linux; do_syscall_64 of x86 executes no such syscall).
 NO_CALL, SKIPPED = 0x80000000, 0xFFFFFFFF

@@ -10,9 +10,9 @@ from __future__ import annotations
 from collections.abc import Callable, Iterator
 
 from ..base.values import Any
-from ..forms.engines import MAX_RULES, Refused
 from .answers import Answer
 from .architectures import JUDGED
+from .profiles import MAX_RULES, Refused
 
 # By the multiplexer the number of each syscall: linux/net.h and linux/ipc.h.
 CALL_NUMBERS = {

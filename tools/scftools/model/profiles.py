@@ -15,6 +15,9 @@ from . import entries
 from .entries import LONGEST_NUMBER
 
 DEEPEST_JSON = 127
+# The most names of all entries together that are passed on to libseccomp, each once for each of its alternatives: the
+# kernel takes no filter that is a sixteenth so long.
+MAX_RULES = 1 << 16
 # Half of a character, which stands alone.
 SURROGATE = Pattern("[\ud800-\udfff]")
 # A member of YAML.
@@ -46,6 +49,10 @@ _FOLD = {**{upper: upper + 32 for upper in range(ord("A"), ord("Z") + 1)}, 0x17F
 
 # How a profile is read unless a container runtime reads it (`--reading` of scf): by its words, or so with TRAP's data.
 STRICT, SANDBOX = BY_WORDS = "strict", "sandbox"
+
+
+class Refused(Exception):
+    """The engines refuse the profile, or it is ambiguous."""
 
 
 class ReadProfile(bytes):

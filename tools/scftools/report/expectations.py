@@ -5,13 +5,13 @@ import re
 from collections.abc import Iterator, Sequence
 
 from ..base import inputs, output, program
+from ..base.inputs import LONGEST_LINE
 from ..base.values import dataclass
 from ..model.answers import DOES, NUMBERS_OF_ERRNOS, Answer
 from ..model.calls import OPTIONS, Call
 from ..model.tables import Table
 from ..ask import regions
 from ..ask.questions import Asker
-from ..logs.strace import LONGEST_LOG_LINE
 from .decisions import Numbering, Query
 
 # What messages call the input, and the most bytes that are read of it.
@@ -87,8 +87,8 @@ def read(name: str, numbering: Numbering, defaults: dict[str, str]) -> Iterator[
     unfinished, line = b"", 0
     for piece in [*inputs.pieces(name, INPUT_KIND, LONGEST_LIST), b"\n"]:
         *whole, unfinished = (unfinished + piece).split(b"\n")
-        if len(unfinished) > LONGEST_LOG_LINE:
-            raise program.ToolError(f"line {line + len(whole) + 1} of the rows has more than {LONGEST_LOG_LINE} bytes")
+        if len(unfinished) > LONGEST_LINE:
+            raise program.ToolError(f"line {line + len(whole) + 1} of the rows has more than {LONGEST_LINE} bytes")
         for row in whole:
             line += 1
             text = row.decode("utf-8", "surrogateescape").strip()

@@ -12,10 +12,11 @@ from ..base import output
 from ..base.values import dataclass, field
 from ..model import answers, architectures
 from ..model.answers import FIRST_X32
+from ..model.bpf import BY_X, JEQ, JGE, JGT, JUMP, RETURN_CONSTANT
+from ..model.calls import ARCHITECTURE, NUMBER
 from ..model.tables import Table
 from ..ask.regions import GREATEST_WORD
-from ..forms.filters import BY_X, JEQ, JGE, JGT, JUMP, RETURN_CONSTANT
-from .listing import ARCHITECTURE, NUMBER, RETURNS, Instruction, Known, instructions, known_facts, name_of, word_name
+from .listing import RETURNS, Instruction, Known, instructions, known_facts, name_of, word_name
 
 # The most ranges that an edge names.
 MOST_RANGES = 12

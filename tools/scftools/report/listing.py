@@ -10,14 +10,13 @@ from ..base.values import Pattern, dataclass, replace
 from ..model import bundles
 from ..model.answers import ACTIONS, FIRST_X32, X86_64, Answer
 from ..model.architectures import shown_name
-from ..model.calls import Call, number_text
+from ..model.bpf import BY_X, INSTRUCTION, JEQ, JGE, JGT, JSET, JUMP, LOAD_WORD, RETURN_CONSTANT
+from ..model.calls import ARCHITECTURE, ARGUMENTS, END, NUMBER, Call, number_text
 from ..model.tables import Table
 from ..ask import client, verdicts
 from ..ask.verdicts import Decision
-from ..forms.filters import BY_X, INSTRUCTION, JEQ, JGE, JGT, JSET, JUMP, LOAD_WORD, RETURN_CONSTANT, Filter
+from ..forms.filters import Filter
 
-# The 32-bit words of a record, by their index (struct seccomp_data in linux/seccomp.h).
-NUMBER, ARCHITECTURE, ARGUMENTS, END = 0, 1, 4, 16
 WORDS = {NUMBER: "the syscall number", ARCHITECTURE: "the architecture", 2: "the instruction pointer, low half",
          3: "the instruction pointer, high half"}
 # The most architectures whose names of one number are listed.

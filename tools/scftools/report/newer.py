@@ -10,13 +10,12 @@ from collections.abc import Iterator, Sequence
 from ..base.values import dataclass
 from ..model.answers import Answer
 from ..model.architectures import JUDGED
-from ..model.calls import Call
+from ..model.calls import ARCHITECTURE, NUMBER, Call
 from ..model.tables import Table
 from ..ask.explanation import join_names
 from ..ask.regions import Numbers, Region
 from ..ask.verdicts import DIFFERS, SAME, NamedCall, Verdict
 from .compare import Comparison, default_of
-from .listing import ARCHITECTURE, NUMBER
 
 
 def _bounds_of(comparison: Comparison) -> dict[str, int]:

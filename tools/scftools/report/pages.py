@@ -15,12 +15,12 @@ from collections.abc import Iterable, Iterator, Sequence
 
 from ..base import output
 from ..base.values import dataclass
+from ..model import dangerous_calls
 from ..model.answers import ALLOWED, DELEGATED, DENIED, DEPENDS
 from ..model.calls import Call
 from ..model.tables import Table
 from ..ask import client
 from ..ask.verdicts import Report
-from ..lint import watchlist
 from . import surface_output, surfaces
 from .compare import Comparison
 from .stack_surfaces import StackSurface
@@ -215,7 +215,7 @@ def dangerous(stacks: Sequence[Named], table_of: Table) -> Iterator[Markup]:
     rows_of = [{name: row for row in named.surface.rows for name in row.names} if named.surface is not None else {}
                for named in stacks]
     lines: list[list[object]] = []
-    for name, danger in watchlist.dangerous().items():
+    for name, danger in dangerous_calls.dangerous().items():
         if table_of.number_of(name) is None:
             continue
         only = "".join(f" if argument {condition.index} has {condition.value:#x}" for condition in danger.conditions)

@@ -5,10 +5,10 @@ from collections.abc import Iterator, Sequence
 
 from ..base.values import dataclass, field
 from ..model.architectures import Architecture
+from ..model.calls import ARGUMENTS
 from ..model.entries import AT_LEAST, AT_MOST, EQUAL, MASKED, NOT_EQUAL, Condition
 from ..model.tables import Table
 from ..ask.regions import FREE, GREATEST_WORD, POINTER, Numbers, Region, Word
-from .listing import ARGUMENTS
 from .row_conditions import condition_text, name_of
 
 

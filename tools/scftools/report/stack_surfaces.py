@@ -19,12 +19,12 @@ from ..ask.verdicts import SAME, NamedCall, Verdict
 from ..forms import refusals
 from ..forms.filters import Filter
 from ..forms.refusals import faulty_filters
+from ..forms.stacks import Inspection, Stack
 from . import surface_output, surfaces
+from .blocks import OF_ALL, blocks_of, of_threads
 from .stack_comparison import StackComparison
 from .surface_output import LEAST_WIDTH, Groups, details, fitted, grouped, of_whole, row_json, wrapped
 from .surfaces import Row, Surface
-from scfhost.processes import Inspection, Stack
-from scfhost import verify
 
 
 @dataclass(frozen=True)
@@ -204,7 +204,7 @@ class StackSurface:
     @property
     def is_of_all(self) -> bool:
         """Whether every stack would have this fault."""
-        return self.fault is not None and self.fault.source in verify.OF_ALL
+        return self.fault is not None and self.fault.source in OF_ALL
 
 
 def _surface(filters: Sequence[Filter], settings: Settings) -> Surface:
@@ -241,7 +241,7 @@ def of_stack(filters: Sequence[Filter], settings: Settings, threads: Stack | Non
 
 def of_process(inspection: Inspection, settings: Settings) -> list[StackSurface]:
     """The blocks of a process's stacks."""
-    return verify.blocks_of(inspection, lambda stack: of_stack(stack.named, settings, stack),
+    return blocks_of(inspection, lambda stack: of_stack(stack.named, settings, stack),
                             lambda stack, status: StackSurface(status, threads=stack))
 
 
@@ -266,7 +266,7 @@ def lines(blocks: Sequence[StackSurface], inspection: Inspection | None, width: 
         elif block.surface is not None:
             yield from surface_output.lines(block.surface, groups, width)
         if block.threads is not None and inspection is not None and not block.is_of_all:
-            yield from (f"# {line}" for line in verify.of_threads(block.threads, inspection))
+            yield from (f"# {line}" for line in of_threads(block.threads, inspection))
     if inspection is not None:
         yield from (f"# {note}" for note in inspection.notes)
 

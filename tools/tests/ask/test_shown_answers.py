@@ -13,10 +13,10 @@ from scftools.model import tables
 from scftools.ask import client
 from scftools.ask.client import Run
 from scftools.forms.filters import Filter
+from scftools.forms.stacks import Stack
 from scftools.report import stack_comparison
-from scfhost.processes import Stack
-from scfhost.verify import Request
 from scfhost import audit
+from scfhost.verify import Request
 
 # Stands in for scf: a comparison says that mount is answered otherwise than any filter here does.
 LIES = f"""#!/bin/sh

@@ -189,7 +189,7 @@ class Drawn(Case):
         for text, (made, refused) in zip(texts, answers):
             try:
                 resolved = as_go_prints(engines.Resolver(setting, lambda _: None).resolved(engines.read(text.encode())))
-            except engines.Refused as why:
+            except profiles.Refused as why:
                 resolved = str(why)
             yield text, resolved, f"refused: {refused}" if refused else as_go_prints(made)
 

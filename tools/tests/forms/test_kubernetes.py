@@ -3,8 +3,9 @@ import json
 import unittest
 
 from support.common import Case, filter_of
+from scftools.model import profiles
 from scftools.cli.words import is_object_name
-from scftools.forms import engines, kubernetes
+from scftools.forms import kubernetes
 from forms.test_profile_inputs import HAS_YAML, OBJECT, SPEC, YAML
 
 READS = {"defaultAction": "SCMP_ACT_ERRNO", "syscalls": [{"names": ["read"], "action": "SCMP_ACT_ALLOW"}]}
@@ -30,7 +31,7 @@ class Objects(unittest.TestCase):
                  "entry 1 compares with more than 2^63-1, which a SeccompProfile can't state"),
                 ({**READS, "defaultAction": "SCMP_ACT_X"}, "the default has an action that a SeccompProfile doesn't "
                                                            "have")):
-            with self.assertRaises(engines.Refused) as caught:
+            with self.assertRaises(profiles.Refused) as caught:
                 kubernetes.printed(profile, "a")
             self.assertEqual(str(caught.exception), says)
         for profile in (READS, {**READS, "defaultErrnoRet": 1}, {**READS, "defaultAction": "SCMP_ACT_LOG"},

@@ -6,7 +6,8 @@ import unittest
 
 from support.common import Case, filter_of, profile_of, tool
 from support.oci import ALLOW, ERRNO
-from scftools.forms import engines, kubernetes
+from scftools.model import profiles
+from scftools.forms import kubernetes
 
 # As the documentation of the Security Profiles Operator has them.
 YAML = """---
@@ -128,7 +129,7 @@ class Kubernetes(Case):
         self.file("yaml.py", "")
         folders, kubernetes.YAML_FOLDERS = kubernetes.YAML_FOLDERS, ("/nonexistent", self.folder)
         self.addCleanup(setattr, kubernetes, "YAML_FOLDERS", folders)
-        with self.assertRaises(engines.Refused) as caught:
+        with self.assertRaises(profiles.Refused) as caught:
             kubernetes.spec_of(YAML.encode())
         self.assertIn("PyYAML isn't installed (Debian's python3-yaml)", str(caught.exception))
 

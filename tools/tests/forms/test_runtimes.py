@@ -19,7 +19,7 @@ from support.oci import NATIVE as X86_64
 from support.second_reading import by_words
 from scftools.base import inputs
 from scftools.base.values import replace
-from scftools.model import libseccomp, tables
+from scftools.model import libseccomp, profiles, tables
 from scftools.model.architectures import JUDGED
 from scftools.ask import client, verdicts
 from scftools.forms import engines, runtimes
@@ -216,7 +216,7 @@ class Runtimes(Case):
             self.assertEqual(verdict, "same")
             self.assertIn("an errno beside an action that takes none is ignored", applied.remarks[0])
             self.assertIn("errno value specified", filters_of("crun", given)[1])
-            with self.assertRaisesRegex(engines.Refused, "crun refuses the profile: .* has an errno beside"):
+            with self.assertRaisesRegex(profiles.Refused, "crun refuses the profile: .* has an errno beside"):
                 runtimes.applied(given, "crun")
 
     def test_the_architectures(self):
@@ -312,7 +312,7 @@ class Runtimes(Case):
                 ("runc", profile(entry("write", action="SCMP_ACT_NOTIFY"), listenerPath="/x"), "entry 1 has write"),
                 ("runc", profile(entry("mkdir", action="SCMP_ACT_NOTIFY")), "no listenerPath"),
                 ("runc", profile(default="SCMP_ACT_NOTIFY", listenerPath="/x"), "can't be the default action")):
-            with self.assertRaisesRegex(engines.Refused, f"{runtime} refuses the profile: .*{says}"):
+            with self.assertRaisesRegex(profiles.Refused, f"{runtime} refuses the profile: .*{says}"):
                 runtimes.applied(given, runtime)
             self.assertIsNone(filters_of(runtime, given)[0], given)
         self.same("runc", entry("mkdir", action=ERRNO, errnoRet=2**32 + 1), entry("mkdir"))
@@ -355,13 +355,13 @@ class Runtimes(Case):
 
     def test_what_only_engines_read(self):
         for member, value in (("archMap", [{"architecture": X86_64}]), ("defaultErrno", "EPERM")):
-            with self.assertRaisesRegex(engines.Refused, f"runc doesn't read {member}: .* --runtime docker .*"
+            with self.assertRaisesRegex(profiles.Refused, f"runc doesn't read {member}: .* --runtime docker .*"
                                         "scf resolve-profile --engine podman --runtime runc"):
                 runtimes.applied({"defaultAction": ERRNO, member: value}, "runc")
         for member, value in (("includes", {"caps": ["CAP_X"]}), ("name", "mkdir"), ("errno", "EPERM")):
-            with self.assertRaisesRegex(engines.Refused, f"crun doesn't read {member}: .* --runtime docker"):
+            with self.assertRaisesRegex(profiles.Refused, f"crun doesn't read {member}: .* --runtime docker"):
                 runtimes.applied({"defaultAction": ERRNO, "syscalls": [{**entry("mkdir"), member: value}]}, "crun")
-        with self.assertRaisesRegex(engines.Refused, "both defaultAction and linux"):
+        with self.assertRaisesRegex(profiles.Refused, "both defaultAction and linux"):
             runtimes.applied({"defaultAction": ERRNO, "linux": {"seccomp": profile()}}, "runc")
 
     def test_a_whole_config(self):
@@ -390,7 +390,7 @@ class Drawn(Case):
         filters, why = filters_of(runtime, given)
         try:
             applied = runtimes.applied(given, runtime)
-        except engines.Refused:
+        except profiles.Refused:
             return "both refuse" if filters is None else "the tools refuse"
         comparison = beside(filters or [ret(ALLOWED)], applied)
         report = comparison.run()[1]
@@ -422,7 +422,7 @@ class Drawn(Case):
             for runtime in ("runc", "crun"):
                 try:
                     applied = runtimes.applied(drawn_profile(index), runtime)
-                except engines.Refused:
+                except profiles.Refused:
                     continue
                 judged = tables.of_profile(applied.data, tables.read(None))
                 for name in judged.of:

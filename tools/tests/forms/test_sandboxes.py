@@ -10,8 +10,8 @@ from unittest import mock
 
 from support.common import Case
 
+from scftools.forms import filter_loads
 from scftools.forms.lists import firejail_lists, sandbox_rules, sandboxes
-from scftools.logs import filter_loads
 
 NATIVE, I386, X32 = "SCMP_ARCH_X86_64", "SCMP_ARCH_X86", "SCMP_ARCH_X32"
 SNAP_SECCOMP = shutil.which("snap-seccomp", path=f"/usr/lib/snapd:{os.environ.get('PATH', '')}")

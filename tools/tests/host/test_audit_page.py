@@ -12,8 +12,9 @@ from support.common import Case, filter_of, profile_of
 from host.test_audit import process
 from scftools.model import tables
 from scftools.ask import verdicts
+from scftools.forms import stacks
 from scftools.report import compare
-from scfhost import audit, audit_output, audit_page, container_files, machine, processes
+from scfhost import audit, audit_output, audit_page, container_files, machine
 
 # The elements that a page has, and their attributes.
 TAGS = {"html": {"lang"}, "head": set(), "meta": {"charset", "http-equiv", "content", "name"}, "title": set(),
@@ -71,7 +72,7 @@ class Pages(Case):
         table = tables.read(None)
         container = container_files.ContainerDescription("i" * 64, "podman", "crun", 7, HOSTILE, name=HOSTILE,
                                                          image=HOSTILE, pod=HOSTILE)
-        stack = processes.Stack((filter_of([0, 41]),), False, {7: [7]})
+        stack = stacks.Stack((filter_of([0, 41]),), False, {7: [7]})
         seven, eight = process(name=os.fsencode(HOSTILE)), process(8)
         asked = compare.Comparison(stack.named, profile_of("read"), table)
         verdict = asked.run(verdicts.NATIVE_SCOPE, verdicts.NO_MORE)[1].verdict
@@ -80,7 +81,7 @@ class Pages(Case):
                 audit.AuditRow(audit.UNIT, "a.service", [eight], audit.Expectation(why=HOSTILE))]
         weaker = audit.StackJudgement(audit.WEAKER, shown=verdict, comparison=asked)
         rows[0].parts = [audit.RowPart(stack, {7: [7]}, weaker)]
-        rows[1].parts = [audit.RowPart(processes.Stack((), False, {8: [8]}), {8: [8]}, audit.StackJudgement(
+        rows[1].parts = [audit.RowPart(stacks.Stack((), False, {8: [8]}), {8: [8]}, audit.StackJudgement(
             audit.NOT_KNOWN, HOSTILE, is_unconfined=True))]
         snapshot = machine.Snapshot({7: seven, 8: eight}, {(stack.filters, False): stack})
         report = audit.Audit(rows, snapshot, 0.0, left_out=[HOSTILE])
@@ -102,7 +103,7 @@ class Pages(Case):
         rows = [audit.AuditRow(audit.UNIT, name, [process(8)], audit.Expectation()) for name in ("a", "b")]
         for row in rows:
             judgement = audit.StackJudgement(audit.NOT_KNOWN, "slow")
-            row.parts = [audit.RowPart(processes.Stack((), False), {8: [8]}, judgement)]
+            row.parts = [audit.RowPart(stacks.Stack((), False), {8: [8]}, judgement)]
         text = Page(audit_page.page(audit.Audit(rows, machine.Snapshot(), 0.0), tables.read(None)), self).check()
         self.assertIn("not known unit a, unit b", text)
         self.assertEqual(text[text.index("What shows the verdicts"):].count("slow"), 1)
@@ -113,7 +114,7 @@ class Pages(Case):
                                (audit.Expectation(why="no bus"), "what is configured isn't known: no bus"),
                                (audit.Expectation(source="systemctl", why="no bus"), "systemctl no bus")):
             row = audit.AuditRow(audit.UNIT, "a.service", [process(8)], expected)
-            stack = processes.Stack((), False, {8: [8]})
+            stack = stacks.Stack((), False, {8: [8]})
             row.parts = [audit.RowPart(stack, {8: [8]}, audit.StackJudgement(audit.NOT_KNOWN))]
             text = Page(audit_page.page(audit.Audit([row], machine.Snapshot(), 0.0), tables.read(None)), self).check()
             self.assertIn(says, text)

@@ -13,10 +13,11 @@ from support.stand_in import StandIn
 from base.test_output import HOSTILE
 from forms.test_runtimes import MOBY, PODMAN
 import kernel_profiles
-from scftools.model import constants, tables
+from scftools.model import constants, dangerous_calls, tables
 from scftools.model.calls import Call
 from scftools.ask import client
-from scftools.lint import lint, oddities, watchlist
+from scftools.lint import oddities, watchlist
+from scftools.lint.kinds import FINDING_KINDS
 
 ALLOW, ERRNO, TOP_OF = "SCMP_ACT_ALLOW", "SCMP_ACT_ERRNO", (1 << 64) - 1
 NATIVE, I386, X32, AARCH64, ARM = (f"SCMP_ARCH_{it}" for it in ("X86_64", "X86", "X32", "AARCH64", "ARM"))
@@ -61,7 +62,7 @@ class Linted(Case):
         ended, out, err = self.run_lint(given, "--json", *words)
         self.assertEqual((ended, err), (status, ""))
         findings = [it for it in json.loads(out)["findings"] if it["kind"] in kinds]
-        self.assertEqual([it.pop("grade") for it in findings], [lint.FINDING_KINDS[it["kind"]] for it in findings])
+        self.assertEqual([it.pop("grade") for it in findings], [FINDING_KINDS[it["kind"]] for it in findings])
         return findings
 
     def effects(self, *entries, default=ERRNO, **members):
@@ -308,7 +309,7 @@ class Dangerous(Linted):
                 for name in it.get("names") or [it["name"]]]
 
     def test_the_list(self):
-        listed, table = watchlist.dangerous(), tables.read(TABLE)
+        listed, table = dangerous_calls.dangerous(), tables.read(TABLE)
         self.assertEqual(list(listed), sorted(listed))
         with open(os.path.join(TOP, "tables", "dangerous.calls"), encoding="ascii") as file:
             self.assertEqual(len(listed), sum(not line.startswith("#") for line in file))
@@ -319,19 +320,19 @@ class Dangerous(Linted):
             self.assertIn(name, listed)
 
     def test_each_of_them(self):
-        names = sorted(watchlist.dangerous())
+        names = sorted(dangerous_calls.dangerous())
         self.assertEqual(self.made(profile(entry(*names))), [(name, True, 0) for name in names])
         self.assertEqual(self.made(profile(default=ALLOW)), [(name, True, None) for name in names])
         self.assertEqual(self.made(profile(entry("read", "fork"))), [])
 
     def test_the_default_is_one_of_them(self):
         """What the default allows is one finding, with the reasons; what an entry allows stands beside it."""
-        names = sorted(watchlist.dangerous())
+        names = sorted(dangerous_calls.dangerous())
         given = profile(entry(*names[3:], action=ERRNO), entry("ptrace", args=[(0, "EQ", 7)], action=ERRNO),
                         default=ALLOW)
         found, = self.found(given, kinds=("dangerous-call",))
         self.assertEqual((found["names"], found["is_always"], found["entry"]), (names[:3], True, None))
-        self.assertEqual(found["reasons"], {name: watchlist.dangerous()[name].reason for name in names[:3]})
+        self.assertEqual(found["reasons"], {name: dangerous_calls.dangerous()[name].reason for name in names[:3]})
         self.assertIn("the default allows 3 syscalls that make a sandbox useless: add_key, bpf and chroot",
                       found["text"])
         given["syscalls"][0]["names"] = names[1:]
@@ -1367,7 +1368,7 @@ class Runtimes(Linted):
         given = {"ociVersion": "1.0.2", "linux": {"seccomp": profile(
             entry("reed", arg=1), entry("mount", comment="lint: ignore dangerous-call"), entry("ptrace"))}}
         for runtime in ("runc", "crun"):
-            findings, _ = self.of_runtime(given, runtime, kinds=tuple(lint.FINDING_KINDS))
+            findings, _ = self.of_runtime(given, runtime, kinds=tuple(kinds.FINDING_KINDS))
             self.assertEqual([(it["kind"], it["entry"]) for it in findings],
                              [("unread-member", 0), ("unknown-name", 0), ("dangerous-call", 2)])
 
@@ -1471,7 +1472,7 @@ class Gate(Linted):
             run, = log["runs"]
             self.assertEqual((set(log), log["version"]), ({"$schema", "version", "runs"}, "2.1.0"))
             rules = {it["id"]: it for it in run["tool"]["driver"]["rules"]}
-            self.assertEqual(set(rules), set(lint.FINDING_KINDS))
+            self.assertEqual(set(rules), set(kinds.FINDING_KINDS))
             self.assertTrue(all(it["shortDescription"]["text"] for it in rules.values()))
             lines = data.decode().split("\n")
             places = {}

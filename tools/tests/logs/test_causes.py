@@ -14,8 +14,7 @@ import unittest.mock
 
 from support.common import (ALLOW, I386, KILL_PROCESS, KILL_THREAD, LOADER, LOG, PATIENCE, TOP, TRACE, TRAP,
                             USER_NOTIF, X86_64, Case, jeq, module, profile_of, ret)
-from scftools.model import tables
-from scftools.forms import filters
+from scftools.model import bpf, tables
 from scftools.logs import audit_records, cores, events
 from scftools.logs.diagnosis import AnsweringStack
 
@@ -67,7 +66,7 @@ int main(int count, char **words)
 
 def answering(answer, number=SOCKET, conditions=()):
     """A filter that gives an answer to a syscall, where each of the conditions' arguments has its value."""
-    return filters.with_exception(ret(ALLOW), number, [(at, (1 << 64) - 1, value) for at, value in conditions], answer)
+    return bpf.with_exception(ret(ALLOW), number, [(at, (1 << 64) - 1, value) for at, value in conditions], answer)
 
 
 class Listener:
@@ -869,7 +868,7 @@ class Exceptions(Causes):
 
     def test_they_answer_so(self):
         conditions = ((0, (1 << 64) - 1, 0x100000010), (2, 0xFFFFFFFF, 9), (5, 0xF0, 0x37))
-        stack = AnsweringStack.of_filters([filters.with_exception(ret(ERRNO | 1), SOCKET, conditions, TRAP)])
+        stack = AnsweringStack.of_filters([bpf.with_exception(ret(ERRNO | 1), SOCKET, conditions, TRAP)])
         for number, first, third, last in ((SOCKET, 0x100000010, 9, 0x30), (SOCKET, 0x100000010, 1 << 32 | 9, 0x13F),
                                            (SOCKET, 0x10, 9, 0x30), (SOCKET, 0x100000010, 8, 0x30),
                                            (SOCKET, 0x100000010, 9, 0x40), (42, 0x100000010, 9, 0x30)):

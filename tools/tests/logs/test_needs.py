@@ -13,7 +13,8 @@ from support.common import CONFINED, LOADER, Case, limited, profile_of, taken, t
 from support.oci import ALLOW, ERRNO
 from scftools.model import tables
 from scftools.model.architectures import AARCH64, ARM, I386, JUDGED, NATIVE, X32
-from scftools.logs import strace
+from scftools.forms import strace
+from scftools.logs import counting
 
 TABLE = tables.read(None)
 TABLES = tables.of_architectures(JUDGED, TABLE).of
@@ -28,7 +29,7 @@ BEGUN = re.compile(r"(?m)^(?:\[pid +\d+\] |\d+ +)? *(?:[\d:.]+ +)?(?:\[[0-9a-f]+
 
 def log_of(text, looked_at=()):
     """The calls of a log: for each name and values how often; and the counts of what wasn't read, or is foreign."""
-    log = strace.Log(lambda *_: tuple(looked_at))
+    log = counting.Log(lambda *_: tuple(looked_at))
     for number, line in enumerate(text.split("\n"), 1):
         log.add(number, line)
     log.end()
@@ -184,7 +185,7 @@ class Forms(unittest.TestCase):
 
 def made_in(text, looked_at=(), log_architecture=NATIVE):
     """The calls of a log, each with its architecture, as a set; the values of some arguments come last."""
-    log = strace.Log(lambda *_: tuple(looked_at), TABLES, log_architecture)
+    log = counting.Log(lambda *_: tuple(looked_at), TABLES, log_architecture)
     for number, line in enumerate(text.split("\n"), 1):
         log.add(number, line)
     log.end()

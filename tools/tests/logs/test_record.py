@@ -10,8 +10,8 @@ import unittest
 
 from support.common import ALLOW, EPERM, LOADER, X86_64, Case, jeq, load, ret, tool
 from scftools.model.architectures import NATIVE
-from scftools.forms import c_arrays, forms
-from scftools.logs import filter_loads, strace
+from scftools.forms import c_arrays, filter_loads, forms, strace
+from scftools.logs import counting
 
 # Filters that allow all but a syscall that nobody makes.
 FIRST, SECOND, THIRD = (load(4) + jeq(X86_64, 0, 2) + load(0) + jeq(number, 1, 0) + ret(ALLOW) + ret(EPERM)
@@ -228,7 +228,7 @@ class Recorded(Traced):
         """Both halves of an argument are known, whatever bit 31 is: 0x80000000 isn't its sign."""
         script = "libc.syscall(1000, *map(ctypes.c_ulong, (1 << 31, 1 << 63 | 5, 0, 2 ** 64 - 1, 7, 8)))"
         self.assertEqual(self.run_python("record", script, "log")[0], 0)
-        log = strace.Log(lambda *_: (0, 1, 2, 3))
+        log = counting.Log(lambda *_: (0, 1, 2, 3))
         log.begin("log")
         for number, line in enumerate(strace.lines(self.path("log")), 1):
             log.add(number, line)

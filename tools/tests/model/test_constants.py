@@ -14,7 +14,7 @@ import unittest
 from support.common import (ALLOW, EPERM, I386, LOADER, TABLE, TOP, X86_64, Case, for_developers, insn, jeq, load,
                             ret)
 from scftools.model import constants
-from scftools.logs import strace
+from scftools.forms import strace
 
 X32, ALL_ONES = 0x40000000, (1 << 64) - 1
 

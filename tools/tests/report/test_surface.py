@@ -23,8 +23,8 @@ from report.test_why import random_filter
 from scftools.model import answers, architectures, tables
 from scftools.model.calls import Call
 from scftools.ask import client, questions
+from scftools.forms import stacks
 from scftools.report import stack_surfaces, surface_output, surfaces
-from scfhost import processes
 
 READ, WRITE, GETPID, SOCKET, EXIT_GROUP = 0, 1, 39, 41, 231
 NAMES = {"read": READ, "write": WRITE, "getpid": GETPID, "socket": SOCKET, "exit_group": EXIT_GROUP, "too": READ}
@@ -743,7 +743,7 @@ class Process(Confined):
         asked = stack_surfaces.Settings(tables.Table(OWN), [])
         for is_strict, status, says in ((True, 4, "has no filter, but seccomp's strict mode"),
                                         (False, 1, "has no filter: it isn't confined, and every syscall is allowed")):
-            inspection = processes.Inspection([processes.Stack((), is_strict, {7: [7]})], {7: b"x"}, {})
+            inspection = stacks.Inspection([stacks.Stack((), is_strict, {7: [7]})], {7: b"x"}, {})
             blocks = stack_surfaces.of_process(inspection, asked)
             self.assertEqual((client.worst(block.status for block in blocks),
                               list(stack_surfaces.lines(blocks, inspection, None))),

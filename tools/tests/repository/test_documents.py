@@ -10,7 +10,7 @@ import subprocess
 import unittest
 
 from support.common import (ALLOW, CORE, PATIENCE, PROGRAM, SCF, TABLE, TOP, Case, filter_of, for_developers, insn, jeq,
-                            load, part, profile_of, ret, source_of)
+                            load, module, part, profile_of, ret)
 from program.test_texts import CODES
 
 TOOLS = sorted(entry.name for entry in os.scandir(os.path.join(TOP, "tools")) if entry.is_file())
@@ -565,8 +565,7 @@ class ManualOfTools(Case):
     def test_lists_and_statuses_are_in_the_pages(self):
         for name, item, printed in (("lint", r"(?m)^    (\S+)", r"\.TP\n\.B (\S+)\n"),
                                     ("needs", r"(?m)^    - (\S+)", r"\.IP \\\(bu 2\n(\S+)")):
-            with open(source_of(name), encoding="utf-8") as file:
-                items = re.findall(item, file.read().split("\n\n", 2)[2].partition("\nExamples:\n")[0])
+            items = re.findall(item, module(name).__doc__.split("\n\n", 2)[2].partition("\nExamples:\n")[0])
             with open(os.path.join(self.folder, f"scf-{name}.1"), encoding="utf-8") as file:
                 description, _, remaining = file.read().replace("\\-", "-").partition(".SH OPTIONS")
             self.assertGreater(len(items), 4)

@@ -21,8 +21,12 @@ DEAR = {"dataclasses", "inspect", "typing"}
 LATE = {"ast", "ctypes", "difflib", "glob", "hashlib", "importlib", "json", "pickle", "resource", "shlex", "signal",
         "subprocess", "syslog", "tempfile", "threading",
         "scfhost.audit_page", "scfhost.processes", "scfhost.ptrace", "scftools.forms.lists.sandboxes",
-        "scftools.lint.sarif", "scftools.logs.cores", "scftools.logs.filter_loads", "scftools.report.pages",
+        "scftools.forms.filter_loads", "scftools.lint.sarif", "scftools.logs.cores", "scftools.report.pages",
         "scftools.report.row_conditions", "scftools.report.stack_comparison"}
+
+# The packages of scftools in their order, and the commands that look at a process.
+ROOMS = "base model ask cli forms report lint logs commands".split()
+ASKING_HOST = ("scftools.commands.surface", "scftools.commands.why")
 
 
 @functools.cache
@@ -86,6 +90,16 @@ class Modules(unittest.TestCase):
         graph = {name: {imported for imported, _ in imports(name) if imported in names} for name in names}
         self.assertGreater(sum(map(len, graph.values())), 100)
         self.assertEqual(cycle_in(graph), [])
+
+    def test_each_package_uses_only_those_before_it(self):
+        """scfhost uses all of scftools, and of that only what looks at a process uses scfhost."""
+        for name in modules():
+            for used in {imported for imported, _ in imports(name) if imported in modules()}:
+                with self.subTest(name, uses=used):
+                    if used.startswith("scfhost."):
+                        self.assertTrue(name.startswith("scfhost.") or name in ASKING_HOST)
+                    elif name.startswith("scftools.") and name != "scftools.launch":
+                        self.assertLessEqual(*(ROOMS.index(module.split(".")[1]) for module in (used, name)))
 
     def test_what_a_cycle_is(self):
         self.assertEqual(cycle_in({"a": {"b"}, "b": {"c"}, "c": {"b"}}), ["b", "c", "b"])

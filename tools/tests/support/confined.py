@@ -13,6 +13,7 @@ import unittest
 
 from .common import ALLOW, EPERM, LOADER, PATIENCE, USER_NOTIF, Case, comes, jeq, load, ret
 from kernel_child import SECCOMP_IOCTL_NOTIF_RECV, SECCOMP_IOCTL_NOTIF_SEND
+from scftools.model import calls
 from scfhost import processes, ptrace
 
 # Its words: a JSON list, for each thread the names of its filters' files, oldest first; the main thread's is the first.
@@ -248,7 +249,7 @@ class FakeKernel:
 
     def registers(self, _):
         """Those of a thread that is in no system call."""
-        return {name: 2**64 - 1 if name == "orig_rax" else 0 for name in ptrace.REGISTERS}
+        return {name: 2**64 - 1 if name == "orig_rax" else 0 for name in calls.REGISTERS}
 
     def waits_for_supervisor(self, _):
         return False

@@ -20,8 +20,7 @@ from ...model.architectures import NATIVE
 from ...model.entries import Condition
 from . import sandbox_rules
 from .sandbox_rules import KILL, LOG, LOWER_HALF, ListError, Policy, Rule, UnknownRules, error_at
-from .unit_restrictions import NAMESPACES, Restriction, SettingError, among, masked, with_all, with_any
-from scfhost.units import answer_of_errno
+from .unit_restrictions import NAMESPACES, Restriction, SettingError, among, answer_of_errno, masked, with_all, with_any
 
 ENOTSUP = Answer("ERRNO", 95)
 SETTINGS = ("seccomp", "seccomp.drop", "seccomp.keep", "seccomp.block-secondary", "seccomp-error-action", "protocol",

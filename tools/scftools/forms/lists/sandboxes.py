@@ -5,7 +5,7 @@ from collections.abc import Callable
 
 from ...base import program
 from ...base.values import Pattern, dataclass
-from ..engines import Refused
+from ...model.profiles import Refused
 from . import firejail_lists, lxc_policies, snap_templates
 from .sandbox_rules import ListError, Policy
 

@@ -13,13 +13,14 @@ src/core/execute.c).
 """
 from __future__ import annotations
 
+import errno
 import re
 import stat
 from collections.abc import Callable, Iterable, Sequence
 
-from ...base.values import dataclass
+from ...base.values import Pattern, dataclass
 from ...model import constants
-from ...model.answers import ENOSYS, Answer
+from ...model.answers import ENOSYS, KILL_PROCESS, MAX_ERRNO, Answer
 from ...model.architectures import I386
 from ...model.entries import GREATEST_VALUE, Condition
 
@@ -43,10 +44,29 @@ SXID = (stat.S_ISUID, stat.S_ISGID)
 CLOCK = ("adjtimex", "clock_adjtime", "clock_adjtime64", "clock_settime", "clock_settime64", "settimeofday")
 MODULE = ("delete_module", "finit_module", "init_module")
 RAW_IO = ("ioperm", "iopl")
+# How `systemctl show` prints the error number of what is killed: SECCOMP_ERROR_NUMBER_KILL, which is INT_MAX - 1; older
+# systemds print 0.
+KILL_NUMBERS = ("2147483646", "0", "kill", "")
+# asm-generic/errno.h; Python's module lacks it.
+ERRNO_NUMBERS = {**{name: number for number, name in errno.errorcode.items()}, "EHWPOISON": 133}
+# An errno as safe_atoi of systemd's basic/parse-util.c reads it: in C's notation, also with the prefixes 0b and 0o.
+ERRNO_NUMBER = Pattern(r"\+?(?:0[xX][0-9a-fA-F]+|0[bB][01]+|0[oO][0-7]+|0[0-7]*|[1-9][0-9]*)|-0", re.A)
 
 
 class SettingError(Exception):
     """A setting that systemd prints, or that is given in its place, isn't as systemd.exec(5) says."""
+
+
+def answer_of_errno(text: str) -> Answer:
+    """The answer of an errno by its name or its number, or of the word `kill`."""
+    if text in (KILL_NUMBERS[0], "kill"):
+        return KILL_PROCESS
+    number = getattr(errno, text, ERRNO_NUMBERS.get(text)) if re.fullmatch("E[A-Z0-9]+", text) else None
+    if number is None and len(text) <= 16 and ERRNO_NUMBER.fullmatch(text):
+        number = int(re.sub("^([+-]?)0(?=[0-7])", r"\g<1>0o", text), 0)
+    if number is None or number > MAX_ERRNO:
+        raise SettingError(f"'{text[:64]}' isn't an errno")
+    return Answer("ERRNO", number)
 
 
 @dataclass(frozen=True)

@@ -12,7 +12,7 @@ from ..model.calls import Call
 from ..model.tables import Table, Tables
 from ..ask import explanation, verdicts
 from ..ask.client import FAULT, Fault
-from ..commands import lint as tool_lint
+from ..lint import kinds
 
 RANKS = "denied < delegated < allowed"
 # What verdicts mean: those of comparisons, and of `audit` and `verify-process`.
@@ -124,7 +124,7 @@ def _of_left_out(line: str, table: Table) -> Iterator[str]:
 
 
 def _of_finding(line: str) -> Iterator[str]:
-    what = tool_lint.kinds().get(line.partition(":")[0])
+    what = kinds.meanings().get(line.partition(":")[0])
     if what is not None:
         yield f"a finding of lint: {what}"
 

@@ -9,8 +9,7 @@ import re
 from collections.abc import Iterable
 
 from ..base.values import Pattern
-from ..forms import c_arrays
-from . import strace
+from . import c_arrays, strace
 from .confinement import SUPERSEDED, Confinement
 
 # The most filters that are loaded in a log, and the most bytes of a line, which holds a filter of 4096 instructions.
