@@ -29,18 +29,18 @@ class Scf:
     """What scf says: its commands."""
 
     def check(self, data: bytes) -> str:
-        return client.run(["check"], data).lines[0]
+        return client.run_scf(["check"], data).lines[0]
 
     def run(self, data: bytes, call: Call) -> str:
         """The answer, without the steps."""
-        return client.run(["run", *call.words()], data).lines[0].split(" steps ")[0]
+        return client.run_scf(["run", *call.words()], data).lines[0].split(" steps ")[0]
 
     def decide(self, filters: Sequence[bytes], call: Call) -> str:
-        return client.run(["decide", *call.words()], bundles.of_stack(filters)).lines[0]
+        return client.run_scf(["decide", *call.words()], bundles.stack_bundle(filters)).lines[0]
 
     def compile(self, profile: bytes, table: bytes) -> bytes | str:
         """The filter, or the line that refuses the profile."""
-        done = client.run(["compile"], bundles.of_compilation(profile, tables.native_alone(table)))
+        done = client.run_scf(["compile"], bundles.compilation_bundle(profile, tables.native_alone(table)))
         return done.lines[0] if done.status else done.out
 
 

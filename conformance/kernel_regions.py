@@ -79,7 +79,7 @@ class Trial:
         self.kernel, self.filters = kernel, filters
         self.tried: Counter[str] = Counter()
         self.left_out: Counter[str] = Counter()
-        regions_found = regions.of_filters(filters)
+        regions_found = regions.regions_of_filters(filters)
         self.regions = [] if regions_found is None else regions_found
         records: list[tuple[Call, Answer]] = []
         for region in self.regions:

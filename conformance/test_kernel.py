@@ -153,7 +153,7 @@ class Regions(Asked):
         program = [word.format(folder=self.folder) for word in words]
         subprocess.run([*STRACE, log, "timeout", "--signal=KILL", "3", *program],
                        stdin=subprocess.DEVNULL, stdout=subprocess.DEVNULL, stderr=subprocess.DEVNULL, check=False)
-        stacks = filter_loads.stacks_in(strace.lines(log, filter_loads.LONGEST_LOAD))
+        stacks = filter_loads.stacks_in(strace.log_lines(log, filter_loads.LONGEST_LOAD))
         return [[self.file(f"{words[0]}.{stack}.{at}", data) for at, data in enumerate(filters)]
                 for stack, filters in enumerate(stacks)]
 
@@ -186,9 +186,10 @@ class Regions(Asked):
     def test_what_differs_is_seen(self):
         """Regions that have the answer of another one."""
         data = refusing(9)
+        right = regions.regions_of_filters([data])
         wrong = [regions.Region(region.line, ALLOWED, region.entry, True, region.words,
-                                str(kernel_cases.line_of(region.call))) for region in regions.of_filters([data])]
-        with mock.patch.object(regions, "of_filters", lambda _: wrong):
+                                str(kernel_cases.line_of(region.call))) for region in right]
+        with mock.patch.object(regions, "regions_of_filters", lambda _: wrong):
             trial = kernel_regions.Trial(the_kernel(), [data], True)
         self.assertEqual(len(trial.differences), 1)
         self.assertRegex(trial.differences[0], r"nr 9 .*: scf says ALLOW, the kernel: returns -1\Z")

@@ -235,7 +235,7 @@ class Audit:
 
 def stack_digest(filters: Sequence[bytes]) -> str:
     """The SHA-256 of the bundle of a stack's filters."""
-    return sha256(bundles.of_stack(filters))
+    return sha256(bundles.stack_bundle(filters))
 
 
 class Cache:
@@ -480,7 +480,7 @@ class Expectations:
             policy_path = sandbox_programs.lxc_policy(container.read, path)
             if policy_path is None:
                 return Expectation(source=path)
-            policy = lxc_policies.read(container.read(policy_path, sandbox_rules.MOST_LIST_BYTES))
+            policy = lxc_policies.read_lxc_policy(container.read(policy_path, sandbox_rules.MOST_LIST_BYTES))
             policies = [policy, *policy.others] if self.options.scope is None else [policy]
             return self._of_groups([(each.data(), each.architectures) for each in policies], policy_path)
 
@@ -720,7 +720,7 @@ class Assessor:
         try:
             remaining = until - time.monotonic()
             if remaining > 0:
-                outcome, news = child.run(work, remaining)
+                outcome, news = child.run_in_child(work, remaining)
                 for key, judgement in news.items():
                     self.judge.keep(key, judgement)
                 return outcome
@@ -751,10 +751,10 @@ def _look_again(kernel: Kernel, snapshot: Snapshot, rows: Iterable[AuditRow], op
     return again
 
 
-def of_machine(options: Options, judge: StackJudge) -> Audit:
+def audit_machine(options: Options, judge: StackJudge) -> Audit:
     """Audits the machine; `judge` keeps its results for the next time."""
     began, kernel = time.monotonic(), Kernel()
-    audit = Audit([], machine.read(kernel, options.is_forced), time.time(),
+    audit = Audit([], machine.read_machine(kernel, options.is_forced), time.time(),
                   allows_unconfined=options.allows_unconfined)
     audit.snapshot.notes += [f"no folder is --runtime-root {output.escaped(root)}" for root in options.roots
                              if not container_files.is_there(root)]

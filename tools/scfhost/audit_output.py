@@ -111,7 +111,7 @@ def summary(audit: Audit, unlisted: int = 0) -> Iterator[str]:
     yield from audit.snapshot.notes
 
 
-def lines(audit: Audit, table: Table, lists_all: bool = True, earlier: Earlier | None = None) -> Iterator[str]:
+def audit_lines(audit: Audit, table: Table, lists_all: bool = True, earlier: Earlier | None = None) -> Iterator[str]:
     """The text output: the rows, without the programs that are only counted unless `lists_all`; the changes since an
     earlier audit; and the summary."""
     listed = [row for row in audit.rows if lists_all or not row.is_only_counted]
@@ -249,7 +249,7 @@ def head_json(audit: Audit, earlier: Earlier | None = None) -> dict[str, object]
                        for stack in audit.stacks]}
 
 
-def as_json(audit: Audit, table: Table, earlier: Earlier | None = None) -> dict[str, object]:
+def audit_json(audit: Audit, table: Table, earlier: Earlier | None = None) -> dict[str, object]:
     *rows, head = json_lines(audit, table, earlier)
     return {**head, "rows": rows}
 

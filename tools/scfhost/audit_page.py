@@ -48,7 +48,7 @@ def repeat(row: AuditRow, part: RowPart) -> list[str]:
 
 def _head(audit: Audit) -> Iterator[Markup]:
     system = os.uname()
-    version = client.run(["--version"]).text.strip()
+    version = client.run_scf(["--version"]).text.strip()
     yield tag("h1", f"seccomp audit of {output.escaped(system.nodename)}")
     yield tag("p", f"{audit_output.time_text(audit.time)} · Linux {system.release} · {version} · "
                    f"{audit.seconds:.2f} seconds")
@@ -141,7 +141,7 @@ def _surfaces(stacks: list[Stack], table_of: Table) -> list[Surface | None]:
     for stack in stacks:
         client.begin_limits()
         try:
-            surfaces_of_stacks.append(surfaces.of_filters(stack.filters, table_of))
+            surfaces_of_stacks.append(surfaces.surface_of_filters(stack.filters, table_of))
         except client.Refusal:
             surfaces_of_stacks.append(None)
     return surfaces_of_stacks

@@ -102,7 +102,7 @@ class ContainerDescription:
     def read(self, path: str, most: int) -> bytes:
         """The bytes of a file that says more about it: of a user's container only one that this user could have
         written, and of root's only one that no user could have."""
-        data, users = owned_files.read(path, most)
+        data, users = owned_files.read_owned_file(path, most)
         others = {user for user in users - {self.user} if not is_mapped(self.first, user)}
         if self.user is not None and (not users or others - {ANYONE}):
             raise UnreadableFile(f"'{path}' isn't user {self.user}'s own")
@@ -132,7 +132,7 @@ def paths_matching(pattern: str) -> list[str]:
 def is_there(pattern: str) -> bool:
     """Whether a folder matches a pattern, or that isn't known soon: a user may answer, and never."""
     try:
-        return child.run(lambda: any(map(os.path.isdir, paths_matching(pattern))), READING_SECONDS_OF_A_USER)
+        return child.run_in_child(lambda: any(map(os.path.isdir, paths_matching(pattern))), READING_SECONDS_OF_A_USER)
     except (child.Late, child.Died):
         return True
 
@@ -191,7 +191,7 @@ def _state_in(kernel: Kernel, folder: str) -> ContainerDescription | None:
     for name, runtime in STATE_FILES.items():
         path = os.path.join(folder, name)
         try:
-            data, users = owned_files.read(path, STATE_BYTES_OF_ROOT, STATE_BYTES)
+            data, users = owned_files.read_owned_file(path, STATE_BYTES_OF_ROOT, STATE_BYTES)
         except Absent:
             continue
         user = _user_of(path, users)
@@ -237,7 +237,7 @@ def _of_engine(_: Kernel, folder: str) -> ContainerDescription | None:
     """The container of a bundle of containerd's, of which only an engine's own files are known."""
     path = os.path.join(folder, "init.pid")
     try:
-        data, users = owned_files.read(path, STATE_BYTES)
+        data, users = owned_files.read_owned_file(path, STATE_BYTES)
     except Absent:
         return None
     first = int(data[:12])
@@ -279,7 +279,7 @@ def _in_child(kernel: Kernel, patterns: Iterable[str], whose: str, seconds: floa
     """The containers in these folders, read in a child process, which ends in time whatever file system a user
     has put there."""
     try:
-        return child.run(lambda: _in_roots(kernel, patterns, whose), seconds)
+        return child.run_in_child(lambda: _in_roots(kernel, patterns, whose), seconds)
     except child.Interrupted:
         raise
     except (child.Late, child.Died):
@@ -384,7 +384,7 @@ def with_config(container: ContainerDescription) -> ContainerDescription:
     if not container.config:
         return replace(container, why="its runtime's files name no bundle")
     try:
-        return _as_started(replace(container, configuration=engines.read(
+        return _as_started(replace(container, configuration=engines.parse_json(
             container.read(container.config, CONFIG_BYTES))))
     except UnreadableFile as why:
         return replace(container, why=str(why))

@@ -114,7 +114,7 @@ def configuration_of(container: ContainerState) -> dict[str, Any] | None:
     """The seccomp configuration of the container's config.json, as `verify.seccomp_in`."""
     name = os.path.join(container.bundle, verify.CONFIG)
     try:
-        value = engines.read(contents(name))
+        value = engines.parse_json(contents(name))
     except (program.ToolError, profiles.Refused) as why:
         raise ContainerError(f"the container's configuration: {why}") from why
     return verify.seccomp_in(value, name)
@@ -276,12 +276,12 @@ def finding_of(inspection: Inspection, request: verify.Request, process: Contain
         remarks += filter(None, [verify.other_runtime([process.container.name], runtime)])
 
     def lines() -> list[str]:
-        report_lines = [line for line in verify.lines(blocks, inspection, request)
+        report_lines = [line for line in verify.verification_lines(blocks, inspection, request)
                         if line and not line.startswith(verdicts.LEFT_OUT)]
         return report_lines + [f"# {remark}" for remark in remarks]
 
     def value() -> dict[str, object]:
-        report_value = verify.as_json(blocks, inspection, request, None)
+        report_value = verify.verification_json(blocks, inspection, request, None)
         return {**report_value, "status": status, "verdict": verdict, "remarks": remarks}
 
     return HookResult(status, verdict, lines, value)

@@ -146,7 +146,7 @@ def _left_out(kernel: Kernel, why: str | None) -> list[str]:
     return lines
 
 
-def read(kernel: Kernel, is_forced: bool = False) -> Snapshot:
+def read_machine(kernel: Kernel, is_forced: bool = False) -> Snapshot:
     """All processes, each as it was at some moment of the pass."""
     why, until = why_no_filters(kernel), time.monotonic() + machine_pass.LONGEST_PASS
     snapshot = Snapshot(left_out=_left_out(kernel, why))
@@ -181,7 +181,8 @@ def read_more(kernel: Kernel, snapshot: Snapshot, numbers: Iterable[int], is_for
 
 def _add_filters(kernel: Kernel, snapshot: Snapshot, confined: list[Process], is_forced: bool, until: float) -> None:
     """Adds the filters of processes of a snapshot to it; those that have ended meanwhile are forgotten."""
-    passed = machine_pass.read(kernel, {process.number: process.owner for process in confined}, is_forced, until)
+    owners = {process.number: process.owner for process in confined}
+    passed = machine_pass.read_processes(kernel, owners, is_forced, until)
     for key, stack in passed.stacks.items():
         for number, threads in stack.threads.items():
             snapshot.add(key, number, threads)

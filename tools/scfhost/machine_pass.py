@@ -231,7 +231,7 @@ class PassResult:
                 self.unread[number] = why
 
 
-def read(kernel: Kernel, users: dict[int, int], is_forced: bool, until: float) -> PassResult:
+def read_processes(kernel: Kernel, users: dict[int, int], is_forced: bool, until: float) -> PassResult:
     """Reads processes, given the users who answer for them, until this time at the latest."""
     result = PassResult(users)
     with mmap.mmap(-1, 9) as shared:
@@ -243,7 +243,7 @@ def read(kernel: Kernel, users: dict[int, int], is_forced: bool, until: float) -
         while result.waiting and sum(result.ended.values()) < LONGEST_PASS / TO_ANSWER:
             shared[:] = bytes(9)
             try:
-                child.run(work, max(until - time.monotonic(), 0) + TO_READ, result.receive)
+                child.run_in_child(work, max(until - time.monotonic(), 0) + TO_READ, result.receive)
                 break
             except (child.Late, child.Died):
                 number, (why, seconds) = int.from_bytes(shared[:8], "little"), \

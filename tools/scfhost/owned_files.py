@@ -117,7 +117,7 @@ def opened(path: str) -> Iterator[OwnedFile]:
         os.close(place.file)
 
 
-def read(path: str, most: int, most_of_users: int | None = None) -> tuple[bytes, frozenset[int]]:
+def read_owned_file(path: str, most: int, most_of_users: int | None = None) -> tuple[bytes, frozenset[int]]:
     """The bytes of a regular file, at most so many, and the users who could have changed them, with root among them if
     the file is root's and a folder on its path isn't; `most_of_users` is the limit if there are any."""
     with opened(path) as place:
@@ -134,7 +134,7 @@ def read(path: str, most: int, most_of_users: int | None = None) -> tuple[bytes,
 
 def read_own(path: str, most: int) -> bytes:
     """The bytes of a file that only root, or the user of this tool, could have changed."""
-    data, users = read(path, most)
+    data, users = read_owned_file(path, most)
     if users:
         raise UnreadableFile(f"'{path}' may be changed by users")
     return data

@@ -72,7 +72,7 @@ def read_threads(kernel: Kernel, listed: Callable[[], dict[int, int]], patience:
 def look(kernel: Kernel, listed: Callable[[], dict[int, int]], patience: float, is_forced: bool) -> Inspection:
     """Reads all threads that are listed, in a child process, so that it ends in time whatever it waits for."""
     try:
-        return child.run(lambda: read_threads(kernel, listed, TO_STOP * patience, is_forced), patience)
+        return child.run_in_child(lambda: read_threads(kernel, listed, TO_STOP * patience, is_forced), patience)
     except child.Late as late:
         raise Unreadable(f"the threads couldn't be read within {patience:g} seconds: the kernel makes a tracer wait, "
                          f"as for a thread that executes a program; all stopped threads continue") from late

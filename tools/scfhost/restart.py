@@ -154,7 +154,7 @@ class Restarts:
             return known[call]
         if filters not in self.lookups and len(known) >= FEW_CALLS and self.remaining_runs > 0:
             printed = self.run(["answers", "--examples", f"--limit={LOOKUP_STEPS}"], filters)
-            self.lookups[filters] = Lookup(regions.read(printed))
+            self.lookups[filters] = Lookup(regions.parse_regions(printed))
         region = self.lookups[filters].of(call) if filters in self.lookups else None
         if region is not None or self.remaining_runs <= 0:
             return None if region is None else region.answer
@@ -166,6 +166,6 @@ class Restarts:
         run."""
         self.remaining_runs -= 1
         try:
-            return client.run(words, bundles.of_stack(filters), may_build=False).text
+            return client.run_scf(words, bundles.stack_bundle(filters), may_build=False).text
         except (program.ToolError, OSError):
             return ""

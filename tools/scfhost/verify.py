@@ -99,8 +99,8 @@ class Request:
     def is_accepted(self) -> bool:
         """Whether scf takes the profile, or leaves it to the runtimes, which accept two answers to a syscall, and two
         conditions on one argument."""
-        judged = tables.of_profile(self.profile, self.table, self.scope == verdicts.NATIVE_SCOPE)
-        fault = reasons.of(self.profile, judged, ()).fault
+        judged = tables.tables_of_profile(self.profile, self.table, self.scope == verdicts.NATIVE_SCOPE)
+        fault = reasons.profile_reason(self.profile, judged, ()).fault
         return fault is None or fault.kind in ("Conflict", "RepeatedIndex")
 
     def judge(self, stack: Stack) -> Block:
@@ -118,13 +118,13 @@ class Request:
 
     def notes(self, block: Block) -> Iterator[str]:
         """What is added to scf's lines."""
-        yield from compare_output.notes(block.comparison, block.report, block.scope)
+        yield from compare_output.comparison_notes(block.comparison, block.report, block.scope)
         if block.stub and self.applied is not None:
             yield from self.applied.stub_notes(block.stub)
         yield from compare_output.foreign_lines(block.comparison, block.report, block.scope)
 
     def as_json(self, block: Block) -> dict[str, object]:
-        members = compare_output.as_json(block.comparison, block.report, block.scope, block.status)
+        members = compare_output.comparison_json(block.comparison, block.report, block.scope, block.status)
         return {**members, "stub": block.stub} if block.stub else members
 
 
@@ -132,7 +132,7 @@ def configuration_in(data: bytes) -> dict[str, Any] | None:
     """A container's configuration (config.json) as JSON; None if a text is something else, or can't be read. Raises
     ContainerError if it is a container's state."""
     try:
-        value = engines.read(data)
+        value = engines.parse_json(data)
     except profiles.Refused:
         return None
     if not isinstance(value, dict) or value.get("defaultAction") is not None:
@@ -261,7 +261,7 @@ class SavedRequest:
         return stack_comparison.added(block.comparison, block.report, block.scope)
 
     def as_json(self, block: Block) -> dict[str, object]:
-        return stack_comparison.as_json(block.comparison, block.report, block.scope, block.status)
+        return stack_comparison.stack_comparison_json(block.comparison, block.report, block.scope, block.status)
 
 
 def blocks(inspection: Inspection, request: Request | SavedRequest) -> list[Block]:
@@ -270,8 +270,8 @@ def blocks(inspection: Inspection, request: Request | SavedRequest) -> list[Bloc
                      lambda stack, status: Block(stack, status, configured=request.configured))
 
 
-def lines(made: Sequence[Block], inspection: Inspection, request: Request | SavedRequest, is_verbose: bool = False) -> \
-        Iterator[str]:
+def verification_lines(made: Sequence[Block], inspection: Inspection, request: Request | SavedRequest,
+                       is_verbose: bool = False) -> Iterator[str]:
     """The text output: scf's lines for each block, with --verbose also the skipped names, and then added lines,
     marked by `# `."""
     is_printed = False
@@ -298,9 +298,10 @@ def _block_json(block: Block, inspection: Inspection, request: Request | SavedRe
     return {**members, **block.stack.as_json(inspection.names)}
 
 
-def as_json(made: Sequence[Block], inspection: Inspection, request: Request | SavedRequest, container: str | None) -> \
-        dict[str, object]:
-    """The object with everything that `lines` prints, and the container: the verdict is that of the worst stack."""
+def verification_json(made: Sequence[Block], inspection: Inspection, request: Request | SavedRequest,
+                      container: str | None) -> dict[str, object]:
+    """The object with everything that `verification_lines` prints, and the container: the verdict is that of the
+    worst stack."""
     scope = request.scope or next((block.scope for block in made if block.report is not None), verdicts.NATIVE_SCOPE)
     return {"status": made[0].status, "scope": scope, "verdict": made[0].verdict, "container": container,
             "stacks": [_block_json(block, inspection, request) for block in made],

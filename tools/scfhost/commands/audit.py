@@ -87,9 +87,9 @@ def read_words():
 
 def options_of(given):
     def profile(name):
-        return None if name is None else (name, profile_inputs.read(name, is_runtimes=True).data)
+        return None if name is None else (name, profile_inputs.read_profile(name, is_runtimes=True).data)
 
-    return audit.Options(tables.read(given.table), profile(given.expect), profile(given.baseline),
+    return audit.Options(tables.read_table(given.table), profile(given.expect), profile(given.baseline),
                          given.force, given.allow_unconfined, tuple(given.runtime_root),
                          verdicts.NATIVE_SCOPE if given.native else None)
 
@@ -115,12 +115,12 @@ def write(report, given, options, earlier):
 def show(report, given, table, earlier):
     """Prints an audit, and what changed since an earlier one."""
     if given.json:
-        output.put_json(audit_output.as_json(report, table, earlier))
+        output.put_json(audit_output.audit_json(report, table, earlier))
     elif given.json_lines:
         for value in audit_output.json_lines(report, table, earlier):
             output.put_json(value)
     else:
-        output.put_lines(audit_output.lines(report, table, given.programs, earlier))
+        output.put_lines(audit_output.audit_lines(report, table, given.programs, earlier))
 
 
 def show_changes(before, report, given):
@@ -144,7 +144,7 @@ def main():
     options.check()
     judge = audit.StackJudge(options.table, progress)
     while True:
-        report = processes.read_or_end(lambda: audit.of_machine(options, judge), is_json=given.json)
+        report = processes.read_or_end(lambda: audit.audit_machine(options, judge), is_json=given.json)
         progress(None)
         write(report, given, options, earlier)
         if before is None or given.json:

@@ -84,7 +84,7 @@ def the_one_stack(stacks, process):
 def loaded_in(log, label, thread, hint):
     """The stack that the processes of a log share, or that one thread has; the hint says how to take that."""
     try:
-        stacks = filter_loads.stacks_in(strace.lines(log, filter_loads.LONGEST_LOAD))
+        stacks = filter_loads.stacks_in(strace.log_lines(log, filter_loads.LONGEST_LOAD))
     except c_arrays.NotAnArray as why:
         raise program.ToolError(f"the filters in {label} can't be read: {why}", program.IO_ERROR) from why
     if thread is not None:
@@ -104,7 +104,7 @@ def of_program(options):
     """Runs the program: the stack that it loads, and its status."""
     with tempfile.TemporaryDirectory(prefix="scf-filters-of-") as folder:
         log = os.path.join(folder, "log")
-        status = tracing.run(log, TRACING_OPTIONS, options.traced)
+        status = tracing.run_traced(log, TRACING_OPTIONS, options.traced)
         hint = "its numbers change: `strace -f -v -o LOG` before it writes them, and --log LOG --thread"
         return loaded_in(log, "the program", options.thread, hint), status
 

@@ -93,7 +93,7 @@ def judge(options, process):
                                    "the configuration has no seccomp profile: " + (
                                        "the container's first process has a filter that isn't its runtime's"
                                        if is_confined else "the container isn't confined"))
-    asked = verify.request_of(config, options.runtime, options.keep_first, tables.read(options.table),
+    asked = verify.request_of(config, options.runtime, options.keep_first, tables.read_table(options.table),
                               RELATION_OF_POLICY[options.policy], verdicts.NATIVE_SCOPE if options.native else None)
     return hooks.finding_of(process.confined(options.wait, options.force), asked, process)
 

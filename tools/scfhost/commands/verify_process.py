@@ -120,7 +120,7 @@ def read_profile(name, is_engines):
     if os.path.exists(os.path.join(name, verify.CONFIG)):
         raise program.ToolError(f"'{name}' is a bundle's folder: take the file {verify.CONFIG} in it")
     try:
-        return inputs.read_whole(name, "engine's profile") if is_engines else inputs.read(name, "profile")
+        return inputs.read_whole(name, "engine's profile") if is_engines else inputs.read_input(name, "profile")
     except program.ToolError as why:
         if not isinstance(why.__cause__, FileNotFoundError) or os.path.basename(name) != verify.CONFIG:
             raise
@@ -130,7 +130,7 @@ def read_profile(name, is_engines):
 
 def request_of(options, kernel):
     """How each stack is compared, and with what."""
-    settings = tables.read(options.table), options.scope, options.relation
+    settings = tables.read_table(options.table), options.scope, options.relation
     if options.beside is not None:
         return verify.SavedRequest(verify.read_saved(options.beside), *settings)
     name, runtime = options.profile, options.runtime
@@ -173,12 +173,13 @@ def main():
     remarks = [*request.remarks, *other_runtime(options, kernel, request, blocks[0])]
     if options.json:
         group = None if container is None else container.description
-        value = {**verify.as_json(blocks, inspection, request, group), "status": status, "not_checked": others}
+        value = {**verify.verification_json(blocks, inspection, request, group), "status": status,
+                 "not_checked": others}
         if options.runtime is not None or remarks:
             value["remarks"] = remarks
         output.put_json({**value, "verdict": None} if is_unknown else value)
         return status
-    output.put_lines(verify.lines(blocks, inspection, request, options.verbose))
+    output.put_lines(verify.verification_lines(blocks, inspection, request, options.verbose))
     output.put_lines(output.notes(remarks))
     if others is not None:
         output.put_line(f"# {others}")

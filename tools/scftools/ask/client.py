@@ -152,7 +152,8 @@ def _limit(child: int, seconds: float | None) -> None:
             pass
 
 
-def run(words: Sequence[str], given: bytes | None = b"", seconds: float | None = None, may_build: bool = True) -> Run:
+def run_scf(words: Sequence[str], given: bytes | None = b"", seconds: float | None = None,
+            may_build: bool = True) -> Run:
     """Runs scf on these bytes, or if they are None on this process's standard input.
 
     After so many seconds of CPU time it is killed, and the result is empty and UNKNOWN. If scf isn't built, its
@@ -168,7 +169,7 @@ def run(words: Sequence[str], given: bytes | None = b"", seconds: float | None =
 
 
 def _run(words: Sequence[str], given: bytes | None, seconds: float | None, may_build: bool) -> Run:
-    """The run of scf that `run` needs."""
+    """The run of scf that `run_scf` needs."""
     path, before = _command()
     if path == SCF and not may_build:
         return Run(NOT_BUILT, b"")
@@ -210,7 +211,7 @@ def become(words: Sequence[str]) -> NoReturn:
 
 def compile_profile(profile: bytes, tables: Tables) -> bytes:
     """The filter of a profile for the architectures of these tables. Raises Refusal."""
-    done = run(["compile", *tables.words], bundles.of_compilation(profile, tables))
+    done = run_scf(["compile", *tables.words], bundles.compilation_bundle(profile, tables))
     if done.status != SUCCESS:
         raise Refusal(done.line, done.status)
     return done.out
@@ -255,13 +256,13 @@ def _limited(words: Sequence[str], bundle: bytes) -> Run:
     reports once that it is up."""
     global _is_spent_reported, _seconds_of_scf  # pylint: disable=global-statement
     if "limit" in limits or not program.is_tool:
-        return run(words, bundle)
+        return run_scf(words, bundle)
     if built_program() is None:
         # the time to build it doesn't count
-        run(["--version"])
+        run_scf(["--version"])
     for steps, until in (([], SECONDS), ([f"--limit={FEW_STEPS}"], ALL_SECONDS)):
         remaining, before = _seconds_left(until), sum(os.times()[2:4])
-        done = run([*words, *steps], bundle, remaining) if remaining > 0 else None
+        done = run_scf([*words, *steps], bundle, remaining) if remaining > 0 else None
         if _seconds_of_scf is not None:
             _seconds_of_scf += sum(os.times()[2:4]) - before
         if done is not None and done.out:
@@ -269,4 +270,4 @@ def _limited(words: Sequence[str], bundle: bytes) -> Run:
         if not _is_spent_reported:
             program.say(SPENT)
         _is_spent_reported = True
-    return run([*words, "--limit=0"], bundle)
+    return run_scf([*words, "--limit=0"], bundle)

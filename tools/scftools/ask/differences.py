@@ -187,7 +187,7 @@ class Sides:
             region = self.differences.of(verdict.call)
             for answer, filters in zip(shown, self.stacks):
                 if region is None or (region.answer, region.beside.answer) != shown:
-                    again = verdicts.decision(client.run(["decide", *words], bundles.of_stack(filters)).text)
+                    again = verdicts.decision(client.run_scf(["decide", *words], bundles.stack_bundle(filters)).text)
                     if answer is None or again.answer != answer:
                         raise program.InternalError(f"the filters answer {again.answer or again.line} where {answer} "
                                                     f"would be shown, to {' '.join(words)}")

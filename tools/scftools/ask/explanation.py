@@ -50,7 +50,7 @@ def what_a_row_says(line: str) -> list[str]:
     return _rows().get(_key(line), ["docs/FAULTS.md doesn't name this line."])
 
 
-def of_fault(fault: Fault, table: Table | None = None) -> Iterator[str]:
+def explain_fault(fault: Fault, table: Table | None = None) -> Iterator[str]:
     """The explanation of a fault, and what to do; with a table also the x86-64 syscall of which two entries
     conflict."""
     yield from what_a_row_says(fault.line)
@@ -58,13 +58,13 @@ def of_fault(fault: Fault, table: Table | None = None) -> Iterator[str]:
         yield f"the syscall is {Call(fault.numbers['number']).describe(table)}"
 
 
-def of_line(line: str) -> Iterator[str]:
+def explain_line(line: str) -> Iterator[str]:
     """The explanation of a line of scf, if it is a fault."""
     fault = Fault.read(line)
-    yield from of_fault(fault) if fault is not None else ()
+    yield from explain_fault(fault) if fault is not None else ()
 
 
-def of_call(call: Call, table: Table, is_native: bool | None = None) -> Iterator[str]:
+def explain_call(call: Call, table: Table, is_native: bool | None = None) -> Iterator[str]:
     """A syscall's name, with the arguments as C would have them, and whether --native leaves it out, if that could be
     given."""
     shown = call.as_c(table) if any(call.arguments) else None
@@ -74,11 +74,11 @@ def of_call(call: Call, table: Table, is_native: bool | None = None) -> Iterator
         yield f"--native leaves out {what}"
 
 
-def of_differing(verdict: verdicts.Verdict, table: Table, is_native: bool, count: int) -> Iterator[str]:
+def explain_differing(verdict: verdicts.Verdict, table: Table, is_native: bool, count: int) -> Iterator[str]:
     """The syscall that differs, and what both answers do; for `more` and `less` also both dispositions."""
     if verdict.call is None:
         return
-    yield from of_call(verdict.call, table, is_native)
+    yield from explain_call(verdict.call, table, is_native)
     if verdict.filters:
         yield f"{'the filters answer' if count > 1 else 'the filter answers'} {verdict.filters.describe()}"
     if verdict.profile:
@@ -89,19 +89,19 @@ def of_differing(verdict: verdicts.Verdict, table: Table, is_native: bool, count
         yield f"the syscall is {filters} by the filter{'s' * (count > 1)}, and {profile} by the profile"
 
 
-def of_verdict(report: Report, table: Table, is_native: bool, count: int) -> Iterator[str]:
+def explain_verdict(report: Report, table: Table, is_native: bool, count: int) -> Iterator[str]:
     """The explanation of a verdict on `count` filters, except for what was left out of the profile."""
     verdict = report.verdict
     if verdict is None:
         return
     if verdict.fails or verdict.word == verdicts.UNDETERMINED:
-        yield from of_differing(verdict, table, is_native, count)
+        yield from explain_differing(verdict, table, is_native, count)
     elif not verdict.holds:
         when, *what_to_do = what_a_row_says(report.lines[0])
         yield from (when, *([MORE_SPLITS] if verdict.word == verdicts.UNDECIDED else what_to_do))
 
 
-def of_skipped(report: Report, judged: Tables, default_lets_through: bool) -> Iterator[str]:
+def explain_skipped(report: Report, judged: Tables, default_lets_through: bool) -> Iterator[str]:
     """Lines on the skipped names, and on what is lost with them."""
     if not report.skipped:
         return
@@ -122,7 +122,7 @@ def of_skipped(report: Report, judged: Tables, default_lets_through: bool) -> It
         yield "the profile's default allows syscalls: the rules for these names are lost"
 
 
-def of_architectures(report: Report) -> Iterator[str]:
+def explain_architectures(report: Report) -> Iterator[str]:
     """Which architectures of a profile aren't judged, and why."""
     left_out = [architecture
                 for architecture in dict.fromkeys(report.architectures) if architecture in architectures.JUDGED]
@@ -132,8 +132,8 @@ def of_architectures(report: Report) -> Iterator[str]:
         yield "the profile's other architectures aren't judged, since scf has no table of them"
 
 
-def of_answer(call: Call | None, answer: Answer, table: Table) -> Iterator[str]:
+def explain_answer(call: Call | None, answer: Answer, table: Table) -> Iterator[str]:
     """The syscall, and what an answer to it does."""
     if call is not None:
-        yield from of_call(call, table)
+        yield from explain_call(call, table)
     yield answer.describe()

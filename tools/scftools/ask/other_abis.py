@@ -71,7 +71,8 @@ def _asked(asker: Asker) -> AbiAccess:
     return AbiAccess(architecture, is_decided=verdict.holds)
 
 
-def of_abi(filters: Sequence[bytes], filter_regions: Sequence[Region] | None, architecture: Architecture) -> AbiAccess:
+def abi_access(filters: Sequence[bytes], filter_regions: Sequence[Region] | None,
+               architecture: Architecture) -> AbiAccess:
     """Whether filters with these regions, or with these differences from a profile that denies the ABI, or None if they
     are unfinished, allow a syscall of an ABI."""
     numbers = Numbers(filter_regions, architecture, _last(architecture))
@@ -86,9 +87,9 @@ def of_abi(filters: Sequence[bytes], filter_regions: Sequence[Region] | None, ar
     return AbiAccess(architecture) if are_decided else _asked(Asker(filters, architecture))
 
 
-def of_machine(filters: Sequence[bytes], filter_regions: Sequence[Region] | None, machine: str) -> list[AbiAccess]:
+def machine_access(filters: Sequence[bytes], filter_regions: Sequence[Region] | None, machine: str) -> list[AbiAccess]:
     """The access of each other ABI of a machine."""
-    return [of_abi(filters, filter_regions, architecture) for architecture in OF_MACHINES[machine]]
+    return [abi_access(filters, filter_regions, architecture) for architecture in OF_MACHINES[machine]]
 
 
 def are_none(accesses: Sequence[AbiAccess]) -> bool:
@@ -96,7 +97,7 @@ def are_none(accesses: Sequence[AbiAccess]) -> bool:
     return all(access.are_denied for access in accesses)
 
 
-def describe(accesses: Sequence[AbiAccess], profile_names: Sequence[str] = ()) -> list[str]:
+def access_lines(accesses: Sequence[AbiAccess], profile_names: Sequence[str] = ()) -> list[str]:
     """A line for each ABI, or one for all that are denied, given a profile that names these other architectures."""
     if are_none(accesses):
         return [EVERY_SYSCALL_DENIED.format(join_names([access.abi.name for access in accesses]))]

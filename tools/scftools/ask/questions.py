@@ -57,7 +57,7 @@ class Asker:
 
     def check(self, table: Table) -> None:
         """Raises Refusal if scf refuses a table that isn't its own."""
-        usual_table = tables.of_architecture(self.architecture.oci)
+        usual_table = tables.architecture_table(self.architecture.oci)
         if usual_table is None or table.data != usual_table.data:
             client.compile_profile(self._profile_of(IS_ALLOWED), Tables({self.architecture.oci: table}))
 
@@ -77,7 +77,7 @@ class Asker:
 
     def decided(self, call: Call) -> Answer | None:
         """The filters' answer to a record."""
-        done = client.run(["decide", *call.words()], bundles.of_stack(self.filters))
+        done = client.run_scf(["decide", *call.words()], bundles.stack_bundle(self.filters))
         return verdicts.decision(done.text).answer
 
 

@@ -39,13 +39,13 @@ class Reason:
     fault: Fault | None = None
 
 
-def of(profile: bytes, judged: Tables, words: Sequence[str]) -> Reason:
+def profile_reason(profile: bytes, judged: Tables, words: Sequence[str]) -> Reason:
     """A profile's reason for the record that scf's options give."""
-    done = client.run(["ask", *judged.words, *words], bundles.of_compilation(profile, judged))
+    done = client.run_scf(["ask", *judged.words, *words], bundles.compilation_bundle(profile, judged))
     return _read(done.status, done.text)
 
 
-def of_region(line: str) -> Reason:
+def region_reason(line: str) -> Reason:
     """The reason of all records of a region of a profile, by its line."""
     return _read(program.SUCCESS, line)
 
@@ -60,7 +60,7 @@ def _read(status: int, text: str) -> Reason:
 
 
 def members_of(line: str) -> dict[str, object]:
-    """The members of `as_json` that a line of `scf ask` gives, without the profile."""
+    """The members of `reason_json` that a line of `scf ask` gives, without the profile."""
     word, *index = line.split(" ")[2:]
     return {"reason": word, **({"entry": int(index[0])} if index else {})}
 
@@ -95,7 +95,7 @@ def index_of(reason: Reason, origins: Sequence[Origin] | None) -> int | None:
     return reason.entry if reason.entry is None or origins is None else origins[reason.entry].index
 
 
-def describe(reason: Reason, profile: bytes, call: Call | None,
+def describe_reason(reason: Reason, profile: bytes, call: Call | None,
              origins: Sequence[Origin] | None = None) -> Iterator[str]:
     """Lines on what gives the answer; for an entry also on which of its conditions hold."""
     if reason.answer is None:
@@ -115,7 +115,7 @@ def describe(reason: Reason, profile: bytes, call: Call | None,
                 yield met
 
 
-def as_json(reason: Reason, profile: bytes, call: Call | None,
+def reason_json(reason: Reason, profile: bytes, call: Call | None,
             origins: Sequence[Origin] | None = None) -> dict[str, object]:
     """The reason as members of an object."""
     if reason.answer is None:

@@ -167,7 +167,7 @@ def _side_in(text: str, places: Sequence[int] | None) -> tuple[str, Answer | Non
     return text, answer, entry if None in (entry, places) else places[entry]
 
 
-def read(text: str, places: Sequence[int] | None = None) -> list[Region] | None:
+def parse_regions(text: str, places: Sequence[int] | None = None) -> list[Region] | None:
     """Parses the output of `scf answers --examples`; None if it isn't one. An entry may have another place in the
     profile that a user gave."""
     *lines, last = text.splitlines() or [""]
@@ -204,7 +204,7 @@ def read(text: str, places: Sequence[int] | None = None) -> list[Region] | None:
 def asked(words: Sequence[str], bundle: bytes, places: Sequence[int] | None = None) -> list[Region] | None:
     """The regions that scf prints; None if it took as many steps as it may. Raises Refusal."""
     done = client.answers(["--examples", *words], bundle)
-    regions = read(done.text, places) if done.status == program.SUCCESS else None
+    regions = parse_regions(done.text, places) if done.status == program.SUCCESS else None
     if regions is not None:
         return regions
     if (done.status, done.line) == (program.UNKNOWN, UNFINISHED):
@@ -215,15 +215,15 @@ def asked(words: Sequence[str], bundle: bytes, places: Sequence[int] | None = No
     raise refusal
 
 
-def of_filters(filters: Sequence[bytes]) -> list[Region] | None:
+def regions_of_filters(filters: Sequence[bytes]) -> list[Region] | None:
     """The regions of filters, oldest first; None if they are unfinished. Raises Refusal."""
-    return asked([], bundles.of_stack(filters))
+    return asked([], bundles.stack_bundle(filters))
 
 
-def of_profile(profile: bytes, judged: Tables, places: Sequence[int] | None = None) -> list[Region] | None:
+def regions_of_profile(profile: bytes, judged: Tables, places: Sequence[int] | None = None) -> list[Region] | None:
     """The regions of a profile's architectures, on request with other places of entries; None if they are unfinished.
     Raises Refusal."""
-    return asked(judged.words, bundles.of_compilation(profile, judged), places)
+    return asked(judged.words, bundles.compilation_bundle(profile, judged), places)
 
 
 class Numbers:

@@ -242,7 +242,7 @@ def most_telling(checked_report: Report, table: Table, calls_of: Callable[[], Se
 
 def compared(filters: Sequence[bytes], profile: bytes, tables: Tables, words: Sequence[str]) -> Report:
     """scf's report on filters compared with a profile by these options, `checked`."""
-    done = client.compare(words, bundles.of_comparison(filters, profile, tables))
+    done = client.compare(words, bundles.comparison_bundle(filters, profile, tables))
     return checked(done.status, report(done.text), "--calls" in words)
 
 

@@ -39,13 +39,13 @@ def why(name: str, kind: str, error: OSError) -> str:
     return f"the {kind} {shown} can't be read: {error.strerror}"
 
 
-def read(name: str, kind: str, status: int = program.USAGE_ERROR, most: int | None = None) -> bytes:
+def read_input(name: str, kind: str, status: int = program.USAGE_ERROR, most: int | None = None) -> bytes:
     """The bytes of an input (`-` is standard input): at most one more than its kind may have, or than `most`. Raises
     ToolError with this status if it can't be read."""
-    return b"".join(pieces(name, kind, (LIMITS[kind] if most is None else most) + 1, status))
+    return b"".join(input_pieces(name, kind, (LIMITS[kind] if most is None else most) + 1, status))
 
 
-def pieces(name: str, kind: str, room: int, status: int = program.USAGE_ERROR) -> Iterator[bytes]:
+def input_pieces(name: str, kind: str, room: int, status: int = program.USAGE_ERROR) -> Iterator[bytes]:
     """The first bytes of an input, so many, piece by piece."""
     try:
         file = os.dup(0) if name == "-" else os.open(name, os.O_RDONLY | os.O_CLOEXEC | os.O_NOCTTY)
@@ -67,7 +67,7 @@ def pieces(name: str, kind: str, room: int, status: int = program.USAGE_ERROR) -
 
 def read_whole(name: str, kind: str) -> bytes:
     """The bytes of an input that scf doesn't see; raises ToolError if there are too many."""
-    data = read(name, kind)
+    data = read_input(name, kind)
     if len(data) > LIMITS[kind]:
         raise program.ToolError(f"the {kind} {label(name)} has more than {LIMITS[kind]} bytes")
     return data

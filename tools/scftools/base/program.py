@@ -25,7 +25,7 @@ SUCCESS, NEGATIVE, USAGE_ERROR, IO_ERROR, UNKNOWN, INTERNAL, NOT_BUILT = 0, 1, 2
 MOST_OF_REASON = 200
 
 
-def lines_of(table: str) -> list[str]:
+def table_lines(table: str) -> list[str]:
     """The lines of a file in tables/, but for empty ones and comments, which begin with `#`."""
     with open(os.path.join(TOP, "tables", table), encoding="ascii") as file:
         return [line for line in file if line.strip() and not line.startswith("#")]

@@ -52,7 +52,7 @@ def _words(parser: Any, options: Any) -> list[str] | None:
 def _is_bundle() -> bool:
     """Whether standard input is a bundle, which it holds again afterwards; or can't be read, which the program says."""
     try:
-        data = inputs.read("-", "bundle")
+        data = inputs.read_input("-", "bundle")
     except program.ToolError:
         return True
     file = client.memory_file(data)

@@ -57,7 +57,7 @@ def read_words():
 
 def put_fault(why, stack, is_json):
     """Prints a fault; the status."""
-    sentences = [*explanation.of_fault(why.fault), *refusals.of_stack(stack, why.fault)]
+    sentences = [*explanation.explain_fault(why.fault), *refusals.stack_refusals(stack, why.fault)]
     if is_json:
         output.put_json({"status": why.status, "fault": why.fault.as_json(sentences)})
     else:
@@ -68,10 +68,10 @@ def put_fault(why, stack, is_json):
 def main():
     options = read_words()
     architecture = architectures.judged_in(options.arch)
-    table, stack = tables.read(options.table, architecture), filters.read_stack(options.filters)
+    table, stack = tables.read_table(options.table, architecture), filters.read_stack(options.filters)
     data = [bpf_filter.data for bpf_filter in stack]
     try:
-        region_list = regions.of_filters(data)
+        region_list = regions.regions_of_filters(data)
         Asker(data, architecture).check(table)
     except Refusal as why:
         return put_fault(why, stack, options.json)
@@ -85,9 +85,9 @@ def main():
     status = program.SUCCESS if all(entry.region.is_decided for entry in listed) else program.UNKNOWN
     if options.json:
         output.put_json({"status": status, "architecture": architecture.name,
-                         "regions": region_output.as_json(listed, table, architecture)})
+                         "regions": region_output.regions_json(listed, table, architecture)})
     elif options.dot:
         output.put(region_graph.text(region_list, table, architecture))
     else:
-        output.put_lines(region_output.lines(listed, table, architecture, options.examples))
+        output.put_lines(region_output.region_lines(listed, table, architecture, options.examples))
     return status

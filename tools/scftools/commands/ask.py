@@ -38,8 +38,8 @@ def main():
     runtimes.add_option(parser, is_sandboxes=True)
     options = parser.parse_args()
     parser.one_standard_input([options.profile, options.table, options.calls_from])
-    table = tables.read(options.table)
-    profile = runtimes.read(options)
+    table = tables.read_table(options.table)
+    profile = runtimes.profile_of_options(options)
     judged = profile.judged(table, options.native)
     return decisions.print_replies(
-        options, table, lambda call: decisions.of_profile(profile.data, call, judged, profile.origins))
+        options, table, lambda call: decisions.profile_decisions(profile.data, call, judged, profile.origins))

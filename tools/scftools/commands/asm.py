@@ -46,9 +46,9 @@ def main():
     parser.keep_off_terminal()
     if options.file == "-":
         client.become(["asm"])
-    done = client.run(["asm"], inputs.read(options.file, "text"))
+    done = client.run_scf(["asm"], inputs.read_input(options.file, "text"))
     if done.status == program.SUCCESS:
         output.put(done.out)
     else:
-        program.say(done.line, *explanation.of_line(done.line))
+        program.say(done.line, *explanation.explain_line(done.line))
     return done.status

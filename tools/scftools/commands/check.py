@@ -26,11 +26,12 @@ from ..cli import words
 from ..forms import filters
 
 
-def as_json(name, data, done):
+def filter_json(name, data, done):
     """One filter and what `scf check` said of it."""
     fault = client.Fault.read(done.line)
     return {"file": name, "status": done.status,
-            **({"fault": fault.as_json(explanation.of_fault(fault))} if fault else {"instructions": len(data) // 8})}
+            **({"fault": fault.as_json(explanation.explain_fault(fault))} if fault else
+               {"instructions": len(data) // 8})}
 
 
 def main():
@@ -40,16 +41,16 @@ def main():
     parser.one_standard_input(options.filters)
     statuses, objects = [], []
     for name in options.filters:
-        data = filters.read(name).data
-        done = client.run(["check"], data)
+        data = filters.read_filter(name).data
+        done = client.run_scf(["check"], data)
         statuses.append(done.status)
         if options.json:
-            objects.append(as_json(name, data, done))
+            objects.append(filter_json(name, data, done))
             continue
         output.put_line(done.line)
         if len(options.filters) > 1:
             output.put_line(f"# {name}")
-        output.put_lines(output.notes(explanation.of_line(done.line)))
+        output.put_lines(output.notes(explanation.explain_line(done.line)))
     if options.json:
         output.put_json({"status": client.worst(statuses), "filters": objects})
     return client.worst(statuses)

@@ -96,11 +96,11 @@ def write_page(options, comparison, report, scope):
 
     from ..report import pages  # pylint: disable=import-outside-toplevel
 
-    added = [*compare_output.notes(comparison, report, scope),
+    added = [*compare_output.comparison_notes(comparison, report, scope),
              *compare_output.foreign_lines(comparison, report, scope, is_quiet=True)]
     words_of_record = [word for at, word in enumerate(sys.argv[1:]) if word not in ("--json", "--html")
                        and sys.argv[at] != "--html"]
-    page = pages.of_comparison(comparison, report, added, shlex.join([program.name(), *words_of_record]))
+    page = pages.comparison_page(comparison, report, added, shlex.join([program.name(), *words_of_record]))
     output.replace_file(options.html, page)
 
 
@@ -111,18 +111,18 @@ def main():
 
         return stack_comparison.tell(options)
     stack = filters.read_stack(options.filters)
-    profile = runtimes.read(options)
-    comparison = compare.Comparison(stack, profile.data, tables.read(options.table), options.relation, profile.origins,
-                                    profile.stub, is_native=options.scope == verdicts.NATIVE_SCOPE)
+    profile = runtimes.profile_of_options(options)
+    comparison = compare.Comparison(stack, profile.data, tables.read_table(options.table), options.relation,
+                                    profile.origins, profile.stub, is_native=options.scope == verdicts.NATIVE_SCOPE)
     scope = options.scope or comparison.scope
     comparison, status, report = comparison.run_by_stub(scope)
     report = verdicts.most_telling(report, comparison.table, comparison.of_calls)
     if options.html is not None:
         write_page(options, comparison, report, scope)
     if options.json:
-        output.put_json(compare_output.as_json(comparison, report, scope, status))
+        output.put_json(compare_output.comparison_json(comparison, report, scope, status))
         return status
-    added = itertools.chain(compare_output.notes(comparison, report, scope),
+    added = itertools.chain(compare_output.comparison_notes(comparison, report, scope),
                             compare_output.foreign_lines(comparison, report, scope, is_quiet=True))
     output.put_explained(report.printed if options.verbose else report.brief, added)
     return status

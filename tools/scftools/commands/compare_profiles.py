@@ -62,7 +62,7 @@ def resolved(path, options):
     """The profile that an engine makes of its own, or as a runtime applies it, and what is left out of it."""
     notes = []
     try:
-        value = engines.read(profile_inputs.read_engines(path))
+        value = engines.parse_json(profile_inputs.read_engines(path))
         if options.runtime is not None:
             given = runtimes.applied(value, options.runtime, options.setting)
             return given, [*engines.at_most(given.notes), *given.remarks]
@@ -75,7 +75,7 @@ def resolved(path, options):
 def both(options):
     """Both profiles; what an engine or a runtime leaves out of one alone is printed."""
     if options.runtime not in runtimes.RUNTIMES and not options.keep_first and not runtimes.is_engines(options):
-        return [profile_inputs.read(path, is_runtimes=True).read_by(options.runtime)
+        return [profile_inputs.read_profile(path, is_runtimes=True).read_by(options.runtime)
                 for path in (options.old, options.new)]
     (old, of_old), (new, of_new) = resolved(options.old, options), resolved(options.new, options)
     for side, notes, others in ((changes.OLD, of_old, set(of_new)), (changes.NEW, of_new, set(of_old))):
@@ -90,7 +90,7 @@ def refuse(why, options, table, source):
     fault, (side, data) = why.fault, why.subject
     if fault is None:
         raise program.ToolError(f"scf ended with status {why.status} on the {side} profile", program.IO_ERROR)
-    sentences = list(refusals.sentences(fault, data, tables.of_profile(data, table, options.native)))
+    sentences = list(refusals.sentences(fault, data, tables.tables_of_profile(data, table, options.native)))
     if fault.source == "profile" and source.origins is not None:
         sentences += profiles.original_entries(fault.numbers, source.origins)
     if fault.source in ("profile", "compile"):
@@ -109,13 +109,13 @@ def refuse(why, options, table, source):
 def main():
     options = read_words()
     old, new = both(options)
-    table = tables.read(options.table)
+    table = tables.read_table(options.table)
     try:
-        profile_changes = changes.of_profiles(old, new, table, options.relation, options.native)
+        profile_changes = changes.changes_of_profiles(old, new, table, options.relation, options.native)
     except client.Refusal as why:
         return refuse(why, options, table, old if why.subject[0] == changes.OLD else new)
     if options.json:
-        output.put_json(changes.as_json(profile_changes, table))
+        output.put_json(changes.changes_json(profile_changes, table))
         return profile_changes.status
-    output.put_lines(changes.lines(profile_changes))
+    output.put_lines(changes.change_lines(profile_changes))
     return profile_changes.status

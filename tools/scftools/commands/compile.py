@@ -44,10 +44,11 @@ def main():
     parser.one_standard_input([options.profile, options.table, options.hot])
     if not options.json:
         parser.keep_off_terminal()
-    profile = runtimes.read(options)
-    judged = profile.judged(tables.read(options.table), options.native)
-    hot = [] if options.hot is None else counts.read(options.hot, judged)
-    done = client.run(["compile", "--left-out", *judged.words], bundles.of_compilation(profile.data, judged, hot))
+    profile = runtimes.profile_of_options(options)
+    judged = profile.judged(tables.read_table(options.table), options.native)
+    hot = [] if options.hot is None else counts.read_counts(options.hot, judged)
+    done = client.run_scf(["compile", "--left-out", *judged.words],
+                          bundles.compilation_bundle(profile.data, judged, hot))
     fault = None if done.status == program.SUCCESS else Fault.read(done.line)
     if fault:
         sentences = list(refusals.sentences(fault, profile.data, judged, profile.origins))
@@ -63,8 +64,8 @@ def main():
         return done.status
     output.put(code)
     output.flush()
-    facts = profiles.read(profile.data) if report.skipped else None
-    program.say(*explanation.of_skipped(report, judged, bool(facts and facts.allows_by_default)),
+    facts = profiles.parse_profile(profile.data) if report.skipped else None
+    program.say(*explanation.explain_skipped(report, judged, bool(facts and facts.allows_by_default)),
                 *(f"{line}: the filter kills a process that makes such a syscall"
-                  for line in explanation.of_architectures(report)))
+                  for line in explanation.explain_architectures(report)))
     return done.status

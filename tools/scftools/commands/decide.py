@@ -43,11 +43,12 @@ from ..report.decisions import Numbering
 def put_unmet(options, table, stack):
     """Prints the rows that are answered otherwise than they expect, and their number; the status."""
     numbering = Numbering(table, options.arch)
-    rows = list(expectations.read(options.expect, numbering, dict(decisions.rest_of(options, numbering))))
+    rows = list(expectations.read_expectations(options.expect, numbering, dict(decisions.rest_of(options, numbering))))
     try:
         answers = expectations.Answers([bpf_filter.data for bpf_filter in stack])
     except Refusal as why:
-        sentences = [*explanation.of_fault(why.fault), *refusals.of_stack(stack, why.fault)] if why.fault else []
+        fault = why.fault
+        sentences = [*explanation.explain_fault(fault), *refusals.stack_refusals(stack, fault)] if fault else []
         if options.json:
             output.put_json({"status": why.status, "calls": [{"status": why.status,
                                                               "fault": why.fault.as_json(sentences)}]})
@@ -75,8 +76,8 @@ def main():
     if options.expect is not None and (options.nr or options.calls_from):
         parser.error("--expect takes the syscalls from its rows: leave out --nr and --calls-from")
     parser.one_standard_input([*options.filters, options.table, options.calls_from, options.expect])
-    table = tables.read(options.table)
+    table = tables.read_table(options.table)
     stack = filters.read_stack(options.filters)
     if options.expect is not None:
         return put_unmet(options, table, stack)
-    return decisions.print_replies(options, table, lambda call: decisions.of_stack(stack, call, table))
+    return decisions.print_replies(options, table, lambda call: decisions.stack_decisions(stack, call, table))

@@ -30,6 +30,6 @@ def main():
         if os.isatty(0):
             parser.error("the following arguments are required: FILE")
         client.become(["dis"])
-    done = client.run(["dis"], filters.read(options.file).data)
-    output.put_explained(done.lines, explanation.of_line(done.line))
+    done = client.run_scf(["dis"], filters.read_filter(options.file).data)
+    output.put_explained(done.lines, explanation.explain_line(done.line))
     return done.status

@@ -30,9 +30,9 @@ def main():
     parser.add("--table", help="the syscall table [default: tables/x86_64.table]")
     parser.add_argument("line", metavar="LINE", nargs="*", help="a line [default: those of standard input]")
     options = parser.parse_args()
-    table = tables.read(options.table)
+    table = tables.read_table(options.table)
     if options.line:
-        sentences = meanings.of(" ".join(options.line), table)
+        sentences = meanings.meaning_of(" ".join(options.line), table)
         if not sentences:
             raise program.ToolError("scf prints no such line, and has no such exit status: see scf help",
                                     program.NEGATIVE)
@@ -42,7 +42,7 @@ def main():
         parser.error("the following arguments are required: LINE")
     is_explained = False
     for line in inputs.read_whole("-", "text").decode("utf-8", "surrogateescape").splitlines():
-        sentences = meanings.of(line, table)
+        sentences = meanings.meaning_of(line, table)
         is_explained = is_explained or bool(sentences)
         output.put_line(line)
         output.put_lines(output.notes(sentences))

@@ -38,13 +38,14 @@ def refused(options, status, line):
     """Prints scf's line on a filter that can't be listed, or run."""
     if options.json:
         fault = client.Fault.read(line)
-        output.put_json({"status": status, **({"fault": fault.as_json(explanation.of_fault(fault))} if fault else {})})
+        output.put_json({"status": status,
+                         **({"fault": fault.as_json(explanation.explain_fault(fault))} if fault else {})})
     else:
-        output.put_explained([line], explanation.of_line(line))
+        output.put_explained([line], explanation.explain_line(line))
     return status
 
 
-def as_json(bpf_filter, lines, table, query, path):
+def listing_json(bpf_filter, lines, table, query, path):
     """The listing as an object; given a syscall with its answer and the instructions that run on it."""
     instructions = [{"index": index, "text": line, "meaning": meaning}
                     for index, (line, meaning) in enumerate(zip(lines, listing.meanings(bpf_filter.data, table)))]
@@ -65,17 +66,17 @@ def main():
     parser.one_standard_input([options.filter, options.table])
     if options.dot and options.json:
         parser.error("give either --dot or --json")
-    table = tables.read(options.table)
-    call, bpf_filter = decisions.one_query(options, table), filters.read(options.filter)
+    table = tables.read_table(options.table)
+    call, bpf_filter = decisions.one_query(options, table), filters.read_filter(options.filter)
     data = bpf_filter.data
-    done = client.run(["dis"], data)
+    done = client.run_scf(["dis"], data)
     if done.status != program.SUCCESS:
         return refused(options, done.status, done.line)
     path = listing.path_of(data, call.words()) if call is not None else None
     if path is not None and path.decision.answer is None:
         return refused(options, path.status, path.decision.line)
     if options.json:
-        output.put_json(as_json(bpf_filter, done.lines, table, call, path))
+        output.put_json(listing_json(bpf_filter, done.lines, table, call, path))
         return path.status if path else done.status
     lines = list(listing.listing_lines(data, done.lines, table))
     if options.dot:
@@ -85,5 +86,5 @@ def main():
     else:
         on_path = frozenset(path.indexes)
         output.put_lines(f"{'>' if index in on_path else ' '} {line}" for index, line in enumerate(lines))
-        output.put_lines(output.notes(explanation.of_answer(call.call, path.decision.answer, table)))
+        output.put_lines(output.notes(explanation.explain_answer(call.call, path.decision.answer, table)))
     return path.status if path else done.status

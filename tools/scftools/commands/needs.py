@@ -121,21 +121,21 @@ def tell(options, needs, judges):
         program.say(*requirements.log_remarks(needs))
         return program.UNKNOWN if needs.isnt_whole else program.SUCCESS
     if options.json:
-        output.put_json(requirements.as_json(needs, judges.tables[architectures.NATIVE]))
+        output.put_json(requirements.needs_json(needs, judges.tables[architectures.NATIVE]))
     else:
-        output.put_lines(requirements.lines(needs))
+        output.put_lines(requirements.needs_lines(needs))
     return needs.status
 
 
 def main():
     options = read_words()
     named = None if options.arch is None else architectures.judged_in(options.arch)
-    profile = profile_inputs.read(options.profile, options.caps).data
+    profile = profile_inputs.read_profile(options.profile, options.caps).data
     if strace.is_log(profile):
         raise program.ToolError(f"'{options.profile}' is a strace log, not a profile: LOG comes before PROFILE")
     judges = requirements.Judges(profiles.read_as(profile, options.runtime or profiles.STRICT), named, options.table)
     try:
-        return tell(options, requirements.read(options.logs, judges, options.runtime), judges)
+        return tell(options, requirements.read_needs(options.logs, judges, options.runtime), judges)
     except profiles.Refused as why:
         raise program.ToolError(str(why), program.NEGATIVE) from why
     except client.Refusal as why:

@@ -78,18 +78,18 @@ def main():
     options = read_words()
     architecture = architectures.judged_in(options.arch)
     others = [name for name in architectures.JUDGED if name != architecture.oci] if options.arch is None else []
-    request = profile_of.ProfileRequest(filters.read_stack(options.filters), tables.read(options.table, architecture),
-                                        architecture, options.runtime, others,
-                                        has_trap_data=options.runtime is None and options.kubernetes is None)
+    request = profile_of.ProfileRequest(filters.read_stack(options.filters),
+                                        tables.read_table(options.table, architecture), architecture, options.runtime,
+                                        others, has_trap_data=options.runtime is None and options.kubernetes is None)
     try:
         result = profile_of.of_request(request, options.relation)
         text = result.text if options.kubernetes is None or result.status != program.SUCCESS else \
             kubernetes.printed(result.profiles[0].profile, options.kubernetes)
     except Refusal as why:
         if options.json and why.fault is not None:
-            output.put_json({"status": why.status, "fault": why.fault.as_json(explanation.of_fault(why.fault))})
+            output.put_json({"status": why.status, "fault": why.fault.as_json(explanation.explain_fault(why.fault))})
         else:
-            program.say(why.line, *explanation.of_line(why.line))
+            program.say(why.line, *explanation.explain_line(why.line))
         return why.status
     except profiles.Refused as why:
         raise program.ToolError(str(why), program.NEGATIVE) from why

@@ -64,8 +64,8 @@ def least(options, judges):
     judges.of(judges.own.oci)
     with tempfile.TemporaryDirectory(prefix="scf-record-") as folder:
         log = os.path.join(folder, "log")
-        status = tracing.run(log, RECORDING_OPTIONS, options.traced)
-        text, remarks = requirements.least_profile(requirements.read([log], judges), judges)
+        status = tracing.run_traced(log, RECORDING_OPTIONS, options.traced)
+        text, remarks = requirements.least_profile(requirements.read_needs([log], judges), judges)
     with open(options.file, "w", encoding="utf-8") as file:
         file.write(text)
     program.say(*remarks)
@@ -75,8 +75,8 @@ def least(options, judges):
 def main():
     options = read_words()
     if options.profile is None:
-        return tracing.end_as(tracing.run(options.file, RECORDING_OPTIONS, options.traced))
-    judges = requirements.Judges(profile_inputs.read(options.profile, None).data, None, None)
+        return tracing.end_as(tracing.run_traced(options.file, RECORDING_OPTIONS, options.traced))
+    judges = requirements.Judges(profile_inputs.read_profile(options.profile, None).data, None, None)
     try:
         return tracing.end_as(least(options, judges))
     except client.Refusal as why:

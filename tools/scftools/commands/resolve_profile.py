@@ -69,7 +69,7 @@ def main():
     options = read_words()
     try:
         data = profile_inputs.read_engines(options.profile)
-        value = engines.read(data)
+        value = engines.parse_json(data)
         setting = replace(options.setting, keeps_comments=getattr(data, "has_comments", False))
         if options.runtime is not None:
             given = runtimes.applied(value, options.runtime, setting, options.keep_first)

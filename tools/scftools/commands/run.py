@@ -28,6 +28,6 @@ def main():
     parser.add("filter")
     options = parser.parse_args()
     parser.one_standard_input([options.filter, options.table, options.calls_from])
-    table = tables.read(options.table)
-    filter_ = filters.read(options.filter)
+    table = tables.read_table(options.table)
+    filter_ = filters.read_filter(options.filter)
     return decisions.print_replies(options, table, lambda call: decisions.of_run(filter_, call, table, options.path))

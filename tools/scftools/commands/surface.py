@@ -94,11 +94,11 @@ def looked_at(options):
 
 def filter_in(name, options):
     """The filter of a file, or the one that scf compiles of a profile."""
-    data = inputs.read(name, "profile")
+    data = inputs.read_input(name, "profile")
     if not profile_inputs.looks_like_profile(data):
         return filters.filter_in(name, data)
     profile = profile_inputs.profile_in(data, name, options.caps, machine=options.machine)
-    judged = profile.judged(tables.read(None), False)
+    judged = profile.judged(tables.read_table(None), False)
     try:
         return filters.Filter(name, client.compile_profile(profile.data, judged))
     except client.Refusal as why:
@@ -112,18 +112,18 @@ def main():
     architecture = architectures.judged_in(options.arch or machine)
     stack, beside = (filters.read_stack(names, lambda name: filter_in(name, options))
                      for names in (options.filters, options.beside))
-    settings = stack_surfaces.Settings(tables.read(options.table, architecture), beside, architecture,
+    settings = stack_surfaces.Settings(tables.read_table(options.table, architecture), beside, architecture,
                                        architecture.oci == machine and machine in other_abis.OF_MACHINES,
                                        options.conditions, options.examples)
     inspection = None if options.pid is None else looked_at(options)
-    blocks = [stack_surfaces.of_stack(stack, settings)] if inspection is None else \
-        stack_surfaces.of_process(inspection, settings)
+    blocks = [stack_surfaces.surface_of_stack(stack, settings)] if inspection is None else \
+        stack_surfaces.surfaces_of_process(inspection, settings)
     if options.html is not None:
         from ..report import pages  # pylint: disable=import-outside-toplevel
 
-        output.replace_file(options.html, pages.of_surfaces(blocks, settings.table))
+        output.replace_file(options.html, pages.surfaces_page(blocks, settings.table))
     if options.json:
-        output.put_json(stack_surfaces.as_json(blocks, inspection))
+        output.put_json(stack_surfaces.surfaces_json(blocks, inspection))
     else:
-        output.put_lines(stack_surfaces.lines(blocks, inspection, surface_output.width_of_terminal()))
+        output.put_lines(stack_surfaces.surfaces_lines(blocks, inspection, surface_output.width_of_terminal()))
     return client.worst(block.status for block in blocks)

@@ -105,7 +105,7 @@ def read_files(names, table, options):
     profile, stack = None, []
     reading = runtimes.reading_of(options.runtime)
     for name in names:
-        data = inputs.read(name, "profile")
+        data = inputs.read_input(name, "profile")
         if not profile_inputs.looks_like_profile(data):
             stack.append(filters.filter_in(name, data))
         elif profile is not None:
@@ -139,7 +139,7 @@ def records():
     """The lines of the kernel's log, and of auditd's, which takes the kernel's records where it runs."""
     yield from audit_records.kernel_lines()
     if os.path.exists(audit_records.AUDITD_LOG):
-        yield from strace.lines(audit_records.AUDITD_LOG)
+        yield from strace.log_lines(audit_records.AUDITD_LOG)
 
 
 def filters_of(process):
@@ -158,36 +158,36 @@ def of_process(options, files, table):
     that it has, if it runs."""
     begun = started(options.pid)
     since = None if begun is None else begun - TOLERANCE
-    log = events.read((line for line in records() if audit_records.is_of(line, options.pid, since)), table)
+    log = events.read_events((line for line in records() if audit_records.is_of(line, options.pid, since)), table)
     if not options.words:
         files = causes.Inputs(files.trial, None, filters_of(options.pid) if begun is not None and log.events else [])
     return log, files
 
 
-def read(options, files, table):
+def read_log(options, files, table):
     """The events of what is given, and what is given beside them."""
     if options.core is not None:
         from ..logs import cores  # pylint: disable=import-outside-toplevel
 
         log = events.EventLog()
-        log.add(cores.read(options.core))
+        log.add(cores.read_core(options.core))
         return log, files
     if options.pid is not None:
         return of_process(options, files, table)
-    lines = strace.lines("-") if options.line == "-" else options.line.split("\n")
-    return events.read(lines, table), files
+    lines = strace.log_lines("-") if options.line == "-" else options.line.split("\n")
+    return events.read_events(lines, table), files
 
 
 def main():
     options = read_words()
-    table = tables.read(options.table)
+    table = tables.read_table(options.table)
     files = read_files(options.words, table, options)
-    log, files = read(options, files, table)
-    report = cause_report.of(log, files, options.all)
+    log, files = read_log(options, files, table)
+    report = cause_report.log_report(log, files, options.all)
     if options.pid is not None:
         report.lacking = lacking(options.pid)
     if options.json:
-        output.put_json(cause_report.as_json(report))
+        output.put_json(cause_report.log_report_json(report))
     else:
-        output.put_lines(cause_report.lines(report))
+        output.put_lines(cause_report.log_report_lines(report))
     return report.status

@@ -38,7 +38,7 @@ class NotAnArray(Exception):
 def _number_of(name: str) -> int:
     bare = re.sub("^(?:SYS_|__NR_)", "", name)
     if bare != name:
-        number = tables.read(None).number_of(bare)
+        number = tables.read_table(None).number_of(bare)
     else:
         number = X32_BIT.get(name, constants.numbers().get(name))
     if number is None:

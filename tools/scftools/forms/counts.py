@@ -34,7 +34,7 @@ def _part(architecture: Architecture, counts: dict[str, int], divisor: int) -> t
     return f"counts-{architecture.kind}", "".join(lines).encode()
 
 
-def read(file: str, tables: Tables) -> list[tuple[str, bytes]]:
+def read_counts(file: str, tables: Tables) -> list[tuple[str, bytes]]:
     """The parts of a bundle with the counts of a file, divided if they are too great for scf. Lines without ARCH are of
     the first of the tables; syscalls that no table has are reported."""
     counts: dict[Architecture, dict[str, int]] = {}

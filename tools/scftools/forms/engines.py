@@ -37,7 +37,7 @@ MACHINE_NAMES = {row.machine: oci for oci, row in architectures.JUDGED.items() i
 
 def machine_here() -> str:
     """The engines' name of this machine."""
-    return next(name for name, oci in MACHINE_NAMES.items() if oci == architectures.of_machine())
+    return next(name for name, oci in MACHINE_NAMES.items() if oci == architectures.machine_architecture())
 
 
 # The members that an engine doesn't read of those that another one does: moby since version 23, moby 20.10, and
@@ -134,7 +134,7 @@ def parse_integer(text: str) -> int | float:
     return int(text) if text != "-0" else -0.0
 
 
-def read(data: bytes) -> Any:
+def parse_json(data: bytes) -> Any:
     try:
         return json.loads(data.decode("utf-8"), object_pairs_hook=members, parse_float=refuse_fraction,
                           parse_constant=refuse_fraction, parse_int=parse_integer)

@@ -11,10 +11,10 @@ from . import forms
 from .forms import Filter
 
 
-def read(name: str) -> Filter:
+def read_filter(name: str) -> Filter:
     """The filter of a file, a pipe or standard input: raw, or a text in one of the forms of `forms`, whose name
     is printed on standard error."""
-    return filter_in(name, inputs.read(name, "filter", most=forms.LONGEST_TEXT))
+    return filter_in(name, inputs.read_input(name, "filter", most=forms.LONGEST_TEXT))
 
 
 def filter_in(name: str, data: bytes) -> Filter:
@@ -43,7 +43,7 @@ def saved_in(folder: str) -> list[str]:
         return []
 
 
-def read_stack(names: Sequence[str], read_one: Callable[[str], Filter] = read) -> list[Filter]:
+def read_stack(names: Sequence[str], read_one: Callable[[str], Filter] = read_filter) -> list[Filter]:
     """The filters of some files; if they exceed what scf reads, only as many as show that."""
     filters_read: list[Filter] = []
     length = 0

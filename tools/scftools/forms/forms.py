@@ -135,7 +135,7 @@ def _first_word(text: str) -> str:
 def _of_assembler(text: str) -> bytes | None:
     if _first_word(text) not in MNEMONICS:
         return None
-    done = client.run(["asm"], text.encode())
+    done = client.run_scf(["asm"], text.encode())
     if done.status != program.SUCCESS:
         raise c_arrays.NotAnArray(done.line)
     return done.out

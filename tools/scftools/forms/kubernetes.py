@@ -135,7 +135,7 @@ def spec_of(data: bytes) -> bytes | None:
     """The profile in such an object, as JSON; None if a text isn't an object of Kubernetes. Raises Refused if it can't
     be read, or stands for more than it says."""
     is_object = b'"apiVersion"' in data and b'"kind"' in data
-    value = _of_yaml(data) if is_yaml(data) else engines.read(data) if is_object else None
+    value = _of_yaml(data) if is_yaml(data) else engines.parse_json(data) if is_object else None
     if not isinstance(value, dict) or "kind" not in value or "apiVersion" not in value:
         return None
     if value["kind"] != KIND:

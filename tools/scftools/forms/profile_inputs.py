@@ -61,14 +61,14 @@ class ProfileInput:
 
     def judged(self, table: Table, is_native: bool) -> Tables:
         """The tables that it is judged by, and how it is read."""
-        return replace(tables.of_profile(self.data, table, is_native), stub=self.stub)
+        return replace(tables.tables_of_profile(self.data, table, is_native), stub=self.stub)
 
     def stub_notes(self, stub: dict[str, int]) -> Iterator[str]:
         """The notes on a filter that begins with a stub at these numbers."""
         yield stub_note(stub)
         names = {name for entry in self.profile["syscalls"] for name in entry["names"]}
         for architecture, first in stub.items():
-            row, table = JUDGED[architecture], tables.of_architecture(architecture) or tables.Table(b"")
+            row, table = JUDGED[architecture], tables.architecture_table(architecture) or tables.Table(b"")
             covered = sorted(name for name, number in table.numbered() if name in names and row.first + number >= first)
             if covered:
                 yield (f"so it answers {row.name}'s {output.some(covered, engines.MAX_LISTED)}, though the profile "
@@ -158,7 +158,7 @@ def _resolved(data: bytes, name: str, caps: str, machine: str | None) -> Profile
     """An engine's profile resolved for a container with these capabilities."""
     setting = setting_of(caps, machine=machine)
     try:
-        resolved, origins = engines.resolve(engines.read(data), setting, lambda _: None, True)
+        resolved, origins = engines.resolve(engines.parse_json(data), setting, lambda _: None, True)
         profile = DerivedProfile(engines.to_bytes(resolved))
     except profiles.Refused as why:
         raise program.ToolError(f"{inputs.label(name)}: {why}", program.NEGATIVE) from why
@@ -173,9 +173,9 @@ def read_engines(name: str) -> bytes:
     return plain(inputs.read_whole(name, "engine's profile"), name)
 
 
-def read(name: str, caps: str | None = None, is_runtimes: bool = False) -> ProfileInput:
+def read_profile(name: str, caps: str | None = None, is_runtimes: bool = False) -> ProfileInput:
     """The profile in a file, a pipe or standard input."""
-    data = inputs.read(name, "profile") if caps is None else inputs.read_whole(name, "engine's profile")
+    data = inputs.read_input(name, "profile") if caps is None else inputs.read_whole(name, "engine's profile")
     return profile_in(data, name, caps, is_runtimes)
 
 

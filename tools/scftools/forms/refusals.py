@@ -211,11 +211,11 @@ def sentences(fault: Fault, profile: bytes, judged: Tables, origins: Sequence[Or
     """The explanation of a fault, and what to do; of a profile, where it stands, and of one that was resolved, in which
     entries of the user's file."""
     if (fault.source, fault.kind) == ("profile", "Json") and len(profile) <= inputs.LIMITS["profile"]:
-        meaning, *_ = explanation.of_fault(fault)
+        meaning, *_ = explanation.explain_fault(fault)
         yield profiles.where_json_ends(profile)
         yield meaning
         return
-    sentences, reading = list(explanation.of_fault(fault)), profiles.reading_of(profile)
+    sentences, reading = list(explanation.explain_fault(fault)), profiles.reading_of(profile)
     if (fault.source, fault.kind) == ("profile", "Conflict") and reading not in profiles.BY_WORDS:
         sentences[1:] = [CONFLICT_FOR_RUNTIME.format(reading)]
     yield from sentences
@@ -241,7 +241,7 @@ def faulty_filters(filters: Sequence[Filter], fault: Fault) -> list[str]:
     """The files of the filters that cause a stack's fault."""
     if fault.source == "filter":
         for bpf_filter in filters:
-            if client.run(["check"], bpf_filter.data).line == fault.line:
+            if client.run_scf(["check"], bpf_filter.data).line == fault.line:
                 return [bpf_filter.name]
     if (fault.source, fault.kind) == ("stack", "TooMany"):
         total = 0
@@ -252,7 +252,7 @@ def faulty_filters(filters: Sequence[Filter], fault: Fault) -> list[str]:
     return []
 
 
-def of_stack(filters: Sequence[Filter], fault: Fault | None) -> Iterator[str]:
+def stack_refusals(filters: Sequence[Filter], fault: Fault | None) -> Iterator[str]:
     """Which filter of several causes a fault."""
     files = faulty_filters(filters, fault) if fault is not None and len(filters) > 1 else []
     if files:

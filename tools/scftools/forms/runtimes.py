@@ -205,9 +205,9 @@ class _Application:
         data = profiles.DerivedProfile(engines.to_bytes(handed))
         data.reading = self.runtime.program
         names = {name for entry in handed["syscalls"] for name in entry["names"]}
-        confined = {self.native, architectures.of_machine(), *handed.get("architectures", ())}
+        confined = {self.native, architectures.machine_architecture(), *handed.get("architectures", ())}
         for architecture in confined.intersection(JUDGED):
-            table = tables.of_architecture(architecture) or tables.Table(b"")
+            table = tables.architecture_table(architecture) or tables.Table(b"")
             absent = frozenset(name for name in names.intersection(table.names())
                                if (self.number_of(name, architecture) or 0) < 0
                                and not multiplexed.is_multiplexed(name, architecture))
@@ -253,7 +253,8 @@ class _Application:
 def _number_in_tables(name: str, architecture: str) -> int | None:
     """The number of a name in a table that comes with scf, as in a record; below 0 if only others have it, None if
     none has."""
-    numbers = tables.of_architectures(JUDGED, tables.of_architecture(NATIVE) or tables.Table(b"")).numbers_of(name)
+    native = tables.architecture_table(NATIVE) or tables.Table(b"")
+    numbers = tables.architecture_tables(JUDGED, native).numbers_of(name)
     if architecture in numbers:
         return JUDGED[architecture].first + numbers[architecture]
     return -1 if numbers else None
@@ -281,8 +282,8 @@ def setting_of(runtime: Runtime, caps: str | None = None, machine: str | None = 
 
 def applied(value: Any, name: str, setting: Setting | None = None, keeps_first: bool = False) -> ProfileInput:
     """The profile as the runtime of a name is given it, of a profile's value, or of a whole config.json, that
-    `engines.read` read; on request without later answers to a syscall. Raises Refused if the runtime, or the engine
-    before it, refuses it or reads it otherwise than it is spelled."""
+    `engines.parse_json` read; on request without later answers to a syscall. Raises Refused if the runtime, or the
+    engine before it, refuses it or reads it otherwise than it is spelled."""
     runtime = RUNTIMES[name]
     setting = setting or setting_of(runtime)
     notes: list[str] = []
@@ -320,7 +321,7 @@ def applied_in(data: bytes, path: str, name: str, setting: Setting, is_strict: b
     for members that nothing reads; without a word on these if that is None."""
     data = profile_inputs.plain(data, path)
     try:
-        given = applied(engines.read(data), name, setting)
+        given = applied(engines.parse_json(data), name, setting)
     except Refused as why:
         raise program.ToolError(f"{path}: {why}", program.NEGATIVE) from why
     if is_strict is not None:
@@ -345,7 +346,7 @@ def text_of(options: Any) -> bytes:
             f": `scf resolve-profile --runtime {runtime.name} --engine .. --caps ..` makes it"
         raise program.ToolError("--caps resolves an engine's profile, and --runtime "
                                 f"{options.runtime} takes a resolved one{how}")
-    return (inputs.read_whole if is_made(options) else inputs.read)(options.profile, "profile")
+    return (inputs.read_whole if is_made(options) else inputs.read_input)(options.profile, "profile")
 
 
 def input_in(data: bytes, options: Any, is_strict: bool | None = False) -> ProfileInput:
@@ -361,6 +362,6 @@ def input_in(data: bytes, options: Any, is_strict: bool | None = False) -> Profi
     return given
 
 
-def read(options: Any) -> ProfileInput:
+def profile_of_options(options: Any) -> ProfileInput:
     """The profile that a command line names."""
     return input_in(text_of(options), options, options.strict)

@@ -188,14 +188,14 @@ def registers_in(text: str, name: re.Match[str], architecture: str = NATIVE, is_
 
 def _pieces(name: str) -> Iterator[bytes]:
     length = 0
-    for piece in inputs.pieces(name, "log", LONGEST_LOG + 1):
+    for piece in inputs.input_pieces(name, "log", LONGEST_LOG + 1):
         length += len(piece)
         if length > LONGEST_LOG:
             raise program.ToolError(f"the log '{output.escaped(name)}' has more than {LONGEST_LOG} bytes")
         yield piece
 
 
-def lines(name: str, most: int = LONGEST_LINE) -> Iterator[str]:
+def log_lines(name: str, most: int = LONGEST_LINE) -> Iterator[str]:
     """The lines of a log (`-` is standard input), of each at most so many characters."""
     unread_part = b""
     for piece in _pieces(name):

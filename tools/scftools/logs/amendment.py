@@ -159,7 +159,7 @@ def amendments(profile: bytes, event: Event, reason: Reason, trial: Trial) -> It
     names = trial.tables.native.names_of(event.call.number) if event.call.is_native else []
     if not names or reason.is_foreign or reason.answer is None or reason.answer.allows:
         return
-    top = entries.read(profile)
+    top = entries.parse_seccomp(profile)
     if top is None:
         return
     try:

@@ -49,7 +49,7 @@ def _denials(log: EventLog, given: Inputs) -> Denials | None:
         denied, failure = None, log.last_failure
     else:
         try:
-            denied = denials.of(log.failures, given)
+            denied = denials.denials_of(log.failures, given)
             failure = None if denied.of else log.last_failure
         except Refusal:
             denied, failure = None, next((failure.event for failure in log.failures.of.values()), None)
@@ -58,20 +58,20 @@ def _denials(log: EventLog, given: Inputs) -> Denials | None:
     return denied
 
 
-def of(log: EventLog, given: Inputs, is_all: bool) -> LogReport:
+def log_report(log: EventLog, given: Inputs, is_all: bool) -> LogReport:
     """The causes of a log's events and of its denials; where there are none, of its last syscall, if that failed."""
     denied = _denials(log, given)
     shown = len(denied.of) if denied and is_all else SHOWN
-    of_events = [causes.of(event, count, given) for event, count in log.events.values()]
+    of_events = [causes.cause_of(event, count, given) for event, count in log.events.values()]
     of_denials = [denial.cause(given) for denial in denied.of[:shown]] if denied else []
     return LogReport(log, given, of_events + of_denials, denied, shown)
 
 
-def lines(report: LogReport) -> Iterator[str]:
+def log_report_lines(report: LogReport) -> Iterator[str]:
     """What is printed of all events, and of what else is in the log."""
     log, denied = report.log, report.denials
     for cause in report.causes:
-        yield from causes.lines(cause)
+        yield from causes.cause_lines(cause)
     for number, why in log.faults:
         yield f"# line {number} isn't judged: {why}" if number else f"# a line isn't judged: {why}"
     if log.suppressed:
@@ -79,17 +79,17 @@ def lines(report: LogReport) -> Iterator[str]:
     if log.beyond:
         yield f"# records of more syscalls than {EVENTS} different ones, which aren't judged: {log.beyond}"
     if denied is not None and not (report.causes and log.failures.count == 1):
-        yield from output.notes(denials.lines(denied, report.shown, report.given))
+        yield from output.notes(denials.denial_lines(denied, report.shown, report.given))
     yield from output.notes(core.describe() for core in log.cores)
     if not report.causes and not log.faults and not log.failures.count and not log.cores:
         yield from output.notes(report.lacking)
 
 
-def as_json(report: LogReport) -> dict[str, object]:
+def log_report_json(report: LogReport) -> dict[str, object]:
     log, denied = report.log, report.denials
     has_failures = denied is not None and log.failures.count + log.failures.before_load
-    return {"status": report.status, "events": [causes.as_json(cause) for cause in report.causes],
+    return {"status": report.status, "events": [causes.cause_json(cause) for cause in report.causes],
             "faults": [{"line": number, "why": why} for number, why in log.faults],
             "suppressed": log.suppressed, "not_judged": log.beyond,
             **({"cores": [core.as_json() for core in log.cores]} if log.cores else {}),
-            **({"failures": denials.as_json(denied, report.shown, report.given.table)} if has_failures else {})}
+            **({"failures": denials.denials_json(denied, report.shown, report.given.table)} if has_failures else {})}

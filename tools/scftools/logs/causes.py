@@ -19,7 +19,7 @@ from ..forms.filters import Filter
 from ..report import decisions, listing
 from . import amendment
 from .amendment import Amendment
-from .diagnosis import CONTRADICTS, FITS, UNKNOWN_FIT, Case, AnsweringStack, cases, rank, verdict_of
+from .diagnosis import CONTRADICTS, FITS, UNKNOWN_FIT, AnsweringStack, Case, cases, rank, verdict_of
 from .events import CORE, RECORD, STRACE, Event
 
 # What a source doesn't have.
@@ -64,7 +64,7 @@ class Inputs:
     @property
     def judged(self) -> Tables:
         """The tables of the architectures that the profile is judged for."""
-        return tables.of_profile(self.profile or b"", self.table, self.is_native)
+        return tables.tables_of_profile(self.profile or b"", self.table, self.is_native)
 
     @functools.cached_property
     def of_filters(self) -> AnsweringStack:
@@ -109,7 +109,7 @@ def _side(name: str, stack_of: Callable[[], AnsweringStack], event: Event) -> Si
     return Side(name, answers, verdict_of(answers))
 
 
-def of(event: Event, count: int, given: Inputs, common: Event | None = None) -> Cause:
+def cause_of(event: Event, count: int, given: Inputs, common: Event | None = None) -> Cause:
     """What a profile and filters say of an event; of several, with what is `common` to all, which the changes allow."""
     cause = Cause(event, count, given)
     if given.filters:
@@ -117,14 +117,14 @@ def of(event: Event, count: int, given: Inputs, common: Event | None = None) -> 
         cause.filters = _side(name, lambda: given.of_filters, event)
     if given.profile is None:
         return cause
-    reason = reasons.of(given.profile, given.judged, event.call.words())
+    reason = reasons.profile_reason(given.profile, given.judged, event.call.words())
     if decisions.is_undetermined(reason, event.call, given.profile, given.judged):
         cause.profile = Side("the profile", is_undetermined=True)
         return cause
     cause.profile = _side("the profile", lambda: given.of_profile, event)
     denied = next((case for case in cause.profile.cases if not case.answer.allows), None)
     if denied is not None:
-        reason = reasons.of(given.profile, given.judged, denied.call.words())
+        reason = reasons.profile_reason(given.profile, given.judged, denied.call.words())
         cause.changes = list(amendment.amendments(given.profile, common or event, reason, given.trial))
     return cause
 
@@ -211,10 +211,10 @@ def _of_side(side: Side | None, cause: Cause, of_case: Callable[[Case, Cause], I
 def _of_profile(case: Case, cause: Cause) -> Iterator[str]:
     """The profile's answer, and by which entry it is."""
     given = cause.given
-    reason = reasons.of(given.profile, given.judged, case.call.words())
+    reason = reasons.profile_reason(given.profile, given.judged, case.call.words())
     yield reason.line
     call = None if case.is_for_all and cause.event.unknown else case.call
-    yield from output.notes([case.answer.describe(), *reasons.describe(reason, given.profile, call),
+    yield from output.notes([case.answer.describe(), *reasons.describe_reason(reason, given.profile, call),
                              *_of_case(case, cause.event, given.table)])
 
 
@@ -237,7 +237,7 @@ def _of_changes(cause: Cause) -> Iterator[str]:
         yield from (f"  {step}" for step in change.steps())
 
 
-def lines(cause: Cause) -> Iterator[str]:
+def cause_lines(cause: Cause) -> Iterator[str]:
     """What is printed of an event: scf's lines, and those of the tool marked by `# `."""
     yield from output.notes(_of_event(cause))
     yield from _of_side(cause.profile, cause, _of_profile)
@@ -253,12 +253,12 @@ def _side_json(side: Side, cause: Cause, of_case: Callable[[Case], dict[str, obj
     return value if refusal is None else {**value, "fault": refusal.fault.as_json() if refusal.fault else refusal.line}
 
 
-def as_json(cause: Cause) -> dict[str, object]:
+def cause_json(cause: Cause) -> dict[str, object]:
     event, given = cause.event, cause.given
 
     def of_profile(case: Case) -> dict[str, object]:
         profile = given.profile or b""
-        return reasons.as_json(reasons.of(profile, given.judged, case.call.words()), profile, None)
+        return reasons.reason_json(reasons.profile_reason(profile, given.judged, case.call.words()), profile, None)
 
     def of_filters(case: Case) -> dict[str, object]:
         givers = listing.deciding_filters(given.filters, case.call.words(), case.answer)

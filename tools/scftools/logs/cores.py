@@ -139,5 +139,5 @@ def event_of(data: bytes) -> Event:
     return Event(CORE, event.with_values(next(event.ways())), outcome, arguments, process, name)
 
 
-def read(name: str) -> Event:
-    return event_of(inputs.read(name, "core"))
+def read_core(name: str) -> Event:
+    return event_of(inputs.read_input(name, "core"))

@@ -38,7 +38,7 @@ class Denial:
         return not self.has_ended, self.count, -self.failure.last
 
     def cause(self, given: Inputs) -> Cause:
-        cause = causes.of(self.failure.event, self.count, given, self.common)
+        cause = causes.cause_of(self.failure.event, self.count, given, self.common)
         cause.has_ended = self.has_ended
         return cause
 
@@ -70,11 +70,12 @@ class Denials:
 
 def _key(case: Case, failure: Failure, given: Inputs) -> tuple[object, ...]:
     """What denials have in common that are reported together: the syscall, its errno, and the entry."""
-    entry = None if given.profile is None else reasons.of(given.profile, given.judged, case.call.words()).entry
+    entry = (None if given.profile is None else
+             reasons.profile_reason(given.profile, given.judged, case.call.words()).entry)
     return case.call.number, case.call.architecture, failure.event.outcome, entry
 
 
-def of(failures: Failures, given: Inputs) -> Denials:
+def denials_of(failures: Failures, given: Inputs) -> Denials:
     """Which failures are denials by the profile, or else by the filters. Raises Refusal."""
     denials, stack = Denials(failures), given.of_profile if given.profile is not None else given.of_filters
     # by what is reported together, and what that is of each kind of failure
@@ -105,7 +106,7 @@ def _counted(failures: Sequence[tuple[Event, int]], table: Table) -> str:
     return ", ".join(name + (f" {count} times" if count > 1 else "") for name, count in counts.items())
 
 
-def lines(denials: Denials, shown: int, given: Inputs) -> Iterator[str]:
+def denial_lines(denials: Denials, shown: int, given: Inputs) -> Iterator[str]:
     failures, table = denials.failures, given.table
     name = "the profile" if given.profile is not None else "the filter" if len(given.filters) == 1 else "the filters"
     s = "" if name.endswith("s") else "s"
@@ -127,7 +128,7 @@ def lines(denials: Denials, shown: int, given: Inputs) -> Iterator[str]:
                f"{failures.before_load}")
 
 
-def as_json(denials: Denials, shown: int, table: Table) -> dict[str, object]:
+def denials_json(denials: Denials, shown: int, table: Table) -> dict[str, object]:
     failures = denials.failures
 
     def listed(of: Sequence[tuple[Event, int]]) -> list[dict[str, object]]:

@@ -42,13 +42,13 @@ class AnsweringStack:
     @classmethod
     def of_filters(cls, data: Sequence[bytes]) -> AnsweringStack:
         """Of filters, oldest first. Raises Refusal."""
-        return cls(regions.of_filters(data), Asker(data).decided)
+        return cls(regions.regions_of_filters(data), Asker(data).decided)
 
     @classmethod
     def of_profile(cls, profile: bytes, judged: Tables) -> AnsweringStack:
         """Of a profile. Raises Refusal."""
-        return cls(regions.of_profile(profile, judged),
-                   lambda call: reasons.of(profile, judged, call.words()).answer)
+        return cls(regions.regions_of_profile(profile, judged),
+                   lambda call: reasons.profile_reason(profile, judged, call.words()).answer)
 
     def case(self, event: Event, values: dict[int, int]) -> Case | None:
         """The answer to an event with these arguments, None if scf doesn't say."""

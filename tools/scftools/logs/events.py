@@ -367,7 +367,7 @@ class _LogReader:
     """What the lines of a log of any kind have."""
 
     def __init__(self, lines: Iterable[str], table: Table):
-        self.log, self._lines, self._ends = EventLog(), iter(lines), _Ends(tables.of_architectures(JUDGED, table).of)
+        self.log, self._lines, self._ends = EventLog(), iter(lines), _Ends(tables.architecture_tables(JUDGED, table).of)
         self._records = _Records()
 
     def _take(self, number: int, line: str) -> None:
@@ -403,6 +403,6 @@ class _LogReader:
         return self.log
 
 
-def read(lines: Iterable[str], table: Table) -> EventLog:
+def read_events(lines: Iterable[str], table: Table) -> EventLog:
     """The events in the lines of a log of any kind."""
     return _LogReader(lines, table).read()

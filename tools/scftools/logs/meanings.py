@@ -66,7 +66,7 @@ def _of_fault(line: str, table: Table) -> Iterator[str]:
     match = FAULT.search(line)
     fault = Fault.read(match[0]) if match else None
     if fault is not None and explanation.has_row(fault.line):
-        yield from explanation.of_fault(fault, table)
+        yield from explanation.explain_fault(fault, table)
 
 
 def _of_verdict(line: str) -> Iterator[str]:
@@ -102,7 +102,7 @@ def _of_call(line: str, table: Table) -> Iterator[str]:
     except ValueError:
         return
     if numbers:
-        yield from explanation.of_call(Call(*numbers[:3], tuple(numbers[3:])), table)
+        yield from explanation.explain_call(Call(*numbers[:3], tuple(numbers[3:])), table)
     named = verdicts.NAMED_CALL_LINE.fullmatch(line)
     if named:
         yield f"of syscall {named[1]}, {named[2]}: {OF_A_SYSCALL[named[3]]}"
@@ -145,7 +145,7 @@ def _of_whole(line: str, table: Table) -> list[str]:
     return next((sentences for sentences in map(list, ways) if sentences), [])
 
 
-def of(line: str, table: Table) -> list[str]:
+def meaning_of(line: str, table: Table) -> list[str]:
     """The sentences on a line; none if nothing is known of it."""
     line = COLOUR.sub("", line).strip().strip("`'\"")
     sentences = list(_of_fault(line, table))

@@ -13,7 +13,7 @@ from ..base import output, program
 from ..base.values import dataclass
 from ..model import entries, profiles, tables
 from ..model.answers import ALLOWED, DEPENDS, KILL_PROCESS, Answer
-from ..model.architectures import JUDGED, NATIVE, Architecture, of_machine
+from ..model.architectures import JUDGED, NATIVE, Architecture, machine_architecture
 from ..model.calls import Call
 from ..model.entries import EQUAL, Object
 from ..model.profiles import ALLOWING
@@ -145,9 +145,9 @@ class Judge:
     """A profile, its regions for one architecture, and what its conditions test of each syscall there."""
 
     def __init__(self, profile: bytes, architecture: str, table: Table):
-        answered = regions.of_profile(profile, Tables({architecture: table}, profiles.reading_of(profile)))
+        answered = regions.regions_of_profile(profile, Tables({architecture: table}, profiles.reading_of(profile)))
         self._lookup = Lookup(answered)
-        top = entries.read(profile)
+        top = entries.parse_seccomp(profile)
         if top is None:
             raise program.ToolError("the profile's JSON can't be parsed by this tool", program.IO_ERROR)
         self.top: Object = top
@@ -185,17 +185,17 @@ class Judges:
     machine's, or, if the profile doesn't list that, the first that it lists."""
 
     def __init__(self, profile: bytes, named: Architecture | None, table: str | None):
-        self.profile, machine = profile, JUDGED[of_machine()]
-        listed = tables.of_profile(profile, tables.read(None)).of
+        self.profile, machine = profile, JUDGED[machine_architecture()]
+        listed = tables.tables_of_profile(profile, tables.read_table(None)).of
         self.own = named or (machine if machine.oci in listed else JUDGED[next(iter(listed))])
         self.taken = "" if self.own in (named, machine) else TAKEN.format(self.own.name, machine.name)
         # of all architectures, by OCI names; a table that is handed in is that of the log's own
-        self.tables = tables.of_architectures(JUDGED, tables.read(None)).of
-        self.tables[self.own.oci] = tables.read(table, self.own)
+        self.tables = tables.architecture_tables(JUDGED, tables.read_table(None)).of
+        self.tables[self.own.oci] = tables.read_table(table, self.own)
         # a profile without a list is for its machine's own
         names = profiles.architectures_of(profile) or [counting.modes_of(self.own.oci)[counting.OWN_MODE]]
         self.listed = Tables({name: self.tables[name]
-                              for name in tables.of_architectures(names, self.tables[NATIVE]).of},
+                              for name in tables.architecture_tables(names, self.tables[NATIVE]).of},
                              profiles.reading_of(profile))
         self._of: dict[str, Judge] = {}
         self._looked: dict[str, dict[str, tuple[int, ...]]] = {}
@@ -288,7 +288,7 @@ def log_remarks(needs: Needs) -> Iterator[str]:
         yield "the log has no syscall"
 
 
-def lines(needs: Needs) -> Iterator[str]:
+def needs_lines(needs: Needs) -> Iterator[str]:
     """The text output: what isn't allowed, what depends, and counts."""
     for disposition in (NOT_ALLOWED, DEPENDS, UNDECIDED):
         for judgement in needs.of(disposition):
@@ -309,7 +309,7 @@ def count_lines(needs: Needs) -> list[str]:
     return [f"{name} {count}" for name, count in sorted(counts.items(), key=lambda item: (-item[1], item[0]))]
 
 
-def as_json(needs: Needs, table: Table) -> dict[str, object]:
+def needs_json(needs: Needs, table: Table) -> dict[str, object]:
     calls = []
     for judgement in needs.judged:
         traced = judgement.traced
@@ -372,13 +372,13 @@ def least_profile(needs: Needs, judges: Judges) -> tuple[str, list[str]]:
     return json.dumps(profile, indent=4) + "\n", remarks
 
 
-def read(names: Sequence[str], judges: Judges, runtime: str | None = None) -> Needs:
+def read_needs(names: Sequence[str], judges: Judges, runtime: str | None = None) -> Needs:
     """The syscalls of some logs, with those that a runtime makes before it executes the program, judged. Raises
     Refusal."""
     architecture = judges.own.oci
     # this checks the profile before a log is read
     judges.of(architecture)
-    log = traces.read(names, judges.looked_at, judges.tables, architecture)
+    log = traces.read_traces(names, judges.looked_at, judges.tables, architecture)
     log.begin(runtime or "")
     for name in OF_RUNTIMES[runtime].split() if runtime else ():
         if log.number_of(architecture, name) is not None:

@@ -91,7 +91,8 @@ class Trace(counting.Log):
     def _by_number(self, number: int, nr: int, arguments: dict[int, int], count: int = 1,
                    architecture: int | None = None) -> None:
         """Counts a syscall by its number in a record, and that of its architecture, by default the log's own."""
-        of = architectures.of_record(JUDGED[self.own_architecture].number if architecture is None else architecture, nr)
+        audit_value = JUDGED[self.own_architecture].number if architecture is None else architecture
+        of = architectures.architecture_of_record(audit_value, nr)
         if nr == SKIPPED:
             self._count(self.unread, number, count)
         elif of is None or of not in self.tables:
@@ -208,10 +209,10 @@ def _read(name: str, lines: Iterator[str], trace: Trace) -> None:
     trace.end()
 
 
-def read(names: Sequence[str], looked_at: Callable[[str, str], tuple[int, ...]], tables: dict[str, Table],
+def read_traces(names: Sequence[str], looked_at: Callable[[str, str], tuple[int, ...]], tables: dict[str, Table],
          architecture: str) -> Trace:
     """The contents of some logs (`-` is standard input), with the requested arguments of each syscall."""
     trace = Trace(looked_at, tables, architecture)
     for name in names:
-        _read(name, strace.lines(name), trace)
+        _read(name, strace.log_lines(name), trace)
     return trace

@@ -66,7 +66,7 @@ def _gains_privileges(path: str) -> bool:
         return False
 
 
-def run(log: str, options: Sequence[str], words: Sequence[str]) -> int:
+def run_traced(log: str, options: Sequence[str], words: Sequence[str]) -> int:
     """Runs a program with its arguments while strace writes its log, and waits for both. The result is the program's
     status, or a signal's number below zero. Raises ToolError if there is no such program, or no strace."""
     path = _path_of(words[0])

@@ -123,12 +123,12 @@ JUDGED = {architecture.oci: architecture for architecture in (
 BY_SOURCE = {architecture.source_name: architecture for architecture in JUDGED.values()}
 
 
-def of_machine() -> str:
+def machine_architecture() -> str:
     """The OCI name of the architecture of this machine's own syscalls, which a profile without a list is for."""
     return AARCH64 if os.uname().machine == "aarch64" else NATIVE
 
 
-def of_record(number: int, nr: int) -> str | None:
+def architecture_of_record(number: int, nr: int) -> str | None:
     """The OCI name of the architecture that a record with this audit number and this syscall number is of, None if that
     isn't known. Numbers from 0x40000000 on are x32's on x86-64."""
     if number == X86_64:
@@ -176,7 +176,7 @@ def _refuse_big_endian(name: str | None) -> None:
 def judged_in(text: str | None) -> Architecture:
     """The architecture that a word names, or a number as `number_in` takes it; without one this machine's own. Raises
     ToolError if scf doesn't judge it."""
-    name = of_machine() if text is None else name_in(text)
+    name = machine_architecture() if text is None else name_in(text)
     if text is not None and re.fullmatch("(?:0x)?[0-9a-fA-F]+", text):
         name = profile_name(int(number_in(text), 0))
     _refuse_big_endian(name)

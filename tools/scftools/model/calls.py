@@ -62,7 +62,7 @@ class Call:
     @property
     def abi(self) -> str | None:
         """The OCI name of the architecture that it is of, None if that isn't known."""
-        return architectures.of_record(self.architecture, self.number)
+        return architectures.architecture_of_record(self.architecture, self.number)
 
     @property
     def bits(self) -> int:
@@ -75,7 +75,7 @@ class Call:
         if self.is_native:
             return table.names_of(self.number)
         judged = architectures.JUDGED.get(self.abi or "")
-        own_table = None if judged is None else tables.of_architecture(judged.oci)
+        own_table = None if judged is None else tables.architecture_table(judged.oci)
         return [] if own_table is None or judged is None else own_table.names_of(self.number - judged.first)
 
     def words(self) -> list[str]:

@@ -33,7 +33,7 @@ C_IDENTIFIER = Pattern(r"[A-Za-z_]\w*", re.A)
 @functools.lru_cache(None)
 def kinds() -> dict[str, str]:
     """A letter for each argument of x86-64's syscalls, by their names."""
-    rows = (line.split() for line in program.lines_of("x86_64.arguments"))
+    rows = (line.split() for line in program.table_lines("x86_64.arguments"))
     return {name: letters.strip("-") for letters, *names in rows for name in names}
 
 
@@ -54,14 +54,14 @@ def number_in(text: str) -> int | None:
 @functools.lru_cache(None)
 def numbers() -> dict[str, int]:
     """The constants and their numbers on x86-64."""
-    return {name: int(number) for name, number in map(str.split, program.lines_of("arguments.symbols"))}
+    return {name: int(number) for name, number in map(str.split, program.table_lines("arguments.symbols"))}
 
 
 @functools.lru_cache(None)
 def _unlike() -> dict[str, set[str]]:
     """By the OCI name of an architecture the constants that aren't there what they are on x86-64."""
     sets: dict[str, set[str]] = {architectures.NATIVE: set()}
-    for architecture, *names in map(str.split, program.lines_of("arguments.unlike")):
+    for architecture, *names in map(str.split, program.table_lines("arguments.unlike")):
         sets.setdefault(architectures.name_in(architecture) or architecture, set()).update(names)
     return sets
 
@@ -211,7 +211,7 @@ def _families(architecture: str = architectures.NATIVE) -> tuple[dict[str, Famil
     each argument by the syscall, `-` for none."""
     families: dict[str, Family] = {}
     calls: dict[str, list[str]] = {}
-    for first, *words in map(str.split, program.lines_of("x86_64.constants")):
+    for first, *words in map(str.split, program.table_lines("x86_64.constants")):
         if first == "=":
             for word in words[1:]:
                 families.setdefault(words[0], Family()).add(word)

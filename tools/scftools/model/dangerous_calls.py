@@ -22,7 +22,7 @@ class Dangerous:
 def dangerous() -> dict[str, Dangerous]:
     """The syscalls that make a sandbox useless, from the list."""
     calls: dict[str, Dangerous] = {}
-    for line in program.lines_of("dangerous.calls"):
+    for line in program.table_lines("dangerous.calls"):
         parts = LINE.fullmatch(line.strip())
         if parts:
             bits = int(parts[3], 16) if parts[3] else None

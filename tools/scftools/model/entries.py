@@ -84,7 +84,7 @@ class Object(dict):
                 del self[name]
 
 
-def read(data: bytes, make: Callable[[Any], dict] = Object) -> Any:
+def parse_seccomp(data: bytes, make: Callable[[Any], dict] = Object) -> Any:
     """The seccomp object of a profile or a whole config.json, with objects that are made so; None if it can't be read.
     A number larger than any that scf takes stays a string, and so does a fraction."""
     def whole(text: str) -> int | str:

@@ -104,7 +104,7 @@ class Profile:
 @functools.lru_cache(2)
 def _top(data: bytes) -> dict[str, Any]:
     """The seccomp object of a profile, or of a whole config.json; nothing in it if it can't be read."""
-    return entries.read(data, dict) or {}
+    return entries.parse_seccomp(data, dict) or {}
 
 
 def architectures_of(data: bytes) -> tuple[str, ...]:
@@ -127,7 +127,7 @@ def entry_at(data: bytes, place: int) -> object:
 
 
 @functools.lru_cache(2)
-def read(data: bytes) -> Profile | None:
+def parse_profile(data: bytes) -> Profile | None:
     """The default and the names of a profile, or None if it can't be read."""
     top = _top(data)
     try:

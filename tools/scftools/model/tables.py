@@ -59,14 +59,14 @@ class Table:
         return Table(b"\n".join(line for line, entry in entries if entry is None or entry[1].decode() not in names))
 
 
-def read(name: str | None, architecture: Architecture = JUDGED[NATIVE]) -> Table:
+def read_table(name: str | None, architecture: Architecture = JUDGED[NATIVE]) -> Table:
     """The table in a file, or by default the one of an architecture that comes with scf."""
-    table = of_architecture(architecture.oci) if name is None else None
+    table = architecture_table(architecture.oci) if name is None else None
     return table or Table(inputs.read_whole(architecture.file if name is None else name, "table"))
 
 
 @functools.lru_cache(None)
-def of_architecture(name: str) -> Table | None:
+def architecture_table(name: str) -> Table | None:
     """The table that comes with scf of an architecture, by its OCI name, or None if none does. x32's has its numbers
     without 0x40000000."""
     try:
@@ -149,21 +149,21 @@ def native_alone(data: bytes) -> Tables:
     return Tables({NATIVE: Table(data)})
 
 
-def of_architectures(names: Iterable[str], table: Table, default: str = NATIVE) -> Tables:
+def architecture_tables(names: Iterable[str], table: Table, default: str = NATIVE) -> Tables:
     """The tables of those architectures with these OCI names that scf judges, with this one for x86-64's, or another's
     own; this one alone if scf judges none of them."""
-    tables = {name: table if name == default else of_architecture(name) for name in JUDGED if name in set(names)}
+    tables = {name: table if name == default else architecture_table(name) for name in JUDGED if name in set(names)}
     known_tables = {name: its for name, its in tables.items() if its is not None}
     return Tables(known_tables or {default: table})
 
 
-def of_profile(profile: bytes, table: Table, is_native: bool = False, default: str = NATIVE) -> Tables:
+def tables_of_profile(profile: bytes, table: Table, is_native: bool = False, default: str = NATIVE) -> Tables:
     """The tables of the architectures that a profile names, with this one for x86-64's, or another's own; on request
     this one alone. A profile that names none is for this machine's own, and one that a runtime reads for that, too."""
     reading, names = profiles.reading_of(profile), profiles.architectures_of(profile)
     if not names or reading not in profiles.BY_WORDS:
-        names = (architectures.of_machine(), *names)
-    tables = Tables({default: table}) if is_native else of_architectures(names, table, default)
+        names = (architectures.machine_architecture(), *names)
+    tables = Tables({default: table}) if is_native else architecture_tables(names, table, default)
     absent = profile.absent if isinstance(profile, profiles.DerivedProfile) else {}
     return Tables({name: each.without(absent[name]) if name in absent else each for name, each in tables.of.items()},
                   reading)
@@ -173,7 +173,7 @@ def of_profile(profile: bytes, table: Table, is_native: bool = False, default: s
 def names_elsewhere() -> set[str]:
     """The names of syscalls that Linux has only on other architectures."""
     try:
-        return set(map(str.strip, program.lines_of("other_architectures.names")))
+        return set(map(str.strip, program.table_lines("other_architectures.names")))
     except FileNotFoundError:
         return set()
 
@@ -212,7 +212,7 @@ def nearest(name: str, *among: Table) -> str | None:
 
 def classify(names: Sequence[str], judged: Tables) -> Skipped:
     """The kinds of names that no table has; each once, in order."""
-    elsewhere, table = names_elsewhere(), read(None)
+    elsewhere, table = names_elsewhere(), read_table(None)
     skipped = Skipped([], [], [])
     for name in dict.fromkeys(names):
         if name in elsewhere:

@@ -46,13 +46,13 @@ class ProfileSide:
     @functools.cached_property
     def _regions(self) -> regions.Lookup:
         """Its regions, by one start of scf."""
-        return regions.Lookup(regions.of_profile(self.source.data, self.judged))
+        return regions.Lookup(regions.regions_of_profile(self.source.data, self.judged))
 
     def reason(self, call: Call) -> Reason:
         """The profile's answer to a syscall and its reason, by its regions, or else by `scf ask`."""
         region = self._regions.of(call)
-        return reasons.of(self.source.data, self.judged, call.words()) if region is None else \
-            reasons.of_region(region.line)
+        return reasons.profile_reason(self.source.data, self.judged, call.words()) if region is None else \
+            reasons.region_reason(region.line)
 
 
 @dataclass(frozen=True)
@@ -84,8 +84,8 @@ class ProfilePair(Sides):
 
     def bundle(self, judged: Tables, is_by_call: bool = False) -> bytes:
         old, new = (side.source.data for side in self.sides.values())
-        return bundles.of_comparison(self.stacks[0], new, judged) if self.stacks else \
-            bundles.of_profiles(old, new, judged)
+        return bundles.comparison_bundle(self.stacks[0], new, judged) if self.stacks else \
+            bundles.profiles_bundle(old, new, judged)
 
     @property
     def both(self) -> list[tuple[Architecture, Table]]:
@@ -120,8 +120,8 @@ class ProfilePair(Sides):
         region = self.differences.of(call)
         if region is None:
             return {name: side.reason(call) for name, side in self.sides.items()}
-        old = reasons.of_region(region.line) if self.are_judged_alike else self.sides[OLD].reason(call)
-        return {OLD: old, NEW: reasons.of_region(region.beside.line)}
+        old = reasons.region_reason(region.line) if self.are_judged_alike else self.sides[OLD].reason(call)
+        return {OLD: old, NEW: reasons.region_reason(region.beside.line)}
 
 
 @dataclass
@@ -235,7 +235,8 @@ def _whole(pair: ProfilePair, relation: str) -> Verdict:
     return replace(turned, word=relation if turned.holds else FAILING_WORDS[relation] if turned.fails else turned.word)
 
 
-def of_profiles(old: ProfileInput, new: ProfileInput, table: Table, relation: str, is_native: bool = False) -> Changes:
+def changes_of_profiles(old: ProfileInput, new: ProfileInput, table: Table, relation: str,
+                        is_native: bool = False) -> Changes:
     """The differences between two profiles."""
     sides = {name: ProfileSide(name, source, table, is_native) for name, source in ((OLD, old), (NEW, new))}
     pair = ProfilePair(sides)
@@ -269,7 +270,7 @@ def _conditions(pair: ProfilePair, change: Change) -> Iterator[str]:
     """The conditions of both profiles' entries that the example meets, and the example as C would have it."""
     for side, reason in change.reasons.items():
         source = pair.sides[side].source
-        for line in list(reasons.describe(reason, source.data, change.call, source.origins))[1:]:
+        for line in list(reasons.describe_reason(reason, source.data, change.call, source.origins))[1:]:
             yield f"{side}: {line}"
     if change.names and change.call is not None and any(change.call.arguments):
         yield f"the syscall is {constants.call_text(change.names[0], change.call.arguments)}"
@@ -282,7 +283,7 @@ def _entries(changes: Changes) -> Iterator[str]:
         # (a stub stands behind all entries)
         reason_of = {math.inf if reason.is_stub else reason.entry: reason for reason in of_side}
         for place in sorted(place for place in reason_of if place is not None):
-            by = next(iter(reasons.describe(reason_of[place], side.source.data, None, side.source.origins)), "")
+            by = next(iter(reasons.describe_reason(reason_of[place], side.source.data, None, side.source.origins)), "")
             yield f"{name}: {by.partition(' ')[2]}"
         if None in reason_of:
             answer = reason_of[None].answer
@@ -303,7 +304,7 @@ def _apart(subject: str, of_sides: dict[str, Sequence[str]]) -> Iterator[str]:
             yield f"only in the {side} one: {output.some(names, tables.MOST_LISTED)}"
 
 
-def lines(changes: Changes) -> Iterator[str]:
+def change_lines(changes: Changes) -> Iterator[str]:
     """The verdict, the counts, and the changes; added lines are marked by `# `."""
     pair, unnamed, left_out = changes.pair, changes.unnamed, changes.left_out
     yield changes.verdict
@@ -340,12 +341,12 @@ def _change_json(pair: ProfilePair, change: Change, table: Table) -> dict[str, o
     for side, reason in change.reasons.items():
         answer = {"answer": reason.answer.as_json(explains=True)} if reason.answer else {}
         source = pair.sides[side].source
-        members[side] = {**answer, **reasons.as_json(reason, source.data, change.call, source.origins)}
+        members[side] = {**answer, **reasons.reason_json(reason, source.data, change.call, source.origins)}
     return members
 
 
-def as_json(changes: Changes, table: Table) -> dict[str, object]:
-    """The object with everything that `lines` prints."""
+def changes_json(changes: Changes, table: Table) -> dict[str, object]:
+    """The object with everything that `change_lines` prints."""
     pair, unnamed = changes.pair, changes.unnamed
     return {"status": changes.status, "relation": changes.relation, "verdict": changes.verdict,
             "counts": changes.counts, "changes": [_change_json(pair, change, table) for change in changes.calls],

@@ -20,7 +20,7 @@ from ..forms.filters import Filter
 
 def default_of(profile: bytes) -> Answer | None:
     """The answer of a profile to what it doesn't name."""
-    top = entries.read(profile)
+    top = entries.parse_seccomp(profile)
     return entries.default_of(top) if top is not None and "defaultAction" in top else None
 
 
@@ -42,7 +42,7 @@ class Comparison(Sides):
     @property
     def tables(self) -> Tables:
         """The tables of the architectures that are judged, and how the profile is read."""
-        judged = tables.of_profile(self.profile, self.table, self.is_native, self.architecture)
+        judged = tables.tables_of_profile(self.profile, self.table, self.is_native, self.architecture)
         return replace(judged, stub=self.stub)
 
     @property
@@ -53,14 +53,14 @@ class Comparison(Sides):
     @property
     def facts(self) -> Profile | None:
         """The profile as the tools themselves read it."""
-        return profiles.read(self.profile)
+        return profiles.parse_profile(self.profile)
 
     @property
     def stacks(self) -> list[list[bytes]]:
         return [[each.data for each in self.filters]]
 
     def bundle(self, judged: Tables, is_by_call: bool = False) -> bytes:
-        return bundles.of_comparison(self.stacks[0], self.profile, judged)
+        return bundles.comparison_bundle(self.stacks[0], self.profile, judged)
 
     def run(self, scope: str | None = None, relation: str | None = None) -> tuple[int, Report]:
         """scf's exit status and report, for this relation or the comparison's own, by default over all architectures
@@ -114,8 +114,8 @@ class Comparison(Sides):
     def reason_of(self, call: Call) -> Reason:
         """The profile's reason for its answer to a syscall."""
         region = self.differences.of(call)
-        return reasons.of(self.profile, self.tables, call.words()) if region is None else \
-            reasons.of_region(region.beside.line)
+        return reasons.profile_reason(self.profile, self.tables, call.words()) if region is None else \
+            reasons.region_reason(region.beside.line)
 
     def foreign(self, scope: str) -> list[AbiAccess]:
         """For other ABIs that a scope doesn't cover, all of whose syscalls the profile denies, whether some are
@@ -124,15 +124,15 @@ class Comparison(Sides):
         others = [abi for abi in other_abis.ABIS if abi.oci not in judged]
         try:
             listed = self.differences.regions if others else []
-            listed = regions.of_filters(filters) if listed is None else listed
+            listed = regions.regions_of_filters(filters) if listed is None else listed
         except Refusal:
             listed = None
-        return [other_abis.of_abi(filters, listed, abi) for abi in others]
+        return [other_abis.abi_access(filters, listed, abi) for abi in others]
 
 
 def left_out(profile: bytes, judged: Tables) -> Report:
     """A report on what scf leaves out of a profile that it takes: names that no table has, and architectures without
     one."""
-    facts = profiles.read(profile)
+    facts = profiles.parse_profile(profile)
     return Report((), skipped=tuple(name for name in facts.names if not judged.has(name)) if facts is not None else (),
                   architectures=tuple(name for name in profiles.architectures_of(profile) if name not in judged.of))

@@ -85,7 +85,7 @@ def call_lines(comparison: Comparison, report: Report) -> tuple[list[str], list[
     if others_differ is None:
         return newer_lines, [] if count else all_named
     lines = list(count_lines(others)) or list(
-        explanation.of_differing(others_differ, comparison.table, True, len(comparison.filters)))
+        explanation.explain_differing(others_differ, comparison.table, True, len(comparison.filters)))
     return (lines + newer_lines, []) if above.has(report.verdict.call) else ([], lines + newer_lines)
 
 
@@ -127,8 +127,8 @@ def left_out_lines(comparison: Comparison, report: Report) -> Iterator[str]:
     """Lines on what was left out of the profile: skipped names, and architectures that aren't judged."""
     if report.skipped:
         facts = comparison.facts
-        yield from explanation.of_skipped(report, comparison.tables, bool(facts and facts.allows_by_default))
-    yield from explanation.of_architectures(report)
+        yield from explanation.explain_skipped(report, comparison.tables, bool(facts and facts.allows_by_default))
+    yield from explanation.explain_architectures(report)
 
 
 def foreign_lines(comparison: Comparison, report: Report, scope: str, is_quiet: bool = False) -> Iterator[str]:
@@ -141,7 +141,7 @@ def foreign_lines(comparison: Comparison, report: Report, scope: str, is_quiet: 
     foreign = comparison.foreign(scope)
     if foreign and not (is_quiet and other_abis.are_none(foreign)):
         yield compared + ABIS_CHECKED
-        yield from other_abis.describe(foreign, report.architectures)
+        yield from other_abis.access_lines(foreign, report.architectures)
     elif not is_quiet and not comparison.tables.is_native:
         yield compared + ("; an x86-64 kernel has no others" if architectures.NATIVE in comparison.tables.of else "")
 
@@ -155,7 +155,7 @@ def difference_lines(comparison: Comparison, verdict: Verdict) -> Iterator[str]:
     """The lines after a syscall that differs: the profile's reason, and the last tests on the filter's path."""
     call, answer = verdict.call, verdict.filters
     if call is not None and answer is not None and verdict.profile is not None:
-        yield from reasons.describe(comparison.reason_of(call), comparison.profile, call, comparison.origins)
+        yield from reasons.describe_reason(comparison.reason_of(call), comparison.profile, call, comparison.origins)
         giver = _giver(comparison, call, answer)
         yield from giver.last_tests(call, comparison.table) if giver is not None else ()
 
@@ -165,12 +165,12 @@ def _difference_json(comparison: Comparison, verdict: Verdict) -> dict[str, obje
     call, answer = verdict.call, verdict.filters
     if call is None or answer is None or verdict.profile is None:
         return {}
-    reason = reasons.as_json(comparison.reason_of(call), comparison.profile, call, comparison.origins)
+    reason = reasons.reason_json(comparison.reason_of(call), comparison.profile, call, comparison.origins)
     giver = _giver(comparison, call, answer)
     return {**reason, "path": giver.as_json()} if giver is not None else reason
 
 
-def notes(comparison: Comparison, report: Report, scope: str) -> Iterator[str]:
+def comparison_notes(comparison: Comparison, report: Report, scope: str) -> Iterator[str]:
     """The lines after scf's."""
     table, count = comparison.table, len(comparison.filters)
     if report.fault:
@@ -186,15 +186,15 @@ def notes(comparison: Comparison, report: Report, scope: str) -> Iterator[str]:
             before = list(newer.of_named_calls(comparison, report.calls))
     yield from before
     if report.verdict:
-        yield from explanation.of_verdict(report, table, scope != ALL, count)
+        yield from explanation.explain_verdict(report, table, scope != ALL, count)
         yield from difference_lines(comparison, report.verdict)
         yield from left_out_lines(comparison, report)
     yield from after
     yield from (line for _, line in responsible_files(comparison, report, scope))
 
 
-def as_json(comparison: Comparison, report: Report, scope: str, status: int) -> dict[str, object]:
-    """The object with everything that `notes` prints."""
+def comparison_json(comparison: Comparison, report: Report, scope: str, status: int) -> dict[str, object]:
+    """The object with everything that `comparison_notes` prints."""
     members: dict[str, object] = {"status": status, "scope": scope,
                                   "verdict": report.verdict.word if report.verdict else None}
     if scope == LISTED:

@@ -101,7 +101,7 @@ class Numbering:
 
     def _named(self, name: str) -> int:
         is_native = self.abi == architectures.NATIVE
-        table = self.table if is_native else tables.of_architecture(self.abi)
+        table = self.table if is_native else tables.architecture_table(self.abi)
         if table is None:
             raise program.ToolError(f"there is no table of --arch {self.architecture}: give the number of '{name}'")
         # C's constants for it are SYS_read and __NR_read
@@ -168,7 +168,7 @@ def record_words(options: Any) -> list[str] | None:
     """The options of scf for the record that a command line gives; None if it gives several."""
     if options.calls_from is not None or getattr(options, "expect", None) is not None:
         return None
-    record_queries = queries(options, tables.read(options.table))
+    record_queries = queries(options, tables.read_table(options.table))
     return record_queries[0].words() if len(record_queries) == 1 else None
 
 
@@ -203,7 +203,7 @@ class Reply:
         """The lines after scf's."""
         yield from self.sentences()
         if self.answer:
-            yield from explanation.of_answer(self.call, self.answer, table)
+            yield from explanation.explain_answer(self.call, self.answer, table)
         yield from self.reasons()
 
     def as_json(self, table: Table) -> dict[str, object]:
@@ -221,17 +221,17 @@ def _reply(status: int, lines: Sequence[str], query: Query, decision: Decision, 
     """The reply of filters, without what gives the answer."""
     fault = decision.fault
     return Reply(status, lines, query.call, decision.answer, fault,
-                 lambda: explanation.of_fault(fault) if fault else ())
+                 lambda: explanation.explain_fault(fault) if fault else ())
 
 
-def of_stack(filters: Sequence[Filter], query: Query, table: Table) -> Reply:
+def stack_decisions(filters: Sequence[Filter], query: Query, table: Table) -> Reply:
     """The reply of a stack, with the filter that gives the answer, and the path through it."""
     run = listing.run_stack(filters, query.words())
     decision, givers = run.decision, run.givers(run.decision.answer)
     giver = listing.to_show(givers)
 
     def reasons() -> Iterator[str]:
-        yield from refusals.of_stack(filters, decision.fault)
+        yield from refusals.stack_refusals(filters, decision.fault)
         yield from of_givers(filters, givers)
         if giver is not None:
             yield f"the path in {giver.describe()}: {giver.path.describe()}"
@@ -261,17 +261,18 @@ def is_undetermined(reason: Reason, call: Call, profile: bytes, judged: Tables) 
     return reason.is_foreign and call.abi not in judged.of and call.abi in profiles.architectures_of(profile)
 
 
-def of_profile(profile: bytes, query: Query, judged: Tables, origins: Sequence[Origin] | None = None) -> Reply:
+def profile_decisions(profile: bytes, query: Query, judged: Tables, origins: Sequence[Origin] | None = None) -> Reply:
     """The reply of a profile, with its reason; of a resolved profile with the entries' indexes in the user's file."""
-    reason, call = reasons.of(profile, judged, query.words()), query.call
+    reason, call = reasons.profile_reason(profile, judged, query.words()), query.call
     if call is not None and is_undetermined(reason, call, profile, judged):
-        return Reply(program.UNKNOWN, [FOR_OTHER_ABI], call, reasons=lambda: explanation.of_call(call, judged.native),
+        return Reply(program.UNKNOWN, [FOR_OTHER_ABI], call,
+                     reasons=lambda: explanation.explain_call(call, judged.native),
                      members=lambda: {"reason": UNDETERMINED})
     fault = reason.fault
     return Reply(reason.status, [reason.line] if reason.line else [], call, reason.answer, fault,
                  lambda: refusals.sentences(fault, profile, judged, origins) if fault else (),
-                 lambda: reasons.describe(reason, profile, call, origins),
-                 lambda: reasons.as_json(reason, profile, call, origins))
+                 lambda: reasons.describe_reason(reason, profile, call, origins),
+                 lambda: reasons.reason_json(reason, profile, call, origins))
 
 
 def print_replies(options: Any, table: Table, answer: Callable[[Query], Reply]) -> int:

@@ -81,11 +81,11 @@ def _row(line: int, text: str, numbering: Numbering, defaults: dict[str, str]) -
     return ExpectedRow(line, match[1].strip(), call, match[2], data)
 
 
-def read(name: str, numbering: Numbering, defaults: dict[str, str]) -> Iterator[ExpectedRow]:
+def read_expectations(name: str, numbering: Numbering, defaults: dict[str, str]) -> Iterator[ExpectedRow]:
     """The rows of a file, line by line; a line that begins with `#` is a comment. `defaults` are the fields of each
     record that a row doesn't give."""
     unfinished, line = b"", 0
-    for piece in [*inputs.pieces(name, INPUT_KIND, LONGEST_LIST), b"\n"]:
+    for piece in [*inputs.input_pieces(name, INPUT_KIND, LONGEST_LIST), b"\n"]:
         *whole, unfinished = (unfinished + piece).split(b"\n")
         if len(unfinished) > LONGEST_LINE:
             raise program.ToolError(f"line {line + len(whole) + 1} of the rows has more than {LONGEST_LINE} bytes")
@@ -101,7 +101,7 @@ class Answers:
     undecided by a start for the record. Raises Refusal."""
 
     def __init__(self, filters: Sequence[bytes]):
-        self._asker, self._regions = Asker(filters), regions.Lookup(regions.of_filters(filters))
+        self._asker, self._regions = Asker(filters), regions.Lookup(regions.regions_of_filters(filters))
 
     def of(self, call: Call) -> Answer:
         region = self._regions.of(call)

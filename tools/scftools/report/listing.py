@@ -212,7 +212,7 @@ def _path(status: int, lines: Sequence[str]) -> Path:
 
 def path_of(data: bytes, words: Sequence[str], with_path: bool = True) -> Path:
     """A filter's answer to the record that scf's options give, and on request the path to it."""
-    done = client.run(["run", *["--path"] * with_path, *words], data)
+    done = client.run_scf(["run", *["--path"] * with_path, *words], data)
     return _path(done.status, done.lines)
 
 
@@ -261,7 +261,8 @@ class StackRun:
 
 def run_stack(filters: Sequence[Filter], words: Sequence[str]) -> StackRun:
     """What a stack answers to the record that scf's options give, and how each of its filters runs."""
-    done = client.run(["decide", *words, "--path"], bundles.of_stack([bpf_filter.data for bpf_filter in filters]))
+    bundle = bundles.stack_bundle([bpf_filter.data for bpf_filter in filters])
+    done = client.run_scf(["decide", *words, "--path"], bundle)
     runs = done.lines[1:]
     return StackRun(done.status, filters, verdicts.decision(done.text),
                     [_path(done.status, runs[at:at + 2]) for at in range(0, len(runs), 2)])

@@ -131,7 +131,7 @@ def document(title: str, *pieces: object) -> str:
 
 def _made_by() -> Markup:
     """When a page is made, and by which scf."""
-    at, version = time.strftime("%Y-%m-%dT%H:%M:%SZ", time.gmtime()), client.run(["--version"]).text.strip()
+    at, version = time.strftime("%Y-%m-%dT%H:%M:%SZ", time.gmtime()), client.run_scf(["--version"]).text.strip()
     return tag("p", f"{at} · {version}")
 
 
@@ -144,7 +144,7 @@ def c_call(call: Call, table: Table) -> str:
     return f"syscall({f'SYS_{names[0]}' if names else call.number}, {arguments});"
 
 
-def of_comparison(comparison: Comparison, report: Report, added: Sequence[str], command: str) -> str:
+def comparison_page(comparison: Comparison, report: Report, added: Sequence[str], command: str) -> str:
     """The page of a comparison, with the lines that `scf compare` adds, and the command that made it."""
     verdict = report.verdict
     word = verdict.word if verdict is not None else report.lines[0] if report.lines else "nothing"
@@ -190,7 +190,7 @@ def stack(named: Named, groups: Groups) -> Iterator[Markup]:
     if named.surface is None:
         yield tag("p", "scf refuses this stack.")
         return
-    yield listed(surface_output.of_whole(named.surface))
+    yield listed(surface_output.whole_lines(named.surface))
     for group, rows in surface_output.grouped(named.surface.rows, groups):
         calls = listed(joined([tag("code", " or ".join(row.names)), f" {row.said}",
                                *(f"; {detail}" for detail in surface_output.details(row))]) for row in rows)
@@ -234,7 +234,7 @@ def of_blocks(blocks: Sequence[StackSurface]) -> Iterator[Named]:
             yield Named(f"beside {at}", block.beside.sides[1], "the filters beside it")
 
 
-def of_surfaces(blocks: Sequence[StackSurface], table_of: Table) -> str:
+def surfaces_page(blocks: Sequence[StackSurface], table_of: Table) -> str:
     """The page of blocks."""
     groups, stacks = Groups(), list(of_blocks(blocks))
     return document("What these filters allow", tag("h1", "What these filters allow"), _made_by(),

@@ -309,7 +309,7 @@ class ProfileRequest:
                                 self.table, OF_FILTERS[relation], architecture=self.architecture.oci)
         if self.runtime is None:
             return comparison
-        applied = runtimes.applied(engines.read(comparison.profile), self.runtime)
+        applied = runtimes.applied(engines.parse_json(comparison.profile), self.runtime)
         return replace(comparison, profile=applied.data, origins=applied.origins,
                        stub=applied.stub if relation == SAME and self.has_stub else {})
 
@@ -331,7 +331,7 @@ class ProfileRequest:
 
     def asked(self) -> ProfileRequest:
         """The request with the regions of the filters. Raises Refusal if scf refuses the filters or the table."""
-        filter_regions = regions.of_filters(self.data)
+        filter_regions = regions.regions_of_filters(self.data)
         Asker(self.data, self.architecture).check(self.table)
         return replace(self, regions=filter_regions)
 
@@ -355,7 +355,7 @@ class ProfileRequest:
 
     def answers_to_others(self) -> list[FilterAnswers]:
         """The answers of the filters in each other architecture, but those of which they kill every syscall."""
-        pairs = [(JUDGED[name], tables.of_architecture(name)) for name in self.others]
+        pairs = [(JUDGED[name], tables.architecture_table(name)) for name in self.others]
         return [replace(self, table=table, architecture=architecture).answers() for architecture, table in pairs
                 if table is not None and not self._kills(architecture)]
 
@@ -463,7 +463,7 @@ def _covered(request: ProfileRequest, listed: Sequence[str], count: int = 1) -> 
 
 def _allowed(request: ProfileRequest, architecture: Architecture) -> Iterator[str]:
     """A line if scf doesn't prove that the filters deny every syscall of an architecture."""
-    access = other_abis.of_abi(request.data, request.regions, architecture)
+    access = other_abis.abi_access(request.data, request.regions, architecture)
     if not access.are_denied:
         yield f"{access.describe()}; --arch {architecture.name} prints its profile"
 

@@ -102,7 +102,8 @@ def listed(regions: Sequence[Region], table: Table, architecture: Architecture) 
     return list(entries.values())
 
 
-def lines(entries: Sequence[Listed], table: Table, architecture: Architecture, has_examples: bool) -> Iterator[str]:
+def region_lines(entries: Sequence[Listed], table: Table, architecture: Architecture,
+                 has_examples: bool) -> Iterator[str]:
     """A line for each: the answer and its reason, the syscalls, and the conditions; on request with a syscall."""
     for entry in entries:
         answer, reason = entry.region.answer, entry.region.line.split(" ", 1 if entry.region.answer is None else 2)[-1]
@@ -118,7 +119,7 @@ def lines(entries: Sequence[Listed], table: Table, architecture: Architecture, h
             yield f"# such as {shown}" + (f", ip {call.pointer:#x}" if call.pointer else "")
 
 
-def as_json(entries: Sequence[Listed], table: Table, architecture: Architecture) -> list[dict[str, object]]:
+def regions_json(entries: Sequence[Listed], table: Table, architecture: Architecture) -> list[dict[str, object]]:
     """The regions as objects, each with a record."""
     return [{"answer": None if entry.region.answer is None else entry.region.answer.as_json(),
              **dict(zip(("filter", "index"), map(int, entry.region.line.rpartition(" ")[2].split(":")))),

@@ -38,7 +38,7 @@ ANSWERS = {answer.disposition: answer for answer in (EVERYTHING, Answer("TRACE",
 @functools.lru_cache(None)
 def argument_names() -> dict[str, list[str]]:
     """The names of tables/argument.names by their syscall; `-` for an argument without a name."""
-    return {name: names for name, *names in map(str.split, program.lines_of("argument.names"))}
+    return {name: names for name, *names in map(str.split, program.table_lines("argument.names"))}
 
 
 def name_of(syscall: str, index: int) -> str:

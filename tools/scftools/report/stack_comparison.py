@@ -48,7 +48,7 @@ class StackComparison(Sides):
         return ["--beside"]
 
     def bundle(self, judged: Tables, is_by_call: bool = False) -> bytes:
-        return bundles.of_stacks(*self.stacks, self.table.data if is_by_call else None)
+        return bundles.stacks_bundle(*self.stacks, self.table.data if is_by_call else None)
 
     def run(self, scope: str = ALL, relation: str | None = None) -> tuple[int, Report]:
         """scf's exit status and report, for this relation or the comparison's own; `Verdict.profile` is the answer of
@@ -61,7 +61,7 @@ class StackComparison(Sides):
             return status, report
         limits = [f"--{name}={text}" for name, text in {"limit": "0", **client.limits}.items()]
         words = ["compare", "--beside", *SCOPES[scope], *RELATIONS[relation], *limits]
-        done = client.run(words, self.bundle(self.tables, scope == CALLS))
+        done = client.run_scf(words, self.bundle(self.tables, scope == CALLS))
         report = verdicts.report(done.text)
         return (done.status, report) if report.verdict is None else (program.SUCCESS, Report.of(Verdict(relation)))
 
@@ -85,7 +85,7 @@ def _givers(comparison: StackComparison, verdict: Verdict) -> list[Giver | None]
 
 def _of_difference(comparison: StackComparison, verdict: Verdict) -> Iterator[str]:
     """The syscall that differs, both answers, and which tests of which filter lead to each."""
-    yield from explanation.of_call(verdict.call, comparison.table)
+    yield from explanation.explain_call(verdict.call, comparison.table)
     yield f"the {_answers(comparison.left)} {verdict.filters.describe()}"
     yield f"the other {_answers(comparison.right)} {verdict.profile.describe()}"
     for giver in filter(None, _givers(comparison, verdict)):
@@ -117,7 +117,7 @@ def faulty(comparison: StackComparison, report: Report) -> list[str]:
 def added(comparison: StackComparison, report: Report, scope: str) -> Iterator[str]:
     """The lines after scf's."""
     if report.fault is not None:
-        yield from explanation.of_fault(report.fault)
+        yield from explanation.explain_fault(report.fault)
         yield from (f"the filter is {name}" for name in faulty(comparison, report))
     if report.verdict is None:
         return
@@ -126,17 +126,17 @@ def added(comparison: StackComparison, report: Report, scope: str) -> Iterator[s
     if report.verdict.fails and report.verdict.call is not None:
         yield from _of_difference(comparison, report.verdict)
     elif not report.verdict.fails:
-        yield from explanation.of_verdict(report, comparison.table, scope == NATIVE_SCOPE, len(comparison.left))
+        yield from explanation.explain_verdict(report, comparison.table, scope == NATIVE_SCOPE, len(comparison.left))
     if report.verdict.fails and scope != CALLS:
         yield from _of_calls(comparison)
 
 
-def as_json(comparison: StackComparison, report: Report, scope: str, status: int) -> dict[str, object]:
+def stack_comparison_json(comparison: StackComparison, report: Report, scope: str, status: int) -> dict[str, object]:
     """The object with everything that `added` prints."""
     verdict, table = report.verdict, comparison.table
     members: dict[str, object] = {"status": status, "scope": scope, "relation": comparison.relation, "verdict": None}
     if report.fault is not None:
-        members["fault"] = report.fault.as_json(explanation.of_fault(report.fault))
+        members["fault"] = report.fault.as_json(explanation.explain_fault(report.fault))
         members["files"] = faulty(comparison, report)
     if verdict is None:
         return members
@@ -155,12 +155,12 @@ def as_json(comparison: StackComparison, report: Report, scope: str, status: int
 def tell(options: Any) -> int:
     """Prints the comparison of a command line's `filters` and those `beside` them, and returns its exit status."""
     comparison = StackComparison(filters.read_stack(options.filters), filters.read_stack(options.beside),
-                                 tables.read(options.table), options.relation)
+                                 tables.read_table(options.table), options.relation)
     scope = options.scope or ALL
     status, report = comparison.run(scope)
     report = verdicts.most_telling(report, comparison.table, lambda: comparison.named_calls() or ())
     if options.json:
-        output.put_json(as_json(comparison, report, scope, status))
+        output.put_json(stack_comparison_json(comparison, report, scope, status))
         return status
     output.put_explained(report.printed, added(comparison, report, scope))
     return status

@@ -23,7 +23,7 @@ from ..forms.stacks import Inspection, Stack
 from . import surface_output, surfaces
 from .blocks import OF_ALL, blocks_of, of_threads
 from .stack_comparison import StackComparison
-from .surface_output import LEAST_WIDTH, Groups, details, fitted, grouped, of_whole, row_json, wrapped
+from .surface_output import LEAST_WIDTH, Groups, details, fitted, grouped, row_json, whole_lines, wrapped
 from .surfaces import Row, Surface
 
 
@@ -106,7 +106,7 @@ def _of_abi(comparison: StackComparison, abi: Architecture) -> Verdict | None:
     return _comparison([[alone, *side] for side in comparison.stacks], comparison.table).run()[1].verdict
 
 
-def of_surfaces(*sides: Surface) -> Beside:
+def compared_surfaces(*sides: Surface) -> Beside:
     """Compares two surfaces."""
     comparison = _comparison([side.asker.filters for side in sides], sides[0].table)
     lines = {line.number: line for line in comparison.of_calls()}
@@ -118,7 +118,7 @@ def of_surfaces(*sides: Surface) -> Beside:
 
 def _of_both(beside: Beside) -> Iterator[str]:
     """The lines about the whole of the first side, and those of the second that differ."""
-    for at, (line, line_beside) in enumerate(zip(*map(of_whole, beside.sides))):
+    for at, (line, line_beside) in enumerate(zip(*map(whole_lines, beside.sides))):
         yield line
         if at == 0 or line != line_beside:
             yield f"{BESIDE}: {line_beside}"
@@ -209,7 +209,7 @@ class StackSurface:
 
 def _surface(filters: Sequence[Filter], settings: Settings) -> Surface:
     data = [bpf_filter.data for bpf_filter in filters]
-    surface = surfaces.of_filters(data, settings.table, settings.architecture, settings.is_machine)
+    surface = surfaces.surface_of_filters(data, settings.table, settings.architecture, settings.is_machine)
     if not settings.beside:
         surface.add_others()
     for row in surface.rows if settings.has_examples else ():
@@ -223,7 +223,7 @@ def _surface(filters: Sequence[Filter], settings: Settings) -> Surface:
     return surface
 
 
-def of_stack(filters: Sequence[Filter], settings: Settings, threads: Stack | None = None) -> StackSurface:
+def surface_of_stack(filters: Sequence[Filter], settings: Settings, threads: Stack | None = None) -> StackSurface:
     """The surface of filters, oldest first, and its comparison with others."""
     refused = filters
     try:
@@ -233,15 +233,16 @@ def of_stack(filters: Sequence[Filter], settings: Settings, threads: Stack | Non
                                 threads=threads)
         refused = settings.beside
         is_same = are_same(surface, [bpf_filter.data for bpf_filter in settings.beside])
-        both = Beside((surface, surface)) if is_same else of_surfaces(surface, _surface(settings.beside, settings))
+        both = (Beside((surface, surface)) if is_same else
+                compared_surfaces(surface, _surface(settings.beside, settings)))
     except Refusal as why:
         return StackSurface(why.status, refused, fault=why.fault, threads=threads)
     return StackSurface(both.status, filters, surface, both, threads=threads)
 
 
-def of_process(inspection: Inspection, settings: Settings) -> list[StackSurface]:
+def surfaces_of_process(inspection: Inspection, settings: Settings) -> list[StackSurface]:
     """The blocks of a process's stacks."""
-    return blocks_of(inspection, lambda stack: of_stack(stack.named, settings, stack),
+    return blocks_of(inspection, lambda stack: surface_of_stack(stack.named, settings, stack),
                             lambda stack, status: StackSurface(status, threads=stack))
 
 
@@ -250,11 +251,11 @@ def _of_refusal(block: StackSurface) -> Iterator[str]:
     if block.fault is None:
         return
     yield block.fault.line
-    yield from (f"# {line}" for line in explanation.of_fault(block.fault))
-    yield from output.notes(refusals.of_stack(block.filters, block.fault))
+    yield from (f"# {line}" for line in explanation.explain_fault(block.fault))
+    yield from output.notes(refusals.stack_refusals(block.filters, block.fault))
 
 
-def lines(blocks: Sequence[StackSurface], inspection: Inspection | None, width: int | None) -> Iterator[str]:
+def surfaces_lines(blocks: Sequence[StackSurface], inspection: Inspection | None, width: int | None) -> Iterator[str]:
     """The text output; after a process's stack the threads that have it, in lines marked by `# `."""
     groups = Groups()
     for at, block in enumerate(blocks):
@@ -264,7 +265,7 @@ def lines(blocks: Sequence[StackSurface], inspection: Inspection | None, width: 
         if block.beside is not None:
             yield from _lines_beside(block.beside, groups, width)
         elif block.surface is not None:
-            yield from surface_output.lines(block.surface, groups, width)
+            yield from surface_output.surface_lines(block.surface, groups, width)
         if block.threads is not None and inspection is not None and not block.is_of_all:
             yield from (f"# {line}" for line in of_threads(block.threads, inspection))
     if inspection is not None:
@@ -274,12 +275,12 @@ def lines(blocks: Sequence[StackSurface], inspection: Inspection | None, width: 
 def _json_of(block: StackSurface, inspection: Inspection | None, groups: Groups) -> dict[str, object]:
     members: dict[str, object] = {"status": block.status}
     if block.fault is not None:
-        members["fault"] = block.fault.as_json(explanation.of_fault(block.fault))
+        members["fault"] = block.fault.as_json(explanation.explain_fault(block.fault))
         members["files"] = faulty_filters(block.filters, block.fault)
     if block.surface is not None:
-        members.update(surface_output.as_json(block.surface, groups))
+        members.update(surface_output.surface_json(block.surface, groups))
     if block.beside is not None:
-        members["beside"] = {**surface_output.as_json(block.beside.sides[1], groups),
+        members["beside"] = {**surface_output.surface_json(block.beside.sides[1], groups),
                           "differs": [_pair_json(pair, groups) for pair in block.beside.pairs],
                           "foreign_differ": block.beside.foreign_differ,
                           "unnamed_differ": block.beside.unnamed_differ}
@@ -289,8 +290,8 @@ def _json_of(block: StackSurface, inspection: Inspection | None, groups: Groups)
     return members
 
 
-def as_json(blocks: Sequence[StackSurface], inspection: Inspection | None) -> dict[str, object]:
-    """The object with everything that `lines` prints."""
+def surfaces_json(blocks: Sequence[StackSurface], inspection: Inspection | None) -> dict[str, object]:
+    """The object with everything that `surfaces_lines` prints."""
     groups = Groups()
     if inspection is None:
         return _json_of(blocks[0], None, groups)

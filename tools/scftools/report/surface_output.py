@@ -25,7 +25,7 @@ class Groups:
 
     def __init__(self) -> None:
         self.of_names: dict[str, str] = {}
-        for group, *names in map(str.split, program.lines_of("calls.groups")):
+        for group, *names in map(str.split, program.table_lines("calls.groups")):
             self.of_names.update((name, group) for name in names)
         self.order = [*dict.fromkeys(self.of_names.values()), OTHER_GROUP]
 
@@ -67,14 +67,14 @@ def _summary(surface: Surface) -> str:
     return text if architecture.oci == NATIVE else f"{architecture.name}: {text}"
 
 
-def of_whole(surface: Surface) -> list[str]:
+def whole_lines(surface: Surface) -> list[str]:
     """Of which other machine's architectures a filter is; how many syscalls are allowed, denied and so on; those of the
     machine's other ABIs; numbers without a name."""
     names = [architecture.name for architecture in surface.other_machines]
     denied = [surface.asker.architecture.name, *(access.abi.name for access in surface.foreign)]
     of_others = [f"it is for {join_names(names)}, which --arch lists: every {join_names(denied)} syscall is denied"] \
         if names else []
-    foreign = ["; ".join(other_abis.describe(surface.foreign))] if surface.foreign else []
+    foreign = ["; ".join(other_abis.access_lines(surface.foreign))] if surface.foreign else []
     others = [f"{_summary(beside)} (--arch {beside.asker.architecture.name} lists them)" for beside in surface.others]
     return [*of_others, _summary(surface), *foreign, *others,
             f"numbers without a name: {surface.unnamed.describe()}"]
@@ -141,9 +141,9 @@ def as_table(rows: Iterable[Row], groups: Groups, width: int) -> Iterator[str]:
             heading = ""
 
 
-def lines(surface: Surface, groups: Groups, width: int | None) -> Iterator[str]:
+def surface_lines(surface: Surface, groups: Groups, width: int | None) -> Iterator[str]:
     """The text output for a surface."""
-    yield from fitted(of_whole(surface), width)
+    yield from fitted(whole_lines(surface), width)
     yield from plain(surface.rows, groups) if width is None else as_table(surface.rows, groups, width)
 
 
@@ -167,7 +167,7 @@ def _counts_json(surface: Surface) -> dict[str, object]:
     return {"architecture": surface.asker.architecture.name, "counts": {word: counts[word] for word in ROW_WORDS}}
 
 
-def as_json(surface: Surface, groups: Groups) -> dict[str, object]:
+def surface_json(surface: Surface, groups: Groups) -> dict[str, object]:
     others, machines = [_counts_json(beside) for beside in surface.others], surface.other_machines
     return {**_counts_json(surface), **({"other_abis": others} if others else {}),
             **({"is_for": [architecture.name for architecture in machines]} if machines else {}),

@@ -196,12 +196,12 @@ class Surface:
             other_abis.are_none(self.foreign)
         return [architecture for architecture in JUDGED.values() if is_denied and self.foreign
                 and architecture not in known_abis
-                and other_abis.of_abi(self.asker.filters, self.regions, architecture).not_denied is not None]
+                and other_abis.abi_access(self.asker.filters, self.regions, architecture).not_denied is not None]
 
     def add_others(self) -> None:
         """Adds the surfaces of the ABIs that aren't proved to be denied."""
         for architecture in (access.abi for access in self.foreign if not access.are_denied):
-            table = tables.of_architecture(architecture.oci)
+            table = tables.architecture_table(architecture.oci)
             if table is not None:
                 self.others.append(of_regions(self.asker.filters, self.regions, table, architecture))
 
@@ -240,11 +240,11 @@ def of_regions(filters: Sequence[bytes], filter_regions: Sequence[Region] | None
     if filter_regions is not None:
         asker.check(table)
         _ask(asker, rows)
-    foreign = other_abis.of_machine(filters, filter_regions, architecture.oci) if is_machine else []
+    foreign = other_abis.machine_access(filters, filter_regions, architecture.oci) if is_machine else []
     return Surface(asker, table, filter_regions, rows, foreign, _of_unnamed(numbers, table, architecture))
 
 
-def of_filters(filters: Sequence[bytes], table: Table, architecture: Architecture = JUDGED[NATIVE],
+def surface_of_filters(filters: Sequence[bytes], table: Table, architecture: Architecture = JUDGED[NATIVE],
                is_machine: bool = True) -> Surface:
     """The surface of filters, oldest first, to an architecture with this table, or to a machine whose own it is."""
-    return of_regions(filters, regions.of_filters(filters), table, architecture, is_machine)
+    return of_regions(filters, regions.regions_of_filters(filters), table, architecture, is_machine)

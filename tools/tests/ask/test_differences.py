@@ -34,7 +34,7 @@ UNKNOWN = ("unknown at 0:9 beside KILL_PROCESS 0 foreign w1 0x40000028\n"
 
 
 def found(*lines):
-    return Differences(regions.read("".join(lines) + f"regions {len(lines)} steps 9\n"), "profile")
+    return Differences(regions.parse_regions("".join(lines) + f"regions {len(lines)} steps 9\n"), "profile")
 
 
 class Parsed(unittest.TestCase):
@@ -43,8 +43,8 @@ class Parsed(unittest.TestCase):
         self.assertEqual((clone.line, clone.answer, clone.beside.line, clone.beside.answer, clone.beside.entry),
                          ("ALLOW 0 at 0:4", Answer("ALLOW", 0), "ERRNO 1 entry 3", Answer("ERRNO", 1), 3))
         self.assertEqual([each.is_decided for each in (clone, is_open, unknown)], [True, False, False])
-        self.assertIsNone(regions.read(CLONE + "regions 2 steps 9\n"))
-        self.assertIsNone(regions.read(CLONE.replace(" beside ", " beside what ") + "regions 1 steps 9\n"))
+        self.assertIsNone(regions.parse_regions(CLONE + "regions 2 steps 9\n"))
+        self.assertIsNone(regions.parse_regions(CLONE.replace(" beside ", " beside what ") + "regions 1 steps 9\n"))
 
     def test_what_follows(self):
         """A relation holds over records without a region, or where all of these have it, and fails by a decided one."""
@@ -95,7 +95,8 @@ class Parsed(unittest.TestCase):
         """Filters that differ for other ABIs alone."""
         left, right = ([Filter("", gate(ret(ALLOW), answer))] for answer in (KILL_PROCESS, KILL_THREAD))
         allows = b'{"defaultAction": "SCMP_ACT_ALLOW"}'
-        for sides in (StackComparison(left, right, tables.read(None)), Comparison(right, allows, tables.read(None))):
+        table = tables.read_table(None)
+        for sides in (StackComparison(left, right, table), Comparison(right, allows, table)):
             self.assertEqual([sides.known_verdict(scope, SAME).word for scope in (ALL, NATIVE_SCOPE, CALLS)],
                              ["differs", SAME, SAME])
 

@@ -83,7 +83,7 @@ class Limits(Case):
         for most, limit in ((1 << 30, client.FEW_STEPS), (0, "0")):
             for words in ((), ("--native",), ("--calls",), ("--calls", "--no-more")):
                 self.assertEqual(self.compared(0, most, *words),
-                                 client.run(["compare", *words, "--limit", limit], self.given))
+                                 client.run_scf(["compare", *words, "--limit", limit], self.given))
         self.assertEqual(self.compared(0, 0, "--calls").status, program.UNKNOWN)
         self.assertEqual(self.compared(0, 1 << 30, "--calls").out, b"same\n")
 

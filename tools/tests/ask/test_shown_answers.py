@@ -78,12 +78,13 @@ class Modules(Case):
 
     def test_both_sides_of_a_difference(self):
         left, right = ([Filter("f", filter_of(numbers))] for numbers in ([0], [0, 1]))
-        table, lines = tables.read(None), "differs\ncall nr 1 arch 0xc000003e ip 0x0 args 0x0 0x0 0x0 0x0 0x0 0x0\n"
-        run = client.run
+        table = tables.read_table(None)
+        lines = "differs\ncall nr 1 arch 0xc000003e ip 0x0 args 0x0 0x0 0x0 0x0 0x0 0x0\n"
+        run = client.run_scf
         for filters, beside, is_true in (("ERRNO 1", "ALLOW 0", True), ("ERRNO 1", "ALLOW 1", False),
                                          ("ERRNO 2", "ALLOW 0", False)):
             text = f"{lines}filter {filters}\nbeside {beside}\n".encode()
-            with mock.patch.object(client, "run", lambda words, *more_words, text=text, **more: Run(1, text)
+            with mock.patch.object(client, "run_scf", lambda words, *more_words, text=text, **more: Run(1, text)
                                    if words[0] == "compare" else run(words, *more_words, **more)):
                 comparison = stack_comparison.StackComparison(left, right, table)
                 if is_true:
@@ -96,9 +97,9 @@ class Modules(Case):
         stack = Stack((filter_of([0]),), False)
         text = (b"differs\ncall nr 1 arch 0xc000003e ip 0x0 args 0x0 0x0 0x0 0x0 0x0 0x0\nfilter ALLOW 0\n"
                 b"profile ALLOW 0\n")
-        run, judge = client.run, audit.StackJudge(tables.read(None))
-        with mock.patch.object(client, "run", lambda words, *more_words, **more: Run(1, text) if words[0] == "compare"
-                               else run(words, *more_words, **more)):
+        run, judge = client.run_scf, audit.StackJudge(tables.read_table(None))
+        with mock.patch.object(client, "run_scf", lambda words, *more_words, **more: Run(1, text)
+                               if words[0] == "compare" else run(words, *more_words, **more)):
             block = judge.judge(stack, Request(profile_of("read"), judge.table))
         self.assertEqual((block.verdict, block.why[:42]),
                          (audit.NOT_KNOWN, "internal error: the filters answer ERRNO 1"))

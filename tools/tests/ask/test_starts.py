@@ -116,7 +116,7 @@ class Starts(Counting):
     def test_compare(self):
         """What differs, and how, is one answer; the last is the path that is shown. An example that says little is
         replaced, and newer syscalls are told by themselves."""
-        numbers = [tables.read(None).number_of(name) for name in NAMES]
+        numbers = [tables.read_table(None).number_of(name) for name in NAMES]
         more, newer = filter_of([*numbers, 400, 41]), stub(500) + filter_of([*numbers, 400])
         given = self.file("p.json", profile_of(*NAMES))
         for data in (more, newer, load(4) + jeq(I386, 0, 1) + ret(ALLOW) + more):

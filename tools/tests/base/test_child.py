@@ -12,19 +12,19 @@ from scftools.base import child, program
 class Child(Case):
     def test_results(self):
         for result in (None, 0, b"\0" * (1 << 20), {"a": [1, "\n"]}):
-            self.assertEqual(child.run(lambda result=result: result, 60), result)
-        self.assertNotEqual(child.run(os.getpid, 60), os.getpid())
+            self.assertEqual(child.run_in_child(lambda result=result: result, 60), result)
+        self.assertNotEqual(child.run_in_child(os.getpid, 60), os.getpid())
 
     def test_exceptions(self):
         for error in (OSError(2, "none"), program.ToolError("no", 3), MemoryError(), KeyError("x")):
             with self.assertRaises(type(error)) as caught:
-                child.run(lambda error=error: self.fails(error), 60)
+                child.run_in_child(lambda error=error: self.fails(error), 60)
             self.assertEqual(caught.exception.args, error.args)
             self.assertEqual(getattr(caught.exception, "status", None), getattr(error, "status", None))
         with self.assertRaises(child.Died):
-            child.run(lambda: os._exit(0), 60)
+            child.run_in_child(lambda: os._exit(0), 60)
         with self.assertRaises(child.Died):
-            child.run(lambda: os.kill(os.getpid(), signal.SIGKILL), 60)
+            child.run_in_child(lambda: os.kill(os.getpid(), signal.SIGKILL), 60)
 
     def test_what_it_sends_is_received_however_it_ends(self):
         def works(send, end=lambda: 7):
@@ -36,10 +36,11 @@ class Child(Case):
                            (lambda: time.sleep(1000), child.Late), (lambda: 1 // 0, ZeroDivisionError)):
             received = []
             if error is None:
-                self.assertEqual(child.run(works, 60, received.append), 7)
+                self.assertEqual(child.run_in_child(works, 60, received.append), 7)
             else:
                 with self.assertRaises(error):
-                    child.run(lambda send, end=end: works(send, end), 1 if error is child.Late else 60, received.append)
+                    child.run_in_child(lambda send, end=end: works(send, end), 1 if error is child.Late else 60,
+                                       received.append)
             self.assertEqual(received, ["a" * (1 << 20), None, {"b": [1]}])
 
     def fails(self, error):
@@ -57,7 +58,7 @@ class Child(Case):
             for work in (waits, lambda: time.sleep(600), lambda: os.kill(os.getpid(), signal.SIGSTOP)):
                 begun = time.monotonic()
                 with self.assertRaises(child.Late):
-                    child.run(work, 0.2)
+                    child.run_in_child(work, 0.2)
                 self.assertLess(time.monotonic() - begun, 60)
 
     def test_its_own_timer_ends_it(self):
@@ -71,7 +72,7 @@ class Child(Case):
         pid = os.fork()
         if not pid:
             try:
-                child.run(waits, 0.2)
+                child.run_in_child(waits, 0.2)
             finally:
                 os._exit(0)
         number = int(os.read(ends[0], 10))
@@ -100,21 +101,21 @@ class Child(Case):
         old = signal.signal(signal.SIGTERM, lambda *_: came.append(1))
         self.addCleanup(signal.signal, signal.SIGTERM, old)
         with self.assertRaises(child.Interrupted) as caught:
-            child.run(waits, 60)
+            child.run_in_child(waits, 60)
         self.assertEqual((caught.exception.args, came), ((signal.SIGTERM,), []))
         self.assertEqual(signal.pthread_sigmask(signal.SIG_BLOCK, ()), set())
         # a child that waits for something else than signals is killed
         with mock.patch.object(child, "TO_END", 0.1), self.assertRaises(child.Interrupted):
-            child.run(lambda: os.kill(os.getppid(), signal.SIGTERM) or time.sleep(600), 60)
+            child.run_in_child(lambda: os.kill(os.getppid(), signal.SIGTERM) or time.sleep(600), 60)
         signal.signal(signal.SIGTERM, signal.SIG_IGN)
         with self.assertRaises(child.Late):
-            child.run(waits, 0.3)
+            child.run_in_child(waits, 0.3)
 
     def test_where_ended_children_are_not_told(self):
         """SIGCHLD is ignored, which a program inherits."""
         old = signal.signal(signal.SIGCHLD, signal.SIG_IGN)
         self.addCleanup(signal.signal, signal.SIGCHLD, old)
-        self.assertEqual(child.run(lambda: 7, 60), 7)
+        self.assertEqual(child.run_in_child(lambda: 7, 60), 7)
 
 
 class Ignored(Case):

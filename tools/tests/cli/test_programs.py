@@ -295,7 +295,7 @@ class Names(Case):
     def test_hostile_names_take_no_time(self):
         names = [f"{at:0900}" for at in range(4000)]
         self.assertEqual(len(self.added(["read", *names])), 22)
-        self.assertIsNone(tables.nearest("read" * 1000, tables.read(TABLE)))
+        self.assertIsNone(tables.nearest("read" * 1000, tables.read_table(TABLE)))
 
 
 class Json(Case):

@@ -130,13 +130,13 @@ class Hot(Case):
 
     def steps_of_execve(self, text, listed):
         """The steps in some architectures, by counts."""
-        names = ["execve", *list(tables.read(None).names())[::3]]
+        names = ["execve", *list(tables.read_table(None).names())[::3]]
         profile = {**json.loads(profile_of(*names)), "architectures": listed}
         hot, path = self.file("hot", text), self.file("p.json", json.dumps(profile))
         status, out, err = self.run_tool("compile", "--json", "--hot", hot, path)
         self.assertEqual((status, err), (0, ""))
         filter_ = bytes.fromhex(json.loads(out)["hex"])
-        return [steps(filter_, tables.of_architecture(name).number_of("execve"), JUDGED[name].number)
+        return [steps(filter_, tables.architecture_table(name).number_of("execve"), JUDGED[name].number)
                 for name in listed]
 
     def test_several_architectures(self):

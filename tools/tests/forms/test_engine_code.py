@@ -188,7 +188,8 @@ class Drawn(Case):
                                         for text in texts])
         for text, (made, refused) in zip(texts, answers):
             try:
-                resolved = as_go_prints(engines.Resolver(setting, lambda _: None).resolved(engines.read(text.encode())))
+                value = engines.parse_json(text.encode())
+                resolved = as_go_prints(engines.Resolver(setting, lambda _: None).resolved(value))
             except profiles.Refused as why:
                 resolved = str(why)
             yield text, resolved, f"refused: {refused}" if refused else as_go_prints(made)

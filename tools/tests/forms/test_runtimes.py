@@ -28,7 +28,7 @@ from scftools.report.compare import Comparison
 from scfhost import processes
 
 LOG, TRAP, TRACE, KILL = "SCMP_ACT_LOG", "SCMP_ACT_TRAP", "SCMP_ACT_TRACE", "SCMP_ACT_KILL_PROCESS"
-NAMES = sorted(tables.read(None).names())
+NAMES = sorted(tables.read_table(None).names())
 BUSYBOX = shutil.which("busybox")
 MOBY = "/usr/share/gocode/src/github.com/docker/docker/profiles/seccomp/default.json"
 PODMAN = "/usr/share/containers/seccomp.json"
@@ -100,7 +100,7 @@ def filters_of(runtime, seccomp):
 
 def of_ipc(*more):
     """A profile with i386 calls above all of the others' numbers, which ipc makes, too."""
-    i386, native = tables.of_architecture(X86), tables.read(None)
+    i386, native = tables.architecture_table(X86), tables.read_table(None)
     names = [name for name in NAMES if native.number_of(name) <= 334 and (i386.number_of(name) or 0) <= 386]
     return {"defaultAction": ERRNO, "architectures": [X86_64, X86, X32],
             "syscalls": [entry(*names, "semget", "shmat", "msgrcv", *more)]}
@@ -108,7 +108,7 @@ def of_ipc(*more):
 
 def beside(filters, applied):
     """The comparison of filters with a profile as a runtime applies it."""
-    return Comparison([Filter("it", data) for data in filters], applied.data, tables.read(None),
+    return Comparison([Filter("it", data) for data in filters], applied.data, tables.read_table(None),
                       stub=applied.stub).run_by_stub()[0]
 
 
@@ -190,7 +190,7 @@ class Runtimes(Case):
                 filters, why = filters_of(runtime, given)
                 self.assertIsNotNone(filters, why)
                 comparison = Comparison([Filter("it", data) for data in filters], engines.to_bytes(first_profile),
-                                        tables.read(None))
+                                        tables.read_table(None))
                 last = comparison.table.number_of("mkdir")
                 self.assertTrue(comparison.of_numbers(X86_64, last, last).holds, (runtime, given))
 
@@ -235,7 +235,7 @@ class Runtimes(Case):
         for names, first in ((["read"], 1), (["write", "lchown", "no_such"], 95), (["pread64", "mkdir"], 84)):
             given = {"defaultAction": TRAP, "architectures": [X86_64], "syscalls": [entry(*names)]}
             self.assertEqual(runtimes.applied(given, "runc").stub, {X86_64: first} if names != ["read"] else {})
-        numbers = {tables.read(None).number_of(name): name for name in NAMES}
+        numbers = {tables.read_table(None).number_of(name): name for name in NAMES}
         greatest, library = max(number for number in numbers if number <= 440), libseccomp.Library()
         below = [name for number, name in numbers.items() if number <= greatest]
         firsts = {architecture: 1 + max(library.number_of(name, architecture) or 0 for name in below)
@@ -270,7 +270,7 @@ class Runtimes(Case):
         are made directly. Where another name makes the bound greater, or another runtime has none, they are allowed."""
         given = of_ipc()
         applied = runtimes.applied(given, "runc")
-        self.assertEqual((applied.stub[X86], tables.of_architecture(X86).number_of("semget")), (387, 393))
+        self.assertEqual((applied.stub[X86], tables.architecture_table(X86).number_of("semget")), (387, 393))
         self.assertIn("so it answers i386's msgrcv, semget, shmat, though the profile names them, unless socketcall or "
                       "ipc makes them: libseccomp tells runc no number of theirs", applied.describe())
         self.assertNotIn("so it answers", " ".join(runtimes.applied(of_ipc("futex_waitv"), "runc").describe()))
@@ -321,7 +321,7 @@ class Runtimes(Case):
         for name, path in (("docker", MOBY), ("podman", PODMAN)):
             if not os.path.exists(path):
                 continue
-            applied = runtimes.applied(engines.read(inputs.read(path, "engine's profile")), name)
+            applied = runtimes.applied(engines.parse_json(inputs.read_input(path, "engine's profile")), name)
             # as the engine itself hands it on, its entries without effect among them
             with open(path, encoding="utf-8") as file:
                 resolver = engines.Resolver(runtimes.setting_of(applied.runtime), lambda _: None)
@@ -349,7 +349,7 @@ class Runtimes(Case):
             self.assertLess(library.number_of("socketcall"), 0)
         with mock.patch("ctypes.CDLL", side_effect=OSError("none")):
             applied = runtimes.applied(profile(entry("mkdir", "no_such")), "runc")
-        self.assertEqual((applied.stub, applied.remarks), ({X86_64: max(tables.read(None).numbers()) + 1}, [
+        self.assertEqual((applied.stub, applied.remarks), ({X86_64: max(tables.read_table(None).numbers()) + 1}, [
             "libseccomp.so.2 isn't installed: names that the runtime's own doesn't know may be left in"]))
         self.assertEqual(applied.profile["syscalls"][1]["names"], ["mkdir"])
 
@@ -424,7 +424,7 @@ class Drawn(Case):
                     applied = runtimes.applied(drawn_profile(index), runtime)
                 except profiles.Refused:
                     continue
-                judged = tables.of_profile(applied.data, tables.read(None))
+                judged = tables.tables_of_profile(applied.data, tables.read_table(None))
                 for name in judged.of:
                     words = by_words(json.loads(applied.data), runtime, name, JUDGED[name].bits)
                     counts[self.compared_readings(applied, judged.only(name), json.dumps(words).encode())] += 1
@@ -615,7 +615,7 @@ class VerifyProcess(Case):
         """Beside it, what runc answers by ENOSYS isn't told as what differs."""
         if os.geteuid():
             raise unittest.SkipTest("needs root")
-        table, given = tables.read(None), {"defaultAction": ERRNO, "architectures": [X86_64]}
+        table, given = tables.read_table(None), {"defaultAction": ERRNO, "architectures": [X86_64]}
         given["syscalls"] = [entry(*(name for name in NAMES if table.number_of(name) <= 449))]
         applied = runtimes.applied(given, "runc")
         stubbed = stub(450) + insn(0, 0) + compiled(applied)
@@ -680,4 +680,5 @@ class VerifyProcess(Case):
 
 def compiled(given):
     """The filter of a profile on x86-64 as its runtime reads it, without a stub."""
-    return client.compile_profile(given.data, tables.of_profile(given.data, tables.read(None), is_native=True))
+    judged = tables.tables_of_profile(given.data, tables.read_table(None), is_native=True)
+    return client.compile_profile(given.data, judged)

@@ -879,7 +879,7 @@ class Firejail(Case):
         self.assertEqual(sandbox_programs.Firejails(processes).of_number, {})
 
     def test_what_is_expected(self):
-        expectations = audit.Expectations(audit.Options(tables.read(None)))
+        expectations = audit.Expectations(audit.Options(tables.read_table(None)))
         expected = expectations.of_firejail(self.started("--profile=p", "--", "--seccomp.drop=rmdir"))
         self.assertEqual((expected.source, expected.asked.unknown), (self.profile, ("SCMP_ARCH_X86",)))
         self.assertEqual(json.loads(expected.asked.profile)["syscalls"], [
@@ -907,7 +907,7 @@ class Snaps(Case):
         self.file("snap.web.run.src", self.RULES)
         self.file("snap.classic.run.src", "@unrestricted\n")
         self.file("global.bin", self.OF_ALL)
-        self.expectations = audit.Expectations(audit.Options(tables.read(None)))
+        self.expectations = audit.Expectations(audit.Options(tables.read_table(None)))
 
     def test_the_names_of_groups(self):
         in_slice = "/user.slice/user-1000.slice/user@1000.service/app.slice"
@@ -936,7 +936,7 @@ class Snaps(Case):
 
     def test_verdicts(self):
         """The filter of all snaps makes nothing stricter than configured; a filter that allows more is weaker."""
-        expected, judge = self.expectations.of_snap("snap.web.run"), audit.StackJudge(tables.read(None))
+        expected, judge = self.expectations.of_snap("snap.web.run"), audit.StackJudge(tables.read_table(None))
         path = self.file("p.json", expected.asked.profile)
         self.run_words(["sh", "-c", f"{tool('compile')} {path} >{self.folder}/own.bpf"])
         with open(os.path.join(self.folder, "own.bpf"), "rb") as file:
@@ -1072,7 +1072,7 @@ class Limits(Case):
 
     def setUp(self):
         super().setUp()
-        self.options = audit.Options(tables.read(None))
+        self.options = audit.Options(tables.read_table(None))
         self.stack = processes.Stack((filter_of([0]),), False, {7: [7]})
         self.snapshot = machine.Snapshot({7: process()}, {(self.stack.filters, False): self.stack})
 
@@ -1101,10 +1101,10 @@ class Limits(Case):
     def test_roots_that_take_for_ever(self):
         """Whether --runtime-root is a folder isn't waited for, either: a user may answer that."""
         began, options = time.monotonic(), audit.replace(self.options, roots=("/box/*",))
-        with mock.patch.object(machine, "read", lambda *_: machine.Snapshot()), \
+        with mock.patch.object(machine, "read_machine", lambda *_: machine.Snapshot()), \
                 mock.patch.object(container_files, "descriptions_of", lambda *_: container_files.Descriptions()), \
                 mock.patch.object(container_files, "paths_matching", lambda _: time.sleep(20) or []):
-            report = audit.of_machine(options, audit.StackJudge(self.options.table))
+            report = audit.audit_machine(options, audit.StackJudge(self.options.table))
         self.assertEqual((report.rows, report.snapshot.notes), ([], []))
         self.assertLess(time.monotonic() - began, 10)
 
@@ -1210,7 +1210,7 @@ class Output(Case):
 
     def setUp(self):
         super().setUp()
-        self.table = tables.read(None)
+        self.table = tables.read_table(None)
         container = container_files.ContainerDescription("ab" * 32, "podman", "crun", 7, "/c", name='a"} 1\nb\\',
                                                          image="i\x1b[0m")
         self.row = audit.AuditRow(audit.CONTAINER, container.identifier, [process(name=b"x\n# y")], audit.Expectation(),
@@ -1221,11 +1221,11 @@ class Output(Case):
         self.audit = audit.Audit([self.row], snapshot, 0.0, 1.5)
 
     def test_lines(self):
-        for line in audit_output.lines(self.audit, self.table):
+        for line in audit_output.audit_lines(self.audit, self.table):
             self.assertIn(line[:4], ("not ", "    ", "# co", "# un", "# ot", "# pr"))
 
     def test_json(self):
-        value = audit_output.as_json(self.audit, self.table)
+        value = audit_output.audit_json(self.audit, self.table)
         self.assertEqual((value["status"], value["time"], value["rows"][0]["name"]),
                          (4, "1970-01-01T00:00:00Z", 'a"} 1\\x0ab\\'))
         self.assertEqual([*audit_output.json_lines(self.audit, self.table)][0], value["rows"][0])
@@ -1262,7 +1262,7 @@ class Output(Case):
 
     def test_a_line_has_no_more_than_some_of_a_name(self):
         self.row.container = replace(self.row.container, name="x" * (1 << 20), image="y" * (1 << 20))
-        self.assertLess(max(map(len, audit_output.lines(self.audit, self.table))), 1000)
+        self.assertLess(max(map(len, audit_output.audit_lines(self.audit, self.table))), 1000)
 
     @unittest.skipUnless(shutil.which("promtool"), "there is no promtool here")
     def test_metrics_by_promtool(self):
@@ -1332,21 +1332,22 @@ class Output(Case):
             f"1970-01-01T00:00:00Z not known: {name} (was as configured)",
             "1970-01-01T00:00:00Z weaker: unit b.service",
             "1970-01-01T00:00:00Z gone: container gone (was weaker)"])
-        lines = [line for line in audit_output.lines(self.audit, self.table, earlier=earlier) if " since " in line]
+        printed = audit_output.audit_lines(self.audit, self.table, earlier=earlier)
+        lines = [line for line in printed if " since " in line]
         self.assertEqual(lines, [
             f"# changed since yes\\x0aterday: {name}: not known (was as configured)",
             "# new since yes\\x0aterday: unit b.service: weaker",
             "# gone since yes\\x0aterday: container gone (was weaker)"])
-        value = audit_output.as_json(self.audit, self.table, earlier)
+        value = audit_output.audit_json(self.audit, self.table, earlier)
         self.assertEqual(value["since"], {"time": "yes\\x0aterday", "changes": changes})
         for name, each in (("audit", value), *(("audit-lines", change) for change in changes)):
             self.assertEqual([*json_schema.faults({"schema": 2, **each}, {"$ref": f"#/$defs/{name}"}, name)], [])
 
     def test_nothing_changed(self):
-        earlier = audit_output.Earlier.of_object(audit_output.as_json(self.audit, self.table))
+        earlier = audit_output.Earlier.of_object(audit_output.audit_json(self.audit, self.table))
         self.assertEqual([*audit_output.changes(earlier, self.audit)], [])
         self.assertIn("# nothing changed since 1970-01-01T00:00:00Z",
-                      [*audit_output.lines(self.audit, self.table, earlier=earlier)])
+                      [*audit_output.audit_lines(self.audit, self.table, earlier=earlier)])
 
     def test_programs_are_counted(self):
         """Those without a configuration that don't bear on the status are listed by --programs alone, and so are the
@@ -1360,17 +1361,17 @@ class Output(Case):
             "time": "T", "rows": [{**gone, "name": "gone"}, {**gone, "name": "worse"}]})
         for lists_all, names, changed in ((False, ["worse", "stated"], ["worse", "stated"]),
                                           (True, ["fine", "worse", "stated"], ["fine", "worse", "stated", "gone"])):
-            lines = [*audit_output.lines(self.audit, self.table, lists_all, earlier)]
+            lines = [*audit_output.audit_lines(self.audit, self.table, lists_all, earlier)]
             self.assertEqual([line.split()[2].rstrip(":") for line in lines if line[0] not in " #"], names)
             self.assertEqual([line.split()[5].rstrip(":") for line in lines if " since " in line], changed)
             count = "; without a configuration, and listed by --programs: 1"
             self.assertIn(f"# other confined programs: weaker 1, stricter 2{'' if lists_all else count}", lines)
-        self.assertEqual(len(audit_output.as_json(self.audit, self.table)["rows"]), 3)
+        self.assertEqual(len(audit_output.audit_json(self.audit, self.table)["rows"]), 3)
 
     def test_a_reason_stands_once(self):
         self.audit.rows = [unit(name, "not known", why, {7: [7]})
                            for name, why in zip("abcd", ("slow", "slow", "late", None))]
-        lines = [line.split(": ", 2)[2] for line in audit_output.lines(self.audit, self.table) if line[0] == " "]
+        lines = [line.split(": ", 2)[2] for line in audit_output.audit_lines(self.audit, self.table) if line[0] == " "]
         self.assertEqual(lines, ["slow", "as for unit a", "late"])
 
     def test_status(self):

@@ -69,7 +69,7 @@ class Page(html.parser.HTMLParser):
 class Pages(Case):
     def made(self):
         """A page of an audit in which all names are hostile."""
-        table = tables.read(None)
+        table = tables.read_table(None)
         container = container_files.ContainerDescription("i" * 64, "podman", "crun", 7, HOSTILE, name=HOSTILE,
                                                          image=HOSTILE, pod=HOSTILE)
         stack = stacks.Stack((filter_of([0, 41]),), False, {7: [7]})
@@ -104,7 +104,7 @@ class Pages(Case):
         for row in rows:
             judgement = audit.StackJudgement(audit.NOT_KNOWN, "slow")
             row.parts = [audit.RowPart(stacks.Stack((), False), {8: [8]}, judgement)]
-        text = Page(audit_page.page(audit.Audit(rows, machine.Snapshot(), 0.0), tables.read(None)), self).check()
+        text = Page(audit_page.page(audit.Audit(rows, machine.Snapshot(), 0.0), tables.read_table(None)), self).check()
         self.assertIn("not known unit a, unit b", text)
         self.assertEqual(text[text.index("What shows the verdicts"):].count("slow"), 1)
 
@@ -116,12 +116,13 @@ class Pages(Case):
             row = audit.AuditRow(audit.UNIT, "a.service", [process(8)], expected)
             stack = stacks.Stack((), False, {8: [8]})
             row.parts = [audit.RowPart(stack, {8: [8]}, audit.StackJudgement(audit.NOT_KNOWN))]
-            text = Page(audit_page.page(audit.Audit([row], machine.Snapshot(), 0.0), tables.read(None)), self).check()
+            made = audit.Audit([row], machine.Snapshot(), 0.0)
+            text = Page(audit_page.page(made, tables.read_table(None)), self).check()
             self.assertIn(says, text)
             self.assertEqual("nothing is configured" in text, says == "nothing is configured")
 
     def test_nothing_to_show(self):
-        table = tables.read(None)
+        table = tables.read_table(None)
         text = Page(audit_page.page(audit.Audit([], machine.Snapshot(), 0.0), table), self).check()
         self.assertIn("There is no container, no unit, and no other program with a filter.", text)
         self.assertNotIn("Dangerous syscalls", text)

@@ -21,7 +21,7 @@ from scfhost import machine, machine_pass, processes
 for name, value in json.loads(sys.argv[2]).items():
     setattr(machine_pass, name, (lambda *_: False) if value is None else value)
 begun = time.monotonic()
-found = machine.read(processes.Kernel())
+found = machine.read_machine(processes.Kernel())
 print(json.dumps({
     "read": [[[len(it) // 8 for it in key[0]], sorted(stack.threads), sum(map(len, stack.threads.values()))]
              for key, stack in found.stacks.items()],
@@ -142,8 +142,9 @@ class Ended(unittest.TestCase):
         """By something else than a process that is read."""
         for seconds, why in ((100, "the process that reads filters was ended again and again"),
                              (-1, "the pass over all processes took longer than 30 seconds")):
-            with mock.patch.object(machine_pass.child, "run", side_effect=machine_pass.child.Died) as run:
-                actual = machine_pass.read(processes.Kernel(), {7: 0, 8: 0}, False, time.monotonic() + seconds)
+            with mock.patch.object(machine_pass.child, "run_in_child", side_effect=machine_pass.child.Died) as run:
+                actual = machine_pass.read_processes(processes.Kernel(), {7: 0, 8: 0}, False,
+                                                     time.monotonic() + seconds)
             self.assertEqual((actual.unread, actual.stacks), ({7: why, 8: why}, {}))
             self.assertLessEqual(run.call_count, 30)
 

@@ -298,7 +298,8 @@ class OfProcesses(Hook):
         """Of a process it can't be known whether it is the container's, too."""
         child = self.child([refusing(MOUNT)])
         process = hooks.ContainerProcess(hooks.container_of(self.state(child.pid, self.bundle(refuses("mount")))))
-        asked = verify.request_of(hooks.configuration_of(process.container), None, False, tables.read(None), "same")
+        table = tables.read_table(None)
+        asked = verify.request_of(hooks.configuration_of(process.container), None, False, table, "same")
         for others, expected in (([], (0, "same")), ([os.getpid()], (4, None))):
             process.members = processes.Container(None, list, lambda item=others: item)
             finding = hooks.finding_of(process.look(), asked, process)

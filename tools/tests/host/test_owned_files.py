@@ -12,8 +12,8 @@ import unittest
 from unittest import mock
 
 from support.common import Case
-from scfhost.owned_files import ANYONE, Absent, UnreadableFile
 from scfhost import owned_files
+from scfhost.owned_files import ANYONE, Absent, UnreadableFile
 
 USER = 12345
 # linux/fs.h
@@ -34,13 +34,13 @@ class Files(Case):
             os.chown(os.path.join(self.folder, name), user, user, follow_symlinks=False)
 
     def users(self, name="a/b/c"):
-        data, users = owned_files.read(os.path.join(self.folder, name), 100)
+        data, users = owned_files.read_owned_file(os.path.join(self.folder, name), 100)
         self.assertEqual(data, b"text")
         return users
 
     def refused(self, name, says):
         with self.assertRaises(UnreadableFile) as caught:
-            owned_files.read(os.path.join(self.folder, name), 100)
+            owned_files.read_owned_file(os.path.join(self.folder, name), 100)
         self.assertIn(says, str(caught.exception))
 
     def test_owners(self):
@@ -103,9 +103,9 @@ class Files(Case):
         self.refused("a\0b", "can't be read: embedded null byte")
         for path, kind in (("none", Absent), ("a/none", Absent)):
             with self.assertRaises(kind):
-                owned_files.read(os.path.join(self.folder, path), 100)
+                owned_files.read_owned_file(os.path.join(self.folder, path), 100)
         with self.assertRaises(UnreadableFile):
-            owned_files.read("a/b/c", 100)
+            owned_files.read_owned_file("a/b/c", 100)
 
     def test_file_systems_of_users(self):
         """They aren't asked, whatever characters a user puts into the place of one, its source and its kind."""
@@ -134,12 +134,12 @@ class Files(Case):
 
     def test_sizes(self):
         """A user's file may have fewer bytes."""
-        self.assertEqual(owned_files.read(self.path, 4, 3)[0], b"text")
+        self.assertEqual(owned_files.read_owned_file(self.path, 4, 3)[0], b"text")
         with self.assertRaises(UnreadableFile):
-            owned_files.read(self.path, 3, 4)
+            owned_files.read_owned_file(self.path, 3, 4)
         self.give("a", "a/b", "a/b/c")
         with self.assertRaises(UnreadableFile):
-            owned_files.read(self.path, 4, 3)
+            owned_files.read_owned_file(self.path, 4, 3)
 
     def test_leases(self):
         """A file that its owner holds a lease on (fcntl(2)) isn't waited for, which takes 45 seconds by default."""

@@ -21,7 +21,7 @@ SEIZE, INTERRUPT, DETACH, GET = (ptrace.PTRACE_SEIZE, ptrace.PTRACE_INTERRUPT, p
                                  ptrace.PTRACE_SECCOMP_GET_FILTER)
 STOPPED = 0x80057F
 # A look in the process of the test, where it sees what is asked.
-here_and_now = mock.patch.object(children, "run", lambda work, _: work())
+here_and_now = mock.patch.object(children, "run_in_child", lambda work, _: work())
 
 
 class Verdicts(Case):
@@ -38,9 +38,9 @@ class Verdicts(Case):
                 mock.patch.object(verify.Request, "as_json", lambda *_: {"verdict": "differs"}):
             made = verify.blocks(actual, request)
             self.assertEqual([item.verdict for item in made], ["unconfined", "differs", "strict"])
-            self.assertEqual(next(verify.lines(made, actual, request)),
+            self.assertEqual(next(verify.verification_lines(made, actual, request)),
                              "# process 9 (c) has no filter: it isn't confined, and every syscall is allowed")
-            value = verify.as_json(made, actual, request, None)
+            value = verify.verification_json(made, actual, request, None)
         self.assertEqual((value["verdict"], value["status"], [stack["verdict"] for stack in value["stacks"]]),
                          ("unconfined", 1, ["unconfined", "differs", "strict"]))
 

@@ -366,7 +366,7 @@ class Asked(unittest.TestCase):
         of their regions; calls beyond begin anew."""
         unfinished, answered = client.Run(4, b"unfinished\n"), client.Run(0, b"ALLOW 0\n")
         restarts = restart.Restarts(None)
-        with mock.patch.object(restart.client, "run") as run:
+        with mock.patch.object(restart.client, "run_scf") as run:
             run.side_effect = lambda words, *_, **__: unfinished if words[0] == "answers" else answered
             for is_one in (True, False):
                 for begin in range(0, 15 * 300, 300):
@@ -381,8 +381,8 @@ class Asked(unittest.TestCase):
 
     def test_one_start_answers_all_calls_after_a_few(self):
         data = denying(EPERM)
-        restarts, counted = restart.Restarts(None), mock.Mock(side_effect=client.run)
-        with mock.patch.object(restart.client, "run", counted):
+        restarts, counted = restart.Restarts(None), mock.Mock(side_effect=client.run_scf)
+        with mock.patch.object(restart.client, "run_scf", counted):
             restarts.begin()
             for number, answer in ((35, "allowed"), (219, "denied"), (0, "allowed")):
                 self.assertEqual({restarts.becomes((data,), Call(number, X86_64, 1, (at,) * 6)) for at in range(9)},

@@ -60,12 +60,12 @@ class Wide(Linted):
         for op, value, two in rows:
             given = profile(entry("personality", args=[condition(0, op, value, two)]), entry("read"))
             program, allowed = unpacked(library.filter_of(given)), answer_of(ALLOW, None)
-            number = tables.of_architecture(X86).number_of("personality")
+            number = tables.architecture_table(X86).number_of("personality")
             calls = [Call(number, I386, arguments=((constant + step) % WORD, *[0] * 5))
                      for constant in (*values, value, two) for step in (0, 1, -1)]
             differs = any((machine.answer(program, words_of(call)) == allowed)
                           != kernel_profiles.holds(given["syscalls"][0]["args"][0], call.arguments) for call in calls)
-            actual = list(architecture_findings.of_wide(entries.read(json.dumps(given).encode())))
+            actual = list(architecture_findings.wide_findings(entries.parse_seccomp(json.dumps(given).encode())))
             self.assertEqual(bool(actual), differs, (op, hex(value), hex(two)))
             seen.add((op, differs))
         self.assertEqual(len(seen), 2 * len(OPERATORS))

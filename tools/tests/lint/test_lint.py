@@ -309,7 +309,7 @@ class Dangerous(Linted):
                 for name in it.get("names") or [it["name"]]]
 
     def test_the_list(self):
-        listed, table = dangerous_calls.dangerous(), tables.read(TABLE)
+        listed, table = dangerous_calls.dangerous(), tables.read_table(TABLE)
         self.assertEqual(list(listed), sorted(listed))
         with open(os.path.join(TOP, "tables", "dangerous.calls"), encoding="ascii") as file:
             self.assertEqual(len(listed), sum(not line.startswith("#") for line in file))
@@ -413,7 +413,7 @@ class Running(Linted):
 
     def compiled(self, given):
         text = json.dumps(given).encode()
-        return client.run(["compile"], part("profile", text) + part("table", TABLE_TEXT)).out
+        return client.run_scf(["compile"], part("profile", text) + part("table", TABLE_TEXT)).out
 
     def start(self, given, calls):
         """The processes that make these syscalls, each a number and arguments, a text being a buffer's bytes."""
@@ -477,7 +477,7 @@ class Restart(Running):
         return profile(entry("restart_syscall", action=ERRNO, errnoRet=77, **members), default=ALLOW)
 
     def test_what_the_kernel_restarts(self):
-        table, given, waits = tables.read(TABLE), self.denied(), self.WAITS
+        table, given, waits = tables.read_table(TABLE), self.denied(), self.WAITS
         numbers = [table.number_of(name) for name, *_ in waits]
         pids = self.start(given, [(number, *args) for number, (_, _, *args) in zip(numbers, waits)])
         for pid, number in zip(pids, numbers):
@@ -593,7 +593,7 @@ class Errnos(Running):
         """getppid with an argument, which it doesn't read, and which here is the errno that its entry gives."""
         wanted = (0, 1, 133, 134, 512, 513, 514, 515, 516, 4094, 4095, 4096, 65535)
         entries = [entry("getppid", action=ERRNO, errnoRet=it, args=[(0, "EQ", it)]) for it in wanted]
-        number = tables.read(TABLE).number_of("getppid")
+        number = tables.read_table(TABLE).number_of("getppid")
         found = self.results(profile(*entries, default=ALLOW), [(number, it) for it in wanted])
         self.assertEqual(found, [(-1, min(it, 4095)) if it else (0, 0) for it in wanted])
 
@@ -612,7 +612,7 @@ class Supervisors(Linted):
 
 class Waiting(Running):
     def test_without_a_supervisor_it_is_enosys(self):
-        number = tables.read(TABLE).number_of("getppid")
+        number = tables.read_table(TABLE).number_of("getppid")
         for action in ("TRACE", "NOTIFY"):
             given = profile(entry("getppid", action=f"SCMP_ACT_{action}"), default=ALLOW)
             self.assertEqual(self.results(given, [(number,)]), [(-1, 38)])
@@ -723,7 +723,7 @@ class Arguments(Linted):
         self.assertGreater(seen, 300)
 
     def test_each_name_once(self):
-        table = tables.read(TABLE)
+        table = tables.read_table(TABLE)
         with open(os.path.join(TOP, "tables", "x86_64.arguments"), encoding="ascii") as file:
             names = [name for line in file if not line.startswith("#") for name in line.split()[1:]]
         self.assertEqual(len(names), len(set(names)))
@@ -769,7 +769,7 @@ class HighHalf(Running):
         given = profile(entry("personality", action=ERRNO, errnoRet=77, args=[(0, "EQ", 0xFFFFFFFF)]), default=ALLOW)
         self.assertEqual(self.evaded(*given["syscalls"], default=ALLOW),
                          [("personality", 0, "0xffffffff", "0x1ffffffff")])
-        number = tables.read(TABLE).number_of("personality")
+        number = tables.read_table(TABLE).number_of("personality")
         found = self.results(given, [(number, 0xFFFFFFFF), (number, 0x1FFFFFFFF)])
         self.assertEqual(found[0], (-1, 77))
         self.assertEqual(found[1][1], 0)
@@ -783,7 +783,7 @@ class Siblings(Linted):
             profile(*entries, **members), kinds=("sibling-allowed",))]
 
     def test_the_list(self):
-        table = tables.read(TABLE)
+        table = tables.read_table(TABLE)
         for name, others in watchlist.SIBLINGS.items():
             for one in (name, *others.split()):
                 self.assertIsNotNone(table.number_of(one), one)
@@ -876,7 +876,7 @@ class Beside(Linted):
     def is_same(self, filters, entries):
         text = json.dumps(profile(*(it for it in entries if it["names"]))).encode()
         given = part("filter", filters) + part("profile", text) + part("table", TABLE_TEXT)
-        return client.run(["compare"], given).lines[0] == "same"
+        return client.run_scf(["compare"], given).lines[0] == "same"
 
     @staticmethod
     def without(entries, gone):
@@ -888,7 +888,7 @@ class Beside(Linted):
         for _ in range(20):
             entries = self.random_profile(random_of)
             text = json.dumps(profile(*entries)).encode()
-            data = client.run(["compile"], part("profile", text) + part("table", TABLE_TEXT)).out
+            data = client.run_scf(["compile"], part("profile", text) + part("table", TABLE_TEXT)).out
             found = self.found(profile(*entries), kinds=("covered", "without-effect"))
             gone = {(it["entry"], name) for it in found for name in it["names"]}
             told += len(gone)
@@ -1137,8 +1137,8 @@ class Several(Linted):
             self.assertEqual(len(self.found(profile(null, architectures=architectures), kinds=kinds)), is_found)
         for oci, names in constants.OTHER_KINDS.items():
             for name in names:
-                self.assertIsNotNone(tables.read(TABLE).number_of(name), name)
-                self.assertTrue(oci != I386 or tables.of_architecture(oci).number_of(name), name)
+                self.assertIsNotNone(tables.read_table(TABLE).number_of(name), name)
+                self.assertTrue(oci != I386 or tables.architecture_table(oci).number_of(name), name)
 
     def test_conditions_that_always_hold_on_all(self):
         """Up to 2^32-1 each argument of 32 bits is, and not each of 64."""
@@ -1250,7 +1250,7 @@ class Hostile(Linted):
 
     def test_large_profiles_take_no_time(self):
         """Two seconds are measured, with up to two runs of scf for each entry; one for each pair would take minutes."""
-        names = list(tables.read(TABLE).names())
+        names = list(tables.read_table(TABLE).names())
         many = [profile(*(entry(name, action=ERRNO) for name in names * 10)),
                 profile(*(entry("read", args=[(0, "EQ", it)]) for it in range(300))),
                 profile(*(entry("read", args=[(0, "MASKED_EQ", it * 2654435761, it)]) for it in range(300))),
@@ -1279,7 +1279,8 @@ class Hostile(Linted):
 class Container(Linted):
     def test_a_list_as_long_as_a_containers(self):
         """Some 350 names and conditions of one call; within the time that is promised, by far."""
-        names = [it for it in sorted(tables.read(TABLE).names()) if it not in ("personality", "clone", "clone3")][:346]
+        named = sorted(tables.read_table(TABLE).names())
+        names = [it for it in named if it not in ("personality", "clone", "clone3")][:346]
         given = profile(entry(*names), *(entry("personality", args=[(0, "EQ", it)]) for it in (0, 8, 131072, 131080)),
                         entry("clone", args=[(0, "MASKED_EQ", 2114060288, 0)]),
                         entry("clone3", action=ERRNO, errnoRet=38), default="SCMP_ACT_KILL_PROCESS")

@@ -18,7 +18,7 @@ from scftools.model import bpf, tables
 from scftools.logs import audit_records, cores, events
 from scftools.logs.diagnosis import AnsweringStack
 
-TABLE = tables.read(None)
+TABLE = tables.read_table(None)
 SOCKET, AF_NETLINK, NETLINK_AUDIT = 41, 16, 9
 # linux/seccomp.h
 ERRNO, UNNAMED, WITH_LOG = 0x50000, 0x12340000, 2
@@ -312,7 +312,7 @@ class Cores(Causes):
         program = self.of_i386()
         self.require_cores()
         subprocess.run([program, hex(KILL_PROCESS | 3)], cwd=self.folder, check=False)
-        event = cores.read(self.found_core())
+        event = cores.read_core(self.found_core())
         self.assertEqual((event.call.number, event.call.architecture, event.call.arguments),
                          (359, I386, (16, 0xFFFFFFFD, 9, 0x77777777, 5, 6)))
         self.assertEqual((event.outcome.data, event.name), (3, "of_i386"))
@@ -548,7 +548,7 @@ class Lines(Causes):
                    "arch=x86_64 syscall=socket compat=0 ip=0x7fc36f3ffdc7 code=kill ")
 
     def event(self, text):
-        log = events.read(text.split("\n"), TABLE)
+        log = events.read_events(text.split("\n"), TABLE)
         return [event for event, _ in log.events.values()], log
 
     def test_each_form(self):
@@ -727,7 +727,7 @@ class Journals(Causes):
                "exe": "/usr/bin/sl\x1b[2Jeep", "size": 1566101}]
 
     def numbers(self, text):
-        log = events.read(text.split("\n"), TABLE)
+        log = events.read_events(text.split("\n"), TABLE)
         self.assertEqual((log.faults, log.failures.count), ([], 0))
         return [(event.call.number, event.process, count) for event, count in log.events.values()], log.suppressed
 
@@ -753,7 +753,7 @@ class Journals(Causes):
         of_audit, of_kernel = self.OF_BOTH
         text_of_audit = f"Nov 29 06:47:27 vm audit[30697]: {json.loads(of_audit)['MESSAGE']}"
         text_of_kernel = f"Nov 29 06:47:27 vm kernel: {json.loads(of_kernel)['MESSAGE']}"
-        (event,) = (event for event, _ in events.read([of_audit], TABLE).events.values())
+        (event,) = (event for event, _ in events.read_events([of_audit], TABLE).events.values())
         self.assertEqual(event.time, 1795934847.207)
 
         def second(entry_text):

@@ -16,8 +16,8 @@ from scftools.model.architectures import AARCH64, ARM, I386, JUDGED, NATIVE, X32
 from scftools.forms import strace
 from scftools.logs import counting
 
-TABLE = tables.read(None)
-TABLES = tables.of_architectures(JUDGED, TABLE).of
+TABLE = tables.read_table(None)
+TABLES = tables.architecture_tables(JUDGED, TABLE).of
 
 HIGH = 1 << 64
 # What each least profile allows.

@@ -82,7 +82,7 @@ print(child)"""
         child = out.strip()
         self.assertIn(f"; {child}: 2 filters, of 6, 6 instructions", err)
         log = self.trace(script)
-        stacks = filter_loads.stacks_in(strace.lines(log, filter_loads.LONGEST_LOAD))
+        stacks = filter_loads.stacks_in(strace.log_lines(log, filter_loads.LONGEST_LOAD))
         self.assertEqual(list(stacks), [(FIRST, SECOND), (FIRST, THIRD)])
         (child,), (parent,) = stacks.values()
         self.assertEqual(self.run_tool("filters-of", "--log", "log", "--thread", child, "a")[0], 0)
@@ -101,7 +101,7 @@ done.wait()
 load(SECOND, {flags})
 go.set()
 thread.join()""", f"log{flags}")
-            stacks = filter_loads.stacks_in(strace.lines(log, filter_loads.LONGEST_LOAD))
+            stacks = filter_loads.stacks_in(strace.log_lines(log, filter_loads.LONGEST_LOAD))
             self.assertEqual(sorted(map(len, stacks)), [1, 2][-count:])
             self.assertEqual(sum(map(len, stacks.values())), 2)
 
@@ -230,7 +230,7 @@ class Recorded(Traced):
         self.assertEqual(self.run_python("record", script, "log")[0], 0)
         log = counting.Log(lambda *_: (0, 1, 2, 3))
         log.begin("log")
-        for number, line in enumerate(strace.lines(self.path("log")), 1):
+        for number, line in enumerate(strace.log_lines(self.path("log")), 1):
             log.add(number, line)
         log.end()
         self.assertIn((NATIVE, "syscall_0x3e8", ((1 << 31,), (1 << 63 | 5,), (0,), (2 ** 64 - 1,))), log.calls)

@@ -27,7 +27,7 @@ SYSCALL = ('type=SYSCALL msg=audit(1795757700.752:4): arch={} syscall={} success
 
 def calls_of(text, looked_at=()):
     """How often each syscall stands in a log, by its name; and the whole log."""
-    table = tables.read(None)
+    table = tables.read_table(None)
     found = traces.Trace(lambda *_: tuple(looked_at), {architectures.NATIVE: table})
     for number, line in enumerate(text.split("\n"), 1):
         found.add(number, line)
@@ -38,7 +38,7 @@ def calls_of(text, looked_at=()):
 
 def made_in(text, looked_at=(), own=architectures.NATIVE):
     """The same with the architecture of each syscall, as people call it."""
-    known = tables.of_architectures(architectures.JUDGED, tables.read(None)).of
+    known = tables.architecture_tables(architectures.JUDGED, tables.read_table(None)).of
     found = traces.Trace(lambda *_: tuple(looked_at), known, own)
     for number, line in enumerate(text.split("\n"), 1):
         found.add(number, line)

@@ -267,7 +267,7 @@ class OtherTables(Case):
                 ("X86", I386, 430, 0), ("X32", 0x4000003E, 350, 0), ("AARCH64", AARCH64, 300, 0), ("ARM", ARM, 400, 0),
                 ("RISCV64", 0xC00000F3, 300, 0), ("PPC64LE", 0xC0000015, 380, 0), ("MIPSEL", 0x40000008, 400, 4000),
                 ("MIPSEL64", 0xC0000008, 340, 5000), ("MIPSEL64N32", 0xE0000008, 360, 6000)):
-            table, bit = tables.of_architecture(f"SCMP_ARCH_{name}"), X32 if name == "X32" else 0
+            table, bit = tables.architecture_table(f"SCMP_ARCH_{name}"), X32 if name == "X32" else 0
             its = {number: resolve(token, number | bit)
                    for number in (*range(base, base + 1000), *range(0xF0000, 0xF0010))}
             its = {number: each.decode() for number, each in its.items() if each is not None}

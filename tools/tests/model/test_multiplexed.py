@@ -23,7 +23,7 @@ def answer_to(resolved, call):
     """What the entries say of an i386 call, whose arguments are low halves; those that answer as the default does are
     none."""
     low = [argument % (1 << 32) for argument in call.arguments]
-    named = tables.of_architecture(X86).names_of(call.number)
+    named = tables.architecture_table(X86).names_of(call.number)
     default = answer_of(resolved["defaultAction"], resolved.get("defaultErrnoRet"))
     met = [entry_met for entry_met in resolved["syscalls"] if set(named) & set(entry_met["names"])
            and all(kernel_profiles.holds(condition_met, low) for condition_met in entry_met.get("args", ()))]
@@ -134,7 +134,7 @@ class RandomProfile:
 
     def calls(self, resolved):
         """i386 calls of its names, about the values of its conditions, some with an upper half."""
-        table = tables.of_architecture(X86)
+        table = tables.architecture_table(X86)
         for entry_read in resolved["syscalls"]:
             numbers = filter(None, map(table.number_of, entry_read["names"]))
             for number in numbers:
@@ -176,7 +176,7 @@ class BesideLibseccomp(unittest.TestCase):
 
     def test_each_name_has_its_number_there(self):
         """i386's filter answers socketcall or ipc with one number alone, and nothing else does."""
-        library, machine, table = Library(), StandIn(), tables.of_architecture(X86)
+        library, machine, table = Library(), StandIn(), tables.architecture_table(X86)
         every = [name for numbers in multiplexed.CALL_NUMBERS.values() for name in numbers]
         others = [name for name in table.names() if name not in (*every, *MULTIPLEXERS)]
         for name in (*every, *others):

@@ -63,7 +63,7 @@ def allows_alone(kind):
 
 def known_of(filters):
     """What filters allow of i386 and x32."""
-    return other_abis.of_machine(filters, regions.of_filters(filters), architectures.NATIVE)
+    return other_abis.machine_access(filters, regions.regions_of_filters(filters), architectures.NATIVE)
 
 
 def one_number(number, answer, default):
@@ -342,8 +342,8 @@ class Foreign(Case):
         for data, names, shown in ((allows_alone(i386), ["SCMP_ARCH_X86_64", i386.oci], "x32"),
                                    (ret(EPERM), ["SCMP_ARCH_X86_64"], "i386 and x32")):
             given = json.dumps({"defaultAction": "SCMP_ACT_ERRNO", "architectures": names}).encode()
-            comparison = compare.Comparison([Filter("", data)], given, tables.read(None))
-            self.assertEqual(other_abis.describe(comparison.foreign(verdicts.LISTED)),
+            comparison = compare.Comparison([Filter("", data)], given, tables.read_table(None))
+            self.assertEqual(other_abis.access_lines(comparison.foreign(verdicts.LISTED)),
                              [f"other ABIs: every {shown} syscall is denied; the kernel has no others"])
 
     def test_undecided_and_unfinished(self):

@@ -485,9 +485,9 @@ class Stub(unittest.TestCase):
             {"names": ["read", "personality"], "action": "SCMP_ACT_ALLOW"}]}
         applied = runtimes.applied(profile, "runc")
         self.assertEqual(applied.stub, {name: self.BOUNDS[name] for name in JUDGED if name in names})
-        data = client.compile_profile(applied.data, tables.of_profile(applied.data, tables.read(None)))
+        data = client.compile_profile(applied.data, tables.tables_of_profile(applied.data, tables.read_table(None)))
         rows = [(JUDGED[name].number, name == "SCMP_ARCH_X32", first) for name, first in bounds.items()]
-        request = verify.Request(applied.data, tables.read(None), None, verdicts.SAME, applied)
+        request = verify.Request(applied.data, tables.read_table(None), None, verdicts.SAME, applied)
 
         class Stack:
             named = [Filter("it", with_stub(data, rows))]
@@ -538,7 +538,8 @@ class BesideLibseccomp(unittest.TestCase):
             except Conflict:
                 continue
             text = runtimes.applied(profile, "crun").data
-            parts = [("filter", data), *(("profile", text), *tables.of_profile(text, tables.read(None)).parts)]
+            judged = tables.tables_of_profile(text, tables.read_table(None))
+            parts = [("filter", data), ("profile", text), *judged.parts]
             self.assertEqual(scf(["compare", "--architectures"], parts).split("\n")[0], "same", (seed, profile))
             count += 1
         self.assertGreater(count, 8)

@@ -203,10 +203,10 @@ class Compare(Case):
                     "syscalls": entries[:1 + (reading != "strict")]}).encode())
                 data.reading = reading
                 for is_native in (True, False):
-                    judged = tables.of_profile(data, tables.read(None), is_native)
+                    judged = tables.tables_of_profile(data, tables.read_table(None), is_native)
                     flags = [] if is_native else ["--architectures"]
-                    done = client.run(["compare", *flags, *judged.reading_words],
-                                      bundles.of_comparison([ret(ALLOW)], data, judged))
+                    done = client.run_scf(["compare", *flags, *judged.reading_words],
+                                      bundles.comparison_bundle([ret(ALLOW)], data, judged))
                     report = compare.left_out(data, judged)
                     text = "".join([f"skipped {name}\n" for name in report.skipped]
                                    + [f"other {name}\n" for name in report.architectures])
@@ -320,7 +320,7 @@ class OtherAbis(Case):
         profile = self.profile("X86", "X32")
         status, lines = self.said("--calls", self.lets_both, profile)
         named = [line for line in lines if not line.startswith("#")][1:-1]
-        numbers = sorted(set(tables.of_architecture("SCMP_ARCH_X32").numbers()) - {READ})
+        numbers = sorted(set(tables.architecture_table("SCMP_ARCH_X32").numbers()) - {READ})
         self.assertEqual((status, lines[0]), (1, "differs"))
         self.assertEqual(named[0], "i386 3 read differs args 0x0 0x0 0x0 0x0 0x0 0x0 filter ERRNO 1 profile ALLOW 0")
         self.assertEqual([line.split()[:2] for line in named[1:]], [["x32", str(number)] for number in numbers])

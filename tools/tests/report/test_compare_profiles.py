@@ -400,7 +400,7 @@ class RandomProfiles(unittest.TestCase):
             new = self.changed(random_of, old)
             if random_of.random() < 0.2:
                 new = kernel_profiles.random_profile(random_of)
-            profile_changes = changes.of_profiles(ProfileInput(old), ProfileInput(new), table, "same")
+            profile_changes = changes.changes_of_profiles(ProfileInput(old), ProfileInput(new), table, "same")
             kinds = {}
             for change in profile_changes.calls:
                 kinds.setdefault(change.number, set()).add(change.kind)

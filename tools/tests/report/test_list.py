@@ -244,7 +244,7 @@ class Graph(Case):
             for number, first in itertools.product(range(12), (0, 1, 3, 2**32 + 3)):
                 call = Call(number, arguments=(first, *[0] * 5))
                 places = listing.path_of(data, call.words()).indexes
-                way = flow_graph.Drawing(graph, [""] * (len(data) // 8), tables.read(None), places).way
+                way = flow_graph.Drawing(graph, [""] * (len(data) // 8), tables.read_table(None), places).way
                 self.assertEqual(way[0], graph.behind_jumps(0))
                 self.assertEqual(way[-1], graph.behind_jumps(places[-1]))
                 words = {0: number, 1: X86_64, 4: first & 0xFFFFFFFF, 5: first >> 32}

@@ -245,7 +245,7 @@ class Reader(unittest.TestCase):
                         "ALLOW 0 at 0:0 w0\ncall nr 0\nregions 1 steps 1\n",
                         "ALLOW 0\ncall nr 0\nregions 1 steps 1\n", "ALLOW at 0:0\ncall nr 0\nregions 1 steps 1\n",
                         "what\ncall nr 0\nregions 1 steps 1\n", "unfinished\n"):
-            self.assertIsNone(regions.read(printed), printed)
+            self.assertIsNone(regions.parse_regions(printed), printed)
         for text in ("7", "0x1,8", "&0x1", "0x1!0x2", "0x1!0x2=3"):
             self.assertRaises(ValueError, Word.read, text)
         given = client.answers
@@ -253,4 +253,4 @@ class Reader(unittest.TestCase):
         for status, out in ((0, b"unfinished\n"), (4, b""), (1, b"no\n"), (0, b"fault filter Empty\n")):
             client.answers = lambda *_, status=status, out=out: client.Run(status, out)
             with self.assertRaises(ToolError):
-                regions.of_filters([])
+                regions.regions_of_filters([])

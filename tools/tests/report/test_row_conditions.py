@@ -237,7 +237,7 @@ class Names(Case):
 
     def test_each_line(self):
         """Syscalls of the table, and no more arguments than they have."""
-        table, kinds = tables.read(None), constants.kinds()
+        table, kinds = tables.read_table(None), constants.kinds()
         for syscall, names in row_conditions.argument_names().items():
             self.assertIsNotNone(table.number_of(syscall), syscall)
             self.assertLessEqual(len(names), len(kinds[syscall]), syscall)

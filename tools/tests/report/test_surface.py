@@ -123,7 +123,7 @@ def answers_by_hand(name, number):
 
 def of(filters, limit=None, table=OWN):
     with mock.patch.dict(client.limits, {} if limit is None else {"limit": limit}):
-        return surfaces.of_filters(filters, tables.Table(table))
+        return surfaces.surface_of_filters(filters, tables.Table(table))
 
 
 @functools.lru_cache(None)
@@ -241,7 +241,7 @@ class Rows(Case):
 
     def test_a_table_without_names(self):
         surface = of([ret(ALLOW)], table=b"# none\n")
-        self.assertEqual((surface.rows, surface_output.of_whole(surface)[0]), ([], "allowed 0, depends 0, denied 0"))
+        self.assertEqual((surface.rows, surface_output.whole_lines(surface)[0]), ([], "allowed 0, depends 0, denied 0"))
         self.assertEqual(surface.unnamed.describe(), f"all {X32} are always allowed")
 
 
@@ -418,7 +418,7 @@ class Program(Case):
     def test_the_table_that_comes_with_scf(self):
         """Each name of it once, in a group of its own; what a filter allows, and nothing else, is made."""
         allowed = ["read", "mount", "ptrace", "keyctl", "clock_settime", "init_module"]
-        own_table = tables.read(None)
+        own_table = tables.read_table(None)
         status, lines = self.said([filter_of([own_table.number_of(name) for name in allowed])], table=False)
         self.assertEqual(status, 0)
         rows = [line.split() for line in lines[3:]]
@@ -457,7 +457,7 @@ class Program(Case):
                 ("arm64", 0xC00000B7, 0, 63, "read", "AARCH64"), ("arm", 0x40000028, 0, 0xF0002, "cacheflush", "ARM")):
             only = load(4) + jeq(arch, 1, 0) + ret(KILL_PROCESS) + load(0) + jeq(first + number, 0, 1) + ret(ALLOW) + \
                 ret(EPERM)
-            its = tables.of_architecture(f"SCMP_ARCH_{oci}")
+            its = tables.architecture_table(f"SCMP_ARCH_{oci}")
             denied = len(its.numbers()) - 1
             status, lines = self.said([only], "--arch", word, table=False)
             shown = architectures.JUDGED[f"SCMP_ARCH_{oci}"].name
@@ -563,7 +563,7 @@ class Terminal(Case):
 
     def test_widths(self):
         name = self.file("f.bpf", of_number(SOCKET, by_argument(40, EPERM, ALLOW), EPERM))
-        own_table = tables.read(None)
+        own_table = tables.read_table(None)
         for columns in (12, 30, 44, 60, 100, 250):
             with self.subTest(columns):
                 status, lines = self.shown(columns, name)
@@ -601,7 +601,7 @@ class Beside(Case):
     """Two surfaces beside each other."""
 
     def pairs(self, name, name_beside):
-        beside = stack_surfaces.of_surfaces(surface_of(name), surface_of(name_beside))
+        beside = stack_surfaces.compared_surfaces(surface_of(name), surface_of(name_beside))
         return beside.status, [(pair.number, *(row.said for row in pair.rows)) for pair in beside.pairs], beside
 
     def test_each_two(self):
@@ -623,7 +623,7 @@ class Beside(Case):
                 ("a condition", by_argument(41, EPERM, ALLOW), ("ERRNO 1", "ALLOW")),
                 ("an errno", by_argument(40, 0x50026, ALLOW), ("ERRNO 1", "ERRNO 38")),
                 ("a logged syscall", by_argument(40, EPERM, LOG), ("ALLOW", "LOG"))):
-            beside = stack_surfaces.of_surfaces(of(plain), of([of_number(SOCKET, default, ALLOW)]))
+            beside = stack_surfaces.compared_surfaces(of(plain), of([of_number(SOCKET, default, ALLOW)]))
             (pair,) = beside.pairs
             self.assertEqual((beside.status, pair.number, *(row.said for row in pair.rows)), (1, SOCKET, D, D), name)
             verdict = pair.line.verdict
@@ -632,37 +632,38 @@ class Beside(Case):
 
     def test_syscalls_that_depend_and_are_the_same(self):
         filters = [gate(jeq(SOCKET, 0, 6) + by_argument(40, EPERM, ALLOW) + ret(EPERM))]
-        beside = stack_surfaces.of_surfaces(surface_of("by an argument"), of(filters))
+        beside = stack_surfaces.compared_surfaces(surface_of("by an argument"), of(filters))
         self.assertEqual((beside.status, beside.pairs), (0, ()))
 
     def test_the_same_filters(self):
         for name in ("by an argument", "a stack"):
             self.assertEqual(self.pairs(name, name)[:2], (0, []))
-        beside = stack_surfaces.of_surfaces(*(of([UNKNOWN], table=FEW) for _ in range(2)))
+        beside = stack_surfaces.compared_surfaces(*(of([UNKNOWN], table=FEW) for _ in range(2)))
         self.assertEqual((beside.status, beside.pairs), (0, ()))
         # one more filter, which allows all, changes no answer, but the filters aren't the same
-        beside = stack_surfaces.of_surfaces(*(of(filters, table=FEW) for filters in ([UNKNOWN], [UNKNOWN, ret(ALLOW)])))
+        both = (of(filters, table=FEW) for filters in ([UNKNOWN], [UNKNOWN, ret(ALLOW)]))
+        beside = stack_surfaces.compared_surfaces(*both)
         self.assertEqual((beside.status, [pair.number for pair in beside.pairs]), (4, [0, 1, 2]))
-        self.assertEqual(stack_surfaces.of_surfaces(of([SQUARE]), of([SQUARE])).pairs, ())
-        beside = stack_surfaces.of_surfaces(of([BY_SQUARE]), of([BY_SQUARE]))
+        self.assertEqual(stack_surfaces.compared_surfaces(of([SQUARE]), of([SQUARE])).pairs, ())
+        beside = stack_surfaces.compared_surfaces(of([BY_SQUARE]), of([BY_SQUARE]))
         self.assertEqual((beside.status, beside.pairs), (0, ()))
 
     def test_what_could_not_be_told(self):
-        beside = stack_surfaces.of_surfaces(of([BY_UNKNOWN]), of([ret(ALLOW)]))
+        beside = stack_surfaces.compared_surfaces(of([BY_UNKNOWN]), of([ret(ALLOW)]))
         self.assertEqual([(pair.number, *(row.said for row in pair.rows)) for pair in beside.pairs],
                          [(SOCKET, "undecided", M)])
-        beside = stack_surfaces.of_surfaces(of([BY_SQUARE]), of([ret(ALLOW)]))
+        beside = stack_surfaces.compared_surfaces(of([BY_SQUARE]), of([ret(ALLOW)]))
         self.assertEqual([(pair.number, *(row.said for row in pair.rows)) for pair in beside.pairs], [(SOCKET, D, M)])
         with mock.patch.dict(client.limits, {"limit": "0"}):
-            beside = stack_surfaces.of_surfaces(of([gate(ret(ALLOW))]), of([gate(ret(EPERM))]))
+            beside = stack_surfaces.compared_surfaces(of([gate(ret(ALLOW))]), of([gate(ret(EPERM))]))
         self.assertEqual((beside.status, [pair.number for pair in beside.pairs]), (4, NUMBERS))
 
     def test_foreign_calls_and_numbers_without_a_name(self):
         inner = jeq(READ, 0, 1) + ret(ALLOW) + ret(EPERM)
-        beside = stack_surfaces.of_surfaces(of([gate(inner)]), of([gate(inner, ALLOW)]))
+        beside = stack_surfaces.compared_surfaces(of([gate(inner)]), of([gate(inner, ALLOW)]))
         self.assertEqual((beside.status, beside.pairs, beside.foreign_differ, beside.unnamed_differ),
                          (1, (), True, False))
-        beside = stack_surfaces.of_surfaces(of([filter_of([READ])]), of([filter_of([READ, 400])]))
+        beside = stack_surfaces.compared_surfaces(of([filter_of([READ])]), of([filter_of([READ, 400])]))
         self.assertEqual((beside.status, beside.pairs, beside.foreign_differ, beside.unnamed_differ),
                          (1, (), False, True))
 
@@ -744,11 +745,11 @@ class Process(Confined):
         for is_strict, status, says in ((True, 4, "has no filter, but seccomp's strict mode"),
                                         (False, 1, "has no filter: it isn't confined, and every syscall is allowed")):
             inspection = stacks.Inspection([stacks.Stack((), is_strict, {7: [7]})], {7: b"x"}, {})
-            blocks = stack_surfaces.of_process(inspection, asked)
+            blocks = stack_surfaces.surfaces_of_process(inspection, asked)
             self.assertEqual((client.worst(block.status for block in blocks),
-                              list(stack_surfaces.lines(blocks, inspection, None))),
+                              list(stack_surfaces.surfaces_lines(blocks, inspection, None))),
                              (status, [f"# process 7 (x) {says}"]))
-            report = stack_surfaces.as_json(blocks, inspection)["stacks"][0]
+            report = stack_surfaces.surfaces_json(blocks, inspection)["stacks"][0]
             self.assertEqual((report["confined"], "counts" in report), ("strict" if is_strict else "not", False))
 
     @here

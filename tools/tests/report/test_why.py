@@ -300,12 +300,12 @@ class Ask(Case):
                 call = Call(random_of.choice((*kernel_profiles.TABLE.values(), X32 - 1, X32)),
                             random_of.choice((*[X86_64] * 9, I386)), 0, tuple(values))
                 word, place, conditions = reading(profile, call)
-                reason = reasons.of(profile, tables.native_alone(table.data), call.words())
+                reason = reasons.profile_reason(profile, tables.native_alone(table.data), call.words())
                 self.assertEqual((reason.status, reason.line),
                                  (0, f"{kernel_profiles.answer_of(profile, call).action} {reason.answer.data} {word}"))
                 self.assertEqual(reason.answer, kernel_profiles.answer_of(profile, call))
                 self.assertEqual(reason.entry, place)
-                told = list(reasons.describe(reason, profile, call))
+                told = list(reasons.describe_reason(reason, profile, call))
                 self.assertEqual(len(told), 1 + len(conditions))
                 seen.add((word[:5], bool(conditions)))
         self.assertEqual(seen, {("entry", True), ("entry", False), ("defau", False), ("forei", False)})
@@ -344,7 +344,7 @@ class Behind(Case):
                 + insn(0x00, 5) + jeq(5, 0, 2) + insn(0x87, 0) + insn(0x25, 9, 0, 0) + ret(0x7FFC0000))
         self.assertEqual(StandIn().check(data), "accepted 17")
         call = Call(41, arguments=(16, 0x37 << 32, 0, 0, 0, 0))
-        found = listing.last_tests(data, listing.path_of(data, call.words()), call, tables.read(None))
+        found = listing.last_tests(data, listing.path_of(data, call.words()), call, tables.read_table(None))
         self.assertEqual((found[0], [re.sub(r"^ *([0-9]+)  .*?// ", r"\1 ", line) for line in found[1]]), (0, [
             "1 x86-64: to 3, else 2; loaded 0xc000003e, went to 3", "4 x32: to 5, else 6; loaded 0x29, went to 6",
             "6 socket: to 7, else 16; loaded 0x29, went to 7", "8 to 9, else 16; loaded 0x10, went to 9",
@@ -354,7 +354,7 @@ class Behind(Case):
         for count in (30, 200, 900):
             data, call = random_filter(random_of, count), random_call(random_of)
             path, expected = listing.path_of(data, call.words()), StandIn().path(data, call)
-            before, lines = listing.last_tests(data, path, call, tables.read(None))
+            before, lines = listing.last_tests(data, path, call, tables.read_table(None))
             tests = [at for at in expected if data[8 * at] & 7 in (5, 6) and data[8 * at] != 5]
             self.assertEqual([int(line.split()[0]) for line in lines], tests[-12:])
             self.assertEqual(before, max(len(tests) - 12, 0))

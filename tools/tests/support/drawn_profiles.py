@@ -59,7 +59,7 @@ def drawn_profile(index):
     is_wide = all(name in OF_64_BITS for name in architectures)
     # without an entry that is always handed over, libseccomp 2.5.4 may make a filter that never loads the number
     denied = {"names": ["swapoff"], "action": ERRNO, "errnoRet": 95}
-    allowed = sorted(set(tables.read(None).names()) - {*DENIABLE, "swapoff"})
+    allowed = sorted(set(tables.read_table(None).names()) - {*DENIABLE, "swapoff"})
     needed = {"names": allowed, "action": ALLOW}
     entries = [denied, needed, *(_entry(drawn, names if len(names) > 3 else [*names, "mkdirat"], is_wide)
                                  for _ in range(drawn.randrange(1, 6)))]

@@ -155,7 +155,7 @@ class GroupReader:
             return [word]
         if word[0] == "@" and word not in self.groups:
             self.groups[word] = self.ask(word)
-        table = tables.of_architecture(NATIVE) or tables.Table(b"")
+        table = tables.architecture_table(NATIVE) or tables.Table(b"")
         names = []
         for number in self.groups[word] if word[0] == "@" else [int(word[1:])]:
             if not table.names_of(number):
@@ -302,7 +302,7 @@ def policy_of(settings: StatedSettings, reader: GroupReader) -> Policy:
     return policy
 
 
-def read(data: bytes) -> Policy:
+def read_firejail_profile(data: bytes) -> Policy:
     settings = StatedSettings()
     read_lines(data, settings)
     if not any(name in settings.of for name in SETTINGS if name != "seccomp-error-action"):

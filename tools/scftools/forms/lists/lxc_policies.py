@@ -103,7 +103,7 @@ def _rules(lines: list[tuple[int, str]], default: Answer, policy: Policy) -> Ite
 
 def _numbers(lines: list[tuple[int, str]], policy: Policy) -> None:
     """The rules of version 1: a number of x86-64 in each line."""
-    table = tables.of_architecture(NATIVE) or tables.Table(b"")
+    table = tables.architecture_table(NATIVE) or tables.Table(b"")
     for at, line in lines:
         match = re.match(r"\s*\+?([0-9]{1,9})", line)
         if match is None:
@@ -123,7 +123,7 @@ def _add(policy: Policy, rules: list[tuple[Rule, str]]) -> None:
         if rule.answer == policy.default:
             raise error_at(rule.line, f"LXC refuses a rule with the default's answer, {rule.answer}")
         for oci, names in without.items():
-            table, number = tables.of_architecture(oci), number_of(rule.name, oci)
+            table, number = tables.architecture_table(oci), number_of(rule.name, oci)
             if number is None or number < 0 and table is not None and table.number_of(rule.name) is not None:
                 names.append(rule.name)
         if section and section.lower() != "[x86_64]":
@@ -137,7 +137,7 @@ def _add(policy: Policy, rules: list[tuple[Rule, str]]) -> None:
             policy.remarks.append(f"the profile leaves {JUDGED[oci].name} out: LXC makes no rule of {names[0]} there")
 
 
-def read(data: bytes) -> Policy:
+def read_lxc_policy(data: bytes) -> Policy:
     (_, version), (_, head), *lines = sandbox_rules.lines_of(data)
     if lines and not lines[-1][1]:
         # behind the last newline

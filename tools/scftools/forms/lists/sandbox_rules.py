@@ -142,7 +142,7 @@ def lines_of(data: bytes) -> Iterator[tuple[int, str]]:
 
 
 def _number_in_tables(name: str, architecture: str) -> int:
-    table = tables.of_architecture(architecture)
+    table = tables.architecture_table(architecture)
     number = None if table is None else table.number_of(name)
     return -1 if number is None or multiplexed.is_multiplexed(name, architecture) else number
 

@@ -29,9 +29,9 @@ class Sandbox:
             raise program.ToolError(f"{label}, {self.kind}: {why}", status) from why
 
 
-SANDBOXES = (Sandbox("LXC", "an LXC policy", lxc_policies.SIGN, lxc_policies.read),
-             Sandbox("snapd", "a snap's seccomp template", snap_templates.SIGN, snap_templates.read),
-             Sandbox("firejail", "a firejail profile", firejail_lists.SIGN, firejail_lists.read))
+SANDBOXES = (Sandbox("LXC", "an LXC policy", lxc_policies.SIGN, lxc_policies.read_lxc_policy),
+             Sandbox("snapd", "a snap's seccomp template", snap_templates.SIGN, snap_templates.read_snap_template),
+             Sandbox("firejail", "a firejail profile", firejail_lists.SIGN, firejail_lists.read_firejail_profile))
 
 
 def sandbox_of(data: bytes) -> Sandbox | None:

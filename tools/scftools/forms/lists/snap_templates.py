@@ -88,7 +88,7 @@ def _rules(lines: list[tuple[int, str]]) -> Iterator[Rule]:
         yield Rule(name, ALLOW, conditions, at)
 
 
-def read(data: bytes) -> Policy:
+def read_snap_template(data: bytes) -> Policy:
     lines = list(sandbox_rules.lines_of(data))
     directives = {line.strip() for _, line in lines}
     rules = list(_rules(lines))
