@@ -9,8 +9,8 @@ from collections.abc import Iterator
 from scftools.base import output
 from scftools.base.values import Any, dataclass
 from scftools.model.tables import Table
-from .audit import (AUDIT_VERDICTS, CONTAINER, OTHER_PROGRAM, ROW_KINDS, STRICTER, UNIT, Audit, AuditRow, RowPart,
-                    StackJudgement, is_only_counted, sha256, stack_digest)
+from .audit_rows import (AUDIT_VERDICTS, CONTAINER, OTHER_PROGRAM, ROW_KINDS, STRICTER, UNIT, Audit, AuditRow, RowPart,
+                         StackJudgement, is_only_counted, sha256, stack_digest)
 
 # At most so many processes of a row are named in a line, and so many characters of a name, or of a label, are printed.
 MOST_PROCESSES, MOST_OF_NAME, MOST_OF_LABEL = 3, 200, 256

@@ -10,15 +10,16 @@ from scftools.base import output
 from scftools.model.architectures import I386
 from scftools.model.tables import Table
 from scftools.ask import client
+from scftools.ask.verdicts import OTHERWISE
 from scftools.forms.stacks import Stack
 from scftools.report import compare_output, pages, surfaces
 from scftools.report.pages import Markup, Named, c_call, document, joined, listed, preformatted, table, tag
 from scftools.report.surface_output import Groups
 from scftools.report.surfaces import Surface
 from . import audit_output
-from .audit import (AS_CONFIGURED, NOT_KNOWN, OTHERWISE, STRICTER, UNIT, WEAKER, Audit, AuditRow, RowPart,
-                    StackJudgement, stack_digest)
 from .audit_output import Earlier
+from .audit_rows import (AS_CONFIGURED, NOT_KNOWN, STRICTER, UNIT, WEAKER, Audit, AuditRow, RowPart, StackJudgement,
+                         stack_digest)
 
 PROVED = ("Each comparison of a stack of filters with a profile is proved for all x86-64 syscalls and arguments by "
           "scf; what the files of runtimes and systemd say, and which process belongs to what, isn't.")

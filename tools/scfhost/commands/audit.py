@@ -50,7 +50,7 @@ from scftools.model import tables
 from scftools.ask import verdicts
 from scftools.cli import words
 from scftools.forms import profile_inputs
-from .. import audit, audit_output, processes
+from .. import audit, audit_judge, audit_output, expectations, processes
 
 BASELINE = "no-more:"
 
@@ -89,7 +89,7 @@ def options_of(given):
     def profile(name):
         return None if name is None else (name, profile_inputs.read_profile(name, is_runtimes=True).data)
 
-    return audit.Options(tables.read_table(given.table), profile(given.expect), profile(given.baseline),
+    return expectations.Options(tables.read_table(given.table), profile(given.expect), profile(given.baseline),
                          given.force, given.allow_unconfined, tuple(given.runtime_root),
                          verdicts.NATIVE_SCOPE if given.native else None)
 
@@ -142,7 +142,7 @@ def main():
     given = read_words()
     options, earlier, before = options_of(given), earlier_in(given.since), None
     options.check()
-    judge = audit.StackJudge(options.table, progress)
+    judge = audit_judge.StackJudge(options.table, progress)
     while True:
         report = processes.read_or_end(lambda: audit.audit_machine(options, judge), is_json=given.json)
         progress(None)

@@ -15,7 +15,7 @@ from scftools.ask.client import Run
 from scftools.forms.filters import Filter
 from scftools.forms.stacks import Stack
 from scftools.report import stack_comparison
-from scfhost import audit
+from scfhost import audit_judge, audit_rows
 from scfhost.verify import Request
 
 # Stands in for scf: a comparison says that mount is answered otherwise than any filter here does.
@@ -97,9 +97,9 @@ class Modules(Case):
         stack = Stack((filter_of([0]),), False)
         text = (b"differs\ncall nr 1 arch 0xc000003e ip 0x0 args 0x0 0x0 0x0 0x0 0x0 0x0\nfilter ALLOW 0\n"
                 b"profile ALLOW 0\n")
-        run, judge = client.run_scf, audit.StackJudge(tables.read_table(None))
+        run, judge = client.run_scf, audit_judge.StackJudge(tables.read_table(None))
         with mock.patch.object(client, "run_scf", lambda words, *more_words, **more: Run(1, text)
                                if words[0] == "compare" else run(words, *more_words, **more)):
             block = judge.judge(stack, Request(profile_of("read"), judge.table))
         self.assertEqual((block.verdict, block.why[:42]),
-                         (audit.NOT_KNOWN, "internal error: the filters answer ERRNO 1"))
+                         (audit_rows.NOT_KNOWN, "internal error: the filters answer ERRNO 1"))

@@ -16,7 +16,8 @@ from support.own_machine import OwnMachine, Systemd, podman_settings
 from scftools.base import output
 from scftools.base.values import replace
 from scftools.model import tables
-from scfhost import audit, audit_output, container_files, machine, sandbox_programs
+from scfhost import audit, audit_judge, audit_output, audit_rows, container_files, machine, sandbox_programs
+from scfhost.expectations import Expectations, Options, rows_of
 
 # What is configured for containers, the same with another errno, and with one syscall more that is denied.
 STATED = {"defaultAction": "SCMP_ACT_ALLOW", "architectures": ["SCMP_ARCH_X86_64"],
@@ -879,7 +880,7 @@ class Firejail(Case):
         self.assertEqual(sandbox_programs.Firejails(processes).of_number, {})
 
     def test_what_is_expected(self):
-        expectations = audit.Expectations(audit.Options(tables.read_table(None)))
+        expectations = Expectations(Options(tables.read_table(None)))
         expected = expectations.of_firejail(self.started("--profile=p", "--", "--seccomp.drop=rmdir"))
         self.assertEqual((expected.source, expected.asked.unknown), (self.profile, ("SCMP_ARCH_X86",)))
         self.assertEqual(json.loads(expected.asked.profile)["syscalls"], [
@@ -907,7 +908,7 @@ class Snaps(Case):
         self.file("snap.web.run.src", self.RULES)
         self.file("snap.classic.run.src", "@unrestricted\n")
         self.file("global.bin", self.OF_ALL)
-        self.expectations = audit.Expectations(audit.Options(tables.read_table(None)))
+        self.expectations = Expectations(Options(tables.read_table(None)))
 
     def test_the_names_of_groups(self):
         in_slice = "/user.slice/user-1000.slice/user@1000.service/app.slice"
@@ -931,12 +932,12 @@ class Snaps(Case):
         self.file("snap.odd.run.src", self.RULES + "~read\n")
         self.assertIn("line 5: '~read' is denied", self.expectations.of_snap("snap.odd.run").why)
         os.chmod(os.path.join(self.folder, "snap.web.run.src"), 0o666)
-        self.assertTrue(audit.Expectations(self.expectations.options).of_snap("snap.web.run").why.endswith(
+        self.assertTrue(Expectations(self.expectations.options).of_snap("snap.web.run").why.endswith(
             "may be changed by users"))
 
     def test_verdicts(self):
         """The filter of all snaps makes nothing stricter than configured; a filter that allows more is weaker."""
-        expected, judge = self.expectations.of_snap("snap.web.run"), audit.StackJudge(tables.read_table(None))
+        expected, judge = self.expectations.of_snap("snap.web.run"), audit_judge.StackJudge(tables.read_table(None))
         path = self.file("p.json", expected.asked.profile)
         self.run_words(["sh", "-c", f"{tool('compile')} {path} >{self.folder}/own.bpf"])
         with open(os.path.join(self.folder, "own.bpf"), "rb") as file:
@@ -954,9 +955,9 @@ class Snaps(Case):
         snapshot, kernel = machine.Snapshot(processes=every), mock.Mock()
         kernel.group_owner.return_value = None
         with mock.patch.object(container_files, "descriptions_of", lambda *_: container_files.Descriptions()), \
-                mock.patch.object(self.expectations, "of_units", lambda names: {name: audit.Expectation()
+                mock.patch.object(self.expectations, "of_units", lambda names: {name: audit_rows.Expectation()
                                                                                 for name in names}):
-            rows, _ = audit.rows_of(kernel, snapshot, self.expectations)
+            rows, _ = rows_of(kernel, snapshot, self.expectations)
         self.assertEqual([(row.kind, row.key, [each.number for each in row.processes]) for row in rows],
                          [("program", "snap.web.run", [7, 8]), ("unit", "user@1000.service", [9])])
 
@@ -1072,18 +1073,18 @@ class Limits(Case):
 
     def setUp(self):
         super().setUp()
-        self.options = audit.Options(tables.read_table(None))
+        self.options = Options(tables.read_table(None))
         self.stack = processes.Stack((filter_of([0]),), False, {7: [7]})
         self.snapshot = machine.Snapshot({7: process()}, {(self.stack.filters, False): self.stack})
 
     def row(self, user):
         container = container_files.ContainerDescription("box", "crun", "crun", 7, "/config.json", folder="/box",
                                                          user=user)
-        return audit.AuditRow(audit.CONTAINER, "box", [process()], audit.Expectation(), container)
+        return audit_rows.AuditRow(audit_rows.CONTAINER, "box", [process()], audit_rows.Expectation(), container)
 
     def assessed(self, rows, work):
         """An assessor that has judged rows; `work` is done in place of reading a container's files."""
-        assessor = audit.Assessor(self.snapshot, audit.Expectations(self.options), audit.StackJudge(self.options.table))
+        assessor = audit.Assessor(self.snapshot, Expectations(self.options), audit_judge.StackJudge(self.options.table))
         with mock.patch.object(container_files, "with_config", work):
             assessor.fill(rows)
         return assessor
@@ -1104,13 +1105,13 @@ class Limits(Case):
         with mock.patch.object(machine, "read_machine", lambda *_: machine.Snapshot()), \
                 mock.patch.object(container_files, "descriptions_of", lambda *_: container_files.Descriptions()), \
                 mock.patch.object(container_files, "paths_matching", lambda _: time.sleep(20) or []):
-            report = audit.audit_machine(options, audit.StackJudge(self.options.table))
+            report = audit.audit_machine(options, audit_judge.StackJudge(self.options.table))
         self.assertEqual((report.rows, report.snapshot.notes), ([], []))
         self.assertLess(time.monotonic() - began, 10)
 
     def test_to_look_again(self):
         """It has no time of a whole pass, which a user's processes could take a second time."""
-        row = audit.AuditRow(audit.UNIT, "x", [process()], audit.Expectation(dropped="x"))
+        row = audit_rows.AuditRow(audit_rows.UNIT, "x", [process()], audit_rows.Expectation(dropped="x"))
         snapshot = machine.Snapshot({7: process()}, {((), False): processes.Stack((), False, {7: [7]})})
         with mock.patch.object(machine, "read_more") as again, mock.patch.object(audit, "TO_CONFINE", 0):
             audit._look_again(processes.Kernel(), snapshot, [row], self.options)
@@ -1149,9 +1150,9 @@ class Limits(Case):
         """What runs by IDs that a user has in namespaces (subuid(5)) is that user's, and takes no time of others."""
         stacks = [processes.Stack((filter_of([0, at]),), False, {at: [at]}) for at in range(7, 12)]
         self.snapshot = machine.Snapshot({}, {(stack.filters, False): stack for stack in stacks})
-        row = audit.AuditRow(audit.OTHER_PROGRAM, "x", [process(at, user=100000 + at, owner=5) for at in range(7, 12)],
-                             audit.Expectation())
-        with mock.patch.object(audit, "judgement_of", lambda *_: audit.StackJudgement(audit.STRICTER)):
+        row = audit_rows.AuditRow(audit_rows.OTHER_PROGRAM, "x", [process(at, user=100000 + at, owner=5) for at in range(7, 12)],
+                             audit_rows.Expectation())
+        with mock.patch.object(audit, "judgement_of", lambda *_: audit_rows.StackJudgement(audit_rows.STRICTER)):
             assessor = self.assessed([row], None)
         self.assertEqual(set(assessor.budgets.of), {5})
 
@@ -1160,15 +1161,15 @@ class Limits(Case):
         stacks = [processes.Stack((filter_of([0, at]),), False, {at: [at]}) for at in range(7, 12)]
         self.snapshot = machine.Snapshot({number: process(number) for number in range(7, 12)},
                                          {(stack.filters, False): stack for stack in stacks})
-        rows = [audit.AuditRow(kind, "x", [process(number, user=5) for number in numbers], audit.Expectation())
-                for kind, numbers in ((audit.OTHER_PROGRAM, (7, 8)), (audit.UNIT, (9, 10)))]
+        rows = [audit_rows.AuditRow(kind, "x", [process(number, user=5) for number in numbers], audit_rows.Expectation())
+                for kind, numbers in ((audit_rows.OTHER_PROGRAM, (7, 8)), (audit_rows.UNIT, (9, 10)))]
         rows[0].processes.append(process(11))
         order = []
 
         def judge(stack, *_):
             order.extend(stack.threads)
             time.sleep(0 if 11 in stack.threads else 0.3)
-            return audit.StackJudgement(audit.STRICTER)
+            return audit_rows.StackJudgement(audit_rows.STRICTER)
 
         with mock.patch.object(audit, "SECONDS_OF_A_USER", 0.7), mock.patch.object(audit, "judgement_of", judge):
             assessor = self.assessed(rows, None)
@@ -1186,23 +1187,23 @@ class Limits(Case):
 
     def test_what_is_kept(self):
         """Some results, and some bytes; what isn't known is asked again."""
-        with mock.patch.object(audit, "MOST_CACHED", 3), mock.patch.object(audit, "MOST_CACHED_BYTES", 100):
+        with mock.patch.object(audit_judge, "MOST_CACHED", 3), mock.patch.object(audit_judge, "MOST_CACHED_BYTES", 100):
             for sizes, remaining in (([10] * 5, 1), ([60, 30], 2), ([60, 30, 20], 1)):
-                cache = audit.Cache()
+                cache = audit_judge.Cache()
                 for at, size in enumerate(sizes):
                     cache.keep((at,), at, size)
                 self.assertEqual((len(cache.values), cache.values[len(sizes) - 1,]), (remaining, len(sizes) - 1), sizes)
-        judge = audit.StackJudge(self.options.table)
-        judge.keep((1,), audit.StackJudgement(audit.NOT_KNOWN))
-        judge.keep((2,), audit.StackJudgement(audit.WEAKER))
+        judge = audit_judge.StackJudge(self.options.table)
+        judge.keep((1,), audit_rows.StackJudgement(audit_rows.NOT_KNOWN))
+        judge.keep((2,), audit_rows.StackJudgement(audit_rows.WEAKER))
         judge.forget_unknown()
         self.assertEqual(list(judge.judgements.values), [(2,)])
 
 
-def unit(name, verdict="weaker", why=None, threads=(), kind=audit.UNIT, expected=None):
+def unit(name, verdict="weaker", why=None, threads=(), kind=audit_rows.UNIT, expected=None):
     """A row of threads without filters."""
-    part = audit.RowPart(processes.Stack((), False), dict(threads), audit.StackJudgement(verdict, why))
-    return audit.AuditRow(kind, name, [], expected or audit.Expectation(), parts=[part])
+    part = audit_rows.RowPart(processes.Stack((), False), dict(threads), audit_rows.StackJudgement(verdict, why))
+    return audit_rows.AuditRow(kind, name, [], expected or audit_rows.Expectation(), parts=[part])
 
 
 class Output(Case):
@@ -1213,12 +1214,12 @@ class Output(Case):
         self.table = tables.read_table(None)
         container = container_files.ContainerDescription("ab" * 32, "podman", "crun", 7, "/c", name='a"} 1\nb\\',
                                                          image="i\x1b[0m")
-        self.row = audit.AuditRow(audit.CONTAINER, container.identifier, [process(name=b"x\n# y")], audit.Expectation(),
+        self.row = audit_rows.AuditRow(audit_rows.CONTAINER, container.identifier, [process(name=b"x\n# y")], audit_rows.Expectation(),
                                   container)
         stack = processes.Stack((filter_of([0]),), False, {7: [7]})
-        self.row.parts = [audit.RowPart(stack, {7: [7]}, audit.StackJudgement(audit.NOT_KNOWN, "it\nis"))]
+        self.row.parts = [audit_rows.RowPart(stack, {7: [7]}, audit_rows.StackJudgement(audit_rows.NOT_KNOWN, "it\nis"))]
         snapshot = machine.Snapshot({7: self.row.processes[0]}, {(stack.filters, False): stack})
-        self.audit = audit.Audit([self.row], snapshot, 0.0, 1.5)
+        self.audit = audit_rows.Audit([self.row], snapshot, 0.0, 1.5)
 
     def test_lines(self):
         for line in audit_output.audit_lines(self.audit, self.table):
@@ -1352,8 +1353,8 @@ class Output(Case):
     def test_programs_are_counted(self):
         """Those without a configuration that don't bear on the status are listed by --programs alone, and so are the
         changes of them; objects have all."""
-        stated = audit.Expectation(source="x", dropped="x")
-        self.audit.rows = [unit(name, verdict, kind=audit.OTHER_PROGRAM, expected=expected)
+        stated = audit_rows.Expectation(source="x", dropped="x")
+        self.audit.rows = [unit(name, verdict, kind=audit_rows.OTHER_PROGRAM, expected=expected)
                            for name, verdict, expected in (("fine", "stricter", None), ("worse", "weaker", None),
                                                            ("stated", "stricter", stated))]
         gone = {"kind": "program", "verdict": "stricter", "profile": {"source": None, "sha256": None}}
@@ -1377,7 +1378,7 @@ class Output(Case):
     def test_status(self):
         """1 before 4 before 0; what is unconfined by configuration counts, unless it is allowed."""
         def status(*verdicts, allows=False, left_out=()):
-            return audit.Audit([unit("x", verdict) for verdict in verdicts], machine.Snapshot(), 0.0,
+            return audit_rows.Audit([unit("x", verdict) for verdict in verdicts], machine.Snapshot(), 0.0,
                                left_out=list(left_out), allows_unconfined=allows).status
 
         by_configuration, though_configured = "unconfined by configuration", "unconfined though configured"

@@ -14,7 +14,7 @@ from scftools.model import tables
 from scftools.ask import verdicts
 from scftools.forms import stacks
 from scftools.report import compare
-from scfhost import audit, audit_output, audit_page, container_files, machine
+from scfhost import audit_output, audit_page, audit_rows, container_files, machine
 
 # The elements that a page has, and their attributes.
 TAGS = {"html": {"lang"}, "head": set(), "meta": {"charset", "http-equiv", "content", "name"}, "title": set(),
@@ -76,15 +76,15 @@ class Pages(Case):
         seven, eight = process(name=os.fsencode(HOSTILE)), process(8)
         asked = compare.Comparison(stack.named, profile_of("read"), table)
         verdict = asked.run(verdicts.NATIVE_SCOPE, verdicts.NO_MORE)[1].verdict
-        rows = [audit.AuditRow(audit.CONTAINER, container.identifier, [seven], audit.Expectation(source=HOSTILE),
+        rows = [audit_rows.AuditRow(audit_rows.CONTAINER, container.identifier, [seven], audit_rows.Expectation(source=HOSTILE),
                                container),
-                audit.AuditRow(audit.UNIT, "a.service", [eight], audit.Expectation(why=HOSTILE))]
-        weaker = audit.StackJudgement(audit.WEAKER, shown=verdict, comparison=asked)
-        rows[0].parts = [audit.RowPart(stack, {7: [7]}, weaker)]
-        rows[1].parts = [audit.RowPart(stacks.Stack((), False, {8: [8]}), {8: [8]}, audit.StackJudgement(
-            audit.NOT_KNOWN, HOSTILE, is_unconfined=True))]
+                audit_rows.AuditRow(audit_rows.UNIT, "a.service", [eight], audit_rows.Expectation(why=HOSTILE))]
+        weaker = audit_rows.StackJudgement(audit_rows.WEAKER, shown=verdict, comparison=asked)
+        rows[0].parts = [audit_rows.RowPart(stack, {7: [7]}, weaker)]
+        rows[1].parts = [audit_rows.RowPart(stacks.Stack((), False, {8: [8]}), {8: [8]}, audit_rows.StackJudgement(
+            audit_rows.NOT_KNOWN, HOSTILE, is_unconfined=True))]
         snapshot = machine.Snapshot({7: seven, 8: eight}, {(stack.filters, False): stack})
-        report = audit.Audit(rows, snapshot, 0.0, left_out=[HOSTILE])
+        report = audit_rows.Audit(rows, snapshot, 0.0, left_out=[HOSTILE])
         earlier = audit_output.Earlier(HOSTILE, {("unit", HOSTILE): audit_output.EarlierRow(HOSTILE, "weaker", False)})
         return audit_page.page(report, table, earlier)
 
@@ -100,30 +100,30 @@ class Pages(Case):
             self.assertIn(expected, text)
 
     def test_a_reason_stands_once(self):
-        rows = [audit.AuditRow(audit.UNIT, name, [process(8)], audit.Expectation()) for name in ("a", "b")]
+        rows = [audit_rows.AuditRow(audit_rows.UNIT, name, [process(8)], audit_rows.Expectation()) for name in ("a", "b")]
         for row in rows:
-            judgement = audit.StackJudgement(audit.NOT_KNOWN, "slow")
-            row.parts = [audit.RowPart(stacks.Stack((), False), {8: [8]}, judgement)]
-        text = Page(audit_page.page(audit.Audit(rows, machine.Snapshot(), 0.0), tables.read_table(None)), self).check()
+            judgement = audit_rows.StackJudgement(audit_rows.NOT_KNOWN, "slow")
+            row.parts = [audit_rows.RowPart(stacks.Stack((), False), {8: [8]}, judgement)]
+        text = Page(audit_page.page(audit_rows.Audit(rows, machine.Snapshot(), 0.0), tables.read_table(None)), self).check()
         self.assertIn("not known unit a, unit b", text)
         self.assertEqual(text[text.index("What shows the verdicts"):].count("slow"), 1)
 
     def test_what_is_configured(self):
         """It is known that nothing is, or not known what."""
-        for expected, says in ((audit.Expectation(), "nothing is configured"),
-                               (audit.Expectation(why="no bus"), "what is configured isn't known: no bus"),
-                               (audit.Expectation(source="systemctl", why="no bus"), "systemctl no bus")):
-            row = audit.AuditRow(audit.UNIT, "a.service", [process(8)], expected)
+        for expected, says in ((audit_rows.Expectation(), "nothing is configured"),
+                               (audit_rows.Expectation(why="no bus"), "what is configured isn't known: no bus"),
+                               (audit_rows.Expectation(source="systemctl", why="no bus"), "systemctl no bus")):
+            row = audit_rows.AuditRow(audit_rows.UNIT, "a.service", [process(8)], expected)
             stack = stacks.Stack((), False, {8: [8]})
-            row.parts = [audit.RowPart(stack, {8: [8]}, audit.StackJudgement(audit.NOT_KNOWN))]
-            made = audit.Audit([row], machine.Snapshot(), 0.0)
+            row.parts = [audit_rows.RowPart(stack, {8: [8]}, audit_rows.StackJudgement(audit_rows.NOT_KNOWN))]
+            made = audit_rows.Audit([row], machine.Snapshot(), 0.0)
             text = Page(audit_page.page(made, tables.read_table(None)), self).check()
             self.assertIn(says, text)
             self.assertEqual("nothing is configured" in text, says == "nothing is configured")
 
     def test_nothing_to_show(self):
         table = tables.read_table(None)
-        text = Page(audit_page.page(audit.Audit([], machine.Snapshot(), 0.0), table), self).check()
+        text = Page(audit_page.page(audit_rows.Audit([], machine.Snapshot(), 0.0), table), self).check()
         self.assertIn("There is no container, no unit, and no other program with a filter.", text)
         self.assertNotIn("Dangerous syscalls", text)
 
