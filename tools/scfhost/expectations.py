@@ -15,7 +15,7 @@ from scftools.forms.filters import Filter
 from scftools.forms.lists import lxc_policies, sandbox_rules
 from scftools.report import compare_output
 from scftools.report.compare import Comparison
-from . import container_files, sandbox_programs, unit_profiles, units, verify
+from . import configurations, container_files, sandbox_programs, unit_profiles, units, verify
 from .audit_judge import Cache
 from .audit_rows import CONTAINER, OTHER_PROGRAM, UNIT, AuditRow, Expectation, sha256
 from .container_files import ContainerDescription
@@ -73,7 +73,7 @@ class Expectations:
             return self.requests.values[key]
         try:
             asked = verify.request_of(config, runtime, False, self.options.table, SAME, self.options.scope)
-        except verify.ContainerError as why:
+        except configurations.ContainerError as why:
             return self.requests.keep(key, str(why), 0)
         if asked.applied is not None:
             # (what it was made of isn't needed any more)
@@ -116,8 +116,8 @@ class Expectations:
         if container.why is not None:
             return Expectation(source=container.config or None, why=container.why)
         try:
-            config = verify.seccomp_in(container.configuration, container.config)
-        except verify.ContainerError as why:
+            config = configurations.seccomp_in(container.configuration, container.config)
+        except configurations.ContainerError as why:
             return Expectation(source=container.config, why=str(why))
         if config is None:
             return Expectation(source=container.config)

@@ -26,10 +26,10 @@ from scftools.model import profiles
 from scftools.ask import verdicts
 from scftools.forms import engines
 from scftools.forms.stacks import Inspection
-from . import containers, hold, processes, verify
+from . import configurations, containers, hold, processes, verify
+from .configurations import ContainerError
 from .processes import Kernel
 from .ptrace import has_ended
-from .verify import ContainerError
 from .watchdog import Watchdog, Worker
 
 
@@ -112,12 +112,12 @@ def contents(name: str) -> bytes:
 
 def configuration_of(container: ContainerState) -> dict[str, Any] | None:
     """The seccomp configuration of the container's config.json, as `verify.seccomp_in`."""
-    name = os.path.join(container.bundle, verify.CONFIG)
+    name = os.path.join(container.bundle, configurations.CONFIG)
     try:
         value = engines.parse_json(contents(name))
     except (program.ToolError, profiles.Refused) as why:
         raise ContainerError(f"the container's configuration: {why}") from why
-    return verify.seccomp_in(value, name)
+    return configurations.seccomp_in(value, name)
 
 
 def members_of(kernel: Kernel, pid: int) -> containers.Container:
@@ -273,7 +273,7 @@ def finding_of(inspection: Inspection, request: verify.Request, process: Contain
     remarks = [*request.remarks, *process.members.remarks, *([others] if others else [])]
     if status == program.NEGATIVE and blocks[0].report is not None:
         runtime = request.applied.runtime.name if request.applied is not None else None
-        remarks += filter(None, [verify.other_runtime([process.container.name], runtime)])
+        remarks += filter(None, [configurations.other_runtime([process.container.name], runtime)])
 
     def lines() -> list[str]:
         report_lines = [line for line in verify.verification_lines(blocks, inspection, request)

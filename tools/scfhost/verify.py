@@ -3,11 +3,10 @@ and the threads that have it."""
 from __future__ import annotations
 
 import json
-import os
 from collections.abc import Iterator, Sequence
 
 from scftools.base import output, program
-from scftools.base.values import Any, Pattern, dataclass, field, replace
+from scftools.base.values import Any, dataclass, field, replace
 from scftools.model import profiles, tables
 from scftools.model.tables import Table
 from scftools.ask import reasons, verdicts
@@ -20,26 +19,13 @@ from scftools.report import compare_output, stack_comparison
 from scftools.report.blocks import OF_ALL, blocks_of, of_threads
 from scftools.report.compare import Comparison
 from scftools.report.stack_comparison import StackComparison
-from .processes import Kernel
-from .ptrace import PROC_PID_INIT_INO
+from .configurations import ContainerError
 
 # What is compared with if nothing is configured: every syscall is allowed.
 ALLOWS_ALL = b'{"defaultAction": "SCMP_ACT_ALLOW"}'
 # The verdict on threads without a filter, by whether a container's configuration has a profile; None if the profile
 # isn't that of a configuration.
 UNCONFINED = {None: "unconfined", False: "unconfined by configuration", True: "unconfined though configured"}
-
-
-# The configuration in a bundle.
-CONFIG = "config.json"
-# The identifiers that engines give containers, and how many digits of them they show.
-IDENTIFIER, SHORT = Pattern("(?<![0-9a-f])[0-9a-f]{64}(?![0-9a-f])"), 12
-# The file that a runtime keeps of a container of root's, in a folder with its identifier below /run/RUNTIME.
-STATES = {"runc": "state.json", "crun": "status"}
-
-
-class ContainerError(Exception):
-    """Why it is unknown whether a container is confined."""
 
 
 @dataclass
@@ -126,89 +112,6 @@ class Request:
     def as_json(self, block: Block) -> dict[str, object]:
         members = compare_output.comparison_json(block.comparison, block.report, block.scope, block.status)
         return {**members, "stub": block.stub} if block.stub else members
-
-
-def configuration_in(data: bytes) -> dict[str, Any] | None:
-    """A container's configuration (config.json) as JSON; None if a text is something else, or can't be read. Raises
-    ContainerError if it is a container's state."""
-    try:
-        value = engines.parse_json(data)
-    except profiles.Refused:
-        return None
-    if not isinstance(value, dict) or value.get("defaultAction") is not None:
-        return None
-    if "linux" in value or "ociVersion" in value and {"process", "root"} & value.keys():
-        return value
-    if {"pid", "init_process_pid"} & value.keys():
-        bundle = value.get("bundle")
-        where = os.path.join(bundle, CONFIG) if isinstance(bundle, str) else f"the {CONFIG} of its bundle"
-        raise ContainerError(f"it is a container's state, which says nothing about seccomp: take {where}")
-    return None
-
-
-def seccomp_in(value: Any, name: str) -> dict[str, Any] | None:
-    """The seccomp part of a configuration with this name, as a config.json with nothing else in it, or None if it says
-    nothing. Runtimes read only `linux.seccomp`, whatever else is in it; runc takes one without an action and without
-    syscalls for none (SetupSeccomp of specconv), and crun starts no container with it."""
-    linux = member(value, "linux", name)
-    seccomp = None if linux is None else member(linux, "seccomp", name)
-    says = [profiles.folded(member_name) for member_name in ("defaultAction", "syscalls")]
-    is_empty = isinstance(seccomp, dict) and not any(given for member_name, given in seccomp.items()
-                                                     if profiles.folded(member_name) in says)
-    return None if seccomp is None or is_empty else {"linux": {"seccomp": seccomp}}
-
-
-def member(value: Any, wanted: str, path: str) -> Any:
-    """A member of an object in a configuration; refused if a runtime in Go also reads another one as it."""
-    if not isinstance(value, dict):
-        raise ContainerError(f"'{path}' isn't a container's configuration")
-    others = [name for name in value if name != wanted and profiles.folded(name) == wanted]
-    if others:
-        raise ContainerError(f"'{path}' has a member '{others[0]}', which runc reads as {wanted} and crun doesn't")
-    return value.get(wanted)
-
-
-def identifiers_in(text: str) -> list[str]:
-    """The identifiers of containers in a text."""
-    return [match[0] for match in IDENTIFIER.finditer(text)]
-
-
-def identifiers_of(kernel: Kernel, process: int) -> list[str]:
-    """The identifiers of containers in the paths of a process's control groups."""
-    return [identifier for group in kernel.groups_of(process).values()
-            for identifier in identifiers_in(os.fsdecode(group))]
-
-
-def other_runtime(identifiers: Sequence[str], runtime: str | None) -> str | None:
-    """The line on the runtime of a container with one of these identifiers, where its own files show that it is another
-    one than was said."""
-    runtime_program = runtimes.RUNTIMES[runtime].program if runtime is not None else None
-    for name, file in STATES.items():
-        folders = (f"/run/{name}/{identifier}" for identifier in identifiers)
-        folder = next((folder for folder in folders if os.path.exists(f"{folder}/{file}")), None)
-        if folder is not None and name != runtime_program:
-            return f"the container's runtime is {name}, by {folder}: --runtime {name} reads the profile as it does"
-    return None
-
-
-def why_not_its(kernel: Kernel, process: int, config: dict[str, Any]) -> str | None:
-    """Why a configuration isn't that of the container that a process is in; None if it may be.
-
-    A container's identifier stands in the path that its configuration gives its control group, and in that of the
-    groups of its processes; and where a configuration makes a PID namespace, its processes aren't in the machine's own.
-    """
-    linux = config.get("linux")
-    linux = linux if isinstance(linux, dict) else {}
-    who = f"process {process} ({output.escaped(kernel.name_of(process))})"
-    path, spaces = linux.get("cgroupsPath"), linux.get("namespaces")
-    stated, actual = identifiers_in(path) if isinstance(path, str) else [], identifiers_of(kernel, process)
-    if stated and actual and stated[-1] not in actual:
-        return (f"the configuration is that of the container {stated[-1][:SHORT]}, and {who} is in the container "
-                f"{actual[-1][:SHORT]}")
-    makes_space = isinstance(spaces, list) and {"type": "pid"} in spaces
-    if makes_space and [inode for _, inode in kernel.namespaces_of(process)] == [PROC_PID_INIT_INO]:
-        return f"{who} is in no container with this configuration, which has a PID namespace of its own"
-    return None
 
 
 def request_of(config: dict[str, Any], runtime: str | None, keeps_first: bool, table: Table, relation: str,

@@ -58,7 +58,7 @@ from scftools.base.values import replace
 from scftools.model import tables
 from scftools.cli import words
 from scftools.forms import engines, profile_inputs, runtimes
-from .. import containers, processes, verify
+from .. import configurations, containers, processes, verify
 
 
 def read_words():
@@ -101,15 +101,15 @@ def is_configured(data, name, kernel, pid):
     """Whether a configuration has a profile; None of what is no configuration. Ends the tool where it isn't that of the
     process, or runtimes read it otherwise than it is spelled."""
     try:
-        value = verify.configuration_in(data)
+        value = configurations.configuration_in(data)
         if value is None:
             return None
-        why_not = verify.why_not_its(kernel, pid, value)
+        why_not = configurations.why_not_its(kernel, pid, value)
         if why_not is not None:
             raise program.ToolError(f"{why_not}: `podman inspect -f '{{{{.State.Pid}}}} {{{{.OCIConfigPath}}}}' NAME` "
                                     "prints the first process of a container and its configuration")
-        return verify.seccomp_in(value, name) is not None
-    except verify.ContainerError as why:
+        return configurations.seccomp_in(value, name) is not None
+    except configurations.ContainerError as why:
         raise program.ToolError(f"{inputs.label(name)}: {why}", program.NEGATIVE) from why
 
 
@@ -117,12 +117,12 @@ def read_profile(name, is_engines):
     """The bytes of a profile's or a configuration's file."""
     if not name:
         raise program.ToolError("the name of PROFILE is empty: the command that should print it printed nothing")
-    if os.path.exists(os.path.join(name, verify.CONFIG)):
-        raise program.ToolError(f"'{name}' is a bundle's folder: take the file {verify.CONFIG} in it")
+    if os.path.exists(os.path.join(name, configurations.CONFIG)):
+        raise program.ToolError(f"'{name}' is a bundle's folder: take the file {configurations.CONFIG} in it")
     try:
         return inputs.read_whole(name, "engine's profile") if is_engines else inputs.read_input(name, "profile")
     except program.ToolError as why:
-        if not isinstance(why.__cause__, FileNotFoundError) or os.path.basename(name) != verify.CONFIG:
+        if not isinstance(why.__cause__, FileNotFoundError) or os.path.basename(name) != configurations.CONFIG:
             raise
         raise program.ToolError(f"{why}: the container has ended, or was removed; of one that runs `podman inspect -f "
                                 f"'{{{{.OCIConfigPath}}}}' NAME` prints it") from why
@@ -149,8 +149,8 @@ def request_of(options, kernel):
 def other_runtime(options, kernel, request, worst):
     """The line, where filters aren't as configured, that another runtime than was said reads the configuration."""
     if request.configured and worst.report is not None and worst.status == program.NEGATIVE:
-        identifiers = [*verify.identifiers_of(kernel, options.pid), *verify.identifiers_in(options.profile)]
-        yield from filter(None, [verify.other_runtime(identifiers, options.runtime)])
+        identifiers = [*configurations.identifiers_of(kernel, options.pid), *configurations.identifiers_in(options.profile)]
+        yield from filter(None, [configurations.other_runtime(identifiers, options.runtime)])
 
 
 def main():

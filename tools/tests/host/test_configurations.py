@@ -7,7 +7,7 @@ from unittest import mock
 
 from support.confined import FakeKernel, here
 from host.test_filters_of import MOUNT, Confined, comments, refuses, refusing
-from scfhost import verify
+from scfhost import configurations
 
 ONE, TWO = "01" * 32, "ef" * 32
 BY_CONFIGURATION, THOUGH = "unconfined by configuration", "unconfined though configured"
@@ -148,7 +148,7 @@ class Owners(unittest.TestCase):
         kernel = FakeKernel()
         kernel.groups_of = lambda _: {"": groups.encode()}
         kernel.namespaces_of, kernel.name_of = lambda _: list(spaces), lambda _: b"sl\x1beep"
-        return verify.why_not_its(kernel, 7, {"linux": linux})
+        return configurations.why_not_its(kernel, 7, {"linux": linux})
 
     def test_identifiers(self):
         """As podman and Docker state a group, by either driver, and as the kernel shows the process's."""
@@ -182,7 +182,7 @@ class OtherRuntimes(unittest.TestCase):
 
     def other(self, actual, runtime):
         with mock.patch("os.path.exists", lambda path: path == actual):
-            return verify.other_runtime([TWO, ONE], runtime)
+            return configurations.other_runtime([TWO, ONE], runtime)
 
     def test_the_folders(self):
         for name, state in (("runc", f"/run/runc/{ONE}/state.json"), ("crun", f"/run/crun/{ONE}/status")):
