@@ -15,9 +15,10 @@ from ..model.calls import Call
 from ..model.tables import Table, Tables
 from ..ask import client, questions, reasons, regions
 from ..ask.client import Refusal
-from ..ask.differences import EVERY_RECORD, Sides
+from ..ask.differences import EVERY_RECORD
 from ..ask.explanation import MORE_SPLITS, join_names
 from ..ask.reasons import Reason
+from ..ask.sides import Sides
 from ..ask.verdicts import (FAILING_WORDS, LESS, MORE, NO_LESS, NO_MORE, OTHERWISE, SAME, UNDECIDED, UNFINISHED, Report,
                             Verdict, checked)
 from ..forms.profile_inputs import ProfileInput

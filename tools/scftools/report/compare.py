@@ -11,9 +11,10 @@ from ..model.profiles import Origin, Profile
 from ..model.tables import Table, Tables
 from ..ask import other_abis, reasons, regions
 from ..ask.client import Refusal
-from ..ask.differences import Sides, beyond
+from ..ask.differences import beyond
 from ..ask.other_abis import AbiAccess
 from ..ask.reasons import Reason
+from ..ask.sides import Sides
 from ..ask.verdicts import ALL, CALLS, FOR_OTHER_ABI, LISTED, NATIVE_SCOPE, SAME, SCOPES, UNDETERMINED, Report, Verdict
 from ..forms.filters import Filter
 

@@ -10,7 +10,8 @@ from ..model.architectures import NATIVE
 from ..model.tables import Table, Tables
 from ..ask import client, explanation, verdicts
 from ..ask.client import Refusal
-from ..ask.differences import Differences, Sides
+from ..ask.differences import Differences
+from ..ask.sides import Sides
 from ..ask.verdicts import ALL, CALLS, DIFFERS, NATIVE_SCOPE, RELATIONS, SAME, SCOPES, NamedCall, Report, Verdict
 from ..forms import filters, refusals
 from ..forms.filters import Filter
