@@ -24,7 +24,7 @@ from scftools.model import answers, architectures, tables
 from scftools.model.calls import Call
 from scftools.ask import client, questions
 from scftools.forms import stacks
-from scftools.report import stack_surfaces, surface_output, surfaces
+from scftools.report import stack_surfaces, surface_output, surface_pairs, surfaces
 
 READ, WRITE, GETPID, SOCKET, EXIT_GROUP = 0, 1, 39, 41, 231
 NAMES = {"read": READ, "write": WRITE, "getpid": GETPID, "socket": SOCKET, "exit_group": EXIT_GROUP, "too": READ}
@@ -601,7 +601,7 @@ class Beside(Case):
     """Two surfaces beside each other."""
 
     def pairs(self, name, name_beside):
-        beside = stack_surfaces.compared_surfaces(surface_of(name), surface_of(name_beside))
+        beside = surface_pairs.compared_surfaces(surface_of(name), surface_of(name_beside))
         return beside.status, [(pair.number, *(row.said for row in pair.rows)) for pair in beside.pairs], beside
 
     def test_each_two(self):
@@ -623,7 +623,7 @@ class Beside(Case):
                 ("a condition", by_argument(41, EPERM, ALLOW), ("ERRNO 1", "ALLOW")),
                 ("an errno", by_argument(40, 0x50026, ALLOW), ("ERRNO 1", "ERRNO 38")),
                 ("a logged syscall", by_argument(40, EPERM, LOG), ("ALLOW", "LOG"))):
-            beside = stack_surfaces.compared_surfaces(of(plain), of([of_number(SOCKET, default, ALLOW)]))
+            beside = surface_pairs.compared_surfaces(of(plain), of([of_number(SOCKET, default, ALLOW)]))
             (pair,) = beside.pairs
             self.assertEqual((beside.status, pair.number, *(row.said for row in pair.rows)), (1, SOCKET, D, D), name)
             verdict = pair.line.verdict
@@ -632,38 +632,38 @@ class Beside(Case):
 
     def test_syscalls_that_depend_and_are_the_same(self):
         filters = [gate(jeq(SOCKET, 0, 6) + by_argument(40, EPERM, ALLOW) + ret(EPERM))]
-        beside = stack_surfaces.compared_surfaces(surface_of("by an argument"), of(filters))
+        beside = surface_pairs.compared_surfaces(surface_of("by an argument"), of(filters))
         self.assertEqual((beside.status, beside.pairs), (0, ()))
 
     def test_the_same_filters(self):
         for name in ("by an argument", "a stack"):
             self.assertEqual(self.pairs(name, name)[:2], (0, []))
-        beside = stack_surfaces.compared_surfaces(*(of([UNKNOWN], table=FEW) for _ in range(2)))
+        beside = surface_pairs.compared_surfaces(*(of([UNKNOWN], table=FEW) for _ in range(2)))
         self.assertEqual((beside.status, beside.pairs), (0, ()))
         # one more filter, which allows all, changes no answer, but the filters aren't the same
         both = (of(filters, table=FEW) for filters in ([UNKNOWN], [UNKNOWN, ret(ALLOW)]))
-        beside = stack_surfaces.compared_surfaces(*both)
+        beside = surface_pairs.compared_surfaces(*both)
         self.assertEqual((beside.status, [pair.number for pair in beside.pairs]), (4, [0, 1, 2]))
-        self.assertEqual(stack_surfaces.compared_surfaces(of([SQUARE]), of([SQUARE])).pairs, ())
-        beside = stack_surfaces.compared_surfaces(of([BY_SQUARE]), of([BY_SQUARE]))
+        self.assertEqual(surface_pairs.compared_surfaces(of([SQUARE]), of([SQUARE])).pairs, ())
+        beside = surface_pairs.compared_surfaces(of([BY_SQUARE]), of([BY_SQUARE]))
         self.assertEqual((beside.status, beside.pairs), (0, ()))
 
     def test_what_could_not_be_told(self):
-        beside = stack_surfaces.compared_surfaces(of([BY_UNKNOWN]), of([ret(ALLOW)]))
+        beside = surface_pairs.compared_surfaces(of([BY_UNKNOWN]), of([ret(ALLOW)]))
         self.assertEqual([(pair.number, *(row.said for row in pair.rows)) for pair in beside.pairs],
                          [(SOCKET, "undecided", M)])
-        beside = stack_surfaces.compared_surfaces(of([BY_SQUARE]), of([ret(ALLOW)]))
+        beside = surface_pairs.compared_surfaces(of([BY_SQUARE]), of([ret(ALLOW)]))
         self.assertEqual([(pair.number, *(row.said for row in pair.rows)) for pair in beside.pairs], [(SOCKET, D, M)])
         with mock.patch.dict(client.limits, {"limit": "0"}):
-            beside = stack_surfaces.compared_surfaces(of([gate(ret(ALLOW))]), of([gate(ret(EPERM))]))
+            beside = surface_pairs.compared_surfaces(of([gate(ret(ALLOW))]), of([gate(ret(EPERM))]))
         self.assertEqual((beside.status, [pair.number for pair in beside.pairs]), (4, NUMBERS))
 
     def test_foreign_calls_and_numbers_without_a_name(self):
         inner = jeq(READ, 0, 1) + ret(ALLOW) + ret(EPERM)
-        beside = stack_surfaces.compared_surfaces(of([gate(inner)]), of([gate(inner, ALLOW)]))
+        beside = surface_pairs.compared_surfaces(of([gate(inner)]), of([gate(inner, ALLOW)]))
         self.assertEqual((beside.status, beside.pairs, beside.foreign_differ, beside.unnamed_differ),
                          (1, (), True, False))
-        beside = stack_surfaces.compared_surfaces(of([filter_of([READ])]), of([filter_of([READ, 400])]))
+        beside = surface_pairs.compared_surfaces(of([filter_of([READ])]), of([filter_of([READ, 400])]))
         self.assertEqual((beside.status, beside.pairs, beside.foreign_differ, beside.unnamed_differ),
                          (1, (), False, True))
 
