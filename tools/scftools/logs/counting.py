@@ -4,33 +4,18 @@ from __future__ import annotations
 import re
 from collections.abc import Callable
 
-from ..base import program
 from ..base.inputs import LONGEST_LINE
-from ..base.values import Pattern, dataclass, field
+from ..base.values import Pattern, dataclass
 from ..model import multiplexed
-from ..model.architectures import JUDGED, NATIVE
+from ..model.architectures import NATIVE
 from ..model.tables import Table
-from ..forms.strace import CALL_NAME, FORKS, LEADER, RESULT, RESUMED, UNFINISHED_MARK, Arguments, registers_in
+from ..forms.strace import Arguments, registers_in
+from .reader import Line, Reader, Sink
 
-# The most bytes of a syscall that isn't finished yet.
-LONGEST_BEGINNING = 1 << 13
-# The most unfinished syscalls and the most with other names or arguments that are kept; how many more are counted; and
-# the most processes.
-PENDING, MOST_REMEMBERED, MOST_NOT_REMEMBERED, PROCESSES = 10000, 1000, 100000, 1 << 20
-# At most so many processes that are creating one are considered for the architecture of a new process.
-MAKERS = 100
-# The mode in which processes of a machine's own architecture run, as strace calls it.
-OWN_MODE = "64 bit"
-MODE = Pattern(r"(?:strace: )?\[ Process PID=([0-9]{1,10})[^\]]{0,64} runs in ([0-9a-z ]{1,16}) mode\. \]")
-MESSAGE = Pattern(r"strace: Process [0-9]+ (?:attached|detached)")
+# The most syscalls with other names or arguments that are kept, and how many more are counted.
+MOST_REMEMBERED, MOST_NOT_REMEMBERED = 1000, 100000
 # How a log of all registers (`strace -e raw=all`) begins: other logs have a text there.
 RAW_BEGIN = Pattern(r"execve\(0x[0-9a-f]+, (?:0x[0-9a-f]+|0), (?:0x[0-9a-f]+|0)\) += 0\Z")
-
-
-def modes_of(architecture: str) -> dict[str, str]:
-    """The modes of processes, by strace's names, and their architectures, on a machine that has this one."""
-    machine = next((oci for oci, row in JUDGED.items() if architecture in dict(row.modes).values()), architecture)
-    return {OWN_MODE: machine, **dict(JUDGED[machine].modes)}
 
 
 @dataclass
@@ -42,220 +27,56 @@ class Seen:
     log: str = ""
 
 
-class Line:
-    """A line of a log: its number, from 1 on, that of its syscall where strace prints it, and the text behind both."""
-
-    def __init__(self, number: int, nr: int | None, text: str):
-        self.number, self.nr, self.text = number, nr, text
-
-
-@dataclass
-class Log:
+class Log(Sink):
     """A log's content: calls by the OCI names of their architectures, their names, and the values of those arguments
     that are asked for."""
 
-    looked_at: Callable[[str, str], tuple[int, ...]]
-    # the tables of architectures
-    tables: dict[str, Table] = field(default_factory=dict)
-    # the architecture of what doesn't say it
-    own_architecture: str = NATIVE
-    calls: dict[tuple[str, str, tuple], Seen] = field(default_factory=dict)
-    # syscalls of architectures without a table
-    foreign: Seen = field(default_factory=Seen)
-    unread: Seen = field(default_factory=Seen)
-    # lines of syscalls that have a number, without a result or without a beginning
-    cut: Seen = field(default_factory=Seen)
-    # syscalls with other names or arguments than those that are kept
-    not_remembered: Seen = field(default_factory=Seen)
-    _names: set[tuple[str, str]] = field(default_factory=set)
-    # what strace prints by a name, by architecture and name
-    _known: dict[tuple[str, str], dict[str, int]] = field(default_factory=dict)
-    # of processes
-    _architectures: dict[str | None, str] = field(default_factory=dict)
-    _alive: set[str] = field(default_factory=set)
-    _pending: dict[str | None, Line] = field(default_factory=dict)
-    # the processes that create others
-    _makers: dict[str | None, None] = field(default_factory=dict)
-    # the architecture of the last process that isn't of the log's own
-    _other: str | None = None
-    # the pieces of a line that is broken by messages of strace, and how many more characters are kept
-    _broken: list[str] = field(default_factory=list)
-    _room: int = LONGEST_LINE
-    _line: int = 0
-    # whether the current line is longer than what is read of it
-    _is_long: bool = False
-    # the file's name
-    _name: str = ""
-    # whether strace prints registers (-e raw=all), None before the first syscall
-    _is_raw: bool | None = None
+    def __init__(self, looked_at: Callable[[str, str], tuple[int, ...]], tables: dict[str, Table] | None = None,
+                 own_architecture: str = NATIVE):
+        self.looked_at = looked_at
+        self.reader = Reader(self, tables or {}, own_architecture)
+        self.calls: dict[tuple[str, str, tuple], Seen] = {}
+        # syscalls of architectures without a table; lines that aren't read; lines of syscalls that have a number,
+        # without a result or without a beginning; syscalls with other names or arguments than those that are kept
+        self.foreign, self.unread, self.cut, self.not_remembered = Seen(), Seen(), Seen(), Seen()
+        # the file's name
+        self.name = ""
+        self._names: set[tuple[str, str]] = set()
+        # whether strace prints registers (-e raw=all), None before the first syscall
+        self._is_raw: bool | None = None
 
     def begin(self, name: str) -> None:
         """Begins a log, with processes of its own."""
-        self._name, self._other, self._is_raw = name, None, None
-        self._architectures, self._alive, self._makers = {}, set(), {}
+        self.name, self._is_raw = name, None
+        self.reader.begin()
 
     def add(self, number: int, line: str) -> None:
         """Takes a line of the log."""
-        self._line = number
-        if line.endswith(("attached", "detached")) and self._is_message(line):
-            return
-        if self._broken:
-            line = "".join([*self._broken, line])
-            self._broken, self._room = [], LONGEST_LINE
-        self._is_long = len(line) >= LONGEST_LINE
-        leader = LEADER.match(line)
-        assert leader
-        who = self._who(leader[1] or leader[2])
-        self._add(who, Line(number, int(leader[3]) if leader[3] else None, line[leader.end():].rstrip("\r")))
+        self.reader.add(number, line)
 
-    def _is_message(self, line: str) -> bool:
-        """Whether a message of strace ends a line, which it broke off there and continues in the next one."""
-        message = MESSAGE.search(line, max(0, len(line) - 64))
-        if message is None or message.end() != len(line):
-            return False
-        if message.start() and self._room > 0:
-            self._broken.append(line[:message.start()])
-            self._room -= message.start()
-        return True
+    def end(self) -> None:
+        self.reader.end()
 
-    def number_of(self, architecture: str, name: str) -> int | None:
-        """The number of a syscall in the table of an architecture; strace prints one without a name as
-        `syscall_0x1c3`."""
-        if architecture not in self.tables:
-            return None
-        without_name = re.fullmatch("syscall_0x([1-9a-f][0-9a-f]{0,7})", name)
-        return int(without_name[1], 16) if without_name else self.tables[architecture].number_of(name)
-
-    def _numbered(self, architecture: str, name: str) -> dict[str, int]:
-        """The syscalls that strace prints by a name, and their numbers: what socketcall and ipc do it prints by its own
-        name. They are kept for the names that have a number."""
-        numbered = self._known.get((architecture, name))
-        if numbered is None:
-            multiplexers = multiplexed.CALL_NUMBERS.items() if architecture in multiplexed.MULTIPLEXING else ()
-            names = [name, *(multiplexer for multiplexer, its in multiplexers if name in its)]
-            numbers = {syscall: self.number_of(architecture, syscall) for syscall in names}
-            numbered = {syscall: number for syscall, number in numbers.items() if number is not None}
-            if numbered and len(self._known) < MOST_REMEMBERED:
-                self._known[architecture, name] = numbered
-        return numbered
-
-    def architecture_of(self, who: str | None, name: str, nr: int | None) -> str:
-        """The architecture of a process's syscall. If the syscall doesn't have the printed number there, the process is
-        in another mode from now on, in which it has; if there is none, an empty name."""
-        architecture = self._architecture_of(who)
-        numbers = () if nr is None else self._numbered(architecture, name).values()
-        if nr is None or nr in numbers:
-            return architecture
-        for mode in modes_of(self.own_architecture).values():
-            if nr in self._numbered(mode, name).values():
-                self._enter(who, mode)
-                return mode
-        return "" if numbers else architecture
-
-    def _who(self, printed: str | None) -> str | None:
-        """The process of a line: strace names it only if there are several."""
-        if printed is None:
-            return next(iter(self._alive)) if len(self._alive) == 1 else None
-        if printed not in self._alive:
-            if max(len(self._alive), len(self._architectures)) >= PROCESSES:
-                raise program.ToolError(f"the log has more than {PROCESSES} processes whose end isn't logged")
-            self._alive.add(printed)
-            self._architectures.setdefault(printed, self._architecture_of_new())
-        return printed
-
-    def _architecture_of_new(self) -> str:
-        """The architecture of a process that comes up: that of those of which one makes it; where none is seen to, it
-        isn't the log's own once that of any process wasn't."""
-        if self._other is None:
-            return self.own_architecture
-        if self._makers and len(self._makers) <= MAKERS:
-            made = map(self._architecture_of, self._makers)
-            return next((oci for oci in made if oci != self.own_architecture), self.own_architecture)
-        return self._other
-
-    def _architecture_of(self, who: str | None) -> str:
-        return self._architectures.get(who, self.own_architecture)
-
-    def _add(self, who: str | None, line: Line) -> None:
-        name = CALL_NAME.match(line.text)
-        mode = None if name else MODE.match(line.text)
-        if name and line.text.endswith(UNFINISHED_MARK):
-            self._begin(who, Line(line.number, line.nr, line.text.removesuffix(UNFINISHED_MARK)[:LONGEST_BEGINNING]))
-        elif name:
-            self._call(who, line, name)
-        elif mode:
-            for key in (mode[1], who):
-                self._enter(key, modes_of(self.own_architecture).get(mode[2], ""))
-        elif line.text.startswith("+++ "):
-            self._pending_ends(who)
-            if who is not None:
-                self._alive.discard(who)
-                self._architectures.pop(who, None)
-        elif line.text.startswith("<... "):
-            self._resume(who, line)
-        elif line.text.strip() and not line.text.startswith(("--- ", "> ", "strace: ")):
-            self._count(self.unread, line.number)
-
-    def _enter(self, who: str | None, architecture: str) -> None:
-        """A process is in a mode from now on."""
-        self._architectures[who] = architecture
-        self._other = architecture if architecture != self.own_architecture else self._other
-
-    def _begin(self, who: str | None, line: Line) -> None:
-        """Keeps a syscall that isn't finished yet."""
-        self._pending_ends(who)
-        self._pending[who] = line
-        if line.text.startswith(FORKS):
-            self._makers[who] = None
-        if len(self._pending) > PENDING:
-            self._pending_ends(next(iter(self._pending)))
-
-    def _pending_ends(self, who: str | None) -> None:
-        """A call that isn't finished won't be."""
-        if who in self._pending:
-            begun = self._taken(who)
-            self._call(who, begun, CALL_NAME.match(begun.text), is_cut=True)
-
-    def _taken(self, who: str | None) -> Line:
-        """A call that isn't finished, which is kept no longer."""
-        self._makers.pop(who, None)
-        return self._pending.pop(who)
-
-    def _resume(self, who: str | None, line: Line) -> None:
-        match = RESUMED.match(line.text)
-        # the first process has no number as long as it is alone
-        key = who if who in self._pending else None
-        name = CALL_NAME.match(self._pending[key].text) if key in self._pending else None
-        if match and name and name[1] == match[1]:
-            begun = self._taken(key)
-            is_cut = len(begun.text) >= LONGEST_BEGINNING
-            text = begun.text if is_cut else begun.text + line.text[match.end():]
-            self._call(who, Line(begun.number, begun.nr, text), name, is_cut)
-        else:
-            is_known = match and self._numbered(self.architecture_of(who, match[1], line.nr), match[1])
-            self._count(self.cut if is_known else self.unread, line.number)
-
-    def _count(self, seen: Seen, number: int, count: int = 1) -> None:
+    def count(self, seen: Seen, number: int, count: int = 1) -> None:
         if not seen.count:
-            seen.line, seen.log = number, self._name
+            seen.line, seen.log = number, self.name
         seen.count += count
 
-    def _call(self, who: str | None, line: Line, name: re.Match[str], is_cut: bool = False) -> None:
+    def count_unread(self, line: Line, is_call: bool) -> None:
+        self.count(self.cut if is_call else self.unread, line.number)
+
+    def take_call(self, who: str | None, line: Line, name: re.Match[str], architecture: str, is_cut: bool) -> None:
         """Counts a call; where the log doesn't say which of several it is, each of them."""
         if self._is_raw is None:
             self._is_raw = RAW_BEGIN.match(line.text) is not None
-        architecture = self.architecture_of(who, name[1], line.nr)
-        numbered = self._numbered(architecture, name[1])
-        if not (is_cut or self._is_long or len(line.text) >= LONGEST_LINE or " = " in line.text):
-            self._count(self.cut if numbered else self.unread, line.number)
-            return
-        if line.text.startswith(FORKS):
-            self._forked(who, line.text)
-        if architecture != self.own_architecture and architecture not in self.tables:
-            self._count(self.foreign, line.number)
-            return
-        for named in [named for named in numbered if line.nr in (None, numbered[named])] or [name[1]]:
-            self.keep(line.number, architecture, named, self._arguments(architecture, named, line.text, name))
+        numbered = self.reader.numbered(architecture, name[1])
+        if not (is_cut or len(line.text) >= LONGEST_LINE or " = " in line.text):
+            self.count_unread(line, bool(numbered))
+        elif architecture != self.reader.own_architecture and architecture not in self.reader.tables:
+            self.count(self.foreign, line.number)
+        else:
+            for named in [named for named in numbered if line.nr in (None, numbered[named])] or [name[1]]:
+                self.keep(line.number, architecture, named, self._arguments(architecture, named, line.text, name))
 
     def _arguments(self, architecture: str, syscall: str, text: str, name: re.Match[str]) -> Arguments:
         """The known arguments of a syscall, which strace prints by its name or as what it does."""
@@ -268,29 +89,16 @@ class Log:
     def keep(self, number: int, architecture: str, name: str, arguments: Arguments, count: int = 1) -> None:
         """Counts a syscall by its name, with what is asked for of its arguments."""
         values = tuple(arguments.get(at) for at in self.looked_at(architecture, name))
-        self._count(self._kept((architecture, name), values), number, count)
+        self.count(self._kept((architecture, name), values), number, count)
 
     def _kept(self, call: tuple[str, str], values: tuple) -> Seen:
         """Where a syscall is counted: the first one of a name that has a number is always kept."""
         seen = self.calls.get((*call, values))
         if seen is None:
             count_before = len(self.calls)
-            is_first = count_before >= MOST_REMEMBERED and call not in self._names and self.number_of(*call) is not None
+            is_first = count_before >= MOST_REMEMBERED and call not in self._names and self.reader.number_of(*call) is not None
             if count_before >= 2 * MOST_REMEMBERED or count_before >= MOST_REMEMBERED and not is_first:
                 return self.not_remembered
             self._names.add(call)
             seen = self.calls[(*call, values)] = Seen()
         return seen
-
-    def _forked(self, who: str | None, text: str) -> None:
-        """A new process begins in the architecture of the one that makes it."""
-        at = text.rfind(")")
-        result = RESULT.match(text, at + 1)
-        if result and result[1].isdigit() and result[1] not in self._architectures:
-            self._architectures[result[1]] = self._architecture_of(who)
-
-    def end(self) -> None:
-        if self._broken:
-            self.add(self._line, "")
-        for who in list(self._pending):
-            self._pending_ends(who)

@@ -14,8 +14,9 @@ from ..model.calls import Call
 from ..model.tables import Table
 from ..forms import strace
 from ..forms.confinement import SUPERSEDED, Confinement
-from . import audit_records, counting, journals
+from . import audit_records, journals
 from .audit_records import Malformed
+from .reader import LONGEST_BEGINNING, PENDING, Line, Reader, Sink
 
 # The most distinct events and failed syscalls that are kept of a text, the most failed ones of a process that are
 # remembered for its end, and the most values that unknown bits of arguments may take; and the most audit records whose
@@ -193,7 +194,7 @@ class _Records:
         self._stamps.update({record.stamp: None} if has_stamp else {})
         counts = self._counts.setdefault(replace(record, stamp=None), [0, 0])
         counts[has_stamp] += 1
-        for every, most in ((self._stamps, STAMPS), (self._counts, counting.PENDING)):
+        for every, most in ((self._stamps, STAMPS), (self._counts, PENDING)):
             if len(every) > most:
                 every.pop(next(iter(every)))
         return counts[has_stamp] > counts[not has_stamp]
@@ -206,12 +207,12 @@ def of_record(record: audit_records.SeccompRecord) -> Event:
     return Event(RECORD, call, outcome, process=record.process, name=record.name, time=record.time)
 
 
-class _Ends(counting.Log):
+class _Ends(Sink):
     """A strace log, of which the last syscall of each process is kept, those that SIGSYS ended, and those that
     failed."""
 
     def __init__(self, tables_of: dict[str, Table]):
-        super().__init__(lambda *_: (), tables_of)
+        self.reader = Reader(self, tables_of)
         # the last syscall of each process
         self.last: dict[str | None, _Printed] = {}
         self.killed: list[_Printed] = []
@@ -223,28 +224,24 @@ class _Ends(counting.Log):
         # of each process what failed, the last at the end
         self._failed: dict[str | None, dict[tuple[object, ...], None]] = {}
 
-    def _call(self, who: str | None, line: counting.Line, name: re.Match[str], is_cut: bool = False) -> None:
-        if line.text.startswith(strace.FORKS):
-            self._forked(who, line.text)
+    def take_call(self, who: str | None, line: Line, name: re.Match[str], architecture: str, is_cut: bool) -> None:
         self._confine(who, line, name, is_cut)
         self.last.pop(who, None)
-        architecture = self.architecture_of(who, name[1], line.nr)
-        nr = self.number_of(architecture, name[1])
+        nr = self.reader.number_of(architecture, name[1])
         # (what socketcall and ipc do strace prints by its own name)
         if nr is None or line.nr not in (None, nr):
-            self._count(self.foreign, line.number)
             return
-        printed = _Printed(who, line.text[:counting.LONGEST_BEGINNING], name, nr, JUDGED[architecture])
+        printed = _Printed(who, line.text[:LONGEST_BEGINNING], name, nr, JUDGED[architecture])
         self.last[who] = printed
-        if len(self.last) > counting.PENDING:
+        if len(self.last) > PENDING:
             self.last.pop(next(iter(self.last)))
         self.last_failure = None
         if " = -1 " in line.text:
             self._fails(who, printed.failure())
 
-    def _confine(self, who: str | None, line: counting.Line, name: re.Match[str], is_cut: bool) -> None:
+    def _confine(self, who: str | None, line: Line, name: re.Match[str], is_cut: bool) -> None:
         was_shown = self.confinement.is_shown
-        self.confinement.takes(who, line.text, name, is_cut or self._is_long)
+        self.confinement.takes(who, line.text, name, is_cut)
         if self.confinement.is_shown and not was_shown:
             self._failed = {}
             self.failures.shows_load()
@@ -260,7 +257,7 @@ class _Ends(counting.Log):
         failed = self._failed.setdefault(self.confinement.process_of(who), {})
         failed.pop(event.key, None)
         failed[event.key] = None
-        for every, most in ((failed, OF_PROCESS), (self._failed, counting.PENDING)):
+        for every, most in ((failed, OF_PROCESS), (self._failed, PENDING)):
             if len(every) > most:
                 every.pop(next(iter(every)))
 
@@ -275,9 +272,10 @@ class _Ends(counting.Log):
             self.failures.of_ended.append([*reversed(failed)])
         self.confinement.forget(who)
 
-    def _add(self, who: str | None, line: counting.Line) -> None:
-        self.confinement.begins(who, self._makers)
-        super()._add(who, line)
+    def begin_line(self, who: str | None, makers: Iterable[str | None]) -> None:
+        self.confinement.begins(who, makers)
+
+    def end_line(self, who: str | None, line: Line) -> None:
         signal = SIGSYS_LINE.match(line.text)
         if signal and len(self.signals) < EVENTS:
             self.signals.append((who, signal[1], self.last.pop(who, None)))
@@ -352,7 +350,7 @@ def _of_ends(ends: _Ends, log: EventLog) -> None:
     """Adds the events of a strace log: each SIGSYS; and what failed."""
     for who, members, call in ends.signals:
         try:
-            log.add(_of_signal(who, members, call, ends.tables))
+            log.add(_of_signal(who, members, call, ends.reader.tables))
         except Malformed as why:
             log.faults.append((0, str(why)))
     numbered = [printed for printed in ends.killed if printed.is_its_number()]
@@ -376,7 +374,7 @@ class _LogReader:
             self.log.cores.take_list(line, self._lines)
         elif not self._is_record(journals.message_in(line) if is_entry else line) and not is_entry and \
                 not self.log.cores.take(line):
-            self._ends.add(number, line)
+            self._ends.reader.add(number, line)
 
     def _is_record(self, line: str) -> bool:
         """Takes what the kernel writes; whether it is that."""
@@ -387,7 +385,7 @@ class _LogReader:
         if suppressed:
             self.log.suppressed += int(suppressed[1])
         elif kind is not None and kind[0] in audit_records.SECCOMP_KINDS:
-            record = audit_records.record_in(line, kind[1], self._ends.tables)
+            record = audit_records.record_in(line, kind[1], self._ends.reader.tables)
             if self._records.is_new(record):
                 self.log.add(of_record(record))
         return True
@@ -398,7 +396,7 @@ class _LogReader:
                 self._take(number, line)
             except Malformed as why:
                 self.log.faults += [(number, str(why))] * (len(self.log.faults) < EVENTS)
-        self._ends.end()
+        self._ends.reader.end()
         _of_ends(self._ends, self.log)
         return self.log
 

@@ -22,8 +22,9 @@ from ..ask import client, reasons, regions
 from ..ask.regions import Lookup
 from ..ask.verdicts import UNDECIDED, UNFINISHED
 from ..forms.engines import PASSED_ON
-from . import counting, traces
+from . import traces
 from .counting import Seen
+from .reader import OWN_MODE, modes_of
 from .traces import Trace
 
 NOT_ALLOWED = "not allowed"
@@ -193,7 +194,7 @@ class Judges:
         self.tables = tables.architecture_tables(JUDGED, tables.read_table(None)).of
         self.tables[self.own.oci] = tables.read_table(table, self.own)
         # a profile without a list is for its machine's own
-        names = profiles.architectures_of(profile) or [counting.modes_of(self.own.oci)[counting.OWN_MODE]]
+        names = profiles.architectures_of(profile) or [modes_of(self.own.oci)[OWN_MODE]]
         self.listed = Tables({name: self.tables[name]
                               for name in tables.architecture_tables(names, self.tables[NATIVE]).of},
                              profiles.reading_of(profile))
@@ -220,7 +221,7 @@ def find(log: Trace, judges: Judges) -> Needs:
     needs = Needs([], {}, dict(zip(UNJUDGED, counts)), log.fault, taken=judges.taken)
     traced: list[TracedCall] = []
     for (architecture, name, values), seen in log.calls.items():
-        in_architecture, number = JUDGED[architecture], log.number_of(architecture, name)
+        in_architecture, number = JUDGED[architecture], log.reader.number_of(architecture, name)
         if number is None:
             shown = in_architecture.marked(name)
             needs.unnamed[shown] = needs.unnamed.get(shown, 0) + seen.count
@@ -381,7 +382,7 @@ def read_needs(names: Sequence[str], judges: Judges, runtime: str | None = None)
     log = traces.read_traces(names, judges.looked_at, judges.tables, architecture)
     log.begin(runtime or "")
     for name in OF_RUNTIMES[runtime].split() if runtime else ():
-        if log.number_of(architecture, name) is not None:
+        if log.reader.number_of(architecture, name) is not None:
             log.keep(0, architecture, name, {})
     needs = find(log, judges)
     needs.are_several = len(names) > 1

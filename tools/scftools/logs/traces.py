@@ -20,8 +20,9 @@ from ..model.calls import SKIPPED
 from ..model.profiles import ALLOWING, Refused
 from ..model.tables import Table
 from ..forms import kubernetes, strace
-from . import audit_records, counting
-from .counting import MOST_NOT_REMEMBERED, MOST_REMEMBERED
+from . import audit_records
+from .counting import MOST_NOT_REMEMBERED, MOST_REMEMBERED, Log, Seen
+from .reader import PENDING
 
 # How an object of Kubernetes begins as YAML.
 YAML_BEGINNINGS = ("apiVersion:", "kind:")
@@ -54,14 +55,14 @@ HEADINGS = Pattern(r"#| Summary of events:$| +syscall +calls +errors| +\(msec\)|
 LOST = Pattern(audit_records.SUPPRESSED.pattern + r"|\ALOST ([0-9]{1,18}) events!")
 
 
-class Trace(counting.Log):
+class Trace(Log):
     """The syscalls of logs, by their names and the values of those arguments that are asked for."""
 
     def __init__(self, looked_at: Callable[[str, str], tuple[int, ...]], tables: dict[str, Table],
                  own_architecture: str = NATIVE):
         super().__init__(looked_at, tables, own_architecture)
         # syscalls that a log says it lost
-        self.lost = counting.Seen()
+        self.lost = Seen()
         # what is the matter with the first record that can't be read
         self.fault = ""
         # the syscalls of perf trace that were interrupted, by thread and name
@@ -76,7 +77,7 @@ class Trace(counting.Log):
         """Takes a line that isn't strace's; whether it did."""
         lost = LOST.search(line)
         if lost:
-            self._count(self.lost, number, int(lost[1] or lost[2]))
+            self.count(self.lost, number, int(lost[1] or lost[2]))
             return True
         return (self._is_record(number, line) or "): " in line and self._is_perfs(number, line)
                 or line.startswith("@") and self._is_map(number, line)
@@ -86,20 +87,20 @@ class Trace(counting.Log):
 
     def _by_name(self, number: int, name: str, count: int = 1) -> None:
         """Counts a syscall by its name, in the log's own architecture."""
-        self.keep(number, self.own_architecture, name, {}, count)
+        self.keep(number, self.reader.own_architecture, name, {}, count)
 
     def _by_number(self, number: int, nr: int, arguments: dict[int, int], count: int = 1,
                    architecture: int | None = None) -> None:
         """Counts a syscall by its number in a record, and that of its architecture, by default the log's own."""
-        audit_value = JUDGED[self.own_architecture].number if architecture is None else architecture
+        audit_value = JUDGED[self.reader.own_architecture].number if architecture is None else architecture
         of = architectures.architecture_of_record(audit_value, nr)
         if nr == SKIPPED:
-            self._count(self.unread, number, count)
-        elif of is None or of not in self.tables:
-            self._count(self.foreign, number, count)
+            self.count(self.unread, number, count)
+        elif of is None or of not in self.reader.tables:
+            self.count(self.foreign, number, count)
         else:
             nr -= JUDGED[of].first
-            names = self.tables[of].names_of(nr)
+            names = self.reader.tables[of].names_of(nr)
             values = {at: (value & strace.GREATEST_ARGUMENTS[of],) for at, value in arguments.items()}
             self.keep(number, of, names[0] if names else f"syscall_{nr:#x}", values, count)
 
@@ -110,15 +111,15 @@ class Trace(counting.Log):
             return audit_records.OTHER.search(line) is not None
         try:
             if kind[0] in audit_records.SYSCALL_KINDS:
-                record = audit_records.syscall_in(line, kind[1], self.tables)
+                record = audit_records.syscall_in(line, kind[1], self.reader.tables)
                 values = {at: int(text, 16) for at, text in enumerate(record.arguments) if HEXADECIMAL.fullmatch(text)}
                 self._by_number(number, record.number, values, architecture=record.architecture)
             else:
-                record = audit_records.record_in(line, kind[1], self.tables)
+                record = audit_records.record_in(line, kind[1], self.reader.tables)
                 self._by_number(number, record.number, {}, architecture=record.architecture)
         except audit_records.Malformed as why:
             self.fault = self.fault or f"line {number} can't be read: {why}"
-            self._count(self.unread, number)
+            self.count(self.unread, number)
         return True
 
     def _is_perfs(self, number: int, line: str) -> bool:
@@ -132,7 +133,7 @@ class Trace(counting.Log):
                 return True
         elif line.endswith("..."):
             self._interrupted[thread, begun] = None
-            if len(self._interrupted) > counting.PENDING:
+            if len(self._interrupted) > PENDING:
                 del self._interrupted[next(iter(self._interrupted))]
         self._by_name(number, continued or begun)
         return True
@@ -170,7 +171,7 @@ class Trace(counting.Log):
         if match[1] == "<" or name in NO_SYSCALLS:
             return True
         if name == "syscall" and generic is None:
-            self._count(self.unread, number)
+            self.count(self.unread, number)
         elif name == "syscall":
             self._by_name(number, generic[1])
         else:
@@ -184,9 +185,9 @@ class Trace(counting.Log):
             entries = json.loads(text if spec is None else spec)["syscalls"]
             names = [name for entry in entries if entry["action"] in ALLOWING for name in entry["names"]]
         except Refused as why:
-            raise program.ToolError(f"the log '{output.escaped(self._name)}': {why}", program.IO_ERROR) from why
+            raise program.ToolError(f"the log '{output.escaped(self.name)}': {why}", program.IO_ERROR) from why
         except (ValueError, LookupError, TypeError, RecursionError) as error:
-            raise program.ToolError(f"the log '{output.escaped(self._name)}' is a profile that can't be read",
+            raise program.ToolError(f"the log '{output.escaped(self.name)}' is a profile that can't be read",
                                     program.IO_ERROR) from error
         for name in names:
             if isinstance(name, str):
@@ -210,7 +211,7 @@ def _read(name: str, lines: Iterator[str], trace: Trace) -> None:
 
 
 def read_traces(names: Sequence[str], looked_at: Callable[[str, str], tuple[int, ...]], tables: dict[str, Table],
-         architecture: str) -> Trace:
+                architecture: str) -> Trace:
     """The contents of some logs (`-` is standard input), with the requested arguments of each syscall."""
     trace = Trace(looked_at, tables, architecture)
     for name in names:
