@@ -114,5 +114,3 @@ class Differences(Lookup):
                         f"{self._beside} {verdict.profile.line}")
                 failing.append(NamedCall(architecture.marked(line), number, names, verdict, architecture))
         return failing if self.regions is not None else None
-
-

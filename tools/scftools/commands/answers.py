@@ -1,6 +1,6 @@
 """Lists everything that filters answer: sets of syscalls by name, with conditions on arguments, each with its answer.
 
-    scf answers [--arch ARCH] [--examples] [--limit N] [--table FILE] [--json|--dot] FILTER..
+    scf answers [--arch ARCH] [--examples] [--limit N] [--table FILE] [--json] FILTER..
 
 The FILTERs stand oldest first; each may be a file or a pipe, and one input `-` for standard input. scf proves of each
 region of records that all of them get its answer, and each record is in a region. A line has the answer, the filter
@@ -14,10 +14,8 @@ names of their manual page, or are a0 to a5; `(u32)a0` is the lower half of a re
 `ip` the instruction pointer. Where a test isn't decided, the regions behind it are `open`: a record that meets several
 of them gets the answer of one, and none may meet one of them. The answer `unknown` is computed. With --examples a line
 after each, marked by `# `, has a syscall of the region, if one is found. --arch names another architecture of the
-syscalls than this machine's own. --dot prints a picture for graphviz, as in `scf answers --dot FILTER | dot -Tsvg
->answers.svg`: the syscalls with the tests of their arguments, and the answers, green where they allow and red where they
-deny. Without a FILTER standard input is read, one filter or a bundle, of a profile too; of a bundle the program's own
-lines are printed.
+syscalls than this machine's own. Without a FILTER standard input is read, one filter or a bundle, of a profile too; of
+a bundle the program's own lines are printed.
 
 Exit status: 0 every answer is known; 1 a filter or the table is refused; 2 usage error; 3 an input or the output
 failed; 4 a region is open or its answer unknown, or scf took as many steps as --limit says; 125 scf can't be run.
@@ -36,7 +34,7 @@ from ..ask.questions import Asker
 from ..ask.verdicts import UNFINISHED
 from ..cli import words
 from ..forms import filters, refusals
-from ..report import region_graph, region_output
+from ..report import region_output
 
 
 def read_words():
@@ -46,11 +44,8 @@ def read_words():
     parser.add("--limit", help="at most N steps")
     parser.add("--table", help=words.OWN_TABLE)
     parser.add("--json")
-    parser.add_argument("--dot", action="store_true", help="print the answers as a graph for graphviz")
     parser.add("--architectures", "--nr-from", "--nr-to", "filters")
     options = parser.parse_args()
-    if options.json and options.dot:
-        parser.error("give either --json or --dot")
     parser.one_standard_input([*options.filters, options.table])
     return options
 
@@ -86,8 +81,6 @@ def main():
     if options.json:
         output.put_json({"status": status, "architecture": architecture.name,
                          "regions": region_output.regions_json(listed, table, architecture)})
-    elif options.dot:
-        output.put(region_graph.text(region_list, table, architecture))
     else:
         output.put_lines(region_output.region_lines(listed, table, architecture, options.examples))
     return status

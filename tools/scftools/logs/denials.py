@@ -138,4 +138,3 @@ def denials_json(denials: Denials, shown: int, table: Table) -> dict[str, object
             "not_shown": listed([(denial.failure.event, denial.count) for denial in denials.of[shown:]]),
             "by_other_cause": listed([(failure.event, failure.count) for failure in denials.by_other_cause]),
             "unknown": denials.unknown, "not_judged": failures.beyond, "before_load": failures.before_load}
-

@@ -50,32 +50,24 @@ def _terms(name: str, index: int, word: Word, syscall: str, architecture: Archit
         yield shown(MASKED, mask, bits).replace(" == ", " != ")
 
 
-def tests_of(region: Region, syscall: str, architecture: Architecture) -> dict[str, list[str]]:
-    """The arguments that decide whether a syscall is in a region, by name: for each its conditions as C has them, which
-    hold together."""
-    tests: dict[str, list[str]] = {}
+def conditions(region: Region, syscall: str, architecture: Architecture) -> list[str]:
+    """The conditions on all arguments of a region's syscalls as C has them, which hold together."""
+    terms: list[str] = []
     for index in range(POINTER, 6):
         # (the instruction pointer has no constants)
         name, of = ("ip", "") if index == POINTER else (name_of(syscall, index), syscall)
         low, high = (region.words.get(ARGUMENTS + 2 * index + half, FREE) for half in (0, 1))
         at = max(index, 0)
         if architecture.bits == 32 and index != POINTER:
-            terms = [*_terms(name, at, low, of, architecture)]
+            terms += _terms(name, at, low, of, architecture)
         elif list(high.intervals) == [(0, 0)]:
-            terms = [*_terms(name, at, low, of, architecture)]
+            terms += _terms(name, at, low, of, architecture)
             if low.intervals[-1][1] == GREATEST_WORD and list(low.intervals) != [(GREATEST_WORD, GREATEST_WORD)]:
                 terms.append(f"{name} >> 32 == 0")
         else:
-            terms = [*_terms(f"(u32){name}", at, low, of, architecture),
-                     *_terms(f"{name} >> 32", at, high, "", architecture)]
-        if terms:
-            tests[name] = terms
-    return tests
-
-
-def conditions(region: Region, syscall: str, architecture: Architecture) -> list[str]:
-    """The conditions on all arguments of a region's syscalls, which hold together."""
-    return [term for terms in tests_of(region, syscall, architecture).values() for term in terms]
+            terms += [*_terms(f"(u32){name}", at, low, of, architecture),
+                      *_terms(f"{name} >> 32", at, high, "", architecture)]
+    return terms
 
 
 def listed(regions: Sequence[Region], table: Table, architecture: Architecture) -> list[Listed]:

@@ -1,5 +1,6 @@
 """tools/list."""
 import itertools
+import json
 import random
 import re
 import shutil
@@ -232,6 +233,17 @@ class Graph(Case):
 """)
         marked = [line.strip() for line in self.graph_of(data, "--nr=mmap").split("\n") if "color=red" in line]
         self.assertEqual([line.split(" [")[0] for line in marked], ["n0", "n3", "r327681", "n0 -> n3", "n3 -> r327681"])
+
+    @unittest.skipUnless(shutil.which("dot"), "there is no graphviz here")
+    def test_texts_of_strangers(self):
+        """What would end a text, or mean something in it, is text."""
+        for text, shown in (('a"];evil[label="b', 'a"];evil[label="b\\l'), ("a\\N\\", "a\\\\N\\\\\\l"),
+                            ("<b>", "<b>\\l"),
+                            ("\x1b[2J\udcff//", "\\\\x1b[2J\\\\xff//\\l"), ("a\nb", "a\\lb\\l")):
+            given = flow_graph.digraph([f"n [label={flow_graph.quoted(text)}];"])
+            done = subprocess.run(["dot", "-Tjson"], input=given.encode(), stdout=subprocess.PIPE, check=True)
+            self.assertEqual([(node["name"], node["label"]) for node in json.loads(done.stdout)["objects"]],
+                             [("n", shown)])
 
     def test_each_path_is_one_of_the_graph(self):
         """Of filters with every kind of test, by the paths that scf takes: an edge has the value that was tested."""

@@ -3,8 +3,6 @@ what the program prints."""
 import json
 import random
 import re
-import shutil
-import subprocess
 import unittest
 
 from support.common import (ALLOW, ENOSYS, EPERM, I386, LOG, TABLE, TRACE, UNKNOWN_ZERO, X86_64, Case, filter_of, insn,
@@ -16,7 +14,6 @@ from scftools.model import architectures, tables
 from scftools.model.calls import Call
 from scftools.ask import client, regions
 from scftools.ask.regions import TooManyRanges, Word
-from scftools.report import flow_graph
 
 WORD = (1 << 32) - 1
 # A filter, and the lines that people expect of it.
@@ -151,59 +148,6 @@ class Lines(Case):
         self.assertIn("1.bpf", out)
         status, out, _ = self.said([filter_of([0])], "--table", self.file("t", b"read\n"))
         self.assertEqual((status, out.split("\n")[0]), (1, "fault table Form line 1"))
-
-
-class Picture(Case):
-    """`--dot`: the tests and answers as a graph."""
-
-    def drawn(self, data, *words):
-        """The labels of the nodes, and the edges, each with its label, where graphviz draws the graph."""
-        status, out, err = self.run_tool("answers", "--dot", *words, self.file("f.bpf", data))
-        self.assertEqual(err, "")
-        done = subprocess.run(["dot", "-Tjson"], input=out.encode(), stdout=subprocess.PIPE, check=True)
-        graph = json.loads(done.stdout)
-        nodes = {node["_gvid"]: node for node in graph["objects"]}
-        edges = {(nodes[edge["tail"]]["label"], edge.get("label", ""), nodes[edge["head"]]["label"])
-                 for edge in graph["edges"]}
-        return status, nodes.values(), edges
-
-    @unittest.skipUnless(shutil.which("dot"), "there is no graphviz here")
-    def test_tests_and_answers(self):
-        table = self.file("t", b"read 0\nwrite 1\nsocket 41\n")
-        data = of_number(41, load(16) + jeq(16, 0, 4) + load(32) + jeq(9, 0, 2) + ret(EPERM) + ret(ALLOW) * 2, ALLOW)
-        status, nodes, edges = self.drawn(data, "--table", table)
-        colours = {node["label"]: node.get("fillcolor") for node in nodes}
-        self.assertEqual(status, 0)
-        self.assertEqual((colours["ALLOW\\l"], colours["ERRNO 1 (EPERM)\\l"]), ("palegreen", "lightpink"))
-        self.assertLess({
-            ("domain?\\l", "(u32)domain == AF_NETLINK\\l", "protocol?\\l"),
-            ("domain?\\l", "(u32)domain != AF_NETLINK\\l", "ALLOW\\l"),
-            ("protocol?\\l", "(u32)protocol == 9\\l", "ERRNO 1 (EPERM)\\l"),
-            ("protocol?\\l", "(u32)protocol != 9\\l", "ALLOW\\l")}, edges)
-        self.assertIn("socket\\l", colours)
-        self.assertTrue(any(label.startswith("read, write, 1073741821 numbers") for label in colours), colours)
-
-    @unittest.skipUnless(shutil.which("dot"), "there is no graphviz here")
-    def test_what_is_not_decided(self):
-        status, nodes, edges = self.drawn(gate(UNKNOWN_ZERO + jeq(0, 0, 1) + ret(EPERM) + load(16) + insn(0x16, 0)))
-        self.assertEqual(status, 4)
-        self.assertIn("unknown\\l", {node["label"] for node in nodes})
-        self.assertIn(("tests that aren't decided\\l", "", "unknown\\l"),
-                      {(tail, label.strip("\\l"), head) for tail, label, head in edges})
-
-    @unittest.skipUnless(shutil.which("dot"), "there is no graphviz here")
-    def test_texts_of_strangers(self):
-        """What would end a text, or mean something in it, is text."""
-        for text, shown in (('a"];evil[label="b', 'a"];evil[label="b\\l'), ("a\\N\\", "a\\\\N\\\\\\l"),
-                            ("<b>", "<b>\\l"),
-                            ("\x1b[2J\udcff//", "\\\\x1b[2J\\\\xff//\\l"), ("a\nb", "a\\lb\\l")):
-            given = flow_graph.digraph([f"n [label={flow_graph.quoted(text)}];"])
-            done = subprocess.run(["dot", "-Tjson"], input=given.encode(), stdout=subprocess.PIPE, check=True)
-            self.assertEqual([(node["name"], node["label"]) for node in json.loads(done.stdout)["objects"]],
-                             [("n", shown)])
-
-    def test_usage(self):
-        self.assertEqual(self.run_tool("answers", "--dot", "--json", self.file("f.bpf", filter_of([0])))[:2], (2, ""))
 
 
 class Reader(unittest.TestCase):
