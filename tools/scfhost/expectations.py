@@ -12,7 +12,7 @@ from scftools.model.tables import Table
 from scftools.ask.questions import IS_ALLOWED
 from scftools.ask.verdicts import SAME
 from scftools.forms.filters import Filter
-from scftools.forms.lists import lxc_policies, sandbox_rules
+from scftools.forms.lists import lxc, sandbox_rules
 from scftools.report import compare_output
 from scftools.report.compare import Comparison
 from . import configurations, container_files, sandbox_programs, unit_profiles, units, verify
@@ -148,7 +148,7 @@ class Expectations:
             policy_path = sandbox_programs.lxc_policy(container.read, path)
             if policy_path is None:
                 return Expectation(source=path)
-            policy = lxc_policies.read_lxc_policy(container.read(policy_path, sandbox_rules.MOST_LIST_BYTES))
+            policy = lxc.read_lxc_policy(container.read(policy_path, sandbox_rules.MOST_LIST_BYTES))
             policies = [policy, *policy.others] if self.options.scope is None else [policy]
             return self._of_groups([(each.data(), each.architectures) for each in policies], policy_path)
 

@@ -13,7 +13,7 @@ from collections.abc import Callable, Iterator
 
 from scftools.base.values import Pattern, dataclass
 from scftools.model.answers import ALLOW
-from scftools.forms.lists import firejail_lists, snap_templates
+from scftools.forms.lists import firejail, snapd
 from scftools.forms.lists.sandbox_rules import MOST_LIST_BYTES, Policy, UnknownRules
 from . import owned_files
 from .machine import Process, ancestors
@@ -93,7 +93,7 @@ class Firejail:
         option = next((word for word in words if STATING.match(word)), None)
         if option is not None:
             raise UnknownRules(f"firejail was given {option.decode('utf-8', 'backslashreplace')}")
-        return firejail_lists.read_firejail_profile(owned_files.read_own(self.profile, MOST_LIST_BYTES))
+        return firejail.read_firejail_profile(owned_files.read_own(self.profile, MOST_LIST_BYTES))
 
 
 class Firejails:
@@ -128,7 +128,7 @@ def snap_rules(tag: str) -> str:
 def snap_policy(tag: str) -> Policy | None:
     """The rules of a security tag, None if it has no filter. Raises ListError or UnreadableFile if they can't be
     known."""
-    policy = snap_templates.read_snap_template(owned_files.read_own(snap_rules(tag), MOST_LIST_BYTES))
+    policy = snapd.read_snap_template(owned_files.read_own(snap_rules(tag), MOST_LIST_BYTES))
     return None if policy.default == ALLOW else policy
 
 

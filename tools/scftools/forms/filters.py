@@ -1,4 +1,4 @@
-"""Filters as commands take them: files in any of the forms of `forms`, and stacks of them."""
+"""Filters as commands take them: files in any of the forms of `texts`, and stacks of them."""
 from __future__ import annotations
 
 import os
@@ -7,14 +7,14 @@ from collections.abc import Callable, Sequence
 from ..base import inputs, program
 from ..model import bundles
 from ..model.bpf import BPF_MAXINSNS
-from . import forms
-from .forms import Filter
+from . import texts
+from .texts import Filter
 
 
 def read_filter(name: str) -> Filter:
-    """The filter of a file, a pipe or standard input: raw, or a text in one of the forms of `forms`, whose name
+    """The filter of a file, a pipe or standard input: raw, or a text in one of the forms of `texts`, whose name
     is printed on standard error."""
-    return filter_in(name, inputs.read_input(name, "filter", most=forms.LONGEST_TEXT))
+    return filter_in(name, inputs.read_input(name, "filter", most=texts.LONGEST_TEXT))
 
 
 def filter_in(name: str, data: bytes) -> Filter:
@@ -23,9 +23,9 @@ def filter_in(name: str, data: bytes) -> Filter:
     raw = Filter(name, data[:inputs.LIMITS["filter"] + 1])
     if data[1:2] == b"\0":
         return raw
-    form = forms.form_of(data, inputs.label(name))
+    form = texts.form_of(data, inputs.label(name))
     if form is None:
-        if forms.is_text(data):
+        if texts.is_text(data):
             program.say(f"{inputs.label(name)} is text, in none of the forms of a filter: hexadecimal, a C array, "
                         "decimals of tcpdump -ddd, scf's assembler")
         return raw

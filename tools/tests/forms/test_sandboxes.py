@@ -11,7 +11,7 @@ from unittest import mock
 from support.common import Case
 
 from scftools.forms import filter_loads
-from scftools.forms.lists import firejail_lists, sandbox_rules, sandboxes
+from scftools.forms.lists import firejail, sandbox_rules, sandboxes
 
 NATIVE, I386, X32 = "SCMP_ARCH_X86_64", "SCMP_ARCH_X86", "SCMP_ARCH_X32"
 SNAP_SECCOMP = shutil.which("snap-seccomp", path=f"/usr/lib/snapd:{os.environ.get('PATH', '')}")
@@ -226,9 +226,9 @@ class Profiles(Lists):
     """firejail's: firejail(1), firejail-profile(5), and the filters of firejail 0.9.72."""
 
     def rules(self, text, default="ALLOW"):
-        settings = firejail_lists.StatedSettings()
-        firejail_lists.read_lines(text.encode(), settings)
-        policy = firejail_lists.policy_of(settings, firejail_lists.GroupReader(groups))
+        settings = firejail.StatedSettings()
+        firejail.read_lines(text.encode(), settings)
+        policy = firejail.policy_of(settings, firejail.GroupReader(groups))
         self.assertEqual(str(policy.default), default)
         return {(rule.name, str(rule.answer)): rule.line for rule in policy.rules if not rule.conditions}, policy
 
@@ -256,23 +256,23 @@ class Profiles(Lists):
         self.assertIn("line 1: firejail leaves utime:log out", policy.remarks)
 
     def test_files_that_are_included(self):
-        kept, firejail_lists.PROFILES = firejail_lists.PROFILES, self.folder
-        self.addCleanup(setattr, firejail_lists, "PROFILES", kept)
+        kept, firejail.PROFILES = firejail.PROFILES, self.folder
+        self.addCleanup(setattr, firejail, "PROFILES", kept)
         self.file("a.inc", "seccomp.drop mkdir\ninclude a.local\ninclude gone.inc\n")
         rules, policy = self.rules("# x\ninclude a.inc\n")
         self.assertEqual(rules, {("mkdir", "ERRNO 1"): 2})
         self.assertIn(f"line 2: {self.folder} has no gone.inc", policy.remarks)
         for text, is_one in ((b"# x\ninclude a.inc\n", True), (b"include firefox-common.profile\n", True),
                              (b'#include "a.inc"\n', False), (b"include a b.inc\n", False)):
-            self.assertEqual(bool(firejail_lists.SIGN.search(text)), is_one, text)
+            self.assertEqual(bool(firejail.SIGN.search(text)), is_one, text)
         self.file("b.inc", "include b.inc\n")
         for text in ("include b.inc\nseccomp\n", "include ../x\n", "include /etc/passwd\n"):
             with self.assertRaises(sandbox_rules.ListError, msg=text):
                 self.rules(text)
 
     def test_the_configuration_of_firejail(self):
-        kept, firejail_lists.PROFILES = firejail_lists.PROFILES, self.folder
-        self.addCleanup(setattr, firejail_lists, "PROFILES", kept)
+        kept, firejail.PROFILES = firejail.PROFILES, self.folder
+        self.addCleanup(setattr, firejail, "PROFILES", kept)
         self.file("firejail.config", "# seccomp no\nseccomp-error-action ENOSYS\nseccomp yes\n")
         self.assertEqual(self.rules("seccomp.drop mkdir\n")[0], {("mkdir", "ERRNO 38"): 1})
         self.assertEqual(self.rules("seccomp.drop mkdir\nseccomp-error-action kill\n")[0],

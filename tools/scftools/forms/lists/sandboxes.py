@@ -6,7 +6,7 @@ from collections.abc import Callable
 from ...base import program
 from ...base.values import Pattern, dataclass
 from ...model.profiles import Refused
-from . import firejail_lists, lxc_policies, snap_templates
+from . import firejail, lxc, snapd
 from .sandbox_rules import ListError, Policy
 
 
@@ -29,9 +29,9 @@ class Sandbox:
             raise program.ToolError(f"{label}, {self.kind}: {why}", status) from why
 
 
-SANDBOXES = (Sandbox("LXC", "an LXC policy", lxc_policies.SIGN, lxc_policies.read_lxc_policy),
-             Sandbox("snapd", "a snap's seccomp template", snap_templates.SIGN, snap_templates.read_snap_template),
-             Sandbox("firejail", "a firejail profile", firejail_lists.SIGN, firejail_lists.read_firejail_profile))
+SANDBOXES = (Sandbox("LXC", "an LXC policy", lxc.SIGN, lxc.read_lxc_policy),
+             Sandbox("snapd", "a snap's seccomp template", snapd.SIGN, snapd.read_snap_template),
+             Sandbox("firejail", "a firejail profile", firejail.SIGN, firejail.read_firejail_profile))
 
 
 def sandbox_of(data: bytes) -> Sandbox | None:
