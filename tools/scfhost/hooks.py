@@ -111,7 +111,7 @@ def contents(name: str) -> bytes:
 
 
 def configuration_of(container: ContainerState) -> dict[str, Any] | None:
-    """The seccomp configuration of the container's config.json, as `verify.seccomp_in`."""
+    """The seccomp configuration of the container's config.json, as `configurations.seccomp_in`."""
     name = os.path.join(container.bundle, configurations.CONFIG)
     try:
         value = engines.parse_json(contents(name))

@@ -17,6 +17,7 @@ from scftools.base import output
 from scftools.base.values import replace
 from scftools.model import tables
 from scfhost import audit, audit_judge, audit_output, audit_rows, container_files, machine, sandbox_programs
+from scftools.forms.stacks import Stack
 from scfhost.expectations import Expectations, Options, rows_of
 
 # What is configured for containers, the same with another errno, and with one syscall more that is denied.
@@ -945,7 +946,7 @@ class Snaps(Case):
         for filters, verdict in (((compiled, self.OF_ALL), "as configured"), ((compiled,), "as configured"),
                                  ((self.OF_ALL,), "weaker"), ((gate(ret(ALLOW)), self.OF_ALL), "weaker"),
                                  ((compiled, gate(ret(EPERM))), "stricter")):
-            self.assertEqual(judge.judge_all(processes.Stack(filters, False), expected).verdict, verdict)
+            self.assertEqual(judge.judge_all(Stack(filters, False), expected).verdict, verdict)
 
     def test_rows(self):
         """A snap's processes are one row, before the unit that they are in; an unrestricted one has none."""
@@ -1074,7 +1075,7 @@ class Limits(Case):
     def setUp(self):
         super().setUp()
         self.options = Options(tables.read_table(None))
-        self.stack = processes.Stack((filter_of([0]),), False, {7: [7]})
+        self.stack = Stack((filter_of([0]),), False, {7: [7]})
         self.snapshot = machine.Snapshot({7: process()}, {(self.stack.filters, False): self.stack})
 
     def row(self, user):
@@ -1112,7 +1113,7 @@ class Limits(Case):
     def test_to_look_again(self):
         """It has no time of a whole pass, which a user's processes could take a second time."""
         row = audit_rows.AuditRow(audit_rows.UNIT, "x", [process()], audit_rows.Expectation(dropped="x"))
-        snapshot = machine.Snapshot({7: process()}, {((), False): processes.Stack((), False, {7: [7]})})
+        snapshot = machine.Snapshot({7: process()}, {((), False): Stack((), False, {7: [7]})})
         with mock.patch.object(machine, "read_more") as again, mock.patch.object(audit, "TO_CONFINE", 0):
             audit._look_again(processes.Kernel(), snapshot, [row], self.options)
         self.assertLess(again.call_args.args[5] - time.monotonic(), 6)
@@ -1148,7 +1149,7 @@ class Limits(Case):
 
     def test_many_identifiers_of_a_user(self):
         """What runs by IDs that a user has in namespaces (subuid(5)) is that user's, and takes no time of others."""
-        stacks = [processes.Stack((filter_of([0, at]),), False, {at: [at]}) for at in range(7, 12)]
+        stacks = [Stack((filter_of([0, at]),), False, {at: [at]}) for at in range(7, 12)]
         self.snapshot = machine.Snapshot({}, {(stack.filters, False): stack for stack in stacks})
         row = audit_rows.AuditRow(audit_rows.OTHER_PROGRAM, "x", [process(at, user=100000 + at, owner=5) for at in range(7, 12)],
                              audit_rows.Expectation())
@@ -1158,7 +1159,7 @@ class Limits(Case):
 
     def test_filters_of_a_user(self):
         """Those of a program and of a unit that only a user's processes have come after root's, and have a budget."""
-        stacks = [processes.Stack((filter_of([0, at]),), False, {at: [at]}) for at in range(7, 12)]
+        stacks = [Stack((filter_of([0, at]),), False, {at: [at]}) for at in range(7, 12)]
         self.snapshot = machine.Snapshot({number: process(number) for number in range(7, 12)},
                                          {(stack.filters, False): stack for stack in stacks})
         rows = [audit_rows.AuditRow(kind, "x", [process(number, user=5) for number in numbers], audit_rows.Expectation())
@@ -1202,7 +1203,7 @@ class Limits(Case):
 
 def unit(name, verdict="weaker", why=None, threads=(), kind=audit_rows.UNIT, expected=None):
     """A row of threads without filters."""
-    part = audit_rows.RowPart(processes.Stack((), False), dict(threads), audit_rows.StackJudgement(verdict, why))
+    part = audit_rows.RowPart(Stack((), False), dict(threads), audit_rows.StackJudgement(verdict, why))
     return audit_rows.AuditRow(kind, name, [], expected or audit_rows.Expectation(), parts=[part])
 
 
@@ -1216,7 +1217,7 @@ class Output(Case):
                                                          image="i\x1b[0m")
         self.row = audit_rows.AuditRow(audit_rows.CONTAINER, container.identifier, [process(name=b"x\n# y")], audit_rows.Expectation(),
                                   container)
-        stack = processes.Stack((filter_of([0]),), False, {7: [7]})
+        stack = Stack((filter_of([0]),), False, {7: [7]})
         self.row.parts = [audit_rows.RowPart(stack, {7: [7]}, audit_rows.StackJudgement(audit_rows.NOT_KNOWN, "it\nis"))]
         snapshot = machine.Snapshot({7: self.row.processes[0]}, {(stack.filters, False): stack})
         self.audit = audit_rows.Audit([self.row], snapshot, 0.0, 1.5)

@@ -15,6 +15,7 @@ from support.common import (ALLOW, EPERM, I386, KILL_PROCESS, PATIENCE, TOP, X86
 from support.confined import CHILD, NEWEST, OLDEST, OTHER, Confined, ended, here, processes, status_of
 from support.own_machine import remove_groups
 from scftools.forms import filters
+from scftools.forms.stacks import Stack
 from scfhost import containers
 
 filters_of = module("filters-of")
@@ -258,7 +259,7 @@ class FiltersOf(Confined):
         """Also where one comes behind the look at the folder; then none of the filters is left there."""
         self.file("out/1.bpf", b"old")
         with self.assertRaises(FileExistsError):
-            filters_of.write(processes.Stack((OLDEST, NEWEST), False).named, os.path.join(self.folder, "out"))
+            filters_of.write(Stack((OLDEST, NEWEST), False).named, os.path.join(self.folder, "out"))
         self.assertEqual(glob.glob(os.path.join(self.folder, "out/*")), [os.path.join(self.folder, "out/1.bpf")])
         self.assertEqual(self.read("out/1.bpf"), b"old")
 

@@ -15,6 +15,7 @@ from support.common import ALLOW, PATIENCE, Case, comes, ret
 from support.confined import NEWEST, OLDEST, OTHER, Confined, FakeKernel, here, processes, ptrace, status_of
 from scftools.base import child as children
 from scftools.ask import verdicts
+from scftools.forms.stacks import Inspection, Stack, threads_text
 from scfhost import hold, verify
 
 SEIZE, INTERRUPT, DETACH, GET = (ptrace.PTRACE_SEIZE, ptrace.PTRACE_INTERRUPT, ptrace.PTRACE_DETACH,
@@ -29,8 +30,8 @@ class Verdicts(Case):
 
     def test_the_unconfined_first(self):
         """A thread without a filter stands before filters that differ, in text and in JSON."""
-        actual = processes.Inspection([processes.Stack((OLDEST,), False, {7: [7]}), processes.Stack((), True, {8: [8]}),
-                                       processes.Stack((), False, {9: [9]})], {7: b"a", 8: b"b", 9: b"c"}, {})
+        actual = Inspection([Stack((OLDEST,), False, {7: [7]}), Stack((), True, {8: [8]}), Stack((), False, {9: [9]})],
+                            {7: b"a", 8: b"b", 9: b"c"}, {})
         request = verify.Request(b"{}", None)
         report = verdicts.Report(("differs",), verdicts.Verdict("differs"))
         with mock.patch.object(verify.Request, "judge", lambda _, item: verify.Block(item, 1, None, report)), \
@@ -357,7 +358,7 @@ class Asked(Case):
     def test_numbers_told(self):
         for threads, text in (([7], "thread 7"), ([7, 8], "threads 7, 8"), ([7, 8, 9, 11], "threads 7 to 9, 11"),
                               ([1, 3, 4, 5, 6], "threads 1, 3 to 6")):
-            self.assertEqual(processes.threads_text(threads), text)
+            self.assertEqual(threads_text(threads), text)
 
 
 @here
