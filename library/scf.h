@@ -321,9 +321,15 @@ struct scf_question {
     uint64_t reserved[2];  /* 0 */
 };
 
-/* The calls that are compared. One number is a range. A range without a number that the architecture's calls can have
- * is SCF_WRONG_ARGUMENT, and so are SCF_EACH_ARCHITECTURE without a table and SCF_EACH_CALL where no table has a
- * syscall. */
+/* The calls that are compared; a finding says nothing of others. One number is a range. A range without a number that
+ * the architecture's calls can have is SCF_WRONG_ARGUMENT, and so are SCF_EACH_ARCHITECTURE without a table and
+ * SCF_EACH_CALL where no table has a syscall. SCF_EACH_ARCHITECTURE leaves out what the profile doesn't list, and what
+ * it lists without a table (not_looked_at); SCF_EACH_CALL also the numbers that no table names.
+ *
+ * So two questions prove that filters are a profile's: SCF_SAME over SCF_EACH_ARCHITECTURE, where not_looked_at has to
+ * be 0; and SCF_NO_MORE over SCF_NUMBERS of x86-64 (0 to 0x3fffffff), i386 (0 to 0xfffffffe) and x32 (0x40000000 to
+ * 0xfffffffe), which any program of x86-64 can make, whatever is listed. The number -1 is no syscall: libseccomp's
+ * filters give it the default. */
 enum scf_scope {
     SCF_ALL_CALLS = 0,         /* of all architectures, also of those that no table is for */
     SCF_NUMBERS = 1,           /* of an architecture, with a number of a range */

@@ -250,6 +250,10 @@ constexpr scope numbers(architecture of, std::uint32_t first, std::uint32_t last
     return {SCF_NUMBERS, static_cast<std::uint32_t>(of), first, last};
 }
 constexpr scope one_call(architecture of, std::uint32_t nr) { return numbers(of, nr, nr); }
+/* The calls that a program of x86-64 can make: of x86-64, i386 and x32, but for the number -1, which is no syscall. */
+inline constexpr scope x86_64_abis[] = {numbers(architecture::x86_64, 0, SCF_X32_BIT - 1),
+                                        numbers(architecture::x86, 0, 0xfffffffe),
+                                        numbers(architecture::x32, SCF_X32_BIT, 0xfffffffe)};
 
 struct question {
     scf::scope scope{};
@@ -290,6 +294,18 @@ inline result<comparison> compare(const side &left, const side &right, tables al
             });
         });
     });
+}
+
+/* Whether filters are proved to be a profile's: they answer each call of the architectures that it lists as it says,
+ * each of these has a table, and they allow no more than it of x86_64_abis. False, too, if an input is refused. */
+inline bool is_proved(filters stack, const profile &of, tables all) {
+    const auto holds = [&](const question &asked) {
+        const auto compared = compare(stack, of, all, asked);
+        return compared && compared->verdict() == verdict::holds && compared->right.not_looked_at == 0;
+    };
+    bool is_so = holds({each_architecture});
+    for (const scope &abi : x86_64_abis) is_so = is_so && holds({abi, relation::no_more});
+    return is_so;
 }
 
 /* All that a side answers to the calls of a scope, in at most `limit` steps. */

@@ -1,6 +1,6 @@
 /* What a container runtime does with the seccomp object of its config.json: libscf reads it as the runtime does, makes
  * its filter, or takes one that was made before, proves that it answers every syscall of each architecture as the
- * profile says, loads it, and executes a program.
+ * profile says and allows none of the others that a program of x86-64 can make, loads it, and executes a program.
  *
  *     cc runtime.c $(pkg-config --cflags --libs scf)
  *     runtime [--reading runc|crun] [--stub NUMBER] [--filter FILE] CONFIG PROGRAM ARGUMENT..
@@ -33,19 +33,29 @@ static void must(uint32_t status, const struct scf_fault *fault) {
     fwrite(text, 1, length, stderr), exit(3);
 }
 
-/* Ends the program unless every syscall of each architecture that the profile lists is answered as it says. */
-static void prove(struct scf_bytes filter, const struct scf_profile *profile, const struct scf_table *tables) {
+/* Is every syscall of each architecture that the profile lists answered as it says? And is none of x86-64, i386 and x32,
+ * listed or not, answered more permissively? */
+static const struct scf_question questions[] = {
+    {.scope = SCF_EACH_ARCHITECTURE, .relation = SCF_SAME},
+    {.scope = SCF_NUMBERS, .relation = SCF_NO_MORE, .architecture = SCF_TABLE_X86_64, .last = SCF_X32_BIT - 1},
+    {.scope = SCF_NUMBERS, .relation = SCF_NO_MORE, .architecture = SCF_TABLE_X86, .last = 0xfffffffe},
+    {.scope = SCF_NUMBERS, .relation = SCF_NO_MORE, .architecture = SCF_TABLE_X32, .first = SCF_X32_BIT,
+     .last = 0xfffffffe},
+};
+
+/* Ends the program unless the answer to a question is yes. */
+static void prove(struct scf_bytes filter, const struct scf_profile *profile, const struct scf_table *tables,
+                  struct scf_question question) {
     const struct scf_side left = {.kind = SCF_FILTERS, .filters = &filter, .filters_len = 1};
     const struct scf_side right = {.kind = SCF_PROFILE, .profile = *profile};
-    const struct scf_question question = {
-        .scope = SCF_EACH_ARCHITECTURE, .limit = SCF_LIMIT, .total_limit = UINT64_MAX};
     struct scf_comparison compared;
     struct scf_fault fault;
     size_t each, length;
     char text[400];
+    question.limit = SCF_LIMIT, question.total_limit = UINT64_MAX;
     must(scf_compare(&left, &right, tables, TABLES, &question, &compared, NULL, 0, &each, NULL, 0, &length, &fault),
          &fault);
-    if (compared.right.not_looked_at != 0) fprintf(stderr, "an architecture has no table: its syscalls are killed\n");
+    if (compared.right.not_looked_at != 0) fputs("an architecture that is listed has no table\n", stderr), exit(1);
     if (compared.finding.verdict == SCF_HOLDS) return;
     scf_call_text(&compared.finding.call, text, sizeof text, &length);
     if (compared.finding.verdict != SCF_FAILS) fputs("the filter isn't proved to answer so\n", stderr), exit(1);
@@ -72,7 +82,7 @@ int main(int argc, char **argv) {
     profile.text = whole(argv[0]);
     if (filter.len == 0)
         must(scf_compile(&profile, tables, TABLES, made, sizeof made, &filter.len, &left_out, &fault), &fault);
-    prove(filter, &profile, tables);
+    for (size_t i = 0; i < sizeof questions / sizeof questions[0]; i++) prove(filter, &profile, tables, questions[i]);
     if (scf_load(filter.at, filter.len, 0) != 0) return fputs("the kernel doesn't load the filter\n", stderr), 3;
     execvp(argv[1], argv + 1);
     return perror(argv[1]), 3;

@@ -118,6 +118,11 @@ func Numbers(architecture Architecture, first, last uint32) Scope {
 // OneCall has those with one number.
 func OneCall(architecture Architecture, nr uint32) Scope { return Numbers(architecture, nr, nr) }
 
+// X86_64ABIs has the calls that a program of x86-64 can make: of x86-64, i386 and x32, but for the number -1, which is
+// no syscall.
+var X86_64ABIs = [...]Scope{Numbers(X86_64, 0, 0x3fffffff), Numbers(X86, 0, 0xfffffffe),
+	Numbers(X32, 0x40000000, 0xfffffffe)}
+
 // Relation is what is to hold of the left and the right side's answers. Denied < delegated < allowed.
 type Relation uint32
 
@@ -166,6 +171,20 @@ type Comparison struct {
 	LeftOut, RightOut LeftOut
 	Each              []RecordsFinding
 	Report            string // what scf compare prints of the finding on all
+}
+
+// IsProved says whether filters are proved to be a profile's: they answer each call of the architectures that it lists
+// as it says, each of these has a table, and they allow no more than it of X86_64ABIs.
+func IsProved(filters Filters, profile Profile, tables ...Table) (isProved bool, err error) {
+	holds := func(scope Scope, relation Relation) {
+		compared, failed := Compare(filters, profile, scope, relation, Limit, tables...)
+		isProved, err = compared.Verdict == Holds && compared.RightOut.NotLookedAt == 0, failed
+	}
+	holds(EachArchitecture, Same)
+	for i := 0; i < len(X86_64ABIs) && isProved; i++ {
+		holds(X86_64ABIs[i], NoMore)
+	}
+	return isProved, err
 }
 
 // Region is calls that a side answers alike, and one of them. By is the reason of a profile, with its entry, and else

@@ -145,6 +145,20 @@ func TestArchitectures(t *testing.T) {
 	if err != nil || compared.Verdict != Fails || compared.Call.Arch != i386 {
 		t.Error(compared, err)
 	}
+	// an architecture that is listed has no table; i386, which isn't listed, is open
+	open := Profile{Text: []byte(`{"defaultAction": "SCMP_ACT_ALLOW"}`)}
+	compared, err = Compare(Filters{allow}, open, EachArchitecture, Same, Limit, tables[0])
+	is(t, []any{compared.Verdict, err}, []any{Holds, nil})
+	whole, _, _ := p.Compile(tables...)
+	for _, row := range []struct {
+		filter   []byte
+		profile  Profile
+		tables   []Table
+		isProved bool
+	}{{whole, p, tables, true}, {filter, p, tables[:1], false}, {allow, open, tables[:1], false}} {
+		isProved, err := IsProved(Filters{row.filter}, row.profile, row.tables...)
+		is(t, []any{isProved, err}, []any{row.isProved, nil})
+	}
 	arm := Table{Architecture: Arm, Text: []byte("read 3\n")}
 	_, _, err = p.Compile(tables[0], arm)
 	refused(t, err, SourceProfile, KindNotListed, 1)

@@ -153,6 +153,17 @@ class Calls(unittest.TestCase):
         own = scf.ask(BOTH._replace(skip_unlisted=True), scf.own_tables(), READ)
         self.assertEqual(own, (RET_ALLOW, scf.Reason.ENTRY, 0, NOTHING))
 
+    def test_proofs(self):
+        """i386, which isn't listed, is open; an architecture that is listed has no table."""
+        native = scf.compile(BOTH, TABLES[:1])
+        open_i386 = scf.assemble(b"ld [4]\njeq #0x40000003, 0, 1\nret #0x7fff0000\n") + scf.compile(PROFILE, NAMES)
+        for filter, profile, tables, is_proved in (
+                (scf.compile(PROFILE, NAMES), PROFILE, NAMES, True), (scf.compile(BOTH, TABLES), BOTH, TABLES, True),
+                (open_i386, PROFILE, NAMES, False), (native, BOTH, TABLES, False), (native, BOTH, TABLES[:1], False)):
+            self.assertIs(scf.is_proved(scf.Filters([filter]), profile, tables), is_proved)
+            compared = scf.compare(scf.Filters([filter]), profile, tables, scf.EACH_ARCHITECTURE)
+            self.assertEqual(compared.finding.verdict == scf.Verdict.HOLDS, tables != TABLES or is_proved)
+
     def test_numbers_that_have_no_meaning(self):
         for wrong in (lambda: scf.compile(BOTH, []), lambda: scf.compile(BOTH, [TABLES[0], TABLES[0]]),
                       lambda: scf.Call(1 << 32), lambda: scf.Call(0, (1 << 64,)), lambda: scf.Call(-1),

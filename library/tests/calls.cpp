@@ -69,6 +69,15 @@ static void architectures() {
     IS(scf::compare(stack, both, tables)->verdict() == scf::verdict::holds);
     const auto each = scf::compare(other, both, tables, {.scope = scf::each_architecture});
     IS(each->verdict() == scf::verdict::fails && each->each.size() == 2);
+    IS(scf::is_proved(stack, both, tables) && !scf::is_proved(other, both, tables) && !scf::is_proved(stack, both, {}));
+    /* i386, which isn't listed, is open; an architecture that is listed has no table */
+    const scf::profile one{"{\"defaultAction\": \"SCMP_ACT_ALLOW\"}"};
+    const scf_bytes open[] = {scf::view(allow)};
+    IS(scf::compare(open, one, names, {.scope = scf::each_architecture})->verdict() == scf::verdict::holds);
+    IS(!scf::is_proved(open, one, names));
+    const auto native = scf::compile(both, {tables, 1});
+    const scf_bytes cut[] = {scf::view(native->filter)};
+    IS(native->left_out.not_looked_at == 1 && !scf::is_proved(cut, both, {tables, 1}));
     const auto all = scf::own_tables();
     IS(all.size() == SCF_ARCHITECTURES && scf::compile(both, all).fault.kind == SCF_KIND_NOT_LISTED);
     IS(scf::compile({both.text, scf::reading::strict, true}, all)->left_out.not_looked_at == 0);

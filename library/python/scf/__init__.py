@@ -3,8 +3,8 @@
     >>> import scf
     >>> profile = scf.Profile(open("config.json", "rb").read(), scf.Reading.RUNC, skip_unlisted=True)
     >>> filter = scf.Filters([open("filter.bpf", "rb").read()])
-    >>> compared = scf.compare(filter, profile, scf.own_tables(), scf.EACH_ARCHITECTURE)
-    >>> compared.finding, compared.right.not_looked_at, compared.report
+    >>> scf.is_proved(filter, profile, scf.own_tables())
+    >>> scf.compare(filter, profile, scf.own_tables(), scf.EACH_ARCHITECTURE).report
 
 Filters, profiles and tables are bytes, or any other buffer: bytearray, memoryview, mmap. Each function raises Refused,
 which is a ValueError, if an input isn't accepted, TypeError if an argument has another type, ValueError if a number is
@@ -25,8 +25,9 @@ if TYPE_CHECKING:
 __all__ = ["ALL", "Action", "Answer", "Architecture", "Buffer", "Call", "Comparison", "Decision", "EACH_ARCHITECTURE",
            "EACH_CALL", "Fact", "Filters", "Finding", "KEEP_PRIVILEGES", "Kind", "LIMIT", "LeftOut", "Listing",
            "NO_ENTRY", "Profile", "ProfileAnswer", "Reading", "Reason", "RecordsFinding", "Refused", "Region",
-           "Relation", "Run", "Scope", "Side", "Source", "Table", "Trace", "Verdict", "answers", "ask", "assemble",
-           "check", "compare", "compile", "decide", "listing", "load", "own_tables", "run", "table", "trace", "version"]
+           "Relation", "Run", "Scope", "Side", "Source", "Table", "Trace", "Verdict", "X86_64_ABIS", "answers", "ask",
+           "assemble", "check", "compare", "compile", "decide", "is_proved", "listing", "load", "own_tables", "run",
+           "table", "trace", "version"]
 
 Buffer = Union[bytes, bytearray, memoryview, "mmap"]
 LIMIT = 1_000_000  # the most steps of a comparison that scf takes without --limit
@@ -346,6 +347,9 @@ class Scope(NamedTuple):
 
 
 ALL, EACH_ARCHITECTURE, EACH_CALL = Scope(0), Scope(2), Scope(3)
+# The calls that a program of x86-64 can make: of x86-64, i386 and x32, but for the number -1, which is no syscall.
+X86_64_ABIS = (Scope.numbers(0, 0x3FFFFFFF), Scope.numbers(0, 0xFFFFFFFE, Architecture.X86),
+               Scope.numbers(0x40000000, 0xFFFFFFFE, Architecture.X32))
 
 
 def _profile(name: str, profile: Profile) -> _Profile:
@@ -609,6 +613,15 @@ def compare(left: Side, right: Side, tables: Sequence[Table] = (), scope: Scope 
     return Comparison(_finding(result.finding), _left_out(result.left), _left_out(result.right),
                       [RecordsFinding(records.architecture, records.nr, _finding(records.finding)) for records in each],
                       _text(report))
+
+
+def is_proved(filters: Filters, profile: Profile, tables: Sequence[Table]) -> bool:
+    """Whether filters are proved to be a profile's: they answer each call of the architectures that it lists as it
+    says, each of these has a table, and they allow no more than it of X86_64_ABIS."""
+    questions = [(EACH_ARCHITECTURE, Relation.SAME), *((scope, Relation.NO_MORE) for scope in X86_64_ABIS)]
+    comparisons = (compare(filters, profile, tables, *question) for question in questions)
+    return all(compared.finding.verdict == Verdict.HOLDS and compared.right.not_looked_at == 0
+               for compared in comparisons)
 
 
 def answers(side: Side, tables: Sequence[Table] = (), scope: Scope = ALL, total_limit: int = LIMIT) -> Listing:

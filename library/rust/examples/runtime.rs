@@ -1,13 +1,13 @@
 //! What a container runtime does with the seccomp object of its config.json: libscf reads it as the runtime does, makes
 //! its filter, or takes one that was made before, proves that it answers every syscall of each architecture as the
-//! profile says, loads it, and executes a program.
+//! profile says and allows none of the others that a program of x86-64 can make, loads it, and executes a program.
 //!
 //!     runtime [--reading runc|crun] [--stub NUMBER] [--filter FILE] CONFIG PROGRAM ARGUMENT..
 //!
 //! NUMBER is the first of x86-64 that runc's stub answers by ENOSYS. Status 1: the filter isn't what the profile says;
 //! the message names a syscall. Status 3: an input is refused, or the filter can't be loaded.
 
-use scf::{compile, load, own_tables, Compare, Profile, Reading, Scope, Table, Verdict};
+use scf::{compile, load, own_tables, Compare, Profile, Reading, Relation, Scope, Table, Verdict};
 use std::os::unix::process::CommandExt;
 use std::process::{exit, Command};
 
@@ -20,12 +20,21 @@ fn must<T, E: std::fmt::Display>(result: Result<T, E>) -> T {
     result.unwrap_or_else(|error| end(3, error))
 }
 
-/// Ends the program unless each syscall of each architecture that the profile lists is answered as it says.
+/// Ends the program unless the filter is proved to be the profile's, as `is_proved` does, and names a syscall.
 fn prove(filter: &[u8], profile: Profile, tables: &[Table]) {
     let filters: &[&[u8]] = &[filter];
-    let compared = must(Compare::new(filters, profile).tables(tables).scope(Scope::EachArchitecture).run());
+    let same = Compare::new(filters, profile).tables(tables).scope(Scope::EachArchitecture);
+    hold(same);
+    for abi in Scope::X86_64_ABIS {
+        hold(same.scope(abi).relation(Relation::NoMore));
+    }
+}
+
+/// Ends the program unless what is asked is proved.
+fn hold(question: Compare) {
+    let compared = must(question.run());
     if compared.right.not_looked_at != 0 {
-        eprintln!("an architecture has no table: its syscalls are killed");
+        end(1, "an architecture that is listed has no table");
     }
     match compared.verdict {
         Verdict::Holds => {}

@@ -55,6 +55,15 @@ pub enum Scope {
     EachCall,
 }
 
+impl Scope {
+    /// The calls that a program of x86-64 can make: of x86-64, i386 and x32, but for the number -1, which is no syscall.
+    pub const X86_64_ABIS: [Scope; 3] = [
+        Scope::Numbers(Architecture::X86_64, 0, 0x3fff_ffff),
+        Scope::Numbers(Architecture::X86, 0, 0xffff_fffe),
+        Scope::Numbers(Architecture::X32, 0x4000_0000, 0xffff_fffe),
+    ];
+}
+
 pub(crate) fn question_of(scope: Scope, relation: u32, limit: u64, total_limit: u64) -> sys::Question {
     let (scope, architecture, first, last) = match scope {
         Scope::All => (0, 0, 0, 0),
@@ -200,6 +209,20 @@ impl<'a> Compare<'a> {
         let (left, right) = (result.left.into(), result.right.into());
         Ok(Comparison { verdict: verdict_of(&result.finding), left, right, each: each.collect(), report })
     }
+}
+
+/// Whether filters are proved to be a profile's: they answer each call of the architectures that it lists as it says,
+/// each of these has a table, and they allow no more than it of [`Scope::X86_64_ABIS`].
+pub fn is_proved(filters: &[&[u8]], profile: Profile, tables: &[Table]) -> Result<bool, Error> {
+    let same = Compare::new(filters, profile).tables(tables).scope(Scope::EachArchitecture);
+    let no_more = Scope::X86_64_ABIS.map(|abi| same.scope(abi).relation(Relation::NoMore));
+    for question in std::iter::once(same).chain(no_more) {
+        let compared = question.run()?;
+        if compared.verdict != Verdict::Holds || compared.right.not_looked_at != 0 {
+            return Ok(false);
+        }
+    }
+    Ok(true)
 }
 
 fn verdict_of(result: &sys::Finding) -> Verdict {

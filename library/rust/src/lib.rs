@@ -4,13 +4,11 @@
 //! its arguments and may be called in any number of threads.
 //!
 //! ```no_run
-//! use scf::{Compare, Profile, Reading, Scope, Verdict};
+//! use scf::{is_proved, own_tables, Profile, Reading};
 //!
 //! let (filter, json) = (std::fs::read("box.bpf")?, std::fs::read("config.json")?);
 //! let profile = Profile { reading: Reading::Runc, skip_unlisted: true, ..Profile::new(&json) };
-//! let (filters, tables): (&[&[u8]], _) = (&[&filter], scf::own_tables());
-//! let compared = Compare::new(filters, profile).tables(&tables).scope(Scope::EachArchitecture).run()?;
-//! assert_eq!((compared.verdict, compared.right.not_looked_at), (Verdict::Holds, 0));
+//! assert!(is_proved(&[&filter], profile, &own_tables())?);
 //! # Ok::<(), Box<dyn std::error::Error>>(())
 //! ```
 #![warn(missing_docs)]
@@ -23,7 +21,7 @@ mod sys;
 pub use answer::{
     answers, Action, Answer, Decision, Fact, Instruction, LeftOut, Listing, Place, ProfileAnswer, Reason, Region,
 };
-pub use compare::{Compare, Comparison, RecordsFinding, Relation, Scope, Side, Verdict};
+pub use compare::{is_proved, Compare, Comparison, RecordsFinding, Relation, Scope, Side, Verdict};
 pub use fault::{Error, Fault, Kind, Source, NO_ENTRY};
 use sys::Bytes;
 

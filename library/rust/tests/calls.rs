@@ -1,9 +1,9 @@
 //! Each call once, and what refuses it. The answers are those of linux/seccomp.h and of the OCI specification.
 
 use scf::{
-    answers, ask, assemble, check, compile, decide, list, load, own_tables, run, table, trace, version, Action, Answer,
-    Architecture, Call, Compare, Decision, Error, Fault, Instruction, Kind, LeftOut, Place, Profile, ProfileAnswer,
-    Reading, Reason, Relation, Scope, Source, Table, Verdict, NO_ENTRY,
+    answers, ask, assemble, check, compile, decide, is_proved, list, load, own_tables, run, table, trace, version,
+    Action, Answer, Architecture, Call, Compare, Decision, Error, Fault, Instruction, Kind, LeftOut, Place, Profile,
+    ProfileAnswer, Reading, Reason, Relation, Scope, Source, Table, Verdict, NO_ENTRY,
 };
 
 const ALLOW: [u8; 8] = [6, 0, 0, 0, 0, 0, 0xff, 0x7f];
@@ -156,6 +156,13 @@ fn architectures() {
     let (one, left_out) = compile(&profile, &[native]).unwrap();
     assert_eq!(left_out, LeftOut { not_looked_at: 1, skipped: 0 });
     assert!(matches!(compared(&one).verdict, Verdict::Fails { call: Call { arch: I386, .. }, .. }));
+    assert_eq!(is_proved(&[&compile(&profile, &both).unwrap().0], profile, &both), Ok(true));
+    // an architecture that is listed has no table; i386, which isn't listed, is open
+    assert_eq!(is_proved(&[&one], profile, &[native]), Ok(false));
+    let open = Profile::new(br#"{"defaultAction": "SCMP_ACT_ALLOW"}"#);
+    let same = Compare::new(&[ALLOW.as_slice()], open).tables(&[native]).scope(Scope::EachArchitecture).run();
+    assert_eq!(same.unwrap().verdict, Verdict::Holds);
+    assert_eq!(is_proved(&[&ALLOW], open, &[native]), Ok(false));
     let arm = Table { architecture: Architecture::Arm, text: b"", stub: None };
     assert_eq!(compile(&profile, &[native, arm]), refused(Source::Profile, Kind::NotListed, [1, 0, 0]));
     let skipping = Profile { skip_unlisted: true, ..profile };

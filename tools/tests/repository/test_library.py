@@ -15,8 +15,8 @@ import unittest
 import zipfile
 from unittest import mock
 
-from support.common import (ALLOW, EPERM, I386, PATIENCE, TOP, X86_64, Case, filter_of, insn, jeq, load, part,
-                            profile_of, ret)
+from support.common import (ALLOW, EPERM, I386, KILL_PROCESS, PATIENCE, TOP, X32, X86_64, Case, filter_of, gate, insn,
+                            jeq, jge, load, part, profile_of, ret)
 from support.seccomp_library import NEEDED, Library
 
 LIBRARY = os.path.join(TOP, "library")
@@ -319,6 +319,28 @@ class Interface(Built):
         self.assertRegex(done[2], r"^the filter answers socket\(.*\) of x86-64 by 0x7fff0000, "
                                   r"and the profile by 0x00050001$")
         self.assertEqual(self.runs(program, "--reading", "runc", "--stub", "449", config, "true"), "")
+
+    def test_the_example_beside_what_the_profile_does_not_list(self):
+        """A profile allows all of what it lists; a filter of it, such as libseccomp's, which gives the default to the
+        number -1, and others that allow more, or leave something open."""
+        program = self.linked("example/runtime.c", *self.ARCHIVE, compiler=["gcc", "-std=gnu11"])
+        own, foreign = gate(ret(ALLOW)), load(4) + jeq(X86_64, 1, 0) + ret(KILL_PROCESS)
+        more = "by 0x7fff0000, and the profile by 0x80000000\n"
+        for names, data, says in (
+                (["X86_64"], own, ""),
+                (["X86_64"], foreign + load(0) + jge(X32, 0, 2) + jeq((1 << 32) - 1, 1, 0) + ret(KILL_PROCESS) + ret(ALLOW),
+                 ""),
+                (["X86_64"], load(4) + jeq(I386, 0, 1) + ret(ALLOW) + own, f" of i386 {more}"),
+                (["X86_64"], foreign + ret(ALLOW), f" of x32 {more}"),
+                (["X86_64", "S390X"], own, "an architecture that is listed has no table\n"),
+                # (it denies exit_group)
+                (["ARM"], load(4) + jeq(X86_64, 0, 3) + load(0) + jeq(231, 0, 1) + ret(EPERM) + ret(ALLOW),
+                 f" of x86-64 {more}")):
+            profile = {"defaultAction": "SCMP_ACT_ALLOW", "architectures": [f"SCMP_ARCH_{name}" for name in names]}
+            status, _, err = self.run_words([program, "--filter", self.file("filter.bpf", data),
+                                             self.file("config.json", json.dumps(profile)), "true"])
+            with self.subTest(names=names, says=says):
+                self.assertEqual((status, err[-len(says):] if says else err), (1 if says else 0, says))
 
 
 class Languages(Built):

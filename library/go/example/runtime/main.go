@@ -1,6 +1,6 @@
 // Runtime does what a container runtime does with the seccomp object of its config.json: libscf reads it as the runtime
 // does, makes its filter, or takes one that was made before, proves that it answers every syscall of each architecture
-// as the profile says, loads it, and executes a program.
+// as the profile says and allows none of the others that a program of x86-64 can make, loads it, and executes a program.
 //
 //	runtime [-reading runc|crun] [-stub NUMBER] [-filter FILE] CONFIG PROGRAM ARGUMENT..
 //
@@ -32,11 +32,18 @@ func must[T any](value T, err error) T {
 	return value
 }
 
-// prove ends the program unless each syscall of each architecture that the profile lists is answered as it says.
+// prove ends the program unless the filter is proved to be the profile's, as by scf.IsProved, and names a syscall.
 func prove(filter []byte, profile scf.Profile, tables []scf.Table) {
-	compared := must(scf.Compare(scf.Filters{filter}, profile, scf.EachArchitecture, scf.Same, scf.Limit, tables...))
+	hold(must(scf.Compare(scf.Filters{filter}, profile, scf.EachArchitecture, scf.Same, scf.Limit, tables...)))
+	for _, abi := range scf.X86_64ABIs {
+		hold(must(scf.Compare(scf.Filters{filter}, profile, abi, scf.NoMore, scf.Limit, tables...)))
+	}
+}
+
+// hold ends the program unless what was asked is proved.
+func hold(compared scf.Comparison) {
 	if compared.RightOut.NotLookedAt != 0 {
-		fmt.Fprintln(os.Stderr, "an architecture has no table: its syscalls are killed")
+		end(1, "an architecture that is listed has no table")
 	}
 	switch compared.Verdict {
 	case scf.Holds:
