@@ -39,7 +39,7 @@ def parts_of(words):
     """The kinds and bytes of the parts, each file read once, so that a pipe has a length."""
     length = 0
     for kind, name in zip(words[::2], words[1::2]):
-        form = kind.partition("-")[0]
+        form = "filter" if kind == bundles.BESIDE else kind.removeprefix("beside-").partition("-")[0]
         data = inputs.read_whole(os.path.join(".", name) if name == "-" else name, form)
         if form == "stub" and not (data.isdigit() and int(data) < 1 << 32):
             raise program.ToolError(f"{inputs.label(name)} isn't a {kind}: one decimal number below 4294967296, "

@@ -3,6 +3,7 @@ import os
 import threading
 
 from support.common import SCF, TABLE, Case, filter_of, profile_of, tool
+from scftools.model import bundles
 
 
 class Bundle(Case):
@@ -24,7 +25,13 @@ class Bundle(Case):
                          (0, "filter 0\nprofile 4\none\ntable 4\none\n", ""))
 
     def test_each_kind(self):
-        """Tables of each architecture, and stubs, which are numbers without a line end."""
+        """Also those of the other side; tables of each architecture, and stubs, which are numbers without a line end."""
+        for kind in bundles.PART_KINDS:
+            self.assertEqual(self.run_tool("bundle", kind, self.file("a", b"7")), (0, f"{kind} 1\n7", ""))
+        one = self.file("one.bpf", filter_of([0]))
+        status, out, _ = self.run_words(["sh", "-c", '"$0" filter "$1" beside "$1" | "$2" compare --beside',
+                                         tool("bundle"), one, SCF])
+        self.assertEqual((status, out), (0, "same\n"))
         for architecture in ("", "-x86", "-x32", "-aarch64", "-arm"):
             for kind, most in (("table", 4194304), ("stub-table", 1024)):
                 for text in (b"0", b"4294967295", b"0" * (most - 1) + b"7"):
