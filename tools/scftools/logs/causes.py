@@ -12,6 +12,7 @@ from ..model.calls import Call
 from ..model.tables import Table, Tables
 from ..ask import client, reasons
 from ..ask.client import Refusal
+from ..ask.reasons import Reason
 from ..ask.trials import Trial
 from ..ask.verdicts import FOR_OTHER_ABI
 from ..forms import refusals
@@ -76,6 +77,12 @@ class Inputs:
         """What the profile answers. Raises Refusal."""
         return AnsweringStack.of_profile(self.profile or b"", self.judged)
 
+    def reason(self, call: Call) -> Reason:
+        """Why the profile answers a call so: as all calls of its region, if scf decides that. Raises Refusal."""
+        region = self.of_profile.regions.of(call)
+        return reasons.profile_reason(self.profile or b"", self.judged, call.words()) if region is None else \
+            reasons.region_reason(region.line)
+
 
 @dataclass
 class Cause:
@@ -117,14 +124,13 @@ def cause_of(event: Event, count: int, given: Inputs, common: Event | None = Non
         cause.filters = _side(name, lambda: given.of_filters, event)
     if given.profile is None:
         return cause
-    reason = reasons.profile_reason(given.profile, given.judged, event.call.words())
-    if decisions.is_undetermined(reason, event.call, given.profile, given.judged):
-        cause.profile = Side("the profile", is_undetermined=True)
-        return cause
     cause.profile = _side("the profile", lambda: given.of_profile, event)
+    if cause.profile.refusal is None and decisions.is_undetermined(given.reason(event.call), event.call, given.profile,
+                                                                   given.judged):
+        cause.profile = Side("the profile", is_undetermined=True)
     denied = next((case for case in cause.profile.cases if not case.answer.allows), None)
     if denied is not None:
-        reason = reasons.profile_reason(given.profile, given.judged, denied.call.words())
+        reason = given.reason(denied.call)
         cause.changes = list(amendment.amendments(given.profile, common or event, reason, given.trial))
     return cause
 
@@ -203,15 +209,19 @@ def _of_side(side: Side | None, cause: Cause, of_case: Callable[[Case, Cause], I
     elif side.is_undetermined:
         yield FOR_OTHER_ABI
     else:
+        shown = set()
         for case in side.cases:
-            yield from of_case(case, cause)
+            answer, *rest = of_case(case, cause)
+            if (answer, case.is_for_all) not in shown:
+                yield from (answer, *rest)
+            shown.add((answer, case.is_for_all))
         yield from output.notes(_of_verdict(side, cause.event))
 
 
 def _of_profile(case: Case, cause: Cause) -> Iterator[str]:
     """The profile's answer, and by which entry it is."""
     given = cause.given
-    reason = reasons.profile_reason(given.profile, given.judged, case.call.words())
+    reason = given.reason(case.call)
     yield reason.line
     call = None if case.is_for_all and cause.event.unknown else case.call
     yield from output.notes([case.answer.describe(), *reasons.describe_reason(reason, given.profile, call),
@@ -257,8 +267,7 @@ def cause_json(cause: Cause) -> dict[str, object]:
     event, given = cause.event, cause.given
 
     def of_profile(case: Case) -> dict[str, object]:
-        profile = given.profile or b""
-        return reasons.reason_json(reasons.profile_reason(profile, given.judged, case.call.words()), profile, None)
+        return reasons.reason_json(given.reason(case.call), given.profile or b"", None)
 
     def of_filters(case: Case) -> dict[str, object]:
         givers = listing.deciding_filters(given.filters, case.call.words(), case.answer)

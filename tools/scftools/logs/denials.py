@@ -8,7 +8,6 @@ from collections.abc import Iterator, Sequence
 
 from ..base.values import dataclass, field, replace
 from ..model.tables import Table
-from ..ask import reasons
 from . import causes
 from .causes import Cause, Inputs
 from .diagnosis import CONTRADICTS, FITS, Case, cases, verdict_of
@@ -70,8 +69,7 @@ class Denials:
 
 def _key(case: Case, failure: Failure, given: Inputs) -> tuple[object, ...]:
     """What denials have in common that are reported together: the syscall, its errno, and the entry."""
-    entry = (None if given.profile is None else
-             reasons.profile_reason(given.profile, given.judged, case.call.words()).entry)
+    entry = None if given.profile is None else given.reason(case.call).entry
     return case.call.number, case.call.architecture, failure.event.outcome, entry
 
 

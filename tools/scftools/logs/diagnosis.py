@@ -37,7 +37,7 @@ class AnsweringStack:
     """The regions of filters, or of a profile, None if they are unfinished, and what answers a single record."""
 
     def __init__(self, region_list: Sequence[Region] | None, answer: Callable[[Call], Answer | None]):
-        self._lookup, self.answer = Lookup(region_list), answer
+        self.regions, self.answer = Lookup(region_list), answer
 
     @classmethod
     def of_filters(cls, data: Sequence[bytes]) -> AnsweringStack:
@@ -54,13 +54,13 @@ class AnsweringStack:
         """The answer to an event with these arguments, None if scf doesn't say."""
         call = event.with_values(values)
         known_values = values if call.pointer is None else {**values, POINTER: call.pointer}
-        regions_here = [region for region in self._lookup.of_number(call) if region.has(known_values)]
-        of_call = self._lookup.of(call)
+        regions_here = [region for region in self.regions.of_number(call) if region.has(known_values)]
+        of_call = self.regions.of(call)
         answer = self.answer(call) if of_call is None else of_call.answer
         if answer is None:
             return None
         fits = event.outcome.has(answer)
-        are_decided = self._lookup.is_finished and all(region.is_decided for region in regions_here)
+        are_decided = self.regions.is_finished and all(region.is_decided for region in regions_here)
         is_known = not event.unknown and call.pointer is not None
         if is_known or are_decided and all(region.answer == answer for region in regions_here):
             return Case(call, answer, True, fits)

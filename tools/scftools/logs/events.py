@@ -2,6 +2,7 @@
 syscalls of a strace log that failed."""
 from __future__ import annotations
 
+import functools
 import itertools
 import re
 from collections.abc import Iterable, Iterator
@@ -89,7 +90,7 @@ class Event:
     # seconds since 1970
     time: float | None = None
 
-    @property
+    @functools.cached_property
     def key(self) -> tuple[object, ...]:
         """What events have in common that are reported together."""
         return (self.source, self.call.number, self.call.architecture, self.outcome, self.arguments, self.name)
@@ -231,13 +232,13 @@ class _Ends(Sink):
         # (what socketcall and ipc do strace prints by its own name)
         if nr is None or line.nr not in (None, nr):
             return
-        printed = _Printed(who, line.text[:LONGEST_BEGINNING], name, nr, JUDGED[architecture])
+        printed = _printed(who, line.text[:LONGEST_BEGINNING], nr, architecture)
         self.last[who] = printed
         if len(self.last) > PENDING:
             self.last.pop(next(iter(self.last)))
         self.last_failure = None
         if " = -1 " in line.text:
-            self._fails(who, printed.failure())
+            self._fails(who, printed.failure)
 
     def _confine(self, who: str | None, line: Line, name: re.Match[str], is_cut: bool) -> None:
         was_shown = self.confinement.is_shown
@@ -318,6 +319,7 @@ class _Printed:
         return Event(STRACE, Call(*self.record, pointer), outcome, tuple(shown.get(at) for at in range(6)),
                      int(self.who) if self.who else None)
 
+    @functools.cached_property
     def failure(self) -> Event | None:
         """Its failure, if it failed: by a filter, a supervisor or tracer, or the kernel itself."""
         match = FAILED.match(self.text, self.end)
@@ -325,6 +327,14 @@ class _Printed:
             return None
         code = NUMBERS_OF_ERRNOS.get(match[1]) if match[1] else int(match[2])
         return None if code is None else self.event(Outcome(FAILS, data=code, is_result=True))
+
+
+@functools.lru_cache(EVENTS)
+def _printed(who: str | None, text: str, number: int, architecture: str) -> _Printed:
+    """A printed syscall. Programs repeat some thousands of times, and then it is read once."""
+    name = strace.CALL_NAME.match(text)
+    assert name
+    return _Printed(who, text, name, number, JUDGED[architecture])
 
 
 def _of_signal(who: str | None, members: str, call: _Printed | None, tables_of: dict[str, Table]) -> Event:

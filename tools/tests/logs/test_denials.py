@@ -6,8 +6,13 @@ import shutil
 import subprocess
 import sys
 import unittest
+from unittest import mock
 
 from support.common import LOADER, TOP, Case
+from scftools.ask import client, trials
+from scftools.forms import strace
+from scftools.logs import causes, denials, events
+from scftools.model import tables
 
 # Loads a filter, and makes calls in the order of its words, each as often as it says, in a child where they begin with
 # `child`; then it ends with a status.
@@ -72,6 +77,24 @@ class Changes(Denials):
                               ("kill(9, SIGTERM) = -1 EPERM",
                                ["kill where argument 0 is 0x9 and argument 1 is 0xf", "every kill"])):
             self.assertEqual(self.changes(f"{line} (Operation not permitted)", profile=denying), allowed)
+
+    def test_an_answer_to_both_values_of_an_argument_is_shown_once(self):
+        """Of 0x80045430 the upper half isn't known: strace prints the lower one."""
+        profile = {"defaultAction": "SCMP_ACT_ALLOW", "syscalls": [{"names": ["ioctl"], "action": "SCMP_ACT_ERRNO"}]}
+        _, lines = self.why(f"{LOAD}\nioctl(3, TIOCGPTN, [0]) = -1 EPERM (Operation not permitted)\n", profile=profile)
+        self.assertEqual([line for line in lines if line[0] != "#"], ["ERRNO 1 entry 0"])
+
+    def test_what_is_alike_is_judged_once(self):
+        """Equal lines are read once, and no run of scf is made for each of those that differ in an argument."""
+        table, line = tables.read_table(None), 'chroot("/") = -1 EPERM (Operation not permitted)'
+        with mock.patch.object(strace, "registers_in", wraps=strace.registers_in) as read:
+            log = events.read_events([f"10 {line}", f"11 {line}"] * 1000, table)
+        self.assertEqual((read.call_count, log.failures.count), (2, 2000))
+        log = events.read_events([f"chroot({at:#x}) = -1 EPERM (Operation not permitted)" for at in range(500)], table)
+        given = causes.Inputs(trials.Trial(tables.native_alone(table.data)), json.dumps(PROFILE).encode())
+        with mock.patch.object(client, "run_scf", wraps=client.run_scf) as run:
+            self.assertEqual([denial.count for denial in denials.denials_of(log.failures, given).of], [500])
+        self.assertEqual([call.args[0][0] for call in run.call_args_list], ["answers"])
 
     def test_a_profile_as_a_runtime_reads_it(self):
         """podman's own lists have entries that conflict by their words: crun and runc take the first."""
