@@ -2,10 +2,10 @@
 
     scf explain [--table FILE] [LINE ..]
 
-LINE is a fault, a verdict, an answer, the syscall that shows a difference, a finding of `scf lint`, or an exit status;
-what a log puts before it doesn't matter. Faults are explained by the sentences of docs/FAULTS.md, and syscalls have the
-names of FILE. Without a LINE standard input is copied, and below each line that scf can explain stands what it means,
-marked by `# `:
+LINE is a fault, a verdict, an answer or what gives it, whether a syscall is allowed, delegated or denied, the syscall
+that shows a difference, a finding of `scf lint`, or an exit status; what a log puts before it doesn't matter. Faults
+are explained by the sentences of docs/FAULTS.md, and syscalls have the names of FILE. Without a LINE standard input is
+copied, and below each line that scf can explain stands what it means, marked by `# `:
 
     scf compare <bundle | scf explain
 

@@ -70,10 +70,8 @@ class Outcome:
             return f"UNNAMED {self.half << 16:#010x}: {DOES['UNNAMED']}"
         if len(self.actions) > 1:
             return f"{', '.join(self.actions[:-1])} or {self.actions[-1]}"
-        answer = Answer(self.actions[0], self.data or 0)
-        if self.actions == ("ERRNO",) and self.data is None:
-            return "ERRNO: the syscall isn't executed, and returns an errno"
-        return answer.describe() if self.data is not None else f"{answer.action}: {answer.does()}"
+        action, = self.actions
+        return f"{action}: {DOES[action]}" if self.data is None else Answer(action, self.data).describe()
 
 
 @dataclass(frozen=True)

@@ -6,7 +6,7 @@ from collections.abc import Iterator
 
 from ..base.values import Pattern
 from ..model import tables
-from ..model.answers import Answer
+from ..model.answers import ALLOWED, DELEGATED, DENIED, DEPENDS, DOES, Answer
 from ..model.architectures import NATIVE
 from ..model.calls import Call
 from ..model.tables import Table, Tables
@@ -28,6 +28,13 @@ VERDICTS = {
     "same disposition": "with --disposition: both sides deny, delegate and allow the same syscalls: status 0",
     "undetermined": "it hangs on a syscall of an architecture that the profile names, and of which scf has no table: "
                     "status 4",
+    "undecided": "scf can't decide it: status 4; the output says why",
+    ALLOWED: "the syscall is executed: ALLOW or LOG answers it",
+    DELEGATED: "a supervisor or a tracer handles the syscall: USER_NOTIF or TRACE answers it",
+    DENIED: "the syscall isn't executed: ERRNO, TRAP, KILL_THREAD or KILL_PROCESS answers it",
+    DEPENDS: "its arguments decide whether the syscall is allowed, delegated or denied",
+    "not allowed": "of needs: the profile denies or delegates the syscall, as it was made: status 1",
+    "unstated": "of oci-hook: the configuration has no profile, so that it asks for no filter: status 1",
     "unconfined": "the process has no filter, so it may make every syscall: status 1",
     "unconfined by configuration": "a process of the container or unit has no filter, since its configuration asks for "
                                    "none: status 1",
@@ -38,6 +45,10 @@ VERDICTS = {
     "otherwise": "nothing is more or less permissive, but some answers differ, such as the errno",
     "as configured": "of audit: the filters answer every syscall as the configuration says",
     "not known": "of audit: it can't be known; the line says why: status 4"}
+# What gives a profile's answer, where no entry does.
+REASONS = {"default": "the profile's default gives it: no entry fits",
+           "foreign": "by no entry: the syscall is of an ABI that the profile doesn't name",
+           "stub": "by runc's ENOSYS for numbers above all that the profile names: no entry gives it"}
 # What a line of --calls says of its syscall.
 OF_A_SYSCALL = {
     "differs": "some call gets another answer", "more": "to some call the filters are more permissive",
@@ -57,8 +68,8 @@ STATUSES = {
 COLOUR = Pattern(r"\x1b\[[0-9;]*m")
 # What a log may put before a line: anything up to a mark or a time.
 LOG_PREFIX = Pattern(r".*?(?:[]:|>]|[0-9]Z|\d\d:\d\d:\d\d\S*)\s+")
-ANSWER_LINE = Pattern(r"(?:filter |profile |beside )?([A-Z_]+ (?:0x[0-9a-f]+|[0-9]+))"
-                   r"(?: (steps [0-9]+|entry [0-9]+|default|foreign))?")
+ANSWER_LINE = Pattern(r"(?:(?:filter |profile |beside )?([A-Z_]+ (?:0x[0-9a-f]+|[0-9]+))(?: |\Z))?"
+                      r"(steps [0-9]+|entry [0-9]+|default|foreign|stub)?")
 STATUS = Pattern(r"(?:.*\b)?(?:exit(?:ed)?|status|code)\b\D*([0-9]{1,3})\D*", re.I)
 
 
@@ -75,24 +86,26 @@ def _of_verdict(line: str) -> Iterator[str]:
         yield from explanation.what_a_row_says(line)
     elif word in VERDICTS:
         yield VERDICTS[word]
+    elif word in DOES:
+        yield f"{word}: {DOES[word]}"
     elif re.fullmatch("accepted [0-9]+", line):
         yield f"the kernel accepts this filter; {line.split()[1]} is the number of its instructions"
 
 
 def _of_answer(line: str) -> Iterator[str]:
     match = ANSWER_LINE.fullmatch(line)
-    answer = Answer.read(match[1]) if match else None
-    if match is None or answer is None:
+    answer = Answer.read(match[1]) if match and match[1] else None
+    if match is None or match[1] and answer is None:
         return
-    yield answer.describe()
+    if answer is not None:
+        yield answer.describe()
     word, _, number = (match[2] or "").partition(" ")
     if word == "steps":
         yield f"the filter ran {number} instruction{'s' * (number != '1')}"
     elif word == "entry":
         yield f"entry {number} of the profile's syscalls gives it, counted from 0"
     elif word:
-        yield {"default": "the profile's default gives it: no entry fits", "foreign": "by no entry: the syscall is of "
-               "an ABI that the profile doesn't name"}[word]
+        yield REASONS[word]
 
 
 def _of_call(line: str, table: Table) -> Iterator[str]:

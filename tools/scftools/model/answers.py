@@ -15,6 +15,7 @@ ACTIONS = {0x8000: "KILL_PROCESS", 0x0000: "KILL_THREAD", 0x0003: "TRAP", 0x0005
 DOES = {
     "ALLOW": "the syscall is executed",
     "LOG": "the syscall is executed, and logged",
+    "ERRNO": "the syscall isn't executed, and returns an errno",
     "TRAP": "the syscall isn't executed, and the thread gets SIGSYS",
     "KILL_THREAD": "the thread is killed",
     "KILL_PROCESS": "the process is killed",
@@ -59,7 +60,7 @@ class Answer:
     def read(cls, text: str) -> Answer | None:
         """Parses an answer as scf prints it; None if it isn't one."""
         match = PRINTED_ANSWER.fullmatch(text)
-        return cls(match[1], int(match[2], 0)) if match and match[1] in (*DOES, "ERRNO") else None
+        return cls(match[1], int(match[2], 0)) if match and match[1] in DOES else None
 
     @classmethod
     def of_word(cls, word: int) -> Answer:

@@ -68,7 +68,7 @@ def _row(line: int, text: str, numbering: Numbering, defaults: dict[str, str]) -
     words = match[1].split() if match else []
     if match is None or len(words) > 7:
         raise fails("isn't a syscall, up to six arguments, `=` and an answer")
-    if match[2] not in DOES and match[2] != "ERRNO":
+    if match[2] not in DOES:
         raise fails("has no answer of seccomp(2)")
     try:
         data = _data(match[3], match[2])

@@ -3,8 +3,8 @@ import json
 import os
 import re
 
-from support.common import (ALLOW, CORE, EPERM, I386, KILL_PROCESS, KILL_THREAD, TABLE, UNKNOWN_ZERO, X86_64, Case,
-                            filter_of, insn, jeq, jge, load, needs, part, profile_of, ret)
+from support.common import (ALLOW, CORE, EPERM, I386, KILL_PROCESS, KILL_THREAD, TABLE, TOP, UNKNOWN_ZERO, X86_64,
+                            Case, filter_of, insn, jeq, jge, load, needs, part, profile_of, ret)
 from scftools.model import bundles, profiles, tables
 from scftools.ask import client
 from scftools.report import compare
@@ -598,6 +598,22 @@ class Explain(Case):
             for line in printed.split("\n")[:-1]:
                 self.assertEqual(out[out.index(line) + 1][:2], "# ", line)
         self.assertEqual(self.run_tool("explain", given=b"hello\n"), (1, "hello\n", ""))
+
+    def test_each_word_of_the_objects(self):
+        """Each verdict, disposition, reason and action that docs/scf.schema.json has is a word that tools print."""
+        with open(os.path.join(TOP, "docs", "scf.schema.json"), encoding="utf-8") as file:
+            kinds = json.load(file)["$defs"]
+        words = {word for kind in ("verdict", "disposition", "reason", "action", "audit-verdict")
+                 for word in kinds[kind]["enum"]}
+        words.update(kinds["stack-verdict"]["anyOf"][0]["enum"],
+                     kinds["surface-row"]["properties"]["disposition"]["enum"],
+                     kinds["change"]["properties"]["change"]["enum"],
+                     kinds["needs"]["properties"]["calls"]["items"]["properties"]["disposition"]["enum"])
+        self.assertLess({"depends", "unstated", "delegated", "stub", "not known", "ERRNO", "undecided"}, words)
+        for word in words - {"entry"} | {"entry 3"}:
+            with self.subTest(word):
+                self.explained(word)
+        self.assertEqual(len(self.explained("ERRNO 38 stub")), 2)
 
     def test_what_each_answer_does(self):
         for answer, line, means in ((0x7FFC0000, "LOG 0", "LOG: the syscall is executed, and logged"),
