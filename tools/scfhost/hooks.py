@@ -33,6 +33,8 @@ from .ptrace import has_ended
 from .watchdog import Watchdog, Worker
 
 
+# The verdict on a container whose configuration has no profile.
+UNSTATED = "unstated"
 # The container's own program isn't executed yet; runc calls a poststart hook so.
 CREATED = "created"
 # How often the threads of a process without a filter are read again, in seconds: a runtime may call its hooks
@@ -382,6 +384,8 @@ def write_log(name: str, status: int, lines: Sequence[str]) -> None:
 def verdict_line(container: ContainerState | None, result: HookResult) -> str:
     """A line that says how it came out."""
     who = container.description if container else "a container"
+    if result.verdict == UNSTATED:
+        return f"{who}: {verify.UNCONFINED[False]}"
     if result.status == program.SUCCESS:
         return f"{who}: confined as configured ({result.verdict})"
     if result.status == program.NEGATIVE and result.verdict is not None:

@@ -11,8 +11,8 @@ the bundle, with --runtime as that runtime applies it, and the filters are read 
 `scf filters-of`, for all processes of the container. The syscalls of each architecture that the profile names are
 compared, as far as scf has a table of it, with --native x86-64's alone. With the policy `same` each must be answered as
 the profile says, with `no-more` none more permissively. The result goes to standard error and to the system log, or
-with --json as one object to standard output and to the log. A container whose configuration has no profile isn't
-confined, and is rejected too, except with --allow-unconfined.
+with --json as one object to standard output and to the log. A container whose configuration has no profile is unconfined
+by configuration, and is rejected too, except with --allow-unconfined.
 
 --kill kills the container unless it is known to be confined, and only then says why. It also kills it if that isn't
 known at the deadline, if this tool is stopped or ended before it knows, and if its own options are wrong. runc ends a
@@ -89,7 +89,7 @@ def judge(options, process):
     config = hooks.configuration_of(process.container)
     if config is None:
         is_confined = process.kernel.status_of(process.container.pid).get("Seccomp") == "2"
-        return hooks.plain_finding(program.SUCCESS if options.allow_unconfined else program.NEGATIVE, "unstated",
+        return hooks.plain_finding(program.SUCCESS if options.allow_unconfined else program.NEGATIVE, hooks.UNSTATED,
                                    "the configuration has no seccomp profile: " + (
                                        "the container's first process has a filter that isn't its runtime's"
                                        if is_confined else "the container isn't confined"))

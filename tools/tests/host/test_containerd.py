@@ -69,7 +69,7 @@ class Containerd(Audited, OwnMachine):
         """One in the configuration lets a container run that is confined as configured, and no other."""
         config = json.loads(self.on("cat", self.started("first", "--seccomp"))[1])
         for name, seccomp, status, says in (("same", config["linux"]["seccomp"], 0, "confined as configured (same)"),
-                                            ("open", None, 1, "not confined as configured (unstated)")):
+                                            ("open", None, 1, "unconfined by configuration")):
             config["root"]["path"] = f"{self.bundle(name, None)}/rootfs"
             config["linux"].update(cgroupsPath=f"/{self.group}/{name}", seccomp=seccomp)
             words = f"{tool('oci-hook')} --runtime runc --kill >{self.folder}/{name}.said 2>&1"

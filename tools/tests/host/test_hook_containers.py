@@ -345,8 +345,8 @@ class Podman(Containers):
         state = json.dumps({"ociVersion": "1.0.2", "id": identifier, "status": "running", "pid": int(pid),
                             "bundle": os.path.dirname(path)})
         actual, _, err = self.run_tool("oci-hook", "--runtime", runtime, "--wait=0", given=state.encode())
-        self.assertEqual((actual, self.lines(err)[0].rpartition(" (")[2]), (
-            status, "same)" if word == "same" else "unstated)"))
+        self.assertEqual((actual, self.lines(err)[0].partition(": ")[2]), (
+            status, "confined as configured (same)" if word == "same" else word))
 
     def test_with_and_without_a_profile(self):
         """A container, one in a pod, a privileged one, and one without a profile, by both runtimes."""

@@ -328,7 +328,7 @@ class OfProcesses(Hook):
                 else:
                     self.assertNotEqual(actual, 0, lines)
         self.assertEqual(self.hook(self.child([refusing(MOUNT)]), json.dumps(profile).encode())[1][0],
-                         "container box: not confined as configured (unstated)")
+                         "container box: unconfined by configuration")
 
     def test_a_configuration_that_is_no_file(self):
         bundle = os.path.join(self.folder, "odd")
@@ -360,9 +360,11 @@ class OfProcesses(Hook):
         self.assertTrue(comes(lambda: not os.path.exists(f"/proc/{second}")))
 
     def test_a_configuration_that_states_no_profile(self):
-        lines = self.hook(self.child([]), None)[1]
-        self.assertEqual(lines, ["container box: not confined as configured (unstated)",
-                                 "the configuration has no seccomp profile: the container isn't confined"])
+        for words, wanted in (((), 1), (("--allow-unconfined",), 0)):
+            status, lines = self.hook(self.child([]), None, *words)
+            self.assertEqual((status, lines), (wanted, [
+                "container box: unconfined by configuration",
+                "the configuration has no seccomp profile: the container isn't confined"]))
 
     def test_two_answers_to_one_call(self):
         profile = json.dumps({"defaultAction": "SCMP_ACT_ALLOW", "syscalls": [
