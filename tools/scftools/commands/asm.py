@@ -25,8 +25,8 @@ These are the instructions, with the accumulator A, the index register X and the
 
 All jumps go forwards. In place of a label a number says how many instructions are skipped.
 
-Exit status: 0 success, 1 the text has a fault, which standard error says, 2 usage error, 3 the input can't be read
-or is too long, or the output failed.
+Exit status: 0 success, 1 the text has a fault, which standard error says, with the word and the nearest one, 2 usage
+error, 3 the input can't be read or is too long, or the output failed.
 
 Examples:
 
@@ -37,6 +37,7 @@ Examples:
 from ..base import inputs, output, program
 from ..ask import client, explanation
 from ..cli import words
+from ..forms import assembler
 
 
 def main():
@@ -46,9 +47,11 @@ def main():
     parser.keep_off_terminal()
     if options.file == "-":
         client.become(["asm"])
-    done = client.run_scf(["asm"], inputs.read_input(options.file, "text"))
+    text = inputs.read_input(options.file, "text")
+    done = client.run_scf(["asm"], text)
     if done.status == program.SUCCESS:
         output.put(done.out)
     else:
-        program.say(done.line, *explanation.explain_line(done.line))
+        wrong = assembler.wrong_word(text.decode("latin-1"), client.Fault.read(done.line))
+        program.say(done.line, *wrong, *explanation.explain_line(done.line))
     return done.status

@@ -15,14 +15,10 @@ from collections.abc import Iterator
 from ..base import program
 from ..base.values import Pattern, dataclass
 from ..ask import client
-from . import c_arrays
+from . import assembler, c_arrays
 
 # The bytes of an instruction, and the most of a filter as text.
 SIZE, LONGEST_TEXT = 8, 1 << 20
-MNEMONICS = "ld ldx st stx add sub mul div or and lsh rsh xor neg ja jeq jgt jge jset ret tax txa raw".split()
-# What may stand before the first mnemonic: blanks, empty statements, comments; and a word, of which a colon makes a
-# label.
-BEFORE_MNEMONIC, MNEMONIC = Pattern(r"[\s;]+|//[^\n]*\n"), Pattern(r"([A-Za-z_]\w*)\s*(:?)")
 HEXADECIMAL_TEXT, ARRAY, DECIMALS, ASSEMBLER, STRACE_LOG = (
     "hexadecimal text", "a C array", "decimals of tcpdump -ddd", "scf's assembler text", "a strace log")
 LOADING = Pattern(r"(?m)^[\[\]pid 0-9]{0,30}(?:seccomp\(SECCOMP_SET_MODE_FILTER|prctl\(PR_SET_SECCOMP), ")
@@ -119,25 +115,12 @@ def _of_array(text: str) -> bytes | None:
     return rows if isinstance(rows, bytes) else c_arrays.packed(rows)
 
 
-def _first_word(text: str) -> str:
-    """The first word of an assembler's text that isn't a label; nothing if none comes."""
-    at = 0
-    while True:
-        before = BEFORE_MNEMONIC.match(text, at)
-        word = None if before else MNEMONIC.match(text, at)
-        if word and not word[2]:
-            return word[1]
-        if not before and not word:
-            return ""
-        at = (before or word).end()
-
-
 def _of_assembler(text: str) -> bytes | None:
-    if _first_word(text) not in MNEMONICS:
+    if assembler.first_word(text) not in assembler.MNEMONICS:
         return None
     done = client.run_scf(["asm"], text.encode())
     if done.status != program.SUCCESS:
-        raise c_arrays.NotAnArray(done.line)
+        raise c_arrays.NotAnArray(": ".join([done.line, *assembler.wrong_word(text, client.Fault.read(done.line))]))
     return done.out
 
 

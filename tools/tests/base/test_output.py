@@ -150,7 +150,7 @@ class Filters(Case):
             self.assertEqual((done.returncode, done.stdout), (0, text))
         status, out, err = self.run_tool("asm", self.file("text", "LD"))
         self.assertEqual((status, out), (1, ""))
-        self.assertTrue(err.startswith("asm: fault text Mnemonic line 1\nasm: A statement"), err)
+        self.assertTrue(err.startswith("asm: fault text Mnemonic line 1\nasm: 'LD' is no mnemonic"), err)
 
 
 class Failing(Case):

@@ -133,8 +133,18 @@ class Texts(Case):
         self.is_read("// a comment\n start: ret #0x7fff0000", texts.ASSEMBLER, ret(ALLOW))
         with self.assertRaises(program.ToolError) as caught:
             texts.form_of(b"ld [4]\nret #x\n", "it")
-        self.assertIn("it begins as scf's assembler text, but isn't one: fault text Operand line 2",
-                      str(caught.exception))
+        self.assertIn("it begins as scf's assembler text, but isn't one: fault text Operand line 2: the statement is "
+                      "'ret #x'", str(caught.exception))
+
+    def test_the_word_that_an_assembler_text_has_wrong(self):
+        for text, says in (("ld [0]\njeqq #41, a, b // c\na: b: ret a", "'jeqq' is no mnemonic; the nearest is 'jeq'"),
+                           ("top: ret a; LD [0]", "'LD' is no mnemonic; the nearest is 'ld'"), ("7", "'7' is no mnemonic"),
+                           ("ld [0]\njeq x, don, 0\ndone: ret #1", "'don' is no label; the nearest is 'done'"),
+                           ("a: ret #1\na: ret #1", "'a' is a label twice"), ("ld [0]; jeq #1", None),
+                           ("ld [0]\nend: jeq #41, end2", "the statement is 'jeq #41, end2'")):
+            status, out, err = self.run_tool("asm", self.file("f.s", text))
+            # (behind it stand the two sentences of the fault)
+            self.assertEqual((status, out, err.split("\n")[1:-3]), (1, "", [f"asm: {says}"] if says else []))
 
     def test_two_readings_are_refused(self):
         """This is hexadecimal digits in pairs, and a count with rows of decimals."""
