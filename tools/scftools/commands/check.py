@@ -4,8 +4,9 @@
 
 Each FILTER may be a file or a pipe, and one of them `-` for standard input. Its contents say whether it is a raw filter
 or text: hexadecimal (as xxd, `xxd -p` and `hexdump -C` print it), a C array (`{ 0x20, 0, 0, 4 },`, BPF_STMT and
-BPF_JUMP, or bytes), decimals of `tcpdump -ddd`, or scf's assembler text. Which text a filter was read from is said on
-standard error; what is known to be no filter is refused. All tools that take filters take them so.
+BPF_JUMP, or bytes), a C file with one array of struct sock_filter, decimals of `tcpdump -ddd`, or scf's assembler text.
+Which text a filter was read from is said on standard error; what is known to be no filter is refused. All tools that
+take filters take them so.
 
 For each of them scf's line comes first; the lines after it are marked by `# `: the file, if there are several, and what
 a fault is and what to do about it. Without a FILTER scf reads a raw one from standard input, and nothing is added to

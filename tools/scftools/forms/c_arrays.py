@@ -1,4 +1,5 @@
-"""Filters as C arrays: of struct sock_filter, `{ 0x20, 0, 0, 4 },` or BPF_STMT and BPF_JUMP, and of bytes."""
+"""Filters as C arrays: of struct sock_filter, `{ 0x20, 0, 0, 4 },` or BPF_STMT and BPF_JUMP, also that of a whole file,
+and of bytes."""
 from __future__ import annotations
 
 import itertools
@@ -8,10 +9,15 @@ from collections.abc import Iterable, Iterator, Sequence
 
 from ..base.values import Any
 from ..model import constants, tables
+from .c_macros import Macros, NotAnArray, closing, elements_of
 
 # (patterns are compiled when they are first used, which is rare; a comment may lack its end)
-C_COMMENT = r"(?ms)/\*.*?(\*/|\Z)|//[^\n]*|^[ \t]*#[ \t]*include[^\n]*"
-# What may stand before an array and behind it: `static struct sock_filter filter[] =`, `unsigned int length = 8;`.
+C_COMMENT = r"(?s)/\*.*?(\*/|\Z)|//[^\n]*|\"(?:\\.|[^\"\\\n])*\"|'(?:\\.|[^'\\\n])*'"
+# Lines at the beginning that a compiler needs, and where `cc -E` says what a line is of.
+INCLUDES, LINE_MARK = r"\A(?:\s*#[ \t]*include[^\n]*)+", r"(?m)^# [0-9][^\n]*"
+# How an array of instructions begins in a file, up to its braces, and its length: a variable, or a value by itself.
+OF_INSTRUCTIONS = (r"\bstruct\s+sock_filter\b\s*(?:\w+\s*\[([^][{};]{0,40})\]\s*=|\[([^][{};]{0,40})\]\s*\))\s*\{")
+# What may stand before an array of bytes and behind it: `unsigned char f[] =`, `unsigned int length = 8;`.
 HEAD = r"[A-Za-z_][\w\s]{0,200}\[[\w\s]{0,40}\]\s*=\s*(?={)"
 ARRAY_TAIL = r"\s*;(?:\s*(?:[A-Za-z_]\w*\s+){1,6}=\s*\d+\s*;)?\s*"
 CAST = r"\(\s*(?:(?:unsigned|short|int|long|char|__u(?:8|16|32)|uint(?:8|16|32)_t)\s*)+\)"
@@ -31,16 +37,15 @@ X32_BIT = {"__X32_SYSCALL_BIT": 0x40000000, "X32_SYSCALL_BIT": 0x40000000}
 LONGEST_EXPRESSION, MOST_ROWS = 99, 4097
 
 
-class NotAnArray(Exception):
-    """A text isn't an array of instructions, or has something that only a compiler knows."""
+def _known_number(name: str) -> int | None:
+    """A constant of the headers, or the number of a syscall."""
+    bare = re.sub("^(?:SYS_|__NR_)", "", name)
+    return X32_BIT.get(name, constants.numbers().get(name)) if bare == name else \
+        tables.read_table(None).number_of(bare)
 
 
 def _number_of(name: str) -> int:
-    bare = re.sub("^(?:SYS_|__NR_)", "", name)
-    if bare != name:
-        number = tables.read_table(None).number_of(bare)
-    else:
-        number = X32_BIT.get(name, constants.numbers().get(name))
+    number = _known_number(name)
     if number is None:
         raise NotAnArray(f"'{name[:40]}' is no constant that this tool knows")
     return number
@@ -85,24 +90,10 @@ def value_of(text: str) -> int:
         raise NotAnArray(f"'{text[:60]}' isn't a constant expression") from error
 
 
-def _split(text: str) -> Iterator[str]:
-    """The elements of a list, which commas outside of brackets separate; the last comma may end it."""
-    depth = begun = 0
-    for match in re.finditer(r"[(){}\[\],]", text):
-        if match[0] == ",":
-            if not depth:
-                yield text[begun:match.start()].strip()
-                begun = match.end()
-        else:
-            depth += 1 if match[0] in "({[" else -1
-    if text[begun:].strip():
-        yield text[begun:].strip()
-
-
 def _row(text: str) -> list[str]:
     """The four fields of an element, by its form."""
     macro = re.fullmatch(MACRO, text)
-    fields = list(_split(macro[2] if macro else text[1:-1]))
+    fields = list(elements_of(macro[2] if macro else text[1:-1]))
     if macro and macro[1] == "BPF_STMT" and len(fields) == 2:
         return [fields[0], "0", "0", fields[1]]
     if macro and macro[1] == "BPF_JUMP" and len(fields) == 4:
@@ -123,24 +114,38 @@ def _fields(text: str) -> tuple[int, int, int, int]:
 
 
 def _elements(text: str) -> list[str]:
-    """The elements of the array in a text, which holds nothing else."""
+    """The elements of the one array of instructions in a text, or of the array that it is."""
+    begins = list(re.finditer(OF_INSTRUCTIONS, text))
+    if len(begins) > 1:
+        raise NotAnArray(f"it has {len(begins)} arrays of struct sock_filter: give one")
+    for begin in begins:
+        array, length = text[begin.end():closing(text, begin.end(), "{}")], (begin[1] or begin[2] or "").strip()
+        if re.search(r"(?m)^[ \t]*#", array):
+            raise NotAnArray("its array has lines that a compiler may leave out: `cc -E` prints those that count")
+        elements = list(elements_of(Macros(text, _known_number, value_of).expanded(array)))
+        if re.fullmatch("[0-9]+", length) and length != str(len(elements)):
+            raise NotAnArray(f"its array has {len(elements)} of {length} instructions")
+        return elements
+    text = re.sub(INCLUDES, "", text).strip()
     head = re.match(HEAD, text)
     if head:
         end = text.rfind("}") + 1
         if not re.fullmatch(ARRAY_TAIL, text[end:]):
             raise NotAnArray(f"text follows the array: '{text[end:end + 40].strip()}'")
         text = text[head.end():end].strip()
-    pieces = list(_split(text))
+    pieces = list(elements_of(text))
     if len(pieces) == 1 and pieces[0][:1] == "{" and pieces[0][-1:] == "}":
-        inner = list(_split(pieces[0][1:-1]))
+        inner = list(elements_of(pieces[0][1:-1]))
         # braces around all elements, or one instruction
         return inner if head or len(inner) != 4 or inner[0][:1] in ("{", "B") else pieces
     return pieces
 
 
 def _without_comments(text: str) -> str:
-    """A text without its comments and includes. A comment that has no end stays, which no array has."""
-    return re.sub(C_COMMENT, lambda match: match[0] if match[1] == "" else " ", text).strip()
+    """A text without its comments, what stands in quotes, and broken lines. A comment that has no end stays, which no
+    array has."""
+    return re.sub(LINE_MARK, "", re.sub(C_COMMENT, lambda match: match[0] if match[1] == "" else " ",
+                                        re.sub(r"\\\r?\n", " ", text))).strip()
 
 
 def packed(rows: Iterable[Sequence[int]]) -> bytes:
@@ -151,8 +156,9 @@ def packed(rows: Iterable[Sequence[int]]) -> bytes:
 def looks_like_array(text: str) -> bool:
     """Whether a text is meant to be such an array."""
     bare = _without_comments(text)
-    row = re.match(r"\{\s*(?:[{(0-9]|BPF_)|BPF_(?:STMT|JUMP)\b|0x[0-9a-fA-F]{2}\s*,", bare)
-    return bool(re.match(HEAD, bare) or row)
+    start = re.sub(INCLUDES, "", bare).strip()
+    row = re.match(r"\{\s*(?:[{(0-9]|BPF_)|BPF_(?:STMT|JUMP)\b|0x[0-9a-fA-F]{2}\s*,", start)
+    return bool(row or re.match(HEAD, start) or re.search(OF_INSTRUCTIONS, bare))
 
 
 def rows_in(text: str) -> list[tuple[int, int, int, int]] | bytes:

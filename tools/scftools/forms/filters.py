@@ -24,10 +24,10 @@ def filter_in(name: str, data: bytes) -> Filter:
     if data[1:2] == b"\0":
         return raw
     form = texts.form_of(data, inputs.label(name))
+    if form is None and texts.text_of(data) is not None:
+        raise program.ToolError(f"{inputs.label(name)} is text, in none of the forms of a filter: hexadecimal, a C "
+                                "array, decimals of tcpdump -ddd, scf's assembler")
     if form is None:
-        if texts.is_text(data):
-            program.say(f"{inputs.label(name)} is text, in none of the forms of a filter: hexadecimal, a C array, "
-                        "decimals of tcpdump -ddd, scf's assembler")
         return raw
     count = form.count if form.count <= BPF_MAXINSNS else f"more than {BPF_MAXINSNS}"
     program.say(f"{inputs.label(name)} is read as {form.name}, instructions: {count}")

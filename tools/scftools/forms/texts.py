@@ -27,6 +27,9 @@ OF_PROFILE = ": `scf compare FILTER PROFILE` compares a profile with a filter, `
 NOT_FILTERS = (
     (rb"\x7fELF", "an ELF file (a program, library or object)", ""),
     (rb"\x1f\x8b", "compressed by gzip", ": unpack it first"),
+    (rb"PK\x03\x04", "a zip file", ": unpack it first"),
+    (rb"%PDF-", "a PDF", ""),
+    (rb"\x89PNG\r\n|\xff\xd8\xff|GIF8[79]a|(?s:BM.{4}\0{4}|RIFF.{4}WEBP)", "a picture", ""),
     (rb"(?:filter|profile|table) [0-9]{1,8}\n", "a bundle", ": scf itself reads it, on standard input"),
     (rb"\s*(?:\{\s*[\"}]|\[\s*[\[{\"\]])", "JSON", OF_PROFILE),
     (rb"\s*line\s+CODE\s+JT\s+JF\s+K\b", "a disassembly of seccomp-tools",
@@ -37,6 +40,8 @@ NOT_FILTERS = (
      ": `scf dis` prints one that is taken"),
     (rb"\s*(?:---\s*\n)?(?:apiVersion|kind):", "YAML", OF_PROFILE),
 )
+# Characters that no text has.
+NO_TEXT = Pattern(r"[\0-\x08\x0e-\x1a\x1c-\x1f\x7f]")
 # The instructions of a big-endian machine: the upper byte of the code, which is 0, stands first. No little-endian one
 # begins so.
 BIG_ENDIAN = Pattern(rb"\0[^\0].{6}(?:\0.{7})*", re.S)
@@ -150,9 +155,13 @@ def _forms_of(text: str, label: str) -> Iterator[Filter]:
             yield Filter(name, data)
 
 
-def is_text(data: bytes) -> bool:
-    """Whether bytes are a text in ASCII, and not only blanks."""
-    return bool(data.strip()) and re.fullmatch(rb"[\t\n\r -~]*", data) is not None
+def text_of(data: bytes) -> str | None:
+    """The text that bytes are, None if they are none, or only blanks."""
+    try:
+        text = data.decode("utf-8")
+    except UnicodeDecodeError:
+        return None
+    return None if not text.strip() or NO_TEXT.search(text) else text
 
 
 def form_of(data: bytes, label: str) -> Filter | None:
@@ -163,11 +172,8 @@ def form_of(data: bytes, label: str) -> Filter | None:
     for begins, what, hint in NOT_FILTERS:
         if re.match(begins, data):
             raise program.ToolError(f"{label} is {what}, not a filter{hint}")
-    try:
-        text = data.decode("ascii")
-    except UnicodeDecodeError:
-        return None
-    if "\0" in text or not text.strip():
+    text = text_of(data)
+    if text is None:
         return None
     if len(data) > LONGEST_TEXT:
         raise program.ToolError(f"{label} has more than {LONGEST_TEXT} bytes, the most of a filter as text")

@@ -458,7 +458,7 @@ class WithAnotherScf(Case):
     def run_fake(self, *words):
         tree = self.made_tree(FAKE)
         copy = os.path.join(self.folder, "kept")
-        for name, data in (("a.bpf", b"AAAA"), ("b.bpf", b"BB"), ("p.json", b"{}"), ("t", b"getpid 39\n")):
+        for name, data in (("a.bpf", b"A\0AA"), ("b.bpf", b"B\0"), ("p.json", b"{}"), ("t", b"getpid 39\n")):
             self.file(name, data)
         done = self.run_words([os.path.join(tree, "tools", "compare"), *words],
                               env={**os.environ, "KEPT": copy})
@@ -467,7 +467,7 @@ class WithAnotherScf(Case):
 
     def test_filters_stand_oldest_first(self):
         done, bundle, words = self.run_fake("--native", "--limit", "7", "--table", "t", "a.bpf", "b.bpf", "p.json")
-        self.assertEqual(bundle, part("filter", b"AAAA") + part("filter", b"BB") + part("profile", b"{}")
+        self.assertEqual(bundle, part("filter", b"A\0AA") + part("filter", b"B\0") + part("profile", b"{}")
                          + part("table", b"getpid 39\n"))
         self.assertEqual(words, "compare --native --limit=7\n")
         self.assertIn("without a verdict: 1\n# 39 getpid unfinished\n", done[1])
