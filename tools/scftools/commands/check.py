@@ -8,9 +8,9 @@ BPF_JUMP, or bytes), a C file with one array of struct sock_filter, decimals of 
 Which text a filter was read from is said on standard error; what is known to be no filter is refused. All tools that
 take filters take them so.
 
-For each of them scf's line comes first; the lines after it are marked by `# `: the file, if there are several, and what
-a fault is and what to do about it. Without a FILTER scf reads a raw one from standard input, and nothing is added to
-its line.
+For each of them scf's line comes first, after its name if there are several; the lines after it are marked by `# `:
+what a fault is and what to do about it. Without a FILTER scf reads a raw one from standard input, and nothing is added
+to its line.
 
 The exit status is the worst of all filters: 0 accepted, 1 refused, 2 usage error, 3 an input or the output failed; 125
 scf can't be run.
@@ -48,9 +48,7 @@ def main():
         if options.json:
             objects.append(filter_json(name, data, done))
             continue
-        output.put_line(done.line)
-        if len(options.filters) > 1:
-            output.put_line(f"# {name}")
+        output.put_line(done.line if len(options.filters) == 1 else f"{name}: {done.line}")
         output.put_lines(output.notes(explanation.explain_line(done.line)))
     if options.json:
         output.put_json({"status": client.worst(statuses), "filters": objects})

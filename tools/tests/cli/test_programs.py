@@ -45,7 +45,7 @@ class Check(Case):
         self.assertNotIn("bad.bpf", out)
         status, out, err = self.run_tool("check", good, bad)
         self.assertEqual((status, err), (1, ""))
-        self.assertTrue(out.startswith(f"accepted 1\n# {good}\nfault filter Jump at 0\n# {bad}\n# This jump"), out)
+        self.assertTrue(out.startswith(f"{good}: accepted 1\n{bad}: fault filter Jump at 0\n# This jump"), out)
         self.assertEqual(self.run_tool("check", bad, cut)[0], 1)
         self.assertEqual(self.run_tool("check", good, cut)[0], 3)
 
