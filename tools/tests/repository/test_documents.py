@@ -459,6 +459,11 @@ class Consoles(Page):
             for name, remaining in re.findall(rf"\b(?:tools/|scf[- ])({names})\b([^\n|;&]*)", body):
                 yield name, tuple(re.findall(r"(?<= )--[a-z0-9-]+", remaining))
 
+    def test_descriptors_of_one_digit(self):
+        """Of `10<file` POSIX leaves to the shell what it is (Shell Command Language, 2.7); to dash it is two words."""
+        for name in ("RECIPES", "OPERATIONS", "TUTORIAL"):
+            self.assertNotRegex(text_of("docs", f"{name}.md"), r"\s[0-9]{2,}[<>]")
+
     def test_the_reading_of_consoles(self):
         page = self.file("page.md", "```console\n$ scf a\n# the syscall\n...\n# scf b --c\n```\n")
         self.assertEqual(console_of(page), [(False, "scf a", ["# the syscall", "..."]), (True, "scf b --c", [])])
