@@ -20,7 +20,8 @@ BIN = $(TO)/bin
 LIB = $(TO)/lib/scf
 MAN = $(TO)/share/man/man1
 DOC = $(TO)/share/doc/scf
-PAGES = TUTORIAL RECIPES RUNTIMES OPERATIONS JSON LICENCES
+# (the pages stand beside README there, whose links say so)
+FLAT = sed 's|](docs/|](|g; s|](conformance/README.md|](CONFORMANCE.md|g'
 # (units, which systemd finds there, a hook for podman and alerts for Prometheus; none of them is enabled by this)
 UNITS = $(TO)/lib/systemd/system
 SHARE = $(TO)/share/scf
@@ -65,7 +66,9 @@ install: $(PROGRAM) uninstall
 	install -m 644 docs/scf.1 "$(MAN)"
 	umask 022; dev/manual "$(MAN)" && dev/completion "$(BASH)/scf" "$(ZSH)/_scf" "$(FISH)/scf.fish"
 	for tool in $(TOOLS); do ln -sf scf "$(BASH)/scf-$$tool" && ln -sf scf.fish "$(FISH)/scf-$$tool.fish" || exit 1; done
-	install -m 644 LICENSE README.md $(PAGES:%=docs/%.md) docs/scf.schema.json "$(DOC)"
+	install -m 644 LICENSE CONTRIBUTING.md docs/*.md docs/scf.schema.json "$(DOC)"
+	install -m 644 conformance/README.md "$(DOC)/CONFORMANCE.md"
+	umask 022; $(FLAT) README.md >"$(DOC)/README.md"
 	install -m 644 contrib/systemd/scf-audit.timer "$(UNITS)"
 	install -m 644 contrib/prometheus/scf.rules.yml "$(SHARE)/prometheus"
 	umask 022; $(HERE) contrib/systemd/scf-audit.service >"$(UNITS)/scf-audit.service" && \

@@ -16,8 +16,8 @@ TOOLS = sorted(name for name in os.listdir(os.path.join(TOP, "tools"))
 MODULES = sorted(os.path.relpath(path, os.path.join(TOP, "tools"))
                  for path in glob.glob(os.path.join(TOP, "tools", "scf*", "**", "*.py"), recursive=True))
 TABLES = os.listdir(os.path.join(TOP, "tables"))
-DOCUMENTS = ["LICENSE", "README.md", "scf.schema.json",
-             *(f"{name}.md" for name in ("TUTORIAL", "RECIPES", "RUNTIMES", "OPERATIONS", "JSON", "LICENCES"))]
+DOCUMENTS = ["LICENSE", "README.md", "CONTRIBUTING.md", "CONFORMANCE.md", "scf.schema.json",
+             *(name for name in os.listdir(os.path.join(TOP, "docs")) if name.endswith(".md"))]
 
 
 class Install(Case):
@@ -64,14 +64,20 @@ class Install(Case):
         env = {**os.environ, "PATH": f"{self.prefix}/bin:{os.environ['PATH']}"}
         return self.run_words(words, given, env=env)
 
+    def test_the_links_of_the_readme(self):
+        folder = os.path.join(self.once, "share", "doc", "scf")
+        with open(os.path.join(folder, "README.md"), encoding="utf-8") as file:
+            links = re.findall(r"\]\(([^)#]+)", file.read())
+        self.assertIn("TUTORIAL.md", links)
+        self.assertEqual([link for link in links if not os.path.isfile(os.path.join(folder, link))], [])
+
     def test_each_page_that_a_tool_names_is_installed(self):
-        """But for the page on the proofs."""
         named = set()
         for name in MODULES:
             with open(os.path.join(TOP, "tools", name), encoding="utf-8") as file:
                 named.update(re.findall(r"[A-Z]+\.md", file.read()))
         self.assertIn("JSON.md", named)
-        self.assertEqual(named - {*DOCUMENTS, "FAULTS.md", "TRUST.md"}, set())
+        self.assertEqual(named - {*DOCUMENTS}, set())
 
     def test_an_older_installation_is_replaced_whole_moved_and_used_from_any_folder(self):
         self.installed()

@@ -83,8 +83,9 @@ class Package(Case):
         root = os.path.join(self.folder, "root")
         self.assertEqual(self.run_words(["dpkg-deb", "-R", made, root])[0], 0)
         self.assertEqual(self.run_words(["md5sum", "--quiet", "-c", "DEBIAN/md5sums"], cwd=root), (0, "", ""))
-        for name in ("copyright", "changelog.Debian.gz", "LICENCES.md", "README.md", "TUTORIAL.md", "RECIPES.md",
-                     "OPERATIONS.md", "JSON.md"):
+        with open(os.path.join(root, "usr", "share", "doc", "scf", "README.md"), encoding="utf-8") as file:
+            links = re.findall(r"\]\(([^)#]+)", file.read())
+        for name in ("copyright", "changelog.Debian.gz", "LICENCES.md", "README.md", *links):
             self.assertTrue(os.path.isfile(os.path.join(root, "usr", "share", "doc", "scf", name)), name)
         self.licences(os.path.join(root, "usr", "share", "doc", "scf"), {"clap", "strsim", "json", "core"})
         self.assertTrue(os.path.isfile(os.path.join(root, "usr", "share", "man", "man1", "scf-compare.1.gz")))
