@@ -6,7 +6,8 @@ The program has the terminal, input and output as ever, and runs to its end; wha
 which is overwritten, gets what `strace -f -n -e raw=all --quiet=attach -o FILE PROGRAM ..` writes: each syscall with
 its number and its registers whole, so that `needs` knows both halves of each argument. `scf needs FILE PROFILE` reads
 it, and has options for the runtime that starts the program and for another architecture. Without FILE it is a new
-file here, called by the program: ls.log, or with --profile ls.json; standard error says so.
+file here, called by the program: ls.log, or with --profile ls.json; standard error says so. A FILE.json without
+--profile is refused, since it would lose its profile.
 
 With --profile FILE gets, in place of the log, the smallest profile that allows what was recorded, as `needs --profile`
 makes it of BASE; what isn't in it goes to standard error. Only what the program did in this run is recorded: run
@@ -51,6 +52,8 @@ def read_words():
     if not traced:
         parser.error("no program is given: it stands behind --")
     options.traced = traced
+    if options.profile is None and (options.file or "").endswith(".json"):
+        parser.error(f"'{options.file}' would get the log, not a profile: --profile BASE makes one")
     if options.file is None:
         options.file = tracing.new_name(traced, ".log" if options.profile is None else ".json")
         program.say(f"writes {options.file}")

@@ -203,6 +203,14 @@ class Recorded(Traced):
         for words in (("log",), ("log", "--"), ("--",), ("a", "b", "--", "true")):
             self.assertEqual(self.run_tool("record", *words)[:2], (2, ""))
 
+    def test_a_profile_is_not_lost(self):
+        profile = self.file("p.json", b"{}")
+        status, out, err = self.run_tool("record", profile, "--", "touch", "ran")
+        self.assertEqual((status, out), (2, ""))
+        self.assertIn("p.json' would get the log, not a profile: --profile BASE makes one", err)
+        with open(profile, "rb") as file:
+            self.assertEqual((file.read(), os.path.exists(os.path.join(self.folder, "ran"))), (b"{}", False))
+
     def test_without_a_file(self):
         """It is a new one that is called by the program."""
         program = shutil.which("true")
