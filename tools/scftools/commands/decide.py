@@ -80,4 +80,5 @@ def main():
     stack = filters.read_stack(options.filters)
     if options.expect is not None:
         return put_unmet(options, table, stack)
+    decisions.want_a_call(options)
     return decisions.print_replies(options, table, lambda call: decisions.stack_decisions(stack, call, table))

@@ -30,4 +30,5 @@ def main():
     parser.one_standard_input([options.filter, options.table, options.calls_from])
     table = tables.read_table(options.table)
     filter_ = filters.read_filter(options.filter)
+    decisions.want_a_call(options)
     return decisions.print_replies(options, table, lambda call: decisions.of_run(filter_, call, table, options.path))

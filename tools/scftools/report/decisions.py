@@ -70,6 +70,12 @@ def add_options(parser: Parser) -> None:
     parser.record_words = record_words
 
 
+def want_a_call(options: Any) -> None:
+    """Rejects files without a syscall; of standard input alone number 0 is answered, as by the program."""
+    if output.has_notes and not options.nr and options.calls_from is None:
+        raise program.ToolError("no syscall is given: name one with --nr NUMBER|NAME, or several with --calls-from FILE")
+
+
 @dataclass(frozen=True)
 class Numbering:
     """How the fields of a record are given: a syscall by a name of its architecture's table or by a number, an argument

@@ -53,10 +53,10 @@ class Limits(Measured):
                     (("compare", self.filter, endless, self.profile), 3, too_long),
                     (("compare", self.filter, endless), 3, "fault profile TooLong\n"),
                     (("compare", "--table", endless, self.filter, self.profile), 2, table),
-                    (("decide", self.filter, endless), 3, too_long), (("decide", "--table", endless, self.filter), 2,
-                        table),
+                    (("decide", "--nr=0", self.filter, endless), 3, too_long),
+                    (("decide", "--table", endless, self.filter), 2, table),
                     (("decide", "--calls-from", endless, self.filter), 2, "has more than 65536 bytes"),
-                    (("run", endless), 3, too_long), (("run", "--table", endless, self.filter), 2, table),
+                    (("run", "--nr=0", endless), 3, too_long), (("run", "--table", endless, self.filter), 2, table),
                     (("run", "--calls-from", endless, self.filter), 2, "has more than 65536 bytes"),
                     (("check", self.filter, endless), 3, too_long), (("list", endless), 3, too_long),
                     (("list", "--table", endless, self.filter), 2, table),
@@ -82,7 +82,7 @@ class Limits(Measured):
     def test_many_long_filters(self):
         """Of more filters than scf reads no more are kept than show it."""
         long = self.file("long.bpf", bytes(FILTER + 1))
-        self.ends(("decide", *[long] * 1500), 3, "fault input TooLong\n")
+        self.ends(("decide", "--nr=0", *[long] * 1500), 3, "fault input TooLong\n")
 
     def test_names_as_long_as_a_profile(self):
         long = self.file("long.json", profile_of("read", "r" * (TEXT - 500), *map(str, range(20))))
@@ -178,8 +178,9 @@ class Words(Case):
                              (("compare", self.filter, "-"), profile_of("read")),
                              (("compare", self.filter, "/dev/stdin"), profile_of("read")),
                              (("compare", "--table=-", self.filter, self.profile), table),
-                             (("decide", "--table=-", self.filter), table),
-                             (("decide", "--calls-from=-", self.filter), b"read\n"), (("run", "-"), filter_of([0])),
+                             (("decide", "--nr=0", "--table=-", self.filter), table),
+                             (("decide", "--calls-from=-", self.filter), b"read\n"),
+                             (("run", "--nr=0", "-"), filter_of([0])),
                              (("check", "-"), filter_of([0])), (("list", "-"), filter_of([0])),
                              (("compile", "-"), profile_of("read"))):
             settings = {"stdout": subprocess.DEVNULL} if words[0] == "compile" else {}
@@ -195,7 +196,7 @@ class Words(Case):
     def test_pipes_of_a_shell(self):
         for words in ('compare --table <(echo read 0) <(cat "$1") <(cat "$2")',
                       'decide --calls-from <(echo read) <(cat "$1")',
-                      'run <(cat "$1")', 'check <(cat "$1") <(cat "$1")', 'list <(cat "$1")',
+                      'run --nr=0 <(cat "$1")', 'check <(cat "$1") <(cat "$1")', 'list <(cat "$1")',
                       'compile --table <(echo read 0) <(cat "$2") >/dev/null'):
             done = self.run_words(["bash", "-c", f'"$0"/{words}', os.path.dirname(tool("")), self.filter,
                                    self.profile])

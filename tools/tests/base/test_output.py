@@ -163,8 +163,8 @@ class Failing(Case):
 
     def each(self):
         return (("compare", self.same, self.profile), ("compare", "--json", self.same, self.profile),
-                ("decide", self.same), ("run", self.same), ("check", self.same), ("list", self.same),
-                ("compile", self.profile), ("bundle", "profile", self.profile), ("explain", "--help"),
+                ("decide", "--nr=0", self.same), ("run", "--nr=0", self.same), ("check", self.same),
+                ("list", self.same), ("compile", self.profile), ("bundle", "profile", self.profile), ("explain", "--help"),
                 ("surface", self.same), ("surface", "--json", self.same),
                 ("compare-profiles", self.profile, self.profile),
                 ("compare", "--version"))
@@ -207,11 +207,11 @@ class Failing(Case):
 
     def test_the_other_descriptors_closed(self):
         for closing in ("<&-", "2>&-", "<&- 2>&-"):
-            for words in (("decide", self.same), ("compare", self.same, self.profile)):
+            for words in (("decide", "--nr=0", self.same), ("compare", self.same, self.profile)):
                 done = subprocess.run(["sh", "-c", f'"$@" {closing}', "sh", tool(words[0]), *words[1:]],
                                       stdout=subprocess.PIPE, check=False)
                 self.assertEqual(done.returncode, 0, (closing, words))
-        done = subprocess.run(["sh", "-c", '"$0" - <&-', tool("run")], stdout=subprocess.PIPE, stderr=subprocess.PIPE,
+        done = subprocess.run(["sh", "-c", '"$0" --nr=0 - <&-', tool("run")], stdout=subprocess.PIPE, stderr=subprocess.PIPE,
                               check=False)
         self.assertEqual((done.returncode, done.stdout), (2, b""))
         self.assertIn(b"standard input can't be read", done.stderr)

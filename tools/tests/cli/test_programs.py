@@ -124,6 +124,17 @@ class Run(Case):
     def test_usage(self):
         self.says_usage("run", "one", "two")
 
+    def test_a_file_without_a_call(self):
+        """Number 0 is answered of standard input alone, as by the program."""
+        for words in (("run", self.filter), ("run", "--path", self.filter), ("decide", self.filter, self.filter),
+                      ("decide", "--a0=1", self.filter), ("run", "-")):
+            status, out, err = self.run_tool(*words, given=filter_of([0]))
+            self.assertEqual((status, out), (2, ""), words)
+            self.assertIn("no syscall is given: name one with --nr", err)
+        for name in ("run", "decide"):
+            self.assertEqual(self.run_tool(name, given=filter_of([0]))[:2],
+                             (0, f"ALLOW 0{' steps 6' if name == 'run' else ''}\n"))
+
     def test_one_call(self):
         self.assertEqual(self.run_tool("run", "--nr", "write", self.filter),
                          (0, "ERRNO 1 steps 6\n# the syscall is write (1)\n# ERRNO 1: the syscall fails with "
@@ -216,7 +227,7 @@ class WhichFilter(Case):
 
     def test_a_fault(self):
         bad = self.file("bad.bpf", jeq(0, 9, 0) + ret(ALLOW))
-        for words in (("compare", self.allow, bad, self.one, self.profile), ("decide", self.allow, bad, self.one)):
+        for words in (("compare", self.allow, bad, self.one, self.profile), ("decide", "--nr=0", self.allow, bad, self.one)):
             status, out, _ = self.run_tool(*words)
             self.assertEqual(status, 1)
             self.assertTrue(out.startswith("fault filter Jump at 0\n# This jump"), out)
@@ -225,7 +236,7 @@ class WhichFilter(Case):
 
     def test_a_stack_that_is_too_long(self):
         long = [self.file(f"{at}.bpf", ret(ALLOW) * 4096) for at in range(8)]
-        for words in (("decide", *long), ("compare", *long, self.profile)):
+        for words in (("decide", "--nr=0", *long), ("compare", *long, self.profile)):
             status, out, _ = self.run_tool(*words)
             self.assertEqual((status, out.split("\n")[0]), (1, "fault stack TooMany total 32796"))
             self.assertTrue(out.endswith(f"# the filter is {long[7]}\n"), out)
@@ -439,7 +450,7 @@ class Programs(Case):
         for name in ("argparse", "os", "re", "scftools", "sitecustomize", "usercustomize"):
             self.file(f"{name}.py", "import sys\nsys.exit(77)\n")
         given = self.file("f.bpf", filter_of([0]))
-        for name in ("check", "run", "list"):
+        for name in ("check", "surface", "list"):
             done = self.run_tool(name, given, env={**os.environ, "PYTHONPATH": self.folder, "PYTHONSTARTUP":
                                                    f"{self.folder}/os.py", "PYTHONHOME": self.folder})
             self.assertEqual((done[0], done[2]), (0, ""), name)
