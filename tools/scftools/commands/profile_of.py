@@ -27,9 +27,10 @@ TRAP with data, as browsers' filters have it, is written as errnoRet beside SCMP
 
 Some filters answer as no profile can: by the instruction pointer, by two arguments that they compare with each other,
 or with data that a profile has no place for. Then the output is two profiles, and not JSON as a whole: the nearest that
-is nowhere stricter than the filters, and the nearest that is nowhere more permissive; or one that is both. This is
-proved. Lines marked by `# ` say which syscalls get another answer, and why, with an example where the profile is more
-permissive or stricter. With --no-less only the first profile is printed, with --no-more the second:
+is nowhere stricter than the filters, and the nearest that is nowhere more permissive. This is proved. Lines marked by
+`# ` say which syscalls get another answer, and why, with an example where the profile is more permissive or stricter.
+If one profile is both, as of runc's filters, whose ENOSYS no profile says, it is printed alone, and standard error says
+this. With --no-less only the first profile is printed, with --no-more the second:
 
     scf profile-of --no-more filter.bpf >stricter.json
 

@@ -521,7 +521,9 @@ def _of_answers(request: ProfileRequest, answers: FilterAnswers, relation: str) 
         return Result(program.SUCCESS, same.text, remarks, [same])
     if relation == SAME:
         bounds = _bounds(request, answers)
-        lines = _both_sides(request, answers, bounds)
+        lines = list(_both_sides(request, answers, bounds))
+        if len(bounds) == 1:
+            return Result(program.UNKNOWN, bounds[0].text, [line[2:] for line in lines if line.startswith("# ")], bounds)
         return Result(program.UNKNOWN, "".join(f"{line}\n" for line in lines), [], bounds)
     bound = _bound(request, answers, relation)
     if bound is None:
