@@ -6,6 +6,8 @@ of socketcall and ipc, and where runc's stub begins.
 """
 from __future__ import annotations
 
+import functools
+import json
 import os
 from collections.abc import Iterator, Sequence
 
@@ -13,8 +15,8 @@ from ..base import inputs, program
 from ..base.values import Any, dataclass, replace
 from ..model import architectures, libseccomp, multiplexed, profiles, tables
 from ..model.answers import MAX_ERRNO, Answer
-from ..model.architectures import JUDGED, NATIVE, NUMBERS, PREFIX
-from ..model.profiles import SANDBOX, Refused
+from ..model.architectures import JUDGED, LITTLE_ENDIAN, NATIVE, NUMBERS, PREFIX
+from ..model.profiles import FLAGS, SANDBOX, Refused
 from ..model.tables import Tables
 from ..cli.words import Parser
 from . import engines, profile_inputs
@@ -27,6 +29,35 @@ ERRNO, NOTIFY = "SCMP_ACT_ERRNO", "SCMP_ACT_NOTIFY"
 WITHOUT_STUB = ("SCMP_ACT_ALLOW", "SCMP_ACT_LOG", "SCMP_ACT_TRACE")
 # The most conditions of an entry that crun reads.
 CRUN_CONDITIONS = 6
+# Where runc is beside $PATH, and how long it may take to say what it takes, in seconds.
+SYSTEM_FOLDERS, RUNC_SECONDS = "/usr/sbin:/usr/local/sbin", 10
+
+
+# Of each runtime the version that was tried, and what it takes in the members of a profile that depend on it.
+TRIED: dict[str, tuple[str, dict[str, Sequence[str]]]] = {
+    RUNC: ("1.1.5", {"flags": (), "architectures": [name for name in NUMBERS if name.removeprefix(PREFIX) not in (
+        "LOONGARCH64", "M68K", "PARISC", "PARISC64", "RISCV64", "SH", "SHEB")]}),
+    CRUN: ("1.8.1", {"flags": FLAGS, "architectures": list(NUMBERS)})}
+
+
+@functools.lru_cache(None)
+def taken_by(program_name: str) -> tuple[str, dict[str, Sequence[str]]]:
+    """The same of the installed runc, as it says (`runc features`, features-linux.md of the OCI runtime specification);
+    of one that doesn't, and of crun, what the tried version takes."""
+    import subprocess  # pylint: disable=import-outside-toplevel
+
+    if program_name != RUNC:
+        return TRIED[program_name]
+    path = f"{os.environ.get('PATH', os.defpath)}:{SYSTEM_FOLDERS}"
+    try:
+        done = subprocess.run([RUNC, "features"], stdin=subprocess.DEVNULL, stdout=subprocess.PIPE, check=True,
+                              stderr=subprocess.DEVNULL, timeout=RUNC_SECONDS, env={**os.environ, "PATH": path})
+        features = json.loads(done.stdout)
+        takes = features["linux"]["seccomp"]
+        return features["annotations"]["org.opencontainers.runc.version"], {
+            "flags": takes.get("supportedFlags") or (), "architectures": takes["archs"]}
+    except (OSError, ValueError, LookupError, TypeError, subprocess.SubprocessError):
+        return TRIED[RUNC]
 
 
 @dataclass(frozen=True)
@@ -137,8 +168,8 @@ class _Application:
                                     f"{where}")
         elif not self.is_runc and number >= 1 << 32:
             self.refuse(f"the errno {number} of {where}")
-        elif action == ERRNO and number & 0xFFFF > MAX_ERRNO:
-            self.refuse(f"libseccomp takes no errno above {MAX_ERRNO}, and {where} has {number & 0xFFFF}")
+        elif action == ERRNO and number & 0xFFFF >= MAX_ERRNO:
+            self.refuse(f"libseccomp takes no errno above {MAX_ERRNO - 1}, and {where} has {number & 0xFFFF}")
 
     def check_supervisor(self, profile: dict[str, Any], origins: Sequence[Origin]) -> None:
         """Refuses what runc refuses of a profile whose calls a supervisor answers."""
@@ -149,6 +180,21 @@ class _Application:
                 self.refuse(f"entry {origin.index} has write with {NOTIFY}")
             if entry["action"] == NOTIFY and "listenerPath" not in profile:
                 self.refuse(f"it has {NOTIFY} and no listenerPath")
+
+    def check_members(self, given: dict[str, Any]) -> None:
+        """Refuses architectures and flags that libseccomp or the runtime refuses."""
+        for name in given.get("architectures", ()):
+            if name not in NUMBERS:
+                self.refuse(f"it knows no architecture '{excerpt(name)}'")
+            if not NUMBERS[name] & LITTLE_ENDIAN:
+                self.refuse(f"libseccomp takes no big-endian architecture, as {name}, beside {self.native}")
+            if self.library is not None and not self.library.has_architecture(name):
+                self.refuse(f"this machine's libseccomp {self.library.version} doesn't know {name}")
+        for member, taken in TRIED[self.runtime.program][1].items():
+            for name in (name for name in given.get(member, ()) if name not in taken):
+                version, takes = taken_by(self.runtime.program)
+                if name not in takes[member]:
+                    self.refuse(f"version {version} doesn't take '{excerpt(name)}' in {member}")
 
     def entry_of(self, entry: dict[str, Any], where: str) -> dict[str, Any]:
         """An entry as libseccomp is given it, without the names that it doesn't know; and of an errno the 16 bits."""
@@ -240,9 +286,7 @@ class _Application:
         if not self.is_runc and "architectures" in profile:
             # crun takes them in small letters, and without the prefix
             given["architectures"] = [PREFIX + name.removeprefix(PREFIX).upper() for name in profile["architectures"]]
-        for name in given.get("architectures", ()):
-            if name not in NUMBERS:
-                self.refuse(f"it knows no architecture '{excerpt(name)}'")
+        self.check_members(given)
         self.tell(given.get("architectures", ()))
         handed, places = multiplexed.with_rules(given, most=self.most_conditions)
         given_origins = [origin for entry, origin in entries if entry["names"]]

@@ -13,13 +13,12 @@ from ..model import profiles, tables
 from ..model.answers import ERRNOS, MAX_ERRNO
 from ..model.architectures import NATIVE, NUMBERS, PREFIX, X32
 from ..model.entries import HOLDS, Object
-from ..model.profiles import ALLOWING, OCI_ACTIONS
+from ..model.profiles import ALLOWING, FLAGS, OCI_ACTIONS
 from ..model.tables import Tables
 from .findings import MOST, Finding, listed
 
 # The names of the OCI runtime specification (config-linux, seccomp), which are libseccomp's.
 OCI_ARCHITECTURES = tuple(NUMBERS)
-FLAGS = tuple(f"SECCOMP_FILTER_FLAG_{name}" for name in "TSYNC LOG SPEC_ALLOW WAIT_KILLABLE_RECV".split())
 # Other names for these architectures.
 ALIASES = {"AMD64": "X86_64", "X86-64": "X86_64", "X64": "X86_64", "ARM64": "AARCH64"}
 

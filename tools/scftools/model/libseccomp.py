@@ -3,7 +3,7 @@ from __future__ import annotations
 
 from ..base import program
 from .answers import X86_64
-from .architectures import NATIVE, NUMBERS, X32
+from .architectures import NATIVE, NUMBERS, PREFIX, X32
 
 # SCMP_ARCH_X32 (seccomp.h), whose records have x86-64's number.
 TOKENS = {**NUMBERS, X32: 0x4000003E}
@@ -21,12 +21,14 @@ class Library:
             library = ctypes.CDLL("libseccomp.so.2")
             self._number_of, self._name_of = (library.seccomp_syscall_resolve_name_arch,
                                               library.seccomp_syscall_resolve_num_arch)
+            self._token_of = library.seccomp_arch_resolve_name
             self._free = ctypes.CDLL(None).free
             version_of = library.seccomp_version
         except (OSError, AttributeError) as error:
             raise program.ToolError("there is no libseccomp.so.2", program.IO_ERROR) from error
         self._string_at = ctypes.string_at
         self._number_of.argtypes = [ctypes.c_uint32, ctypes.c_char_p]
+        self._token_of.restype, self._token_of.argtypes = ctypes.c_uint32, [ctypes.c_char_p]
         self._name_of.restype, self._name_of.argtypes = ctypes.c_void_p, [ctypes.c_uint32, ctypes.c_int]
         self._free.restype, self._free.argtypes = None, [ctypes.c_void_p]
         version_of.restype = ctypes.POINTER(ctypes.c_uint * 3)
@@ -39,6 +41,10 @@ class Library:
         data = name.encode("utf-8", "surrogatepass")
         number = self._number_of(TOKENS[architecture], data) if b"\0" not in data else UNKNOWN_NAME
         return None if number == UNKNOWN_NAME else number
+
+    def has_architecture(self, name: str) -> bool:
+        """Whether it knows an architecture of an OCI name."""
+        return bool(self._token_of(name.removeprefix(PREFIX).lower().encode()))
 
     def knows(self, name: str) -> bool:
         """Whether it knows a syscall by this name, of any architecture."""

@@ -26,6 +26,8 @@ YAML_MEMBER = Pattern(r"^[A-Za-z_][A-Za-z0-9_.-]{0,80}:(?:\s|\Z)", re.M)
 ALLOWING = ("SCMP_ACT_ALLOW", "SCMP_ACT_LOG")
 OCI_ACTIONS = tuple(f"SCMP_ACT_{action}" for action in
                     "ALLOW LOG ERRNO TRACE TRAP NOTIFY KILL KILL_THREAD KILL_PROCESS".split())
+# The flags of the OCI runtime specification (config-linux.md: Seccomp).
+FLAGS = tuple(f"SECCOMP_FILTER_FLAG_{name}" for name in "TSYNC LOG SPEC_ALLOW WAIT_KILLABLE_RECV".split())
 # The actions that take an errno; a sandbox's reading has also TRAP's data so.
 WITH_ERRNO, TRAP = ("SCMP_ACT_ERRNO", "SCMP_ACT_TRACE"), "SCMP_ACT_TRAP"
 # The members of a profile, in the form of the OCI runtime specification (config-linux.md: Seccomp) and in those of the

@@ -297,8 +297,15 @@ class Runtimes(Case):
 
     def test_what_the_runtimes_refuse(self):
         for runtime, given, says in (
-                ("runc", profile(entry("mkdir", action=ERRNO, errnoRet=5000)), "above 4095, and entry 1 has 5000"),
-                ("crun", profile(entry("mkdir", action=ERRNO, errnoRet=70000)), "above 4095, and entry 1 has 4464"),
+                ("runc", profile(entry("mkdir", action=ERRNO, errnoRet=4095)), "above 4094, and entry 1 has 4095"),
+                ("crun", profile(entry("mkdir", action=ERRNO, errnoRet=69631)), "above 4094, and entry 1 has 4095"),
+                ("crun", profile(entry("mkdir", action=ERRNO, errnoRet=70000)), "above 4094, and entry 1 has 4464"),
+                *((runtime, profile(architectures=[X86_64, f"SCMP_ARCH_{name}"]), f"no big-endian architecture, as "
+                   f"SCMP_ARCH_{name}, beside {X86_64}") for runtime in ("runc", "crun") for name in ("MIPS", "S390X")),
+                ("runc", profile(flags=["SECCOMP_FILTER_FLAG_LOG"]), "version .* 'SECCOMP_FILTER_FLAG_LOG' in flags"),
+                ("crun", profile(flags=["SECCOMP_FILTER_FLAG_X"]), "version .* 'SECCOMP_FILTER_FLAG_X' in flags"),
+                ("crun", profile(flags=[""]), "version .* '' in flags"),
+                ("runc", profile(architectures=[X86_64, "SCMP_ARCH_RISCV64"]), "'SCMP_ARCH_RISCV64' in architectures"),
                 ("runc", profile(defaultErrnoRet=5000), "and the default has 5000"),
                 ("crun", profile(defaultErrnoRet=5000), "and the default has 5000"),
                 ("crun", profile(entry("mkdir", action=ERRNO, errnoRet=2**32 + 1)), "the errno 4294967297 of entry 1"),
@@ -316,6 +323,33 @@ class Runtimes(Case):
                 runtimes.applied(given, runtime)
             self.assertIsNone(filters_of(runtime, given)[0], given)
         self.same("runc", entry("mkdir", action=ERRNO, errnoRet=2**32 + 1), entry("mkdir"))
+        for runtime in ("runc", "crun"):
+            self.same(runtime, entry("mkdir", action=ERRNO, errnoRet=4094), flags=[])
+        self.same("crun", flags=list(profiles.FLAGS), architectures=[X86_64, "SCMP_ARCH_RISCV64"])
+
+    def test_what_libseccomp_does_not_know(self):
+        library = libseccomp.installed()
+        for name in ("LOONGARCH64", "SH") if library is not None and library.version == "2.5.4" else ():
+            given = profile(architectures=[X86_64, f"SCMP_ARCH_{name}"])
+            for runtime in ("runc", "crun"):
+                with self.assertRaisesRegex(engines.Refused, f"libseccomp 2.5.4 doesn't know SCMP_ARCH_{name}"):
+                    runtimes.applied(given, runtime)
+                self.assertIsNone(filters_of(runtime, given)[0], given)
+
+    def test_what_another_runc_takes(self):
+        """A newer one says that it takes flags (features-linux.md of the OCI runtime specification)."""
+        said = {"linux": {"seccomp": {"archs": [X86_64], "supportedFlags": ["SECCOMP_FILTER_FLAG_LOG"]}},
+                "annotations": {"org.opencontainers.runc.version": "1.2.0"}}
+        os.chmod(self.file("runc", f"#!/bin/sh\necho '{json.dumps(said)}'\n"), 0o755)
+        given = [profile(flags=[f"SECCOMP_FILTER_FLAG_{name}"]) for name in ("LOG", "TSYNC")]
+        self.addCleanup(runtimes.taken_by.cache_clear)
+        for path, version in ((self.folder, "1.2.0"), ("/nowhere", "1.1.5")):
+            runtimes.taken_by.cache_clear()
+            with mock.patch.dict(os.environ, PATH=path), mock.patch.object(runtimes, "SYSTEM_FOLDERS", ""):
+                if version == "1.2.0":
+                    runtimes.applied(given[0], "runc")
+                with self.assertRaisesRegex(engines.Refused, f"version {version} .*_TSYNC' in flags"):
+                    runtimes.applied(given[1], "runc")
 
     def test_the_engines_default_profiles(self):
         for name, path in (("docker", MOBY), ("podman", PODMAN)):
@@ -523,6 +557,10 @@ class Tools(Case):
             for name, verdict in ((runtime, "same"), (other_runtime, word)):
                 out = self.run_tool("compare", "--runtime", name, "f.bpf", self.path)[1]
                 self.assertEqual(out.split("\n")[0], verdict)
+        refused = self.file("r.json", json.dumps({**self.given, "architectures": [X86_64, "SCMP_ARCH_S390X"]}))
+        status, out, err = self.run_tool("compile", "--runtime", "crun", refused)
+        self.assertEqual((status, out), (1, ""))
+        self.assertIn("crun refuses the profile: libseccomp takes no big-endian", err)
         status, _, err = self.run_tool("compare", "f.bpf", "--beside", "f.bpf", "--runtime", "runc")
         self.assertEqual((status, "--runtime speaks of a profile" in err), (2, True))
 
