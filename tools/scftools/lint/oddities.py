@@ -16,6 +16,7 @@ from ..model.entries import HOLDS, Object
 from ..model.profiles import ALLOWING, FLAGS, OCI_ACTIONS
 from ..model.tables import Tables
 from .findings import MOST, Finding, listed
+from .kinds import ERROR
 
 # The names of the OCI runtime specification (config-linux, seccomp), which are libseccomp's.
 OCI_ARCHITECTURES = tuple(NUMBERS)
@@ -36,10 +37,13 @@ def of_names(top: Object, judged: Tables) -> Iterator[Finding]:
     """Names that no syscall has, and a count of names that only other architectures have than those that are judged."""
     places = _places(top)
     skipped = tables.classify([name for name in places if not judged.has(name)], judged)
-    for name, near in skipped.unknown:
+    slips = {name: tables.misspelt_as(name, *judged.of.values()) for name, _ in skipped.unknown}
+    # (those come first, since of too many the last aren't listed)
+    for name, near in sorted(skipped.unknown, key=lambda unknown: slips[unknown[0]] is None):
+        near = slips[name] or near
         nearest = f"; the nearest name in the table is {near}" if near else ""
         yield Finding("unknown-name", f"entry {places[name]}: no known syscall is named {output.cut(name)}{nearest}",
-                      {"entry": places[name], "name": name, "nearest": near})
+                      {"entry": places[name], "name": name, "nearest": near}, graver=ERROR if slips[name] else None)
     for name in skipped.left_out:
         yield Finding("left-out-name", f"entry {places[name]}: {name} is a syscall of x86-64 that this table "
                       "leaves out", {"entry": places[name], "name": name})

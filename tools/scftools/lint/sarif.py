@@ -4,11 +4,12 @@ from __future__ import annotations
 
 import os
 import urllib.parse
-from collections.abc import Iterator, Mapping
+from collections.abc import Iterator, Sequence
 
 from ..base import json_places
 from ..base.values import Any
 from .findings import Finding, LintReport
+from .kinds import FINDING_KINDS, meanings
 
 SCHEMA = "https://docs.oasis-open.org/sarif/sarif/v2.1.0/errata01/os/schemas/sarif-schema-2.1.0.json"
 # Where a profile stands in what may hold one: alone, in a config.json, in a SeccompProfile of Kubernetes.
@@ -43,24 +44,30 @@ class Places:
         return location
 
 
-def _results(report: LintReport, grades: Mapping[str, str], places: Places) -> Iterator[dict[str, Any]]:
+def _results(report: LintReport, places: Places) -> Iterator[dict[str, Any]]:
     for findings, is_decided in ((report.findings, True), (report.undecided, False)):
         for finding in findings.all():
-            level = {"level": grades[finding.kind]} if is_decided else {"kind": "open", "level": "none"}
+            level = {"level": finding.grade} if is_decided else {"kind": "open", "level": "none"}
             yield {"ruleId": finding.kind, **level, "message": {"text": finding.text},
                    "locations": [{"physicalLocation": places.of(finding)}]}
 
 
-def as_sarif(report: LintReport, grades: Mapping[str, str], rules: Mapping[str, str], data: bytes, name: str) -> dict:
-    """A log with one run, whose rules are the kinds of findings. If scf refuses the profile its fault is a message, and
-    the run didn't succeed."""
-    places = Places(data, name, [*report.findings, *report.undecided])
-    invocation: dict[str, Any] = {"executionSuccessful": report.fault is None}
-    if report.fault:
-        invocation["toolExecutionNotifications"] = [{"level": "error", "message": {"text": report.fault.line}}]
+def as_sarif(reports: Sequence[tuple[LintReport, bytes, str]]) -> dict[str, Any]:
+    """A log with one run of the reports on files, each with its text and its name; the rules are the kinds of findings.
+    If scf refuses a profile its fault is a message, and the run didn't succeed."""
+    results: list[dict[str, Any]] = []
+    faults: list[dict[str, Any]] = []
+    for report, data, name in reports:
+        places = Places(data, name, [*report.findings, *report.undecided])
+        results += _results(report, places)
+        if report.fault:
+            place = {"physicalLocation": {"artifactLocation": {"uri": places.uri}}}
+            faults.append({"level": "error", "message": {"text": report.fault.line}, "locations": [place]})
+    rules = meanings()
     driver = {"name": "scf lint", "rules": [
         {"id": kind, "shortDescription": {"text": rules[kind]}, "defaultConfiguration": {"level": grade}}
-        for kind, grade in grades.items()]}
+        for kind, grade in FINDING_KINDS.items()]}
+    invocation = {"executionSuccessful": not faults, "toolExecutionNotifications": faults}
     return {"$schema": SCHEMA, "version": "2.1.0",
             "runs": [{"tool": {"driver": driver}, "invocations": [invocation], "columnKind": "unicodeCodePoints",
-                      "results": list(_results(report, grades, places))}]}
+                      "results": results}]}

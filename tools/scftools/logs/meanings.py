@@ -137,7 +137,8 @@ def _of_left_out(line: str, table: Table) -> Iterator[str]:
 
 
 def _of_finding(line: str) -> Iterator[str]:
-    what = kinds.meanings().get(line.partition(":")[0])
+    grade, _, finding = line.partition(" ")
+    what = kinds.meanings().get((finding if grade in kinds.GRADES else line).partition(":")[0])
     if what is not None:
         yield f"a finding of lint: {what}"
 

@@ -16,6 +16,12 @@ MOST_LISTED, LONGEST_NAME = 20, 64
 NEAR, NEAR_MEMBER = 0.75, 0.7
 
 
+def _blanked(name: str) -> list[str]:
+    """A name with a blank for each of its letters in turn; no digit is one, since a name with another digit may be a
+    newer syscall's."""
+    return [f"{name[:at]} {name[at + 1:]}" for at, letter in enumerate(name) if letter.isalpha()]
+
+
 class Table:
     """A syscall table: its bytes as scf takes them, and its names, which are parsed when they are needed.
 
@@ -42,6 +48,18 @@ class Table:
 
     def number_of(self, name: str) -> int | None:
         return self._parsed[1].get(name)
+
+    @functools.cached_property
+    def _of_slips(self) -> dict[str, str]:
+        """The names by what they are with two neighbours exchanged, or with a blank for a letter."""
+        exchanged = {name[:at] + name[at + 1] + name[at] + name[at + 2:]: name
+                     for name in self.names() for at in range(len(name) - 1)}
+        return {**exchanged, **{slip: name for name in self.names() for slip in _blanked(name)}}
+
+    def misspelt_as(self, name: str) -> str | None:
+        """The name that this one is but for one letter, or for two neighbours that are exchanged, if there is one."""
+        forms = (name, *_blanked(name)) if len(name) <= LONGEST_NAME else ()
+        return next((self._of_slips[form] for form in forms if form in self._of_slips), None)
 
     def names(self) -> Iterable[str]:
         return self._parsed[1].keys()
@@ -205,9 +223,15 @@ def nearest_member(name: str, members: Iterable[str]) -> str | None:
     return by_letters.get(most_like(name.lower(), by_letters, NEAR_MEMBER) or "")
 
 
+def misspelt_as(name: str, *among: Table) -> str | None:
+    """The name in the tables that this one is but for one letter, or for two neighbours that are exchanged."""
+    return next(filter(None, (table.misspelt_as(name) for table in among)), None)
+
+
 def nearest(name: str, *among: Table) -> str | None:
     """The name in the tables most similar to this one in small letters, or None if none is similar."""
-    return most_like(name.lower(), dict.fromkeys(name for table in among for name in table.names()))
+    return misspelt_as(name, *among) or most_like(
+        name.lower(), dict.fromkeys(name for table in among for name in table.names()))
 
 
 def classify(names: Sequence[str], judged: Tables) -> Skipped:

@@ -138,11 +138,11 @@ class Profiles(Measured):
     def test_many_architectures(self):
         text = filled(self.DENIES + b'"architectures":["SCMP_ARCH_X86_64",', lambda at: b'"SCMP_ARCH_Y%d"' % at, b"]}")
         self.ends("compile", text)
-        self.assertRegex(self.ends("lint", text), rb"\nunknown-architecture: and [0-9]+ more\n")
+        self.assertRegex(self.ends("lint", text), rb"\nwarning unknown-architecture: and [0-9]+ more\n")
 
     def test_many_members(self):
         text = filled(self.ALLOWS, lambda at: b'"%x":1' % at, b"}")
-        self.assertRegex(self.ends("lint", text), rb"\nunread-member: and [0-9]+ more\n")
+        self.assertRegex(self.ends("lint", text), rb"\nerror unread-member: and [0-9]+ more\n")
 
     def test_many_objects(self):
         """Of nothing in them: each was an object of Python with several others."""
@@ -157,7 +157,7 @@ class Profiles(Measured):
 
     def test_many_entries_of_names_that_no_call_has(self):
         text = filled(self.DENIES + b'"syscalls":[', lambda at: b'{"names":["x%d"],"action":"SCMP_ACT_LOG"}' % at, b"]}")
-        self.assertRegex(self.ends("lint", text), rb"\nunknown-name: and [0-9]+ more\n")
+        self.assertRegex(self.ends("lint", text), rb"\nwarning unknown-name: and [0-9]+ more\n")
 
     def test_arrays_as_deep_as_may_be(self):
         """In half of a profile: 4 MiB of them would take scf more memory than the tools give it."""

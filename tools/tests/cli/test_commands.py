@@ -297,13 +297,24 @@ class Hook(Case):
     def test_a_commit(self):
         profile = {"defaultAction": "SCMP_ACT_ERRNO", "syscalls": [{"names": ["read"], "action": "SCMP_ACT_ALLOW"}]}
         status, out, _ = self.committed(json.dumps(profile))
-        self.assertEqual((status, out.split("\n")[0]), (0, "a seccomp.json:"))
+        self.assertEqual((status, out.split("\n")[0]), (0, "# a seccomp.json"))
         profile["syscalls"][0]["args"] = [{"index": 0, "value": 0, "op": "SCMP_CMP_MASKED_EQ"}]
         for words in ((), ("$HOOK", "'a seccomp.json'")):
             status, out, _ = self.committed(json.dumps(profile), *words)
             self.assertNotEqual(status, 0)
-            self.assertIn("a seccomp.json:\nalways-met: entry 0", out)
+            self.assertIn("# a seccomp.json\nerror always-met: entry 0", out)
         self.assertEqual(self.committed("{}", "git mv 'a seccomp.json' other.json && $HOOK")[:2], (0, ""))
+
+    def test_what_git_commits(self):
+        """Git makes no commit while one of two profiles has a name in which two letters are exchanged."""
+        commit = ("ln -sf $HOOK .git/hooks/pre-commit && git -c user.name=a -c user.email=a@b commit -qm x && "
+                  "git log --oneline | wc -l")
+        os.makedirs(os.path.join(self.folder, "repository"))
+        self.file("repository/seccomp.json", '{"defaultAction": "SCMP_ACT_ERRNO"}')
+        for name, ended in (("ptrcae", (1, "")), ("ptrace", (0, "1\n"))):
+            profile = {"defaultAction": "SCMP_ACT_ALLOW", "syscalls": [{"names": [name], "action": "SCMP_ACT_ERRNO"}]}
+            status, out, err = self.committed(json.dumps(profile), commit)
+            self.assertEqual((status, out, "error unknown-name: entry 0" in err), (*ended, name == "ptrcae"), err)
 
 
 class Completion(Case):

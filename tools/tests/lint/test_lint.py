@@ -13,7 +13,8 @@ from support.stand_in import StandIn
 from base.test_output import HOSTILE
 from forms.test_runtimes import MOBY, PODMAN
 import kernel_profiles
-from scftools.model import constants, dangerous_calls, tables
+from scftools.base import inputs
+from scftools.model import constants, dangerous_calls, libseccomp, tables
 from scftools.model.calls import Call
 from scftools.ask import client
 from scftools.lint import oddities, watchlist
@@ -54,7 +55,7 @@ class Linted(Case):
         self.assertEqual(report["status"], status)
         lines = self.run_lint(given, *words)[1].split("\n")
         self.assertEqual([line.partition(":")[0] for line in lines if line and not line.startswith(("# ", "fault "))],
-                         [it["kind"] for it in report["findings"]])
+                         [f"{it['grade']} {it['kind']}" for it in report["findings"]])
         return report
 
     def found(self, given, *words, kinds=(), status=0):
@@ -62,7 +63,9 @@ class Linted(Case):
         ended, out, err = self.run_lint(given, "--json", *words)
         self.assertEqual((ended, err), (status, ""))
         findings = [it for it in json.loads(out)["findings"] if it["kind"] in kinds]
-        self.assertEqual([it.pop("grade") for it in findings], [FINDING_KINDS[it["kind"]] for it in findings])
+        grades = [(it["kind"], it.pop("grade")) for it in findings]
+        self.assertEqual([each for each in grades if each[0] != "unknown-name"],
+                         [(kind, FINDING_KINDS[kind]) for kind, _ in grades if kind != "unknown-name"])
         return findings
 
     def effects(self, *entries, default=ERRNO, **members):
@@ -84,8 +87,9 @@ class Usage(Linted):
     def test_strict_and_except(self):
         odd = profile(entry("umont2"), default=ALLOW)
         self.assertEqual(self.run_lint(odd, "--except", "dangerous-call"), (0, (
-            "unknown-name: entry 0: no known syscall is named umont2; the nearest name in the table is "
-            "umount2\ndefault-allows: SCMP_ACT_ALLOW: a syscall that no entry names is allowed\n# findings: 2 (warning: 2)\n"), ""))
+            "warning unknown-name: entry 0: no known syscall is named umont2; the nearest name in the table is "
+            "umount2\nwarning default-allows: SCMP_ACT_ALLOW: a syscall that no entry names is allowed\n"
+            "# findings: 2 (warning: 2)\n"), ""))
         self.assertEqual(self.run_lint(odd, "--strict")[0], 1)
         without = ("--except", "unknown-name", "--except=default-allows", "--except=dangerous-call")
         self.assertEqual(self.run_lint(odd, "--strict", *without), (0, "# no findings\n", ""))
@@ -121,7 +125,7 @@ class Usage(Linted):
             expected = self.run_tool("compile", self.file("q.json", text))
             self.assertEqual(status, expected[0])
             self.assertEqual([line.replace("compile: ", "# ", 1) for line in expected[2].split("\n")[1:-1]],
-                             [line for line in out.split("\n")[1:-2] if not line.startswith("unknown-action: ")])
+                             [line for line in out.split("\n")[1:-2] if not line.startswith("error unknown-action: ")])
             self.assertEqual(f"compile: {out.split(chr(10))[0]}", expected[2].split("\n")[0])
             self.assertEqual(self.report(text, status=1)["fault"]["source"], "profile")
         bad = self.file("bad.table", b"read\n")
@@ -163,7 +167,7 @@ class Usage(Linted):
         entries = [entry("socket", args=[(0, "GT", it), (1, "GT", it)]) for it in range(2**40, 2**40 + 1000)]
         status, out, _ = self.run_lint(profile(entry("reed"), *entries))
         self.assertEqual((status, out.split("\n")[0]), (1, "fault compile TooLarge"))
-        self.assertIn("\nunknown-name: entry 0: no known syscall is named reed; the nearest name in the "
+        self.assertIn("\nerror unknown-name: entry 0: no known syscall is named reed; the nearest name in the "
                       "table is read\n", out)
 
     def test_what_could_not_be_told(self):
@@ -174,7 +178,7 @@ class Usage(Linted):
                          {"unfinished"})
         self.assertTrue(any(it["kind"] == "dangerous-call" for it in report["undecided"]))
         out = self.run_lint(given, "--limit=0")[1]
-        self.assertIn("# without-effect: undecided which entries have an effect: unfinished\n", out)
+        self.assertIn("# warning without-effect: undecided which entries have an effect: unfinished\n", out)
         self.assertTrue(out.split("\n")[-2].startswith("# no findings; undecided: "), out)
         self.report(given, "--limit=0", "--strict", status=4)
         self.report(profile(entry("reed")), "--limit=0", "--strict", status=1)
@@ -939,9 +943,9 @@ class Conflicts(Linted):
         lines = out.split("\n")
         self.assertEqual((status, lines[0]), (1, "fault profile Conflict number 41 first 0 second 1"))
         self.assertTrue(lines[1].startswith("# Two entries"), lines[1])
-        self.assertIn("conflict: entries 0 and 1 answer socket (41) by ALLOW and by ERRNO 2: arguments 0x0 0x0 0x0 0x0 "
-                      "0x0 0x0 meet both", lines)
-        self.assertIn("unknown-name: ", out)
+        self.assertIn("error conflict: entries 0 and 1 answer socket (41) by ALLOW and by ERRNO 2: arguments 0x0 0x0 "
+                      "0x0 0x0 0x0 0x0 meet both", lines)
+        self.assertIn("warning unknown-name: ", out)
 
     def test_several(self):
         entries = [entry("read"), entry("read", action="SCMP_ACT_LOG"), entry("read", "write", action="SCMP_ACT_TRAP"),
@@ -969,7 +973,7 @@ class Several(Linted):
             ("other-architectures", None, None), ("unlisted", 2, ["x86-64", "i386", "x32"]), ("covered", 3, None),
             ("dangerous-call", 0, ["aarch64", "arm"])])
         self.assertEqual((report["findings"][0]["names"], report["verdict"]), (["arch_prctl"], "same"))
-        self.assertIn("\ndangerous-call: ptrace (117) is allowed by entry 0: it ", self.run_lint(given)[1])
+        self.assertIn("\nwarning dangerous-call: ptrace (117) is allowed by entry 0: it ", self.run_lint(given)[1])
 
     def test_aarch64_alone(self):
         self.assertEqual(self.run_lint(profile(entry("read", "openat"), architectures=[AARCH64])),
@@ -1045,7 +1049,7 @@ class Several(Linted):
         found = [it for it in self.found(given, kinds=("dangerous-call",)) if "ptrace" in (it.get("name"), *it.get("names", ()))]
         self.assertEqual([(it["is_always"], it["architectures"]) for it in found],
                          [(False, ["x86-64"]), (True, ["i386", "x32"])])
-        self.assertIn("\ndangerous-call: ptrace (101) of x86-64 is allowed with some arguments, ",
+        self.assertIn("\nwarning dangerous-call: ptrace (101) of x86-64 is allowed with some arguments, ",
                       self.run_lint(given)[1])
 
     def test_what_could_not_be_told(self):
@@ -1107,8 +1111,8 @@ class Several(Linted):
             status, out, _ = self.run_lint(profile(*entries, architectures=architectures))
             self.assertEqual((status, out.split("\n")[0]), (
                 1, f"fault profile Conflict number {number} first 1 second 2"))
-            self.assertIn(f"\nconflict: entries 1 and 2 answer {called} by ALLOW and by LOG: arguments {arguments} "
-                          "meet both\n", out)
+            self.assertIn(f"\nerror conflict: entries 1 and 2 answer {called} by ALLOW and by LOG: arguments "
+                          f"{arguments} meet both\n", out)
         for entries, architectures in ((names, [NATIVE, X32]), (values, [I386, X32, ARM])):
             self.assertEqual(self.found(profile(*entries, architectures=architectures), kinds=("conflict",)), [])
         found, = self.found(profile(*names, architectures=ENGINES), kinds=("conflict",), status=1)
@@ -1239,8 +1243,8 @@ class Hostile(Linted):
             self.assertEqual((status, err), (0, ""))
             lines = out.split("\n")[:-1]
             self.assertTrue(all(line.isprintable() for line in lines), out)
-            self.assertEqual([line.partition(":")[0] for line in lines],
-                             ["unread-member", "unknown-name", "unknown-architecture", "# findings"])
+            self.assertEqual([line.partition(":")[0] for line in lines], [
+                "error unread-member", "warning unknown-name", "warning unknown-architecture", "# findings"])
             self.assertIn(shown[:40], lines[1])
             self.assertIn(shown[:40], lines[2])
             report = self.report(given)
@@ -1369,7 +1373,7 @@ class Runtimes(Linted):
         given = {"ociVersion": "1.0.2", "linux": {"seccomp": profile(
             entry("reed", arg=1), entry("mount", comment="lint: ignore dangerous-call"), entry("ptrace"))}}
         for runtime in ("runc", "crun"):
-            findings, _ = self.of_runtime(given, runtime, kinds=tuple(kinds.FINDING_KINDS))
+            findings, _ = self.of_runtime(given, runtime, kinds=tuple(FINDING_KINDS))
             self.assertEqual([(it["kind"], it["entry"]) for it in findings],
                              [("unread-member", 0), ("unknown-name", 0), ("dangerous-call", 2)])
 
@@ -1431,13 +1435,64 @@ class Gate(Linted):
     def test_grades(self):
         style, weak = profile(entry("read", "read")), profile(entry("socket", args=((0, "NE", 40),)))
         for given, statuses in ((profile(), (0, 0, 0)), (style, (0, 0, 1)), (weak, (1, 1, 1)),
-                                (profile(entry("reed")), (0, 1, 1))):
+                                (profile(entry("rread")), (0, 1, 1)), (profile(entry("reed")), (1, 1, 1))):
             for grade, status in zip(("error", "warning", "note"), statuses):
                 self.assertEqual(self.run_lint(given, "--fail-on", grade)[0], status, (given, grade))
             self.assertEqual(self.run_lint(given, "--strict")[0], statuses[-1])
-        weak["syscalls"].append(entry("reed"))
+        weak["syscalls"].append(entry("rread"))
         self.assertIn("\n# findings: 2 (error: 1, warning: 1)\n", self.run_lint(weak)[1])
         self.assertEqual(self.run_lint(weak, "--strict", "--fail-on=error")[:2], (2, ""))
+
+    def test_misspelt_names(self):
+        """An error where one letter differs, or two neighbours are exchanged; no digit, which newer syscalls have."""
+        error, warning = ("ptrcae", "reed", "opne", "dpu", "exeecve"[1:]), ("umont2", "rread", "clone4", "PTRACE", "xy")
+        for names, grade in ((error, "error"), (warning, "warning")):
+            for default, action in ((ERRNO, ALLOW), (ALLOW, ERRNO)):
+                given = profile(*(entry(name, action=action) for name in names), default=default)
+                found = [it for it in self.report(given)["findings"] if it["kind"] == "unknown-name"]
+                self.assertEqual([(it["name"], it["grade"]) for it in found], [(name, grade) for name in names])
+        many = profile(entry(*(f"no_such_{at}" for at in range(150)), "ptrcae"))
+        many = self.report(many, "--fail-on=error", status=1)
+        self.assertEqual((many["findings"][0]["name"], many["findings"][0]["nearest"]), ("ptrcae", "ptrace"))
+
+    def test_names_that_are_known(self):
+        """None of libseccomp's is misspelt: those that the installed one resolves, and those that are new in its 2.6.0
+        (src/syscalls.csv); nor has an engine's list one."""
+        newer = ("cachestat fchmodat2 futex_requeue futex_wait futex_wake getxattrat listmount listxattrat "
+                 "lsm_get_self_attr lsm_list_modules lsm_set_self_attr map_shadow_stack mseal removexattrat "
+                 "riscv_hwprobe set_mempolicy_home_node setxattrat statmount uretprobe").split()
+        library = libseccomp.installed()
+        known = {} if library is None else dict.fromkeys(filter(None, map(library.name_of, range(-11000, 7000))))
+        given = profile(entry(*newer, *known))
+        self.assertEqual([it for it in self.report(given)["findings"] if it["kind"] == "unknown-name"], [])
+        for path in filter(os.path.exists, (PODMAN, MOBY)):
+            listed = [name for listed in json.loads(inputs.read_input(path, "profile"))["syscalls"]
+                      for name in (listed.get("names") or [listed["name"]])]
+            found = self.report(profile(entry(*dict.fromkeys(listed))))["findings"]
+            self.assertEqual([it for it in found if it["kind"] == "unknown-name"], [], path)
+
+    def test_several_profiles(self):
+        """One run: each has its name before; the status is the worst, and a log of SARIF has one run of all."""
+        names = [self.file(name, json.dumps(given)) for name, given in (
+            ("a.json", profile(entry("read"))), ("b.json", profile(entry("ptrcae"))), ("c.json", {}))]
+        self.file(".scf-lint.json", b'{"findings": [{"kind": "unknown-architecture"}]}')
+        single = [self.run_tool("lint", "--fail-on=error", name)[:2] for name in names]
+        status, out, _ = self.run_tool("lint", "--fail-on=error", *names[:2])
+        self.assertEqual((status, out), (1, "".join(f"# {name}\n{printed}" for name, (_, printed)
+                                                    in zip(names, single[:2]))))
+        self.assertEqual([status for status, _ in single], [0, 1, 1])
+        report = json.loads(self.run_tool("lint", "--json", "--fail-on=error", *names)[1])
+        self.assertEqual((report["status"], [(it["file"], it["status"]) for it in report["profiles"]]),
+                         (1, [*zip(names, (0, 1, 1))]))
+        run, = json.loads(self.run_tool("lint", "--sarif", *names)[1])["runs"]
+        uris = [os.path.basename(name) for name in names]
+        result, = run["results"]
+        self.assertEqual((result["ruleId"], result["level"]), ("unknown-name", "error"))
+        self.assertEqual(result["locations"][0]["physicalLocation"]["artifactLocation"]["uri"], uris[1])
+        invocation, = run["invocations"]
+        self.assertEqual((invocation["executionSuccessful"],
+                          [it["locations"][0]["physicalLocation"]["artifactLocation"]["uri"]
+                           for it in invocation["toolExecutionNotifications"]]), (False, uris[2:]))
 
     def test_what_is_ignored(self):
         """What an earlier run printed leaves only what is new; a member that differs ignores nothing."""
@@ -1473,7 +1528,7 @@ class Gate(Linted):
             run, = log["runs"]
             self.assertEqual((set(log), log["version"]), ({"$schema", "version", "runs"}, "2.1.0"))
             rules = {it["id"]: it for it in run["tool"]["driver"]["rules"]}
-            self.assertEqual(set(rules), set(kinds.FINDING_KINDS))
+            self.assertEqual(set(rules), set(FINDING_KINDS))
             self.assertTrue(all(it["shortDescription"]["text"] for it in rules.values()))
             lines = data.decode().split("\n")
             places = {}
@@ -1481,7 +1536,8 @@ class Gate(Linted):
                 self.assertIn(result["level"], ("error", "warning", "note"))
                 region = result["locations"][0]["physicalLocation"]["region"]
                 places[result["ruleId"]] = lines[region["startLine"] - 1][region["startColumn"] - 1:]
-                self.assertEqual(result["level"], rules[result["ruleId"]]["defaultConfiguration"]["level"])
+                if result["ruleId"] != "unknown-name":
+                    self.assertEqual(result["level"], rules[result["ruleId"]]["defaultConfiguration"]["level"])
             first = next(at for at, line in enumerate(lines) if "reed" in line)
             self.assertEqual(places["unknown-name"], "{")
             self.assertEqual(run["results"][[it["ruleId"] for it in run["results"]].index("unknown-name")]
