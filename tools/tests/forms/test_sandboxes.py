@@ -129,8 +129,8 @@ class Policies(Lists):
             "2\ndenylist\nread errno 1 [0,1, ==]\n": "line 3: 'read errno 1 [0,1, ==]' isn't a condition",
             "2\ndenylist\nread errno 1 [0,1,==][0,2,==]\n": "line 3: libseccomp refuses two conditions on one argument",
             "2\ndenylist\nread errno 1 [6,1,==]\n": "line 3: 'read errno 1 [6,1,==]' isn't a condition",
-            "2\ndenylist\nread errno 4096\n": "line 3: 'errno 4096' isn't an errno up to 4095",
-            "2\ndenylist\nread errno -1\n": "line 3: 'errno -1' isn't an errno up to 4095",
+            "2\ndenylist\nread errno 4095\n": "line 3: 'errno 4095' isn't an errno up to 4094",
+            "2\ndenylist\nread errno -1\n": "line 3: 'errno -1' isn't an errno up to 4094",
             "2\ndenylist\n[foo]\n": "line 3: '[foo]' isn't an architecture of LXC",
             "2\ndenylist\n mknod errno 1\n": "line 3: 'mknod errno 1' isn't an action of LXC",
             "1\ndenylist\n0\n": "line 2: version 1 has allowlists alone",
@@ -151,10 +151,15 @@ class Policies(Lists):
         for at, text in enumerate((common, "2\ndenylist\n[x86]\nchown32 errno 1\n[all]\numount errno 1\nsocket trap\n"
                                    "swapon errno 9 [0,0x10000000,&=]\nswapoff errno 9 [0,15,SCMP_CMP_MASKED_EQ,0x1]\n"
                                    "mknod errno 1\nmknod errno 2\nmknodat errno 1\nmknodat errno 4 [0,1,==]\n"
-                                   "acct errno 4 [0,1,>=]\nacct errno 5\nsync errno5\nsyslog killer\n")):
+                                   "acct errno 4 [0,1,>=]\nacct errno 5\nsync errno5\nsyslog killer\n"
+                                   "syncfs errno 4094\n", "2\ndenylist\nsyncfs errno 4095\n")):
             self.file("policy", text)
             stacks, said = self.traced(["lxc-start", "-F", "-n", f"scf-{os.getpid()}-{at}", "-f", configuration, "-P",
                                         os.path.join(self.folder, "containers")])
+            if "4095" in text:
+                # libseccomp refuses it, and LXC starts nothing
+                self.assertEqual(stacks, [], said)
+                continue
             self.assertEqual(len(stacks), 1, said)
             self.loads(text, stacks[0])
 
@@ -164,10 +169,11 @@ class Templates(Lists):
 
     TEXT = SNAP + ("# a comment\nread\nsocket AF_UNIX - 0\nsetpriority PRIO_PROCESS 0 <=19\nioctl - !TIOCSTI\n"
                    "mknod - |S_IFREG -\nchown - u:root -1\nquotactl Q_GETQUOTA\nsocket PF_INET\nllseek\n"
-                   "close  - >=3 <7 >1\n")
+                   "close  - >=3 <7 >1\nnosuch u:nosuchuser -1 !0\n")
 
     def test_rules(self):
-        found = self.profile(self.TEXT, "left out, as by the sandbox, since libseccomp doesn't know them: llseek")
+        found = self.profile(self.TEXT, "left out, as by the sandbox, since libseccomp doesn't know them: llseek, "
+                             "nosuch")
         first = {"index": 0, "op": "SCMP_CMP_EQ"}
         socketcall = [it for it in found["syscalls"] if it["names"] == ["socketcall"]]
         self.assertEqual([it["args"][0] for it in socketcall], [{**first, "value": 1}] * 2)
@@ -285,6 +291,8 @@ class Profiles(Lists):
     def test_what_is_refused(self):
         self.are_refused({"seccomp.drop nosuch:E\n": "line 1: 'E' isn't an errno",
                           "seccomp.drop a b\n": "line 1: 'a b' isn't a syscall",
+                          "seccomp.drop @clock:ENOENT\n": "line 1: firejail refuses an error action behind a group, as "
+                                                          "in '@clock:ENOENT'",
                           "protocol unix,foo\n": "line 1: 'foo' isn't a protocol of firejail",
                           "restrict-namespaces foo\n": "line 1: 'foo' aren't namespaces",
                           "seccomp.drop $9999\n": "line 1: no name is known of the syscall 9999, and a profile has "
@@ -303,12 +311,19 @@ class Profiles(Lists):
                      "seccomp.keep @system-service,!mkdir,rmdir:ENOENT\n",
                      "seccomp rmdir,@chown,$83,!ptrace,mount:kill,utime:log\n",
                      "seccomp.drop mkdir\nseccomp.block-secondary\n",
+                     "seccomp.drop mkdir,mount_setattr,@clock,!@clock\nseccomp.block-secondary\n"
+                     "seccomp-error-action kill\n",
+                     "seccomp.keep @system-service,@default,mount_setattr\nseccomp.block-secondary\n"
+                     "seccomp-error-action ENOSYS\n",
+                     "seccomp mkdir,mount_setattr\nseccomp.block-secondary\nseccomp-error-action ENOSYS\n",
                      "seccomp.keep @system-service,@default\nprotocol unix\nmemory-deny-write-execute\n"
                      "restrict-namespaces\n"):
             words = [f"--profile={self.file('p.profile', text)}", "--quiet", "--", "/bin/true"]
             stacks, said = self.traced(["firejail", *words])
             self.assertTrue(stacks, said)
             self.loads(text, stacks[-1])
+        words = [f"--profile={self.file('p.profile', 'seccomp.drop @clock:ENOENT')}", "--quiet", "--", "/bin/true"]
+        self.assertNotEqual(self.run_words(["firejail", *words])[0], 0)
 
 
 class Readers(unittest.TestCase):

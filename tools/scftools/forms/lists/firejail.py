@@ -20,7 +20,8 @@ from ...model.architectures import NATIVE
 from ...model.entries import Condition
 from . import sandbox_rules
 from .sandbox_rules import KILL, LOG, LOWER_HALF, ListError, Policy, Rule, UnknownRules, error_at
-from .unit_restrictions import NAMESPACES, Restriction, SettingError, among, answer_of_errno, masked, with_all, with_any
+from .unit_restrictions import (
+    EPERM, NAMESPACES, Restriction, SettingError, among, answer_of_errno, masked, with_all, with_any)
 
 ENOTSUP = Answer("ERRNO", 95)
 SETTINGS = ("seccomp", "seccomp.drop", "seccomp.keep", "seccomp.block-secondary", "seccomp-error-action", "protocol",
@@ -71,24 +72,39 @@ def _contents(path: str, most: int) -> bytes:
     return data
 
 
-def group_numbers(group: str) -> list[int]:
-    """The numbers of a group's syscalls, as the installed firejail compiles them into a filter that denies them, and
-    into a second one for those that firejail needs itself."""
+def _compiled(*words: str) -> tuple[int, bytes]:
+    """The status of the installed firejail's compiler, and what it prints."""
     import subprocess  # pylint: disable=import-outside-toplevel
-    import tempfile  # pylint: disable=import-outside-toplevel
 
     compiler = next((path for path in COMPILERS if os.access(path, os.X_OK)), None)
     if compiler is None:
         raise UnknownRules("it names a group of firejail, which isn't installed")
+    try:
+        done = subprocess.run([compiler, *words], stdin=subprocess.DEVNULL, check=False, stdout=subprocess.PIPE,
+                              stderr=subprocess.DEVNULL, timeout=COMPILER_SECONDS)
+    except (OSError, subprocess.TimeoutExpired) as error:
+        raise UnknownRules(f"'{compiler}' can't be run") from error
+    return done.returncode, done.stdout
+
+
+def table_names() -> frozenset[str] | None:
+    """The names that the installed firejail knows, None where there is none."""
+    try:
+        return frozenset(line.rpartition("- ")[2] for line in _compiled("debug-syscalls")[1].decode().splitlines())
+    except UnknownRules:
+        return None
+
+
+def group_numbers(group: str) -> list[int]:
+    """The numbers of a group's syscalls, as the installed firejail compiles them into a filter that denies them, and
+    into a second one for those that firejail needs itself."""
+    import tempfile  # pylint: disable=import-outside-toplevel
+
     with tempfile.TemporaryDirectory() as folder:
         paths = [os.path.join(folder, name) for name in ("first", "second")]
-        try:
-            done = subprocess.run([compiler, "drop", *paths, group], stdin=subprocess.DEVNULL, check=False,
-                                  stdout=subprocess.DEVNULL, stderr=subprocess.DEVNULL, timeout=COMPILER_SECONDS)
-        except (OSError, subprocess.TimeoutExpired) as error:
-            raise UnknownRules(f"'{compiler}' can't be run") from error
+        status, _ = _compiled("drop", *paths, group)
         filters = [_contents(path, MOST_FILTER_BYTES) for path in paths if os.path.exists(path)]
-    if done.returncode:
+    if status:
         raise ListError(f"'{group}' isn't a group of the installed firejail")
     instructions = [instruction for data in filters
                     for instruction in [*struct.iter_unpack("<HBBI", data)][HEAD_INSTRUCTIONS:]]
@@ -142,17 +158,20 @@ def read_lines(data: bytes, settings: StatedSettings, outer: int | None = None, 
 
 @dataclass
 class GroupReader:
-    """Reads lists of syscalls; asks for the numbers of a group once."""
+    """Reads lists of syscalls, given the names that firejail knows, None if that isn't known; asks for the numbers of a
+    group once."""
 
     ask: Callable[[str], list[int]] = group_numbers
+    known: frozenset[str] | None = field(default_factory=table_names)
     groups: dict[str, list[int]] = field(default_factory=dict)
 
     def names_of(self, word: str, at: int) -> list[str]:
-        """The names of a word: a group's, a number's behind `$`, or its own."""
+        """The names of a word: a group's, a number's behind `$`, or its own, of which firejail makes no rule where its
+        table lacks it."""
         if not re.fullmatch(r"@[a-z-]{1,64}|\$[0-9]{1,9}|\w{1,64}", word, re.A):
             raise error_at(at, f"'{word}' isn't a syscall")
         if word[0] not in "@$":
-            return [word]
+            return [word] if self.known is None or word in self.known else []
         if word[0] == "@" and word not in self.groups:
             self.groups[word] = self.ask(word)
         table = tables.architecture_table(NATIVE) or tables.Table(b"")
@@ -170,12 +189,16 @@ class GroupReader:
         others: dict[str, Answer] = {}
         for word in filter(None, text.split(",")):
             name, colon, action = word.removeprefix("!").partition(":")
-            if action == "log":
+            if word.startswith("@") and colon:
+                raise error_at(at, f"firejail refuses an error action behind a group, as in '{word}'")
+            if action == "log" or word.startswith("!@"):
                 settings.remarks.append(f"line {at}: firejail leaves {word} out")
                 continue
             answer = _answer_of(action, at) if colon else negated if word.startswith("!") else plain
-            names = exceptions if colon or word.startswith("!") else others
-            for called in self.names_of(name, at):
+            names, named = exceptions if colon or word.startswith("!") else others, self.names_of(name, at)
+            if not named:
+                settings.remarks.append(f"line {at}: firejail leaves {word} out, since its table lacks it")
+            for called in named:
                 names.setdefault(called, answer)
         return {**others, **exceptions}
 
@@ -253,7 +276,9 @@ def _restrictions(settings: StatedSettings, answer: Answer) -> dict[str, tuple[R
         "protocol": lambda text, at: {"socket": _families(text, at)},
         "memory-deny-write-execute": lambda _, __: _memory(answer),
         "restrict-namespaces": lambda text, at: _namespaces(text, at, answer),
-        "seccomp.block-secondary": lambda _, __: {"personality": _personality(answer)}}
+        # (beside these lists firejail takes the filter that it was built with)
+        "seccomp.block-secondary": lambda _, __: {"personality": _personality(
+            EPERM if {"seccomp.drop", "seccomp.keep"} & settings.of.keys() else answer)}}
     return {name: (restriction, settings.of[setting][1]) for setting, restrictions_of in readers.items()
             if setting in settings.of for name, restriction in restrictions_of(*settings.of[setting]).items()}
 
@@ -297,6 +322,8 @@ def policy_of(settings: StatedSettings, reader: GroupReader) -> Policy:
     policy = Policy(default, remarks=list(dict.fromkeys(settings.remarks)))
     policy.add_known(rule for name in dict.fromkeys([*answers, *restrictions])
                      for rule in _rules_of(name, (answers.get(name, default), line), restrictions.get(name)))
+    if reader.known is None:
+        policy.remarks.append("firejail isn't installed: names that its table lacks may be left in")
     policy.remarks.append("the profile is for x86-64 alone, and kills i386 and x32 syscalls, which firejail answers "
                           "otherwise")
     return policy

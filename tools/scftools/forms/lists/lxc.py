@@ -44,8 +44,9 @@ def _action(text: str, at: int) -> Answer:
     text = text.lstrip(" ")
     if text.startswith("errno"):
         match = re.match(r"\s*\+?([0-9]{1,9})", text[5:])
-        if match is None or int(match[1]) > MAX_ERRNO:
-            raise error_at(at, f"'{text}' isn't an errno up to {MAX_ERRNO}")
+        # (libseccomp has `< MAX_ERRNO`)
+        if match is None or int(match[1]) >= MAX_ERRNO:
+            raise error_at(at, f"'{text}' isn't an errno up to {MAX_ERRNO - 1}")
         return Answer("ERRNO", int(match[1]))
     answer = next((answer for word, answer in LXC_ACTIONS.items() if text.startswith(word)), None)
     if answer is None:

@@ -72,6 +72,7 @@ def _condition(word: str, index: int, name: str, at: int) -> Condition:
 
 
 def _rules(lines: list[tuple[int, str]]) -> Iterator[Rule]:
+    number_of = sandbox_rules.knows()
     for at, line in lines:
         if line.startswith("#") or not line.strip():
             continue
@@ -84,6 +85,9 @@ def _rules(lines: list[tuple[int, str]]) -> Iterator[Rule]:
             raise error_at(at, f"'{name}' is denied, which newer snapds do by a second filter: no profile states both")
         if len(arguments) > MOST_ARGUMENTS:
             raise error_at(at, f"it has more than {MOST_ARGUMENTS} arguments")
+        if number_of(name, NATIVE) is None:
+            # its arguments aren't looked at
+            arguments = []
         conditions = tuple(_condition(word, index, name, at) for index, word in enumerate(arguments) if word != "-")
         yield Rule(name, ALLOW, conditions, at)
 
