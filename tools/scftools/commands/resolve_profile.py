@@ -31,11 +31,11 @@ Some profiles give a syscall two answers, both without conditions. Read by its w
 conflict; runc and crun leave out an entry whose answer is the default's, and keep the first of the others. --keep-first
 drops the name from all other entries without conditions, so that tools without --runtime take the profile.
 
-On i386, 32 syscalls such as socket and shmat are also made by socketcall and ipc. libseccomp gives each rule of one of
-them a second rule: socketcall or ipc with its number as argument 0, in place of a condition on argument 0.
---multiplexed adds these entries if the profile names SCMP_ARCH_X86; an entry of socketcall or ipc without conditions
-covers them. If a syscall has two answers that differ by argument 0 alone, they conflict there, and runc and crun refuse
-the profile.
+On i386, ppc64le and mipsel 32 syscalls such as socket and shmat are also made by socketcall and ipc. libseccomp gives
+each rule of one of them a second rule: socketcall or ipc with its number as argument 0, in place of a condition on
+argument 0. --multiplexed adds these entries if the profile names one of these architectures; an entry of socketcall or
+ipc without conditions covers them. If a syscall has two answers that differ by argument 0 alone, they conflict there,
+and runc and crun refuse the profile.
 
 Exit status: 0 success; 1 the engine or the runtime refuses the profile, or a member may be a condition; 2 usage error,
 no such file, or one of more than 4194304 bytes; 3 the output failed.
@@ -58,7 +58,7 @@ def read_words():
     runtimes.add_options(parser)
     parser.add("--machine", "--keep-first", "--kubernetes")
     parser.add_argument("--multiplexed", action="store_true",
-                        help="add the rules of socketcall and ipc that libseccomp makes for i386")
+                        help="add the rules of socketcall and ipc that libseccomp makes for i386, ppc64le and mipsel")
     parser.add_argument("profile", metavar="ENGINE-PROFILE", help="a file or a pipe; - is standard input")
     options = parser.parse_args()
     options.setting = runtimes.setting_of_words(options, parser)

@@ -5,13 +5,15 @@ import random
 import re
 import unittest
 
-from support.common import I386, Case
+from support.common import I386, TOP, Case
 from support.oci import ALLOW, ERRNO, NATIVE, X32, X86, condition, entry, profile
 from support.seccomp_library import NEEDED, Conflict, Library, answer_of
 from support.stand_in import StandIn, unpacked, words_of
 import kernel_profiles
 from scftools.model import multiplexed, tables
 from scftools.model.calls import Call
+from scftools.lint import kinds
+from scftools.commands import resolve_profile
 
 HEADERS = {"socketcall": ("/usr/include/linux/net.h", r"^#define SYS_(\w+)\s+(\d+)"),
            "ipc": ("/usr/include/linux/ipc.h", r"^#define ((?:SEM|MSG|SHM)\w+)\s+(\d+)")}
@@ -31,6 +33,23 @@ def answer_to(resolved, call):
     answers_beside = set(answers) - {default}
     assert len(answers_beside) < 2, (call, answers)
     return answers_beside.pop() if answers_beside else default
+
+
+class Words(Case):
+    """What pages say of architectures: those whose socketcall and ipc make others' syscalls, and those of whose
+    arguments libseccomp compares 32 bits (arch-*.c and ARCH_SIZE of libseccomp)."""
+
+    def test_the_architectures(self):
+        with open(os.path.join(TOP, "docs", "RUNTIMES.md"), encoding="utf-8") as file:
+            page = file.read()
+        of_page = {word: line for line in page.split("\n") for word in ("`socketcall` and `ipc` make, too", "`wide`")
+                   if word in line}
+        for names, texts in ((("i386", "ppc64le", "mipsel"), (resolve_profile.__doc__.partition("also made by")[0], *(
+                                 of_page[word] for word in of_page if "ipc" in word))),
+                             (("i386", "x32", "arm", "mipsel", "mipsel64n32"), (
+                                 kinds.meanings()["wide"], of_page["`wide`"]))):
+            for text in texts:
+                self.assertEqual([name for name in names if not re.search(rf"\b{name}\b", text)], [], text)
 
 
 class Multiplexed(Case):
