@@ -1,14 +1,25 @@
 """The installed libseccomp: which names and numbers of syscalls it knows (seccomp_syscall_resolve_name(3))."""
 from __future__ import annotations
 
+import errno
+import os
+import struct
+from collections.abc import Iterable, Sequence
+
 from ..base import program
-from .answers import X86_64
+from . import architectures
+from .answers import X86_64, Answer
 from .architectures import NATIVE, NUMBERS, PREFIX, X32
+from .entries import HOLDS, Condition
 
 # SCMP_ARCH_X32 (seccomp.h), whose records have x86-64's number.
 TOKENS = {**NUMBERS, X32: 0x4000003E}
 # __NR_SCMP_ERROR (seccomp.h), which stands for a name that it doesn't know.
 UNKNOWN_NAME = -1
+# struct scmp_arg_cmp, and enum scmp_compare from 1 on (seccomp.h); the most bytes of a filter.
+CONDITION, COMPARISONS, MOST_BYTES = struct.Struct("=IiQQ"), tuple(HOLDS), 1 << 22
+# A name, and an answer to its calls that meet all of some conditions.
+Rule = tuple[str, Answer, Sequence[Condition]]
 
 
 class Library:
@@ -26,6 +37,8 @@ class Library:
             version_of = library.seccomp_version
         except (OSError, AttributeError) as error:
             raise program.ToolError("there is no libseccomp.so.2", program.IO_ERROR) from error
+        self._library, library.seccomp_init.restype = library, ctypes.c_void_p
+        self._pointer = ctypes.c_void_p
         self._string_at = ctypes.string_at
         self._number_of.argtypes = [ctypes.c_uint32, ctypes.c_char_p]
         self._token_of.restype, self._token_of.argtypes = ctypes.c_uint32, [ctypes.c_char_p]
@@ -45,6 +58,23 @@ class Library:
     def has_architecture(self, name: str) -> bool:
         """Whether it knows an architecture of an OCI name."""
         return bool(self._token_of(name.removeprefix(PREFIX).lower().encode()))
+
+    def filter_of(self, default: Answer, listed: Sequence[str], rules: Iterable[Rule]) -> bytes | None:
+        """The filter that it makes on this machine of rules for these architectures, None where it refuses them."""
+        library, native = self._library, architectures.machine_architecture()
+        state = self._pointer(library.seccomp_init(default.word))
+        file = os.memfd_create("filter")
+        try:
+            is_taken = bool(state) and all(library.seccomp_arch_add(state, TOKENS[oci]) in (0, -errno.EEXIST)
+                                           for oci in listed)
+            is_taken = is_taken and not any(library.seccomp_rule_add_array(
+                state, answer.word, self.number_of(name, native), len(conditions), b"".join(
+                    CONDITION.pack(condition.index, COMPARISONS.index(condition.op) + 1, condition.value, condition.two)
+                    for condition in conditions)) for name, answer, conditions in rules)
+            return os.pread(file, MOST_BYTES, 0) if is_taken and not library.seccomp_export_bpf(state, file) else None
+        finally:
+            library.seccomp_release(state)
+            os.close(file)
 
     def knows(self, name: str) -> bool:
         """Whether it knows a syscall by this name, of any architecture."""
