@@ -73,7 +73,7 @@ from ..base import output, program
 from ..model import architectures, profiles
 from ..ask import client
 from ..cli import words
-from ..forms import kubernetes, profile_inputs, refusals, strace
+from ..forms import kubernetes, profile_inputs, refusals, runtimes, strace
 from ..logs import requirements
 
 
@@ -88,7 +88,7 @@ def read_words():
     parser.add("--kubernetes", "--limit", "--splits")
     parser.add("--table", help=words.OWN_TABLE)
     parser.add("--caps", "--json")
-    parser.add_argument("--runtime", choices=tuple(requirements.OF_RUNTIMES),
+    parser.add_argument("--runtime", choices=tuple(runtimes.OWN_CALLS),
                         help="add what this container runtime calls itself before it executes the program, and read "
                              "PROFILE as it does")
     parser.add_argument("logs", metavar="LOG", nargs="+",

@@ -7,11 +7,11 @@ What is allowed, with which arguments and by which entry, is what the profile's 
 from __future__ import annotations
 
 import functools
-from collections.abc import Collection, Iterator, Mapping, Sequence
+from collections.abc import Callable, Collection, Iterator, Mapping, Sequence
 
 from ..base.values import dataclass
 from ..model.answers import ENOSYS, Answer
-from ..model.architectures import Architecture
+from ..model.architectures import NATIVE, Architecture, machine_architecture
 from ..model.argument_sets import Sets, Steps
 from ..model.dangerous_calls import Dangerous, dangerous
 from ..model.entries import Condition, Entry
@@ -19,6 +19,7 @@ from ..model.tables import Table, Tables
 from ..ask.answer_sets import arguments_of
 from ..ask.regions import Numbers, Region
 from ..ask.verdicts import UNFINISHED
+from ..forms import runtimes
 from .findings import Finding, Owners, by_owners, listed
 
 
@@ -119,6 +120,11 @@ class Watch:
         return next((region for region in self.regions_of(name)
                      if region.answer is not None and not region.answer.allows), None)
 
+    def always(self, name: str, is_so: Callable[[Answer], bool]) -> bool:
+        """Whether every call of a syscall is known to get such an answer."""
+        return self.has(name) and self.is_finished and all(region.answer is not None and is_so(region.answer)
+                                                           for region in self.regions_of(name))
+
     def how(self, name: str) -> str | None:
         """How a syscall is allowed, None if it isn't: a verdict if that is undecided."""
         if not self.is_finished:
@@ -217,6 +223,26 @@ def of_needed(judged: Tables, watches: Mapping[str, Watch]) -> Iterator[Finding]
     for needed in NEEDED:
         is_decided = {name: watch.lacks(needed) for name, watch in watches.items() if watch.has(needed.name)}
         yield from (_lacking(needed, watches[owners.first], owners) for _, owners in by_owners(is_decided, judged))
+
+
+def of_start(judged: Tables, watches: Mapping[str, Watch]) -> Iterator[Finding]:
+    """A finding if the runtime that reads a profile starts nothing under it, since what it calls itself is denied."""
+    own = runtimes.OWN_CALLS.get(judged.reading) if machine_architecture() == NATIVE else None
+    watch = watches.get(NATIVE)
+    if own is None or watch is None:
+        return
+    if not watch.is_finished:
+        yield Finding("no-start", f"undecided whether {judged.reading} starts anything: {UNFINISHED}", {}, False)
+    denied = [name for name in own.names if watch.always(name, lambda answer: answer.denies)]
+    killed = [name for name in denied if watch.always(name, lambda answer: answer.action.startswith("KILL"))]
+    for where, of_denied, of_killed in (("", own.denied, own.killed),
+                                        (" without noNewPrivileges", own.denied_early, own.killed_early)):
+        names = [name for name in denied if name in of_denied or name in killed and name in of_killed]
+        if names:
+            yield Finding("no-start", f"{judged.reading} {own.version} starts nothing{where}: it calls "
+                          f"{listed(names, 'and')} itself behind the filter, which the profile denies",
+                          {"names": names})
+            return
 
 
 def of_fallbacks(judged: Tables, watches: Mapping[str, Watch]) -> Iterator[Finding]:

@@ -21,6 +21,7 @@ from ..model.tables import Table, Tables
 from ..ask import client, reasons, regions
 from ..ask.regions import Lookup
 from ..ask.verdicts import UNDECIDED, UNFINISHED
+from ..forms import runtimes
 from ..forms.engines import PASSED_ON
 from . import traces
 from .counting import Seen
@@ -41,15 +42,6 @@ CONDITIONS, MOST_WAYS = 64, 2000
 # What each least profile allows where an architecture has it: a process calls these, which a log needn't show, to
 # continue after a stop or a signal, and to end.
 ALWAYS_CALLED = ("restart_syscall", "rt_sigreturn", "exit", "exit_group", "sigreturn")
-# What a container runtime itself calls behind the filter, before it executes the container's program; runc is written
-# in Go, whose own calls come and go. Taken from the kernel's records of containers of runc 1.1 and crun 1.8 under a
-# profile that logs, with and without noNewPrivileges, as root and as a user, with and without a terminal, and created
-# and started by podman: crun waits for the start in pselect6 and read.
-OF_RUNTIMES = {
-    "runc": "capget capset chdir close epoll_ctl execve faccessat2 fchown fcntl fstat fstatfs futex getcwd getdents64 "
-            "getpid getppid newfstatat openat prctl read setgid setgroups setuid write",
-    "crun": "capset close execve prctl pselect6 read rt_sigaction rt_sigprocmask setresgid setresuid write",
-}
 
 
 @dataclass(frozen=True)
@@ -381,7 +373,7 @@ def read_needs(names: Sequence[str], judges: Judges, runtime: str | None = None)
     judges.of(architecture)
     log = traces.read_traces(names, judges.looked_at, judges.tables, architecture)
     log.begin(runtime or "")
-    for name in OF_RUNTIMES[runtime].split() if runtime else ():
+    for name in runtimes.OWN_CALLS[runtime].names if runtime else ():
         if log.reader.number_of(architecture, name) is not None:
             log.keep(0, architecture, name, {})
     needs = find(log, judges)

@@ -27,6 +27,7 @@ ENGINES, WIDE = [NATIVE, I386, X32], 1 << 32
 ACTIONS = ("ALLOW", "LOG", "ERRNO", "TRACE", "TRAP", "NOTIFY", "KILL", "KILL_THREAD", "KILL_PROCESS")
 with open(TABLE, "rb") as opened:
     TABLE_TEXT = opened.read()
+TABLE_NAMES = [*tables.Table(TABLE_TEXT).names()]
 
 
 def entry(*names, action=ALLOW, args=(), **members):
@@ -1343,6 +1344,23 @@ class Runtimes(Linted):
         findings, _ = self.of_runtime(given, "runc")
         self.assertEqual([(it["entry"], it["by"]) for it in findings], [(1, 0), (3, 2)])
 
+    def test_a_profile_under_which_a_runtime_starts_nothing(self):
+        """By what the runtime calls itself behind the filter; of a kill more of that counts."""
+        few, most = entry("read", "write", "execve"), [name for name in TABLE_NAMES if name not in ("getpid", "close")]
+        for rules, default, runtime, text in (
+                (few, ERRNO, "runc", "runc 1.1.5 starts nothing: it calls close, fstatfs, getdents64 and openat itself "
+                                     "behind the filter, which the profile denies"),
+                (few, ERRNO, "docker", "runc 1.1.5 starts nothing: it calls close, fstatfs, getdents64 and openat "),
+                (few, ERRNO, "crun", "crun 1.8.1 starts nothing without noNewPrivileges: it calls capset, prctl, "),
+                (few, "SCMP_ACT_KILL_PROCESS", "crun", "crun 1.8.1 starts nothing: it calls close itself "),
+                (entry(*most), "SCMP_ACT_KILL", "runc", "runc 1.1.5 starts nothing: it calls close and getpid itself "),
+                (entry(*most, "close"), ERRNO, "runc", None), (few, ERRNO, "sandbox", None)):
+            given = profile(rules, default=default, architectures=[NATIVE])
+            lines = [line for line in self.run_lint(given, "--runtime", runtime)[1].split("\n") if "no-start" in line]
+            self.assertEqual(bool(lines), text is not None)
+            self.assertTrue(text is None or lines[0].startswith(f"error no-start: {text}"), lines)
+        self.assertEqual(self.run_lint(profile(few), "--runtime", "runc", "--fail-on", "error")[0], 1)
+
     def test_what_a_runtime_refuses(self):
         given = profile(entry("dup", errnoRet=5))
         self.assertEqual(self.report(given, status=1)["fault"]["kind"], "Errno")
@@ -1374,8 +1392,8 @@ class Runtimes(Linted):
             entry("reed", arg=1), entry("mount", comment="lint: ignore dangerous-call"), entry("ptrace"))}}
         for runtime in ("runc", "crun"):
             findings, _ = self.of_runtime(given, runtime, kinds=tuple(FINDING_KINDS))
-            self.assertEqual([(it["kind"], it["entry"]) for it in findings],
-                             [("unread-member", 0), ("unknown-name", 0), ("dangerous-call", 2)])
+            self.assertEqual([(it["kind"], it.get("entry")) for it in findings],
+                             [("unread-member", 0), ("unknown-name", 0), ("dangerous-call", 2), ("no-start", None)])
 
     def test_entries_of_an_engines_list(self):
         """They have the numbers that they have in the file, with --caps and with --runtime, also in SARIF."""
@@ -1389,8 +1407,9 @@ class Runtimes(Linted):
         for words in (("--caps=docker",), ("--runtime=docker",), ("--runtime=podman",)):
             status, out, _ = self.run_lint(text, "--json", *words)
             self.assertEqual(status, 0)
+            starts = [] if words == ("--caps=docker",) else [("no-start", None)]
             self.assertEqual([(it["kind"], it.get("entry")) for it in json.loads(out)["findings"]],
-                             [("unknown-name", 5), ("covered", 4), ("dangerous-call", 3)], words)
+                             [("unknown-name", 5), ("covered", 4), ("dangerous-call", 3), *starts], words)
             results = json.loads(self.run_lint(text, "--sarif", *words)[1])["runs"][0]["results"]
             first = next(it for it in results if it["ruleId"] == "dangerous-call")
             line = first["locations"][0]["physicalLocation"]["region"]["startLine"]

@@ -15,6 +15,7 @@ from support.common import CONFINED, TOP, Case, profile_of
 from support.oci import ALLOW, ERRNO
 from forms.test_runtimes import ALONE, BUSYBOX, config
 from scftools.model import architectures, tables
+from scftools.forms import runtimes
 from scftools.logs import requirements, traces
 
 NETLINK_AUDIT, SO_RCVBUFFORCE = 9, 33
@@ -306,16 +307,34 @@ class Words(Case):
         status, out, _ = self.run_tool("needs", "--runtime", "crun", log, profile)
         self.assertEqual(status, 1)
         self.assertIn("126 capset ERRNO 1 default\n# made by crun itself, before it executes the program\n", out)
-        for runtime, calls in requirements.OF_RUNTIMES.items():
+        for runtime, calls in runtimes.OWN_CALLS.items():
             status, out, err = self.run_tool("needs", "--profile", "--runtime", runtime, log, profile)
             self.assertEqual((status, err), (0, ""))
             # x86-64 has no sigreturn
             self.assertEqual(set(json.loads(out)["syscalls"][0]["names"]),
-                             {"read", *calls.split(), *requirements.ALWAYS_CALLED} - {"sigreturn"})
+                             {"read", *calls.names, *requirements.ALWAYS_CALLED} - {"sigreturn"})
         self.assertEqual(self.run_tool("needs", "--runtime", "x", log, profile)[:2], (2, ""))
 
 
-@unittest.skipUnless(os.geteuid() == 0 and BUSYBOX and shutil.which("strace"), "needs root, busybox and strace")
+# Says that it has begun by writev, and ends by exit_group, which are all that it calls.
+BEGUN = """
+static long call(long number, long a, long b, long c)
+{
+    long result;
+    asm volatile("syscall" : "=a"(result) : "0"(number), "D"(a), "S"(b), "d"(c) : "rcx", "r11", "memory");
+    return result;
+}
+void _start(void)
+{
+    struct { const char *text; unsigned long length; } part = {"begun\\n", 6};
+    call(20, 1, (long)&part, 1);
+    call(231, 0, 0, 0);
+}
+"""
+
+
+@unittest.skipUnless(os.geteuid() == 0 and BUSYBOX and shutil.which("strace") and shutil.which("cc"),
+                     "needs root, busybox, strace and a C compiler")
 class Containers(Case):
     """A container starts under the least profile with what its runtime calls, and not without."""
 
@@ -336,8 +355,10 @@ class Containers(Case):
         for inner in ("proc", "dev"):
             os.makedirs(os.path.join(folder, "rootfs", inner))
         shutil.copy(BUSYBOX, os.path.join(folder, "rootfs", "busybox"))
+        subprocess.run(["cc", "-O1", "-static", "-nostdlib", "-fno-stack-protector", "-o",
+                        os.path.join(folder, "rootfs", "begun"), "-x", "c", "-"], input=BEGUN.encode(), check=True)
         whole = config(seccomp)
-        whole["process"].update(args=["/busybox", "echo", "begun"], **process)
+        whole["process"].update({"args": ["/busybox", "echo", "begun"], **process})
         with open(os.path.join(folder, "config.json"), "w", encoding="utf-8") as file:
             json.dump(whole, file)
         read, write = os.pipe()
@@ -362,6 +383,25 @@ class Containers(Case):
             for is_created in (False, True):
                 self.assertEqual(self.run_container(runtime, least, is_created, **process), "begun\n", process)
         self.assertEqual(self.run_container(runtime, self.least()), "")
+        self.starts_nothing(runtime)
+
+    def starts_nothing(self, runtime):
+        """`lint` says so of a profile under which it is so: where it denies or kills for what the runtime calls itself,
+        with and without noNewPrivileges."""
+        own, killing = runtimes.OWN_CALLS[runtime], "SCMP_ACT_KILL_PROCESS"
+        for calls, action, starts in (
+                (own.denied, ERRNO, (False, False)), (own.killed, killing, (False, False)),
+                (own.killed, ERRNO, (True, True)), (own.denied_early, ERRNO, (False, True)),
+                (own.killed_early, killing, (False, True)), (own.killed_early, ERRNO, (True, True))):
+            for call in calls[-1:]:
+                profile = {"defaultAction": action, "architectures": ["SCMP_ARCH_X86_64"], "syscalls": [
+                    {"names": [name for name in tables.read_table(None).names() if name != call], "action": ALLOW}]}
+                out = self.run_tool("lint", "--runtime", runtime, self.file("l.json", json.dumps(profile)))[1]
+                where = " without noNewPrivileges" if starts[1] else ""
+                self.assertEqual(f"starts nothing{where}: it calls {call} itself" in out, not all(starts), out)
+                self.assertEqual("no-start" in out, not all(starts))
+                self.assertEqual(tuple(self.run_container(runtime, profile, noNewPrivileges=has, args=["/begun"]) ==
+                                       "begun\n" for has in (False, True)), starts, (runtime, call, action))
 
     def test_runc(self):
         self.tried("runc")
