@@ -8,7 +8,8 @@ to standard error, with any options; without --quiet=none or -n a log file doesn
 mode. Or it is one of these:
 
     - audit records of seccomp, as of a profile with SCMP_ACT_LOG, or of syscalls, as `auditctl -a exit,always -S all`
-      writes them: the kernel's log, journald's, auditd's, or `ausearch --raw`;
+      writes them: the kernel's log, which may lack records beyond its rate limit, journald's, auditd's, or
+      `ausearch --raw`;
     - `perf trace PROGRAM ..`, `perf trace -s`, or `perf script` of raw_syscalls:sys_enter, as the kernel's trace_pipe
       has it;
     - a map of `bpftrace -e 'tracepoint:raw_syscalls:sys_enter /pid == cpid/ { @[args->id] = count(); }' -c PROGRAM`, or
@@ -38,6 +39,9 @@ N` means that the syscall is allowed with some and not with others, and shows bo
 compare the lower half alone. Syscalls of an architecture that scf has no table of, names that a table doesn't have, and
 lines that can't be read aren't judged, and are reported so. sysdig has one name for some syscalls, such as pipe and
 pipe2: they aren't judged.
+
+If a log of strace shows a filter being loaded, as that of a container's start does, only processes and threads that
+loaded it, or were made by one that did, are judged, and from then on. So it is where a program loads filters itself.
 
 --profile prints the smallest profile that allows the syscalls of the logs, for the architectures that PROFILE lists:
 each by its name, with the values of the arguments that PROFILE's conditions test as far as they are known; all else

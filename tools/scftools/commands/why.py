@@ -41,7 +41,8 @@ A record doesn't have the arguments. If the profile or the filters test them, al
 that is answered as the record says is shown as an example. Nor does it have the data of an action: an errno
 isn't known from it. The kernel logs KILL_THREAD, KILL_PROCESS, LOG and actions without a name; another action only if
 the filter was loaded with SECCOMP_FILTER_FLAG_LOG (`flags` of a profile); and each only if it is in
-/proc/sys/kernel/seccomp/actions_logged. The number -1 is what a tracer sets to skip a syscall.
+/proc/sys/kernel/seccomp/actions_logged. Its own log may lack records, since it drops those beyond its rate limit
+(kernel.printk_ratelimit); auditd takes all. The number -1 is what a tracer sets to skip a syscall.
 
     scf why "$(dmesg | grep type=1326 | tail -n 1)" profile.json
     ulimit -c unlimited; ./program; scf why --core core profile.json
@@ -130,6 +131,7 @@ def lacking(process):
     return [f"neither the kernel's log nor auditd's has a record of process {process}",
             "the kernel logs ERRNO, TRAP, TRACE and USER_NOTIF only if the filter was loaded with "
             "SECCOMP_FILTER_FLAG_LOG",
+            audit_records.RATE_LIMITED,
             "the kernel doesn't say which actions it logs" if logged is None else
             f"of all actions this kernel logs {logged or 'none'} ({audit_records.ACTIONS_LOGGED})",
             f"auditd takes the records where it runs: ausearch -m SECCOMP -p {process} --raw prints older ones, too"]

@@ -12,6 +12,8 @@ from .strace import FORKS
 PR_SET_SECCOMP, SECCOMP_MODE_FILTER = 22, 2
 SECCOMP_SET_MODE_FILTER, FLAG_TSYNC, FLAG_NEW_LISTENER = 1, 1, 8
 LOADS = ("seccomp(", "prctl(")
+# More filters than a thread may have (MAX_INSNS_PER_PATH in kernel/seccomp.c is 32768, and each counts as 5 or more).
+MOST_FILTERS = 8192
 SUPERSEDED = Pattern(r"\+\+\+ superseded by execve in pid ([0-9]{1,10}) \+\+\+")
 
 
@@ -86,9 +88,10 @@ class Confinement:
                 self._is_as(number, who, process)
 
     def _loads(self, who: str | None, data: bytes, is_for_all: bool) -> None:
-        self.is_shown, process, filters = True, self.process_of(who), (*self.filters.get(who, ()), data)
-        for thread in self.process:
-            if thread == who or is_for_all and self.process[thread] == process:
+        self.is_shown, process = True, self.process_of(who)
+        filters = (*self.filters.get(who, ())[:MOST_FILTERS], data)
+        for thread in self.process if is_for_all else [who]:
+            if thread == who or self.process[thread] == process:
                 self.filters[thread] = filters
 
     def supersedes(self, who: str | None, thread: str) -> None:

@@ -12,6 +12,7 @@ from ..base import inputs, output, program
 from ..base.inputs import LONGEST_LINE
 from ..base.values import Pattern
 from ..model import constants
+from ..model.answers import NUMBERS_OF_ERRNOS
 from ..model.architectures import I386, JUDGED, NATIVE, X32
 
 # The values that arguments may have, by their indexes; None if they aren't known.
@@ -29,6 +30,7 @@ LEADER = Pattern(
 CALL_NAME = Pattern(r"([a-z_][a-z0-9_]{0,63})\(")
 RESUMED = Pattern(r"<\.\.\. ([a-z_][a-z0-9_]{0,63}) resumed> ?")
 RESULT = Pattern(r" *= (\?|-?[0-9]+|0x[0-9a-f]+)")
+FAILED = Pattern(r" *= -1 (?:(E[A-Z0-9]+) \(|\(errno ([0-9]{1,4})\))")
 # What ends an argument, or holds what doesn't.
 STOP = Pattern(r'["\[\](){},]|/\*|(?<=[0-9D])<(?!<)')
 STRING = Pattern(r'"[^"\\]*(?:\\.[^"\\]*)*"', re.S)
@@ -184,6 +186,15 @@ def registers_in(text: str, name: re.Match[str], architecture: str = NATIVE, is_
                 for at, match in enumerate(numbers)}
     return {at: values_of(argument, architecture)
             for at, argument in _in_registers(name[1], printed, architecture).items()}
+
+
+def errno_in(text: str, name: re.Match[str]) -> int | None:
+    """The errno with which a printed syscall failed; None if it didn't, or if the text lacks its end."""
+    end = arguments_in(text, name.end())[1] if " = -1 " in text else None
+    match = None if end is None else FAILED.match(text, end)
+    if match is None:
+        return None
+    return NUMBERS_OF_ERRNOS.get(match[1]) if match[1] else int(match[2])
 
 
 def _pieces(name: str) -> Iterator[bytes]:

@@ -53,6 +53,8 @@ STAMP_OF_RECORD = Pattern(r"audit\((([0-9]{1,12}\.[0-9]{3}):[0-9]{1,20})\)")
 ENRICHED = "\x1d"
 # The kernel leaves out records if too many come at once (kauditd_printk_skb in kernel/audit.c).
 SUPPRESSED = Pattern(rf"\A{OF_KERNEL}audit: kauditd_printk_skb: ([0-9]{{1,9}}) callbacks suppressed")
+RATE_LIMITED = ("the kernel's log may lack records: the kernel drops those beyond its rate limit "
+                "(kernel.printk_ratelimit_burst in kernel.printk_ratelimit seconds); auditd, where it runs, takes all")
 # What ausearch -i calls the actions: those that kill alike (auparse/seccomp-code-table.h of audit 3.0).
 CODES = {"kill": ("KILL_PROCESS", "KILL_THREAD"), "trap": ("TRAP",), "errno": ("ERRNO",),
          "user-notify": ("USER_NOTIF",), "trace": ("TRACE",), "log": ("LOG",), "allow": ("ALLOW",)}
@@ -154,6 +156,11 @@ def kind_of(line: str) -> tuple[str, int] | None:
     """Which record a line has, by its type's name, and where it begins."""
     match = RECORD_KINDS.search(line)
     return (match[1] or match[2], match.end() - 1) if match else None
+
+
+def is_of_kernel(line: str, at: int) -> bool:
+    """Whether the record that begins there stands as in the kernel's log, and not as in auditd's or journald's own."""
+    return line[:at + 1].endswith(("type=1326 ", "type=1300 "))
 
 
 def record_in(line: str, at: int, tables: dict[str, Table]) -> SeccompRecord:

@@ -14,7 +14,7 @@ from ..model.architectures import JUDGED, Architecture
 from ..model.calls import Call
 from ..model.tables import Table
 from ..forms import strace
-from ..forms.confinement import SUPERSEDED, Confinement
+from ..forms.confinement import SUPERSEDED
 from . import audit_records, journals
 from .audit_records import Malformed
 from .reader import LONGEST_BEGINNING, PENDING, Line, Reader, Sink
@@ -34,7 +34,6 @@ MEMBER = Pattern(r"\b(si_\w+)=(\w+)")
 KILLED = Pattern(r"\+\+\+ killed by SIGSYS")
 # How a process ends that failed: by a signal, or with another status than 0.
 ENDED_BADLY = Pattern(r"\+\+\+ (?:killed by|exited with [1-9])")
-FAILED = Pattern(r" *= -1 (?:(E[A-Z0-9]+) \(|\(errno ([0-9]{1,4})\))")
 
 
 @dataclass(frozen=True)
@@ -217,14 +216,14 @@ class _Ends(Sink):
         self.killed: list[_Printed] = []
         # each SIGSYS: the process, the signal's members, and the syscall before it
         self.signals: list[tuple[str | None, str, _Printed | None]] = []
-        self.failures, self.confinement = Failures(), Confinement()
+        self.failures = Failures()
         # the last syscall, if it failed and may be under a filter
         self.last_failure: Event | None = None
         # of each process what failed, the last at the end
         self._failed: dict[str | None, dict[tuple[object, ...], None]] = {}
 
-    def take_call(self, who: str | None, line: Line, name: re.Match[str], architecture: str, is_cut: bool) -> None:
-        self._confine(who, line, name, is_cut)
+    def take_call(self, who: str | None, line: Line, name: re.Match[str], architecture: str, is_cut: bool,
+                  is_judged: bool) -> None:
         self.last.pop(who, None)
         nr = self.reader.number_of(architecture, name[1])
         # (what socketcall and ipc do strace prints by its own name)
@@ -235,25 +234,19 @@ class _Ends(Sink):
         if len(self.last) > PENDING:
             self.last.pop(next(iter(self.last)))
         self.last_failure = None
-        if " = -1 " in line.text:
+        if printed.failure is not None and not is_judged:
+            self.failures.before_load += 1
+        elif printed.failure is not None:
             self._fails(who, printed.failure)
 
-    def _confine(self, who: str | None, line: Line, name: re.Match[str], is_cut: bool) -> None:
-        was_shown = self.confinement.is_shown
-        self.confinement.takes(who, line.text, name, is_cut)
-        if self.confinement.is_shown and not was_shown:
-            self._failed = {}
-            self.failures.shows_load()
+    def show_load(self) -> None:
+        self._failed = {}
+        self.failures.shows_load()
 
-    def _fails(self, who: str | None, event: Event | None) -> None:
-        if event is None:
-            return
-        if self.confinement.is_shown and not self.confinement.has(who):
-            self.failures.before_load += 1
-            return
+    def _fails(self, who: str | None, event: Event) -> None:
         self.last_failure = event
         self.failures.add(event)
-        failed = self._failed.setdefault(self.confinement.process_of(who), {})
+        failed = self._failed.setdefault(self.reader.confinement.process_of(who), {})
         failed.pop(event.key, None)
         failed[event.key] = None
         for every, most in ((failed, OF_PROCESS), (self._failed, PENDING)):
@@ -261,25 +254,18 @@ class _Ends(Sink):
                 every.pop(next(iter(every)))
 
     def _ends(self, who: str | None, text: str) -> None:
-        superseded = SUPERSEDED.match(text)
-        if superseded:
-            self.confinement.supersedes(who, superseded[1])
-            return
-        process, is_bad = self.confinement.process_of(who), ENDED_BADLY.match(text) is not None
+        process, is_bad = self.reader.confinement.process_of(who), ENDED_BADLY.match(text) is not None
         failed = self._failed.pop(process, None) if is_bad or process == who else None
         if failed and is_bad and len(self.failures.of_ended) < EVENTS:
             self.failures.of_ended.append([*reversed(failed)])
-        self.confinement.forget(who)
-
-    def begin_line(self, who: str | None, makers: Iterable[str | None]) -> None:
-        self.confinement.begins(who, makers)
 
     def end_line(self, who: str | None, line: Line) -> None:
         signal = SIGSYS_LINE.match(line.text)
         if signal and len(self.signals) < EVENTS:
             self.signals.append((who, signal[1], self.last.pop(who, None)))
         elif line.text.startswith("+++ "):
-            self._ends(who, line.text)
+            if SUPERSEDED.match(line.text) is None:
+                self._ends(who, line.text)
             ended = self.last.pop(who, None)
             if ended and KILLED.match(line.text) and len(self.killed) < EVENTS:
                 self.killed.append(ended)
@@ -320,11 +306,8 @@ class _Printed:
     @functools.cached_property
     def failure(self) -> Event | None:
         """Its failure, if it failed: by a filter, a supervisor or tracer, or the kernel itself."""
-        match = FAILED.match(self.text, self.end)
-        if match is None:
-            return None
-        code = NUMBERS_OF_ERRNOS.get(match[1]) if match[1] else int(match[2])
-        return None if code is None else self.event(Outcome(FAILS, data=code, is_result=True))
+        errno = strace.errno_in(self.text, self.name)
+        return None if errno is None else self.event(Outcome(FAILS, data=errno, is_result=True))
 
 
 @functools.lru_cache(EVENTS)

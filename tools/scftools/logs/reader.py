@@ -1,9 +1,9 @@
 """Reads logs of strace: joins what other processes and strace's messages interrupt, and knows which architecture each
-process runs."""
+process runs, and whether the log shows a filter that it is under."""
 from __future__ import annotations
 
+import itertools
 import re
-from collections.abc import Iterable
 
 from ..base import program
 from ..base.inputs import LONGEST_LINE
@@ -11,13 +11,14 @@ from ..base.values import Pattern
 from ..model import multiplexed
 from ..model.architectures import JUDGED, NATIVE
 from ..model.tables import Table
+from ..forms.confinement import SUPERSEDED, Confinement
 from ..forms.strace import CALL_NAME, FORKS, LEADER, RESULT, RESUMED, UNFINISHED_MARK
 
 # The most bytes of a syscall that isn't finished yet.
 LONGEST_BEGINNING = 1 << 13
 # The most unfinished syscalls, the most names whose numbers are kept, and the most processes.
 PENDING, MOST_NAMES, PROCESSES = 10000, 1000, 1 << 20
-# At most so many processes that are creating one are considered for the architecture of a new process.
+# At most so many processes that are creating one are considered as the maker of a new one.
 MAKERS = 100
 # The mode in which processes of a machine's own architecture run, as strace calls it.
 OWN_MODE = "64 bit"
@@ -41,14 +42,16 @@ class Line:
 class Sink:
     """Who takes what a reader finds in a log; by default all is passed over."""
 
-    def begin_line(self, who: str | None, makers: Iterable[str | None]) -> None:
-        """A process has a line; `makers` are those that are creating one."""
-
     def end_line(self, who: str | None, line: Line) -> None:
         """The line is read."""
 
-    def take_call(self, who: str | None, line: Line, name: re.Match[str], architecture: str, is_cut: bool) -> None:
-        """A syscall of a process, whole unless `is_cut`; its architecture is empty if none has the printed number."""
+    def take_call(self, who: str | None, line: Line, name: re.Match[str], architecture: str, is_cut: bool,
+                  is_judged: bool) -> None:
+        """A syscall of a process, whole unless `is_cut`; its architecture is empty if none has the printed number. It
+        isn't to be judged if the log shows a filter being loaded, and not that the process is under one."""
+
+    def show_load(self) -> None:
+        """The log shows the first filter being loaded: what stands before isn't made under one."""
 
     def count_unread(self, line: Line, is_call: bool) -> None:
         """A line isn't strace's, or, if `is_call`, the end of a known syscall whose beginning the log lacks."""
@@ -77,6 +80,7 @@ class Reader:
         self._makers: dict[str | None, None] = {}
         # the architecture of the last process that isn't of the log's own
         self._other: str | None = None
+        self.confinement = Confinement()
 
     def add(self, number: int, line: str) -> None:
         """Takes a line of the log."""
@@ -91,9 +95,18 @@ class Reader:
         assert leader
         who = self._who(leader[1] or leader[2])
         read = Line(number, int(leader[3]) if leader[3] else None, line[leader.end():].rstrip("\r"))
-        self._sink.begin_line(who, self._makers)
+        self.confinement.begins(who, itertools.islice(self._makers, MAKERS))
         self._add(who, read)
         self._sink.end_line(who, read)
+        if read.text.startswith("+++ "):
+            self._ends(who, SUPERSEDED.match(read.text))
+
+    def _ends(self, who: str | None, superseded: re.Match[str] | None) -> None:
+        """A process or thread has ended, or a thread goes on as its process."""
+        if superseded:
+            self.confinement.supersedes(who, superseded[1])
+        else:
+            self.confinement.forget(who)
 
     def _is_message(self, line: str) -> bool:
         """Whether a message of strace ends a line, which it broke off there and continues in the next one."""
@@ -226,7 +239,12 @@ class Reader:
         architecture = self.architecture_of(who, name[1], line.nr)
         if line.text.startswith(FORKS):
             self._forked(who, line.text)
-        self._sink.take_call(who, line, name, architecture, is_cut or self._is_long)
+        was_shown, is_under = self.confinement.is_shown, self.confinement.has(who)
+        self.confinement.takes(who, line.text, name, is_cut or self._is_long)
+        if self.confinement.is_shown and not was_shown:
+            self._sink.show_load()
+        self._sink.take_call(who, line, name, architecture, is_cut or self._is_long,
+                             is_under or not self.confinement.is_shown)
 
     def _forked(self, who: str | None, text: str) -> None:
         """A new process begins in the architecture of the one that makes it."""

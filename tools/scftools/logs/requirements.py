@@ -23,7 +23,7 @@ from ..ask.regions import Lookup
 from ..ask.verdicts import UNDECIDED, UNFINISHED
 from ..forms import runtimes
 from ..forms.engines import PASSED_ON
-from . import traces
+from . import audit_records, traces
 from .counting import Seen
 from .reader import OWN_MODE, modes_of
 from .traces import Trace
@@ -109,6 +109,11 @@ class Needs:
     unjudged: dict[str, int]
     # what is the matter with the first record that can't be read
     fault: str = ""
+    # whether a log shows a filter being loaded, and how many syscalls aren't judged since no filter is before
+    has_load: bool = False
+    before_load: int = 0
+    # whether a log is the kernel's
+    is_of_kernel: bool = False
     # whether there are several logs, whose names lines then say
     are_several: bool = False
     # as what a log is taken that doesn't say its architecture, if that isn't this machine's
@@ -210,7 +215,8 @@ class Judges:
 def find(log: Trace, judges: Judges) -> Needs:
     """The calls of a log, by their architectures and numbers, each judged."""
     counts = log.foreign.count, log.cut.count, log.not_remembered.count, log.unread.count, log.lost.count
-    needs = Needs([], {}, dict(zip(UNJUDGED, counts)), log.fault, taken=judges.taken)
+    needs = Needs([], {}, dict(zip(UNJUDGED, counts)), log.fault, log.has_load, log.before_load.count,
+                  log.is_of_kernel, taken=judges.taken)
     traced: list[TracedCall] = []
     for (architecture, name, values), seen in log.calls.items():
         in_architecture, number = JUDGED[architecture], log.reader.number_of(architecture, name)
@@ -277,8 +283,13 @@ def log_remarks(needs: Needs) -> Iterator[str]:
             yield f"{UNJUDGED[kind]}: {count}"
         if kind == "lines" and needs.fault:
             yield needs.fault
+    if needs.before_load:
+        yield ("syscalls before a filter is loaded, or in a process without one, which aren't judged: "
+               f"{needs.before_load}")
+    if needs.is_of_kernel:
+        yield audit_records.RATE_LIMITED
     if not needs.judged:
-        yield "the log has no syscall"
+        yield "the log has no syscall" + (" under a filter" if needs.has_load else "")
 
 
 def needs_lines(needs: Needs) -> Iterator[str]:
@@ -323,7 +334,7 @@ def needs_json(needs: Needs, table: Table) -> dict[str, object]:
             shown["verdict"] = judgement.line
         calls.append(shown)
     return {"status": needs.status, "calls": calls,
-            "not_judged": {"names": needs.unnamed, **needs.unjudged}}
+            "not_judged": {"names": needs.unnamed, **needs.unjudged, "before_load": needs.before_load}}
 
 
 def _entries(calls: Iterable[TracedCall], always: Iterable[str]) -> Iterator[dict[str, object]]:

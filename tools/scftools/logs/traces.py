@@ -61,8 +61,8 @@ class Trace(Log):
     def __init__(self, looked_at: Callable[[str, str], tuple[int, ...]], tables: dict[str, Table],
                  own_architecture: str = NATIVE):
         super().__init__(looked_at, tables, own_architecture)
-        # syscalls that a log says it lost
-        self.lost = Seen()
+        # syscalls that a log says it lost, and whether it is the kernel's, which may not say so
+        self.lost, self.is_of_kernel = Seen(), False
         # what is the matter with the first record that can't be read
         self.fault = ""
         # the syscalls of perf trace that were interrupted, by thread and name
@@ -109,6 +109,7 @@ class Trace(Log):
         kind = audit_records.kind_of(line)
         if kind is None:
             return audit_records.OTHER.search(line) is not None
+        self.is_of_kernel = self.is_of_kernel or audit_records.is_of_kernel(line, kind[1])
         try:
             if kind[0] in audit_records.SYSCALL_KINDS:
                 record = audit_records.syscall_in(line, kind[1], self.reader.tables)

@@ -379,7 +379,8 @@ class Needs(Judgement):
         dispositions, report, out = self.judged(log, 4)
         self.assertEqual((dispositions, report["not_judged"]),
                          ({"read": "allowed"},
-                          {"names": {"no_such_call": 1}, "foreign": 1, "cut": 0, "more": 0, "lines": 1, "lost": 0}))
+                          {"names": {"no_such_call": 1}, "foreign": 1, "cut": 0, "more": 0, "lines": 1, "lost": 0,
+                          "before_load": 0}))
         for line in ("# not judged, since the table doesn't have it: no_such_call, times: 1",
                      "# syscalls not judged, since scf has no table of their architecture: 1",
                      "# lines not judged, since they can't be parsed: 1"):
@@ -840,7 +841,7 @@ class Real(Judgement):
                 self.assertEqual((status, err), (1, ""), words)
                 report = json.loads(out)
                 self.assertEqual({key: count for key, count in report["not_judged"].items() if key != "lines"},
-                                 {"names": {}, "foreign": 0, "cut": 0, "more": 0, "lost": 0}, words)
+                                 {"names": {}, "foreign": 0, "cut": 0, "more": 0, "lost": 0, "before_load": 0}, words)
                 self.assertEqual(report["not_judged"]["lines"], 0, words)
                 names = {call["name"] for call in report["calls"]}
                 with open(log, encoding="utf-8", errors="replace") as file:

@@ -138,7 +138,8 @@ class Records(Case):
         with open(traced, encoding="latin-1") as file:
             expected = calls_of(file.read())[0]
         self.assertEqual({it["name"]: it["count"] for it in found["calls"]}, expected)
-        self.assertEqual(found["not_judged"], {"names": {}, "foreign": 0, "cut": 0, "more": 0, "lines": 0, "lost": 0})
+        self.assertEqual(found["not_judged"], {"names": {}, "foreign": 0, "cut": 0, "more": 0, "lines": 0, "lost": 0,
+                                               "before_load": 0})
 
 
 class Lines(unittest.TestCase):
@@ -281,6 +282,28 @@ class Words(Case):
         status, out, _ = self.run_tool("needs", "--profile", one, two, three, self.file("p.json", profile_of("read")))
         self.assertEqual((status, json.loads(out)["syscalls"][0]["names"][:2]), (4, ["mmap", "openat"]))
         self.assertEqual(self.run_tool("needs", "-", "-", one)[:2], (2, ""))
+
+    def test_before_a_filter_is_loaded(self):
+        """Of the log that shows it, as of `why`, only what is made under the filter is judged."""
+        one = self.file("one", "read(1) = 1\n")
+        load = "7 seccomp(SECCOMP_SET_MODE_FILTER, 0, {len=3, filter=0x7ffd5c1d}) = 0\n"
+        two = self.file("two", f"7 open(1) = 3\n7 what(1) = 3\n{load}7 close(3) = 0\n8 write(1) = 1\n"
+                               f"7 clone(0, flags=SIGCHLD) = 9\n9 read(3) = 1\n{load}")
+        status, out, _ = self.run_tool("needs", "--json", one, two, self.file("p.json", profile_of("read")))
+        found = json.loads(out)
+        self.assertEqual((status, found["not_judged"]["before_load"]), (1, 4))
+        self.assertEqual({it["name"]: it["count"] for it in found["calls"]},
+                         {"read": 2, "close": 1, "clone": 1, "seccomp": 1})
+        self.assertIn("# syscalls before a filter is loaded, or in a process without one, which aren't judged: 4\n",
+                      self.run_tool("needs", one, two, self.file("p.json", profile_of("read")))[1])
+
+    def test_the_kernels_log(self):
+        """It may lack records, which auditd's log doesn't."""
+        for before, is_of_kernel in (("[    1.000000] audit: type=1326 ", True), ("type=SECCOMP msg=", False),
+                                     ("type=1326 msg=", False)):
+            log = self.file("log", f"{before}audit(1700000000.1:2): {RECORD.format(0)}\n")
+            status, out, _ = self.run_tool("needs", log, self.file("p.json", profile_of("read")))
+            self.assertEqual((status, "drops those beyond its rate limit" in out), (0, is_of_kernel))
 
     def test_records_of_several_architectures(self):
         """By the headers of each open is 5 and socket 359 on i386, and openat 56 on aarch64."""
