@@ -1,7 +1,8 @@
 """Says which syscalls of a program a profile wouldn't allow, from logs of its syscalls.
 
-    scf needs [--profile | --counts] [--kubernetes NAME] [--runtime runc|crun] [--arch ARCH]
-              [--limit N] [--splits N] [--table FILE] [--caps LIST] [--json] LOG.. PROFILE
+    scf needs [--profile | --widen | --counts] [--kubernetes NAME] [--runtime runc|crun]
+              [--arch ARCH] [--limit N] [--splits N] [--table FILE] [--caps LIST] [--json]
+              LOG.. PROFILE
 
 A LOG is what `scf record LOG -- PROGRAM ..` or `strace -f --quiet=none -o LOG PROGRAM ..` wrote, or what strace wrote
 to standard error, with any options; without --quiet=none or -n a log file doesn't say which processes run in 32-bit
@@ -43,11 +44,18 @@ pipe2: they aren't judged.
 If a log of strace shows a filter being loaded, as that of a container's start does, only processes and threads that
 loaded it, or were made by one that did, are judged, and from then on. So it is where a program loads filters itself.
 
---profile prints the smallest profile that allows the syscalls of the logs, for the architectures that PROFILE lists:
-each by its name, with the values of the arguments that PROFILE's conditions test as far as they are known; all else
-gets PROFILE's default, or SCMP_ACT_ERRNO if that allows. It always allows restart_syscall, rt_sigreturn, exit and
-exit_group, and with syscalls of i386 or arm sigreturn: a process calls these to continue after a stop or a signal and
-to end, which the log may not show. What isn't in it goes to standard error.
+--profile prints the smallest profile that allows what the logs need, for their architectures: each syscall by its name,
+with the values of the arguments that PROFILE's conditions test, or under these conditions where the values aren't
+known; all else gets PROFILE's default, or SCMP_ACT_ERRNO if that allows. It allows nothing that PROFILE doesn't: scf
+has proved that. What the logs need and PROFILE denies is a line each on standard error, and the status 1; what fails in
+the log as PROFILE answers is left out. Where PROFILE answers ENOSYS to clone3 or faccessat2, so that libc calls clone
+or faccessat, that stays, with PROFILE's conditions on the older one. As far as PROFILE allows them the profile also has
+restart_syscall, rt_sigreturn, exit and exit_group, and with syscalls of i386 or arm sigreturn: a process calls these to
+continue after a stop or a signal and to end, which the log may not show.
+
+--widen prints that profile with what the logs need and PROFILE denies, each said on standard error: also a value whose
+upper half the log doesn't show, either way, and of a log that shows a filter being loaded what failed as PROFILE
+answers.
 
 --counts prints how often the logs have each syscall, the most frequent first: lines NAME COUNT, as `scf compile --hot`
 reads them. What isn't counted goes to standard error.
@@ -62,8 +70,7 @@ no conflict.
 Exit status: 0 every syscall is allowed; 1 one isn't, or the profile or the table is refused; 2 usage error, such as LOG
 and PROFILE in the wrong order; 3 an input or the output failed; 4 none is denied, but one depends or wasn't judged, or
 the log has none; 125 scf can't be run. With --counts it is 0, or 4 if something in the log wasn't judged; with
---profile 0, or 4 if something in the log wasn't judged or is of an
-architecture that PROFILE doesn't list.
+--widen 1 only for syscalls without a name or of an architecture that PROFILE doesn't list.
 
 Examples:
 
@@ -78,13 +85,15 @@ from ..model import architectures, profiles
 from ..ask import client
 from ..cli import words
 from ..forms import kubernetes, profile_inputs, refusals, runtimes, strace
-from ..logs import requirements
+from ..logs import least_profile, requirements
 
 
 def read_words():
     parser = words.Parser(__doc__)
     parser.add_argument("--profile", dest="least", action="store_true",
                         help="print the smallest profile that allows the syscalls of the log")
+    parser.add_argument("--widen", action="store_true",
+                        help="print the smallest profile with what the log needs and PROFILE denies")
     parser.add_argument("--counts", action="store_true",
                         help="print how often the log has each syscall, for `scf compile --hot`")
     parser.add("--arch", help=words.ARCH_HELP.format(" of a log that doesn't say it",
@@ -92,13 +101,12 @@ def read_words():
     parser.add("--kubernetes", "--limit", "--splits")
     parser.add("--table", help=words.OWN_TABLE)
     parser.add("--caps", "--json")
-    parser.add_argument("--runtime", choices=tuple(runtimes.OWN_CALLS),
-                        help="add what this container runtime calls itself before it executes the program, and read "
-                             "PROFILE as it does")
+    parser.add_argument("--runtime", choices=tuple(runtimes.OWN_CALLS), help=requirements.RUNTIME_HELP)
     parser.add_argument("logs", metavar="LOG", nargs="+",
                         help="the output of strace -f, perf trace, bpftrace, sysdig or auditd; - is standard input")
     parser.add("profile")
     options = parser.parse_args()
+    options.least = options.least or options.widen
     if options.kubernetes is not None and not options.least:
         parser.error("--kubernetes goes with --profile")
     if options.least and options.json:
@@ -112,13 +120,13 @@ def read_words():
 def tell(options, needs, judges):
     """Prints what was found, and gives the status."""
     if options.least:
-        text, remarks = requirements.least_profile(needs, judges)
+        status, text, remarks = least_profile.make(needs, judges, options.widen)
         if options.kubernetes is not None:
             text = kubernetes.printed(json.loads(text), options.kubernetes)
         output.put(text)
         output.flush()
         program.say(*remarks)
-        return program.UNKNOWN if needs.isnt_whole or needs.unlisted else program.SUCCESS
+        return status
     if options.counts:
         output.put_lines(requirements.count_lines(needs))
         output.flush()

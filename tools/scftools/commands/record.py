@@ -1,6 +1,6 @@
 """Runs a program under strace, and writes a log of its syscalls that `scf needs` reads, or the least profile.
 
-    scf record [--profile BASE] [FILE] -- PROGRAM [ARGUMENT ..]
+    scf record [--profile BASE [--widen] [--runtime runc|crun]] [FILE] -- PROGRAM [ARGUMENT ..]
 
 The program has the terminal, input and output as ever, and runs to its end; what it starts is recorded, too. FILE,
 which is overwritten, gets what `strace -f -n -e raw=all --quiet=attach -o FILE PROGRAM ..` writes: each syscall with
@@ -10,14 +10,15 @@ file here, called by the program: ls.log, or with --profile ls.json; standard er
 --profile is refused, since it would lose its profile.
 
 With --profile FILE gets, in place of the log, the smallest profile that allows what was recorded, as `needs --profile`
-makes it of BASE; what isn't in it goes to standard error. Only what the program did in this run is recorded: run
-whatever it has to be able to do.
+makes it of BASE, with --widen and --runtime as there; what isn't in it goes to standard error. Only what the program
+did in this run is recorded: run whatever it has to be able to do.
 
 A traced program gets no privileges of set-user-ID, set-group-ID or file capabilities, unless root traces it, and it is
 slower.
 
-Exit status: the program's, or the signal that ended it; 1 BASE is refused; 2 usage error; 3 FILE can't be written;
-125 strace isn't installed or scf can't be run; 126 PROGRAM isn't executable; 127 there is no PROGRAM.
+Exit status: the program's, or the signal that ended it; 1 BASE is refused, or denies what a program needs that ended
+with 0; 2 usage error; 3 FILE can't be written; 4 whether BASE allows what was recorded isn't proved; 125
+strace isn't installed or scf can't be run; 126 PROGRAM isn't executable; 127 there is no PROGRAM.
 
 Examples:
 
@@ -30,10 +31,11 @@ import sys
 import tempfile
 
 from ..base import output, program
+from ..model import profiles
 from ..ask import client
 from ..cli import words
-from ..forms import profile_inputs, refusals
-from ..logs import requirements, tracing
+from ..forms import profile_inputs, refusals, runtimes
+from ..logs import least_profile, requirements, tracing
 
 RECORDING_OPTIONS = ("-f", "-n", "-e", "raw=all", "--quiet=attach")
 
@@ -43,6 +45,8 @@ def read_words():
     parser.add_argument("--profile", metavar="BASE",
                         help="write the smallest profile that allows what was recorded, with BASE's default and "
                              "architectures")
+    parser.add_argument("--widen", action="store_true", help="allow in it what was recorded and BASE denies")
+    parser.add_argument("--runtime", choices=tuple(runtimes.OWN_CALLS), help=requirements.RUNTIME_HELP)
     parser.add_argument("file", metavar="FILE", nargs="?",
                         help="the log, or with --profile the new profile [default: PROGRAM.log or PROGRAM.json]")
     own_words, traced = tracing.split(sys.argv[1:])
@@ -51,6 +55,8 @@ def read_words():
     options = parser.parse_args(own_words)
     if not traced:
         parser.error("no program is given: it stands behind --")
+    if options.profile is None and (options.widen or options.runtime):
+        parser.error("--widen and --runtime go with --profile")
     options.traced = traced
     if options.profile is None and (options.file or "").endswith(".json"):
         parser.error(f"'{options.file}' would get the log, not a profile: --profile BASE makes one")
@@ -67,19 +73,21 @@ def least(options, judges):
     judges.of(judges.own.oci)
     with tempfile.TemporaryDirectory(prefix="scf-record-") as folder:
         log = os.path.join(folder, "log")
-        status = tracing.run_traced(log, RECORDING_OPTIONS, options.traced)
-        text, remarks = requirements.least_profile(requirements.read_needs([log], judges), judges)
+        ended = tracing.run_traced(log, RECORDING_OPTIONS, options.traced)
+        needs = requirements.read_needs([log], judges, options.runtime)
+    status, text, remarks = least_profile.make(needs, judges, options.widen)
     with open(options.file, "w", encoding="utf-8") as file:
         file.write(text)
     program.say(*remarks)
-    return status
+    return ended or (status if status == program.NEGATIVE else program.SUCCESS)
 
 
 def main():
     options = read_words()
     if options.profile is None:
         return tracing.end_as(tracing.run_traced(options.file, RECORDING_OPTIONS, options.traced))
-    judges = requirements.Judges(profile_inputs.read_profile(options.profile, None).data, None, None)
+    profile = profile_inputs.read_profile(options.profile, None).data
+    judges = requirements.Judges(profiles.read_as(profile, options.runtime or profiles.STRICT), None, None)
     try:
         return tracing.end_as(least(options, judges))
     except client.Refusal as why:

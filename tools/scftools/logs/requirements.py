@@ -6,23 +6,23 @@ All that the profile answers is known by its regions: those of a syscall with th
 from __future__ import annotations
 
 import itertools
-import json
-from collections.abc import Iterable, Iterator, Sequence
+from collections.abc import Iterator, Sequence
 
 from ..base import output, program
 from ..base.values import dataclass
 from ..model import entries, profiles, tables
 from ..model.answers import ALLOWED, DEPENDS, KILL_PROCESS, Answer
 from ..model.architectures import JUDGED, NATIVE, Architecture, machine_architecture
+from ..model.argument_sets import EMPTY_SET, Sets, Steps, TooMany
 from ..model.calls import Call
-from ..model.entries import EQUAL, Object
-from ..model.profiles import ALLOWING
+from ..model.entries import Object
 from ..model.tables import Table, Tables
 from ..ask import client, reasons, regions
+from ..ask.answer_sets import arguments_of
 from ..ask.regions import Lookup
 from ..ask.verdicts import UNDECIDED, UNFINISHED
 from ..forms import runtimes
-from ..forms.engines import PASSED_ON
+from ..report.covers import Alternative, Covers
 from . import audit_records, traces
 from .counting import Seen
 from .reader import OWN_MODE, modes_of
@@ -37,11 +37,9 @@ UNJUDGED = {"foreign": "syscalls not judged, since scf has no table of their arc
             "lost": "syscalls not judged, since the log has lost them"}
 TAKEN = ("a log that doesn't say its architecture is taken as {}'s, since the profile doesn't list {}: --arch names "
          "another")
-# The most entries with conditions for one name, and the most syscalls to judge, each with each of its values.
-CONDITIONS, MOST_WAYS = 64, 2000
-# What each least profile allows where an architecture has it: a process calls these, which a log needn't show, to
-# continue after a stop or a signal, and to end.
-ALWAYS_CALLED = ("restart_syscall", "rt_sigreturn", "exit", "exit_group", "sigreturn")
+RUNTIME_HELP = "add what this container runtime calls before it executes the program, and read the profile as it does"
+# The most syscalls to judge, each with each of its values.
+MOST_WAYS = 2000
 
 
 @dataclass(frozen=True)
@@ -95,6 +93,9 @@ class Judgement:
     line: str = ""
     allowed: Call | None = None
     denied: tuple[Call, Answer] | None = None
+    # the known values with which it is allowed whatever the others are, and the answers that don't allow it
+    passing: tuple[dict[int, int], ...] = ()
+    answers: frozenset[Answer] = frozenset()
     # whether the profile doesn't list its architecture
     is_foreign: bool = False
 
@@ -159,23 +160,37 @@ class Judge:
 
     def of(self, traced: TracedCall) -> Judgement:
         call = traced.call({})
-        allowed, denied = [], []
+        allowed, denied, passing = [], [], []
         for values in traced.known_values():
+            denied_before = len(denied)
             for region in self._lookup.of_number(call):
                 if region.answer is not None and region.has(values):
                     shown = region.call_of(call.number, call.architecture, values)
                     if shown is None:
                         return Judgement(traced, UNDECIDED, UNDECIDED)
-                    (allowed if region.answer.disposition == ALLOWED else denied).append((shown, region))
+                    (allowed if region.answer.allows else denied).append((shown, region))
+            passing += [values] if allowed and len(denied) == denied_before else []
         if not self._lookup.is_finished:
             return Judgement(traced, UNDECIDED, UNFINISHED)
         if denied:
             call, by = denied[0]
             return Judgement(traced, DEPENDS if allowed else NOT_ALLOWED, by.line, allowed[0][0] if allowed else None,
-                             (call, by.answer), by.line == reasons.FOREIGN)
+                             (call, by.answer), tuple(passing), frozenset(region.answer for _, region in denied),
+                             by.line == reasons.FOREIGN)
         if allowed:
-            return Judgement(traced, ALLOWED, allowed=allowed[0][0])
+            return Judgement(traced, ALLOWED, allowed=allowed[0][0], passing=tuple(passing))
         return Judgement(traced, NOT_ALLOWED, reasons.FOREIGN, denied=(call, KILL_PROCESS), is_foreign=True)
+
+    def alternatives(self, traced: TracedCall) -> list[Alternative]:
+        """The conditions of which some hold of exactly those arguments with which a syscall is allowed, as far as the
+        regions say; none if there are none, or too many."""
+        sets = Sets(traced.architecture.bits, Steps())
+        try:
+            allowed = sets.union(arguments_of(sets, region) for region in self._lookup.of_number(traced.call({}))
+                                 if region.is_decided and region.answer.allows)
+            return [] if allowed == EMPTY_SET else Covers(sets).of_set(allowed) or []
+        except TooMany:
+            return []
 
 
 class Judges:
@@ -237,7 +252,7 @@ def find(log: Trace, judges: Judges) -> Needs:
     return needs
 
 
-def _where(seen: Seen, are_several: bool) -> str:
+def where(seen: Seen, are_several: bool) -> str:
     """Where a syscall stands in the logs."""
     if not seen.line:
         return f"made by {seen.log} itself, before it executes the program"
@@ -245,20 +260,22 @@ def _where(seen: Seen, are_several: bool) -> str:
     return f"{'once' if seen.count == 1 else f'{seen.count} times, first'} in line {seen.line} of {log}"
 
 
+def describe(judgement: Judgement) -> str:
+    """A syscall that isn't allowed, or not always."""
+    result = judgement.line
+    if judgement.disposition == DEPENDS:
+        unsure = judgement.traced.unsure
+        result = f"depends on arg{'s' * (len(unsure) > 1)} {', '.join(map(str, unsure))}"
+    return f"{judgement.traced.describe()} {result}"
+
+
 def _of_judged(judgement: Judgement, are_several: bool) -> Iterator[str]:
     """The lines of a syscall that isn't allowed, or not always."""
-    if judgement.disposition == NOT_ALLOWED:
-        yield f"{judgement.traced.describe()} {judgement.line}"
-    elif judgement.disposition == DEPENDS:
-        unsure = judgement.traced.unsure
-        args = f"arg {unsure[0]}" if len(unsure) == 1 else f"args {', '.join(map(str, unsure))}"
-        yield f"{judgement.traced.describe()} depends on {args}"
-        if judgement.allowed and judgement.denied:
-            call, answer = judgement.denied
-            yield f"# allowed with {_arguments(judgement.allowed)}; with {_arguments(call)} it is {answer}"
-    else:
-        yield f"{judgement.traced.describe()} {judgement.line}"
-    yield f"# {_where(judgement.traced.seen, are_several)}"
+    yield describe(judgement)
+    if judgement.disposition == DEPENDS and judgement.allowed and judgement.denied:
+        call, answer = judgement.denied
+        yield f"# allowed with {_arguments(judgement.allowed)}; with {_arguments(call)} it is {answer}"
+    yield f"# {where(judgement.traced.seen, are_several)}"
 
 
 def _arguments(call: Call) -> str:
@@ -335,45 +352,6 @@ def needs_json(needs: Needs, table: Table) -> dict[str, object]:
         calls.append(shown)
     return {"status": needs.status, "calls": calls,
             "not_judged": {"names": needs.unnamed, **needs.unjudged, "before_load": needs.before_load}}
-
-
-def _entries(calls: Iterable[TracedCall], always: Iterable[str]) -> Iterator[dict[str, object]]:
-    """The entries that allow the syscalls, with the values of known arguments that conditions test."""
-    ruled: dict[str, dict[tuple[tuple[int, int], ...], None]] = {}
-    for call in calls:
-        for values in call.known_values():
-            ruled.setdefault(call.name, {})[tuple(values.items())] = None
-    plain = dict.fromkeys(name for name, rules in ruled.items() if () in rules or len(rules) > CONDITIONS)
-    plain.update(dict.fromkeys(always))
-    if plain:
-        yield {"names": list(plain), "action": "SCMP_ACT_ALLOW"}
-    for name, rules in ruled.items():
-        for rule in rules if name not in plain else ():
-            yield {"names": [name], "action": "SCMP_ACT_ALLOW",
-                   "args": [{"index": index, "value": value, "op": EQUAL} for index, value in rule]}
-
-
-def least_profile(needs: Needs, judges: Judges) -> tuple[str, list[str]]:
-    """The smallest profile that allows the syscalls of the log, as JSON, and what isn't in it."""
-    top = judges.of(judges.own.oci).top
-    default = top["defaultAction"]
-    profile: dict[str, object] = {"defaultAction": default}
-    if default in ALLOWING:
-        profile = {"defaultAction": "SCMP_ACT_ERRNO"}
-    elif "defaultErrnoRet" in top:
-        profile["defaultErrnoRet"] = top["defaultErrnoRet"]
-    profile.update((name, top[name]) for name in ("architectures", *PASSED_ON) if name in top)
-    calls = [judgement.traced for judgement in needs.judged if not judgement.is_foreign]
-    named = [call for call in calls if judges.tables[call.architecture.oci].number_of(call.name) is not None]
-    seen = {judges.own.oci, *(call.architecture.oci for call in named)}
-    always = (name for name in ALWAYS_CALLED
-              if any(judges.tables[architecture].number_of(name) is not None for architecture in seen))
-    profile["syscalls"] = list(_entries(named, always))
-    remarks = list(log_remarks(needs))
-    remarks += [f"{call.shown_name} has no name, and isn't in the profile" for call in calls if call not in named]
-    remarks += [f"{call.shown_name}: the log doesn't show arguments {', '.join(map(str, call.unknown))} as numbers: "
-                "they may be any" for call in named if call.unknown]
-    return json.dumps(profile, indent=4) + "\n", remarks
 
 
 def read_needs(names: Sequence[str], judges: Judges, runtime: str | None = None) -> Needs:

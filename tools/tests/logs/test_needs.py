@@ -13,8 +13,10 @@ from support.common import CONFINED, LOADER, Case, limited, profile_of, taken, t
 from support.oci import ALLOW, ERRNO
 from scftools.model import tables
 from scftools.model.architectures import AARCH64, ARM, I386, JUDGED, NATIVE, X32
+from scftools.base import program
 from scftools.forms import strace
-from scftools.logs import counting
+from scftools.lint import watchlist
+from scftools.logs import least_profile, requirements, traces
 
 TABLE = tables.read_table(None)
 TABLES = tables.architecture_tables(JUDGED, TABLE).of
@@ -29,7 +31,7 @@ BEGUN = re.compile(r"(?m)^(?:\[pid +\d+\] |\d+ +)? *(?:[\d:.]+ +)?(?:\[[0-9a-f]+
 
 def log_of(text, looked_at=()):
     """The calls of a log: for each name and values how often; and the counts of what wasn't read, or is foreign."""
-    log = counting.Log(lambda *_: tuple(looked_at))
+    log = traces.Trace(lambda *_: tuple(looked_at), {})
     for number, line in enumerate(text.split("\n"), 1):
         log.add(number, line)
     log.end()
@@ -185,7 +187,7 @@ class Forms(unittest.TestCase):
 
 def made_in(text, looked_at=(), log_architecture=NATIVE):
     """The calls of a log, each with its architecture, as a set; the values of some arguments come last."""
-    log = counting.Log(lambda *_: tuple(looked_at), TABLES, log_architecture)
+    log = traces.Trace(lambda *_: tuple(looked_at), TABLES, log_architecture)
     for number, line in enumerate(text.split("\n"), 1):
         log.add(number, line)
     log.end()
@@ -274,6 +276,14 @@ class Judgement(Case):
          "args": [{"index": 0, "op": "SCMP_CMP_EQ", "value": 40}]},
         {"names": ["bpf"], "action": "SCMP_ACT_TRACE"}, {"names": ["ptrace"], "action": "SCMP_ACT_LOG"}]}
 
+    # That PROFILE denies some of ALWAYS, which --widen allows.
+    ALWAYS_WIDENED = "".join(f"needs: allowed, though PROFILE denies it: {call} ERRNO 1 default (a process calls it to "
+                             "continue or to end)\n" for call in ("219 restart_syscall", "15 rt_sigreturn", "60 exit"))
+
+    def equal(self, name, value):
+        """An entry that allows a syscall for one value of its first argument."""
+        return {"names": [name], "action": ALLOW, "args": [{"index": 0, "value": value, "op": "SCMP_CMP_EQ"}]}
+
     def needs(self, log, *words, profile=None, **settings):
         return self.run_tool("needs", *words, self.file("log", log),
                              self.file("p.json", json.dumps(profile or self.PROFILE)), **settings)
@@ -328,7 +338,7 @@ class Needs(Judgement):
             status, out, _ = self.needs(log, "--json", "--runtime", runtime, profile=profile)
             dispositions = {call["name"]: call["disposition"] for call in json.loads(out)["calls"]}
             self.assertEqual((status, dispositions["setns"], dispositions["read"]), (1, "allowed", "allowed"))
-            status, out, _ = self.needs(log, "--profile", "--runtime", runtime, profile=profile)
+            status, out, _ = self.needs(log, "--widen", "--runtime", runtime, profile=profile)
             self.assertEqual((status, "setns" in out), (0, True))
 
     def test_arguments_that_a_condition_looks_at(self):
@@ -440,7 +450,9 @@ class Needs(Judgement):
         dispositions, report, out = self.judged("syscall_0x3ff(0x1, 0, 0, 0, 0, 0) = -1\nsyscall_0x1(0x1) = 0", 1)
         self.assertEqual(out.split("\n")[0], "1023 syscall_0x3ff ERRNO 1 default")
         self.assertEqual(dispositions, {"syscall_0x3ff": "not allowed", "syscall_0x1": "allowed"})
-        self.assertIn("isn't in the profile", self.needs("syscall_0x3ff(0x1) = -1", "--profile")[2])
+        status, out, err = self.needs("syscall_0x3ff(0x1) = 0", "--widen")
+        self.assertEqual((status, "3ff" in out, err), (1, False, "needs: needed, and PROFILE denies it: 1023 "
+                         "syscall_0x3ff ERRNO 1 default (once in line 1 of the log)\n" + self.ALWAYS_WIDENED))
         for name in ("syscall_0x1ffffffff", "syscall_0x", "syscall_0xg"):
             self.assertEqual(self.judged(f"{name}(0x1) = -1", 4)[1]["not_judged"]["names"], {name: 1})
 
@@ -542,15 +554,19 @@ class InArchitectures(Judgement):
             # no condition tests an argument there
             self.assertIn("i386 359 socket KILL_PROCESS 0 foreign\n# 2 times, first in line 5 of the log\n", out)
             self.assertEqual(out.count(note), 1)
-        status, out, err = self.needs(f"read(3) = 1\n{self.MODE}mmap2(1) = 1\n", "--profile", profile=alone)
-        self.assertEqual((status, json.loads(out)["syscalls"], err), (
-            4, [{"names": ["read", *ALWAYS], "action": ALLOW}], note.replace("# ", "needs: ")))
+        for word in ("--profile", "--widen"):
+            status, out, err = self.needs(f"read(3) = 1\n{self.MODE}mmap2(1) = 1\n", word, profile=alone)
+            made = json.loads(out)
+            self.assertEqual((status, made["architectures"], made["syscalls"][0]["names"][0]),
+                             (1, ["SCMP_ARCH_X86_64"], "read"))
+            self.assertEqual(err.split("\n")[:2], [note.replace("# ", "needs: ").strip(), "needs: needed, and PROFILE "
+                             "denies it: i386 192 mmap2 KILL_PROCESS 0 foreign (once in line 3 of the log)"])
 
     def test_the_least_profile_of_both(self):
         log = f"read(3) = 1\nsocket(1, 1) = 3\n{self.MODE}open(\"x\") = 3\nsocket(2, 1) = 3\nclose(-1) = 0\n"
-        status, out, err = self.needs(log, "--profile")
-        self.assertEqual((status, err), (0, ""))
+        status, out, _ = self.needs(log, "--widen")
         made = json.loads(out)
+        self.assertEqual(status, 0)
         self.assertEqual(made, {"defaultAction": ERRNO, "architectures": self.BOTH, "syscalls": [
             {"names": ["read", "open", "socketcall", *ALWAYS, "sigreturn"], "action": ALLOW},
             *({"names": [name], "action": ALLOW, "args": [{"index": 0, "value": value, "op": "SCMP_CMP_EQ"}]}
@@ -598,20 +614,29 @@ class InArchitectures(Judgement):
 
 class Least(Judgement):
     LOG = ("read(3, 0x7f, 1) = 1\nopen(\"a\", O_RDONLY) = 3\nsocket(40, 1, 0) = 3\nsocket(1, 1, 0) = 3\n"
-           "wait4(-1, NULL, 0, NULL) = 3\nread(4, 0x7f, 1) = 1\n")
+           "read(4, 0x7f, 1) = 1\n")
 
-    def least(self, log, profile=None, status=0):
-        exit_status, out, err = self.needs(log, "--profile", profile=profile)
+    def least(self, log, profile=None, status=0, words=("--profile",)):
+        exit_status, out, err = self.needs(log, *words, profile=profile)
         self.assertEqual(exit_status, status, err)
         return json.loads(out), err
 
-    def test_it_lets_the_calls_through_and_nothing_else(self):
-        made, err = self.least(self.LOG)
-        self.assertEqual(err, "")
+    def test_no_more_than_the_base(self):
+        """What is denied stands on standard error."""
+        made, err = self.least(self.LOG, status=1)
         self.assertEqual(made, {"defaultAction": ERRNO, "syscalls": [
-            {"names": ["read", "open", *ALWAYS], "action": ALLOW},
-            *({"names": [name], "action": ALLOW, "args": [{"index": 0, "value": value, "op": "SCMP_CMP_EQ"}]}
-              for name, value in (("socket", 40), ("socket", 1), ("wait4", (1 << 32) - 1), ("wait4", HIGH - 1)))]})
+            {"names": ["read", "exit_group"], "action": ALLOW}, self.equal("socket", 1)]})
+        denied = "needs: needed, and PROFILE denies it: "
+        self.assertEqual(err, f"{denied}2 open ERRNO 1 default (once in line 2 of the log)\n"
+                              f"{denied}41 socket arg 0 0x28 ERRNO 22 entry 3 (once in line 3 of the log)\n")
+
+    def test_it_lets_the_calls_through_and_nothing_else(self):
+        made, err = self.least(self.LOG, words=("--widen",))
+        widened = "needs: allowed, though PROFILE denies it: "
+        self.assertEqual(err, f"{widened}2 open ERRNO 1 default (once in line 2 of the log)\n{widened}41 socket arg 0 "
+                              f"0x28 ERRNO 22 entry 3 (once in line 3 of the log)\n{self.ALWAYS_WIDENED}")
+        self.assertEqual(made, {"defaultAction": ERRNO, "syscalls": [
+            {"names": ["read", "open", *ALWAYS], "action": ALLOW}, self.equal("socket", 1), self.equal("socket", 40)]})
         self.assertEqual(self.needs(self.LOG, profile=made)[0], 0)
         self.assertEqual(self.needs("socket(2, 1, 0) = 3", profile=made)[0], 1)
         # without any of it a call of the log isn't made
@@ -631,31 +656,117 @@ class Least(Judgement):
                 {"names": ["close"], "action": "SCMP_ACT_TRAP"}]}
             if errno:
                 given["defaultErrnoRet"] = errno
-            made, _ = self.least("read(1) = 1", profile=given)
+            made, _ = self.least("read(1) = 1", profile=given, words=("--widen",))
             self.assertEqual(made, {**expected, "architectures": ["SCMP_ARCH_X86_64"],
                                     "syscalls": [{"names": ["read", *ALWAYS], "action": ALLOW}]})
 
     def test_what_it_always_allows(self):
-        made, _ = self.least("exit_group(0) = ?\nread(1) = 1\n")
-        self.assertEqual(made["syscalls"], [
-            {"names": ["read", "exit_group", "restart_syscall", "rt_sigreturn", "exit"], "action": ALLOW}])
+        """Where the base allows it."""
+        log, every = "exit_group(0) = ?\nread(1) = 1\n", ["read", "exit_group", *ALWAYS[:3]]
+        for base, words, names in ((self.PROFILE, "--profile", every[:2]), (self.PROFILE, "--widen", every),
+                                   (json.loads(profile_of(*every)), "--profile", every)):
+            self.assertEqual(self.least(log, base, words=(words,))[0]["syscalls"], [{"names": names, "action": ALLOW}])
         table = self.file("t", "read 0\nexit 60\n")
-        status, out, _ = self.needs("read(1) = 1\n", "--profile", "--table", table, profile=json.loads(
+        status, out, _ = self.needs("read(1) = 1\n", "--widen", "--table", table, profile=json.loads(
             profile_of("read")))
         self.assertEqual((status, json.loads(out)["syscalls"]), (0, [{"names": ["read", "exit"], "action": ALLOW}]))
 
     def test_arguments_that_are_not_known(self):
-        made, err = self.least("socket(AF_NONE, 1, 0) = 3\nsocket(1, 1, 0) = 3\n")
-        self.assertEqual(made["syscalls"], [{"names": ["socket", *ALWAYS], "action": ALLOW}])
-        self.assertEqual(err, "needs: socket: the log doesn't show arguments 0 as numbers: they may be any\n")
+        """PROFILE's conditions stay, also where its default allows; of a value whose upper half isn't known those that
+        it allows."""
+        log = "socket(AF_NONE, 1, 0) = 3\nsocket(1, 1, 0) = 3\nwait4(-1, NULL, 0, NULL) = 3\n"
+        denying = {"defaultAction": ALLOW, "syscalls": [
+            {"names": [name], "action": ERRNO, "args": [{"index": 0, "op": "SCMP_CMP_EQ", "value": value}]}
+            for name, value in (("socket", 40), ("wait4", HIGH - 1))]}
+        for base, always in ((self.PROFILE, ["exit_group"]), (denying, ALWAYS)):
+            made, err = self.least(log, base, 4)
+            self.assertEqual(made["syscalls"], [
+                {"names": always, "action": ALLOW},
+                {"names": ["socket"], "action": ALLOW, "args": [{"index": 0, "value": 40, "op": "SCMP_CMP_NE"}]},
+                self.equal("wait4", (1 << 32) - 1)])
+            self.assertEqual(err, "".join(f"needs: {call} depends on arg 0: no more is allowed than by PROFILE\n"
+                                          for call in ("41 socket", "61 wait4")))
+
+    def test_a_value_of_which_half_is_known(self):
+        """One of two values is passed: both are allowed beyond the base."""
+        made, err = self.least("wait4(-1, NULL, 0, NULL) = 3\n", words=("--widen",))
+        self.assertEqual(made["syscalls"][1:], [self.equal("wait4", (1 << 32) - 1), self.equal("wait4", HIGH - 1)])
+        self.assertEqual(err.split("\n")[0], "needs: allowed, though PROFILE may deny it: 61 wait4 depends on arg 0 "
+                                             "(once in line 1 of the log)")
 
     def test_many_values(self):
-        made, _ = self.least("".join(f"socket({number}, 1, 0) = 3\n" for number in range(200)))
-        self.assertEqual(made["syscalls"], [{"names": ["socket", *ALWAYS], "action": ALLOW}])
+        made, _ = self.least("".join(f"socket({number}, 1, 0) = 3\n" for number in range(200)), status=1)
+        self.assertEqual(made["syscalls"], [
+            {"names": ["exit_group"], "action": ALLOW},
+            {"names": ["socket"], "action": ALLOW, "args": [{"index": 0, "value": 40, "op": "SCMP_CMP_NE"}]}])
+
+    # As Docker's list has it.
+    CLONES = {"defaultAction": ERRNO, "architectures": ["SCMP_ARCH_X86_64", "SCMP_ARCH_X86"], "syscalls": [
+        {"names": ["read", "faccessat", *ALWAYS], "action": ALLOW},
+        {"names": ["clone"], "action": ALLOW,
+         "args": [{"index": 0, "value": 0x7E020000, "valueTwo": 0, "op": "SCMP_CMP_MASKED_EQ"}]},
+        {"names": ["clone3", "faccessat2", "statx"], "action": ERRNO, "errnoRet": 38},
+        {"names": ["mount"], "action": ERRNO, "errnoRet": 22}]}
+    CLONE3 = "7 clone3({flags=CLONE_VM|CLONE_THREAD, exit_signal=0}, 88) = "
+
+    def test_fallbacks(self):
+        """What a program falls back to after ENOSYS stays as it is, whether the log shows the newer syscall executed,
+        failed, or not at all."""
+        clone, clone3 = self.CLONES["syscalls"][1], {"names": ["clone3"], "action": ERRNO, "errnoRet": 38}
+        forked = "7 clone(child_stack=NULL, flags=CLONE_CHILD_SETTID|SIGCHLD, child_tidptr=0x7f) = 9\n"
+        exact = self.equal("clone", 0x1000011)
+        for log, entries in ((f"{self.CLONE3}8\n", [clone]), (f"{self.CLONE3}8\n{forked}", [clone]),
+                             (f"{self.CLONE3}-1 ENOSYS (Function not implemented)\n{forked}", [clone]),
+                             (forked, [exact])):
+            made, err = self.least(f"{log}7 read(3) = 1\n", self.CLONES)
+            self.assertEqual((made["architectures"], err), (["SCMP_ARCH_X86_64"], ""))
+            self.assertEqual(made["syscalls"], [{"names": ["read", *ALWAYS], "action": ALLOW}, *entries, clone3], log)
+        made, err = self.least('faccessat2(AT_FDCWD, "a", R_OK, AT_EACCESS) = 0\n', self.CLONES)
+        self.assertEqual(([entry["names"] for entry in made["syscalls"]], err),
+                         ([["faccessat", *ALWAYS], ["faccessat2"]], ""))
+        without = {**self.CLONES, "syscalls": [entry for entry in self.CLONES["syscalls"] if entry is not clone]}
+        self.assertIn("denies it: 435 clone3 ERRNO 38 entry ", self.least(f"{self.CLONE3}8\n", without, 1)[1])
+
+    def test_what_fails_as_the_base_answers(self):
+        """It isn't allowed; what a program tries next may depend on the errno. Under a filter that the log shows it is
+        that filter's denial, which --widen takes away."""
+        log = ("7 read(3) = 1\n7 chroot(\"/\") = -1 EPERM (Operation not permitted)\n"
+               "7 statx(1) = -1 ENOSYS (Function not implemented)\n")
+        made, err = self.least(log, self.CLONES)
+        self.assertEqual(made["syscalls"], [{"names": ["read", *ALWAYS], "action": ALLOW},
+                                            {"names": ["statx"], "action": ERRNO, "errnoRet": 38}])
+        self.assertEqual(err, "needs: left out, since PROFILE answers as they fail in the log: chroot, statx\n")
+        self.assertEqual(self.least(log, self.CLONES, words=("--widen",)), (made, err))
+        for result in ("-1 EINVAL (Invalid argument)", "0", "-1 EPERM (Operation not permitted)\n7 chroot(1) = 0"):
+            self.assertIn("denies it: 161 chroot", self.least(f"7 chroot(1) = {result}\n", self.CLONES, 1)[1])
+        load = "7 seccomp(SECCOMP_SET_MODE_FILTER, 0, {len=3, filter=0x7ffd5c1d}) = 0\n"
+        before = "7 open(1) = 3\n"
+        made, err = self.least(before + load + log, self.CLONES)
+        self.assertEqual((made["syscalls"][0]["names"], err.split("\n")[0]),
+                         (["read", *ALWAYS], "needs: syscalls before a filter is loaded, or in a process without one, "
+                          "which aren't judged: 2"))
+        made, err = self.least(before + load + log, self.CLONES, words=("--widen",))
+        self.assertEqual(made["syscalls"], [{"names": ["read", "chroot", "statx", *ALWAYS], "action": ALLOW}])
+        self.assertEqual(err.count("allowed, though PROFILE denies it: "), 2)
+
+    def test_it_is_proved(self):
+        """What scf doesn't prove isn't printed."""
+        judges = requirements.Judges(json.dumps(self.CLONES).encode(), None, None)
+        listed = [JUDGED[name] for name in self.CLONES["architectures"]]
+        for entries in (self.CLONES["syscalls"][:1], self.CLONES["syscalls"]):
+            least_profile.check(json.dumps({**self.CLONES, "syscalls": entries}).encode(), judges, listed)
+        for name in ("statx", "clone"):
+            made = {**self.CLONES, "syscalls": [{"names": [name], "action": ALLOW}]}
+            with self.assertRaisesRegex(program.ToolError, "to allow no more than PROFILE: more") as raised:
+                least_profile.check(json.dumps(made).encode(), judges, listed)
+            self.assertEqual(raised.exception.status, 1)
+        status, out, err = self.needs("7 read(3) = 1\n", "--profile", "--limit=1", profile=self.CLONES)
+        self.assertEqual((status, out), (4, ""))
+        self.assertIn("isn't proved", err)
 
     def test_what_is_not_in_it(self):
         made, err = self.least("read(1) = 1\nno_such_call(1) = 1\n", status=4)
-        self.assertEqual(made["syscalls"], [{"names": ["read", *ALWAYS], "action": ALLOW}])
+        self.assertEqual(made["syscalls"], [{"names": ["read", "exit_group"], "action": ALLOW}])
         self.assertEqual(err, "needs: not judged, since the table doesn't have it: no_such_call, times: 1\n")
 
 
@@ -851,8 +962,8 @@ class Real(Judgement):
 
     def test_the_least_profile_lets_it_through(self):
         log = self.traced("-X", "raw")
-        made = self.run_tool("needs", "--profile", log, self.file("p.json", json.dumps(self.PROFILE)))
-        self.assertEqual((made[0], made[2]), (0, ""))
+        made = self.run_tool("needs", "--widen", log, self.file("p.json", json.dumps(self.PROFILE)))
+        self.assertEqual(made[0], 0)
         least = self.file("least.json", made[1])
         status, out, _ = self.run_tool("needs", log, least)
         self.assertEqual(status, 0, out)
@@ -889,13 +1000,95 @@ class Real(Judgement):
                           ("git", "--version"), ("python3", "-ISc", "import json; print(json.dumps([1]))")):
                 if shutil.which(words[0]):
                     log, plain = self.log_of(*words, options=options)
-                    status, out, err = self.run_tool("needs", "--profile", log, given)
-                    self.assertEqual((status, err), (0, ""), (options, words))
+                    status, out, err = self.run_tool("needs", "--widen", log, given)
+                    self.assertEqual(status, 0, (err, options, words))
                     self.assertEqual(self.ended(self.file("least.json", out), *words), plain, (options, words))
+
+    # Makes a process by clone3, or, as libc does, by clone if that is ENOSYS; with a word in a user namespace.
+    CLONING = """
+#include <errno.h>
+#include <linux/sched.h>
+#include <signal.h>
+#include <stdio.h>
+#include <sys/syscall.h>
+#include <sys/wait.h>
+#include <unistd.h>
+int main(int count, char **words)
+{
+    struct clone_args args = {.flags = count > 1 ? CLONE_NEWUSER : 0, .exit_signal = SIGCHLD};
+    long child = syscall(SYS_clone3, &args, sizeof args);
+    if (child < 0 && errno == ENOSYS && count == 1)
+        child = syscall(SYS_clone, SIGCHLD, 0, 0, 0, 0);
+    if (child == 0)
+        _exit(0);
+    printf("%d\\n", child < 0 ? errno : 0);
+    return child < 0 || wait(0) != child;
+}
+"""
+
+    def listed(self):
+        """A list as Docker's: without what makes a sandbox useless, and ENOSYS for clone3."""
+        names = [name for name in TABLE.names() if name not in watchlist.dangerous()]
+        return self.file("list.json", json.dumps({**Least.CLONES, "syscalls": [
+            {"names": names, "action": ALLOW}, *Least.CLONES["syscalls"][1:2],
+            {"names": ["clone3"], "action": ERRNO, "errnoRet": 38}]}))
+
+    def test_a_program_that_calls_clone3(self):
+        """Under a list that answers ENOSYS no least profile allows it, which a filter can't keep from namespaces."""
+        made = os.path.join(self.folder, "cloning")
+        built = subprocess.run(["cc", "-w", "-o", made, "-x", "c", "-"], input=self.CLONING.encode(), check=False,
+                               stderr=subprocess.PIPE) if shutil.which("cc") else None
+        if built is None or built.returncode or self.run_words([made])[:2] != (0, "0\n"):
+            self.skipTest("no such program can be made or run here")
+        for words in ((), ("--widen",)):
+            status, out, err = self.run_tool("record", "--profile", self.listed(), *words, "least.json", "--", made)
+            self.assertEqual((status, out, err), (0, "0\n", ""))
+            least = os.path.join(self.folder, "least.json")
+            self.assertEqual(self.ended(least, made), (0, b"0\n"))
+            self.assertEqual(self.ended(least, made, "namespace"), (1, b"38\n"))
+
+    # A folder is in $d.
+    PROGRAMS = {
+        "python3": f"""{sys.executable} -ISc 'import subprocess, threading
+thread = threading.Thread(target=print, args=(1,))
+thread.start(); thread.join(); subprocess.run(["true"], check=True)'""",
+        "redis-server": """redis-server --port 0 --unixsocket $d/s --dir $d --save "" >/dev/null &
+until redis-cli -s $d/s set a 1 2>/dev/null; do sleep 0.1; done; redis-cli -s $d/s bgsave; redis-cli -s $d/s get a
+redis-cli -s $d/s shutdown nosave; wait $!""",
+        "nginx": """p=$(shuf -i 20000-30000 -n 1); for at in a b c d e; do mkdir $d/$at; done
+printf 'pid %s/p; error_log stderr; daemon off; events {} http { access_log off; client_body_temp_path %s/a;
+proxy_temp_path %s/b; fastcgi_temp_path %s/c; uwsgi_temp_path %s/d; scgi_temp_path %s/e;
+server { listen 127.0.0.1:'$p'; return 200 hello; } }' $d $d $d $d $d $d >$d/conf; nginx -c $d/conf -e stderr &
+until curl -s http://127.0.0.1:$p/; do sleep 0.1; done; kill -QUIT $!; wait $!""",
+        "node": """node -e 'console.log(require("child_process").execSync("echo 1").toString())'""",
+        "java": "java -version 2>&1"}
+
+    @unittest.skipUnless(shutil.which("bwrap"), "there is no bubblewrap here")
+    def test_real_programs(self):
+        """Nothing is odd in their least profiles, and they run under them."""
+        for name, script in self.PROGRAMS.items():
+            if not shutil.which(name):
+                continue
+            with self.subTest(name):
+                program = self.file("program.sh", f"d=$(mktemp -d)\n{script}\nstatus=$?; rm -r $d; exit $status\n")
+                status, out, err = self.run_tool("record", "--profile", self.listed(), "least.json", "--", "sh",
+                                                 program, seconds=120)
+                self.assertIn(status, (0, 1), err)
+                least = os.path.join(self.folder, "least.json")
+                found = json.loads(self.run_tool("lint", "--json", least)[1])["findings"]
+                self.assertEqual({finding["kind"] for finding in found} - {"dangerous-call"}, set())
+                filters = os.path.join(self.folder, "f.bpf")
+                with open(filters, "wb") as file:
+                    subprocess.run([tool("compile"), least], stdout=file, stderr=subprocess.DEVNULL, check=True)
+                with open(filters, "rb") as file:
+                    done = subprocess.run(["bwrap", "--bind", "/", "/", "--dev", "/dev", "--proc", "/proc",
+                                           "--seccomp", "0", "sh", program], stdin=file, stdout=subprocess.PIPE,
+                                          stderr=subprocess.PIPE, timeout=120, check=False)
+                self.assertEqual((done.returncode, done.stdout.decode()), (0, out), done.stderr)
 
     def test_a_call_that_is_not_made_ends_a_program(self):
         log, _ = self.log_of("ls", self.folder, options=("-X", "raw"))
-        made = json.loads(self.run_tool("needs", "--profile", log, self.file("p.json", profile_of()))[1])
+        made = json.loads(self.run_tool("needs", "--widen", log, self.file("p.json", profile_of()))[1])
         made["syscalls"][0]["names"].remove("getdents64")
         less = self.file("less.json", json.dumps(made))
         self.assertIn("217 getdents64 ERRNO 1 default\n", self.run_tool("needs", log, less)[1])
@@ -968,7 +1161,7 @@ void _start(void)
                 self.assertEqual(dispositions.get(("i386", number, shown)), "not allowed" if is_denied else "allowed",
                                  (options, name, value))
         # under the least profile it runs as alone
-        status, out, _ = self.run_tool("needs", "--profile", log, self.file("q.json", json.dumps(
+        status, out, _ = self.run_tool("needs", "--widen", log, self.file("q.json", json.dumps(
             {"defaultAction": ERRNO, "defaultErrnoRet": 77, "architectures": ["SCMP_ARCH_X86_64", "SCMP_ARCH_X86"]})))
         self.assertEqual((status, self.ended(self.file("least.json", out), made)), (0, (0, b"0" * len(calls))))
 

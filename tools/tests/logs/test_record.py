@@ -11,7 +11,7 @@ import unittest
 from support.common import ALLOW, EPERM, LOADER, X86_64, Case, jeq, load, ret, tool
 from scftools.model.architectures import NATIVE
 from scftools.forms import c_arrays, filter_loads, strace, texts
-from scftools.logs import counting
+from scftools.logs import traces
 
 # Filters that allow all but a syscall that nobody makes.
 FIRST, SECOND, THIRD = (load(4) + jeq(X86_64, 0, 2) + load(0) + jeq(number, 1, 0) + ret(ALLOW) + ret(EPERM)
@@ -219,7 +219,7 @@ class Recorded(Traced):
         self.assertEqual(self.run_tool("record", "--", program),
                          (2, "", "record: 'true.log' is there already: name it to write over it, or another one\n"))
         base = self.file("base.json", b'{"defaultAction": "SCMP_ACT_ERRNO"}')
-        status, _, err = self.run_tool("record", "--profile", base, "--", program)
+        status, _, err = self.run_tool("record", "--profile", base, "--widen", "--", program)
         self.assertEqual((status, err.split("\n")[0]), (0, "record: writes true.json"))
         with open(self.path("true.json"), encoding="utf-8") as file:
             self.assertIn("exit_group", [name for entry in json.load(file)["syscalls"] for name in entry["names"]])
@@ -236,7 +236,7 @@ class Recorded(Traced):
         """Both halves of an argument are known, whatever bit 31 is: 0x80000000 isn't its sign."""
         script = "libc.syscall(1000, *map(ctypes.c_ulong, (1 << 31, 1 << 63 | 5, 0, 2 ** 64 - 1, 7, 8)))"
         self.assertEqual(self.run_python("record", script, "log")[0], 0)
-        log = counting.Log(lambda *_: (0, 1, 2, 3))
+        log = traces.Trace(lambda *_: (0, 1, 2, 3), {})
         log.begin("log")
         for number, line in enumerate(strace.log_lines(self.path("log")), 1):
             log.add(number, line)
@@ -247,9 +247,21 @@ class Recorded(Traced):
         base = self.file("base.json", json.dumps({"defaultAction": "SCMP_ACT_ERRNO", "syscalls": [
             {"names": ["personality"], "action": "SCMP_ACT_ALLOW",
              "args": [{"index": 0, "value": 0xFFFFFFFF, "op": "SCMP_CMP_EQ"}]}]}))
-        status, out, err = self.run_python("record", "libc.personality(ctypes.c_ulong(0xFFFFFFFF)); print('ran')",
-                                           "--profile", base, "least.json")
+        script = "libc.personality(ctypes.c_ulong(0xFFFFFFFF)); print('ran')"
+        status, out, err = self.run_python("record", script, "--profile", base, "least.json")
+        self.assertEqual((status, out), (1, "ran\n"))
+        self.assertIn("record: needed, and PROFILE denies it: 231 exit_group ERRNO 1 default", err)
+        with open(self.path("least.json"), encoding="utf-8") as file:
+            self.assertEqual([entry["names"] for entry in json.load(file)["syscalls"]], [["personality"]])
+        status, out, err = self.run_python("record", script + "; sys.exit(7)", "--profile", base, "least.json")
+        self.assertEqual((status, out), (7, "ran\n"))
+        for words in (("--widen",), ("--runtime", "crun"), ("--runtime", "x", "--profile", base)):
+            self.assertEqual(self.run_python("record", script, *words, "least.json")[:2], (2, ""))
+        status, out, err = self.run_python("record", script, "--profile", base, "--widen", "--runtime", "crun",
+                                           "least.json")
         self.assertEqual((status, out), (0, "ran\n"), err)
+        self.assertIn("PROFILE denies it: 126 capset ERRNO 1 default (made by crun itself, before it executes the "
+                      "program)\n", err)
         with open(self.path("least.json"), encoding="utf-8") as file:
             least = json.load(file)
         entries = {tuple(entry["names"]): entry.get("args") for entry in least["syscalls"]}

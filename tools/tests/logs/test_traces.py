@@ -3,6 +3,7 @@ and what container runtimes call themselves."""
 import contextlib
 import json
 import os
+import re
 import shutil
 import socket
 import struct
@@ -16,7 +17,7 @@ from support.oci import ALLOW, ERRNO
 from forms.test_runtimes import ALONE, BUSYBOX, config
 from scftools.model import architectures, tables
 from scftools.forms import runtimes
-from scftools.logs import requirements, traces
+from scftools.logs import least_profile, traces
 
 NETLINK_AUDIT, SO_RCVBUFFORCE = 9, 33
 SECCOMP_RECORD = 1326
@@ -279,8 +280,8 @@ class Words(Case):
                               "filters kill for them\n"
                               "# syscalls, each with the arguments that conditions test: allowed 0, not allowed 3, "
                               "depends 0\n")
-        status, out, _ = self.run_tool("needs", "--profile", one, two, three, self.file("p.json", profile_of("read")))
-        self.assertEqual((status, json.loads(out)["syscalls"][0]["names"][:2]), (4, ["mmap", "openat"]))
+        status, out, _ = self.run_tool("needs", "--widen", one, two, three, self.file("p.json", profile_of("read")))
+        self.assertEqual((status, json.loads(out)["syscalls"][0]["names"][:2]), (1, ["mmap", "openat"]))
         self.assertEqual(self.run_tool("needs", "-", "-", one)[:2], (2, ""))
 
     def test_before_a_filter_is_loaded(self):
@@ -331,11 +332,16 @@ class Words(Case):
         self.assertEqual(status, 1)
         self.assertIn("126 capset ERRNO 1 default\n# made by crun itself, before it executes the program\n", out)
         for runtime, calls in runtimes.OWN_CALLS.items():
-            status, out, err = self.run_tool("needs", "--profile", "--runtime", runtime, log, profile)
-            self.assertEqual((status, err), (0, ""))
             # x86-64 has no sigreturn
-            self.assertEqual(set(json.loads(out)["syscalls"][0]["names"]),
-                             {"read", *calls.names, *requirements.ALWAYS_CALLED} - {"sigreturn"})
+            every = {"read", *calls.names, *least_profile.ALWAYS_CALLED} - {"sigreturn"}
+            for word, base, status, names in (
+                    ("--widen", profile, 0, every), ("--profile", self.file("e.json", profile_of(*every)), 0, every),
+                    ("--profile", profile, 1, every & {"read", "execve", "write"})):
+                done = self.run_tool("needs", word, "--runtime", runtime, log, base)
+                self.assertEqual((done[0], set(json.loads(done[1])["syscalls"][0]["names"])), (status, names))
+                lacking = set() if base != profile else every - {"read", "execve", "write"}
+                self.assertEqual(done[2].count("PROFILE denies it"),
+                                 len(lacking if word == "--widen" else lacking - {*least_profile.ALWAYS_CALLED}))
         self.assertEqual(self.run_tool("needs", "--runtime", "x", log, profile)[:2], (2, ""))
 
 
@@ -365,12 +371,13 @@ class Containers(Case):
         log = os.path.join(self.folder, "log")
         if not os.path.exists(log):
             subprocess.run(["strace", "-f", "-o", log, BUSYBOX, "echo", "begun"], stdout=subprocess.DEVNULL, check=True)
-        status, out, err = self.run_tool("needs", "--profile", *words, log, self.file("p.json", profile_of()))
-        self.assertEqual((status, err), (0, ""))
+        status, out, _ = self.run_tool("needs", "--widen", *words, log, self.file("p.json", profile_of()))
+        self.assertEqual(status, 0)
         return {**json.loads(out), "architectures": ["SCMP_ARCH_X86_64"]}
 
-    def run_container(self, runtime, seccomp, is_created=False, **process):
-        """What a container prints, on request one that is created and then started, as engines have it done."""
+    def run_container(self, runtime, seccomp, is_created=False, tracer=(), **process):
+        """What a container prints, on request one that is created and then started, as engines have it done, and by a
+        runtime that a tracer starts."""
         folder = tempfile.mkdtemp(dir=self.folder)
         name = f"scf-traces-{os.path.basename(folder)}"
         words = [*ALONE, "crun", "--cgroup-manager", "disabled"] if runtime == "crun" else [runtime]
@@ -386,7 +393,7 @@ class Containers(Case):
             json.dump(whole, file)
         read, write = os.pipe()
         try:
-            done = subprocess.run([*words, "create" if is_created else "run", "--bundle", folder, name],
+            done = subprocess.run([*tracer, *words, "create" if is_created else "run", "--bundle", folder, name],
                                   stdin=subprocess.DEVNULL, stdout=write, stderr=subprocess.DEVNULL, check=False)
             if is_created and not done.returncode:
                 subprocess.run([*words, "start", name], stdin=subprocess.DEVNULL, stdout=subprocess.DEVNULL,
@@ -406,7 +413,35 @@ class Containers(Case):
             for is_created in (False, True):
                 self.assertEqual(self.run_container(runtime, least, is_created, **process), "begun\n", process)
         self.assertEqual(self.run_container(runtime, self.least()), "")
+        self.dies(runtime)
         self.starts_nothing(runtime)
+
+    def dies(self, runtime):
+        """Of the log of a container that dies of its profile `needs` judges what is made under it, as `why` does, and
+        makes a profile of it under which the container runs."""
+        log = os.path.join(self.folder, "started")
+        args = ["/busybox", "sh", "-c", "/busybox mkdir /dev/x && echo begun"]
+        table = tables.read_table(None)
+        denying = {"defaultAction": ERRNO, "architectures": ["SCMP_ARCH_X86_64"], "syscalls": [
+            {"names": [name for name in table.names() if name not in ("mkdir", "clone3")], "action": ALLOW}]}
+        given = self.file("denying.json", json.dumps(denying))
+        self.assertEqual(self.run_container(runtime, denying, tracer=("strace", "-f", "-o", log), args=args), "")
+        with open(log, encoding="latin-1") as file:
+            failed = [line for line in file if "mkdir(" in line and "= -1 EPERM" in line]
+        if not failed:
+            self.skipTest("strace may not trace a container here")
+        with open(log, "rb") as file:
+            why = self.run_tool("why", "--runtime", runtime, "-", given, given=file.read())[1]
+        self.assertIn("the syscall is mkdir (83)", why)
+        status, out, _ = self.run_tool("needs", "--runtime", runtime, log, given)
+        self.assertEqual((status, [line for line in out.split("\n")[:-1] if line[0] != "#"]),
+                         (1, ["83 mkdir ERRNO 1 default"]))
+        before = re.search("in a process without one, which aren't judged: ([0-9]+)", out)
+        self.assertGreater(int(before[1]), 100)
+        status, out, err = self.run_tool("needs", "--widen", "--runtime", runtime, log, given)
+        self.assertEqual((status, "mount" in out), (0, False))
+        self.assertEqual(err.count("allowed, though PROFILE denies it: 83 mkdir"), 1)
+        self.assertEqual(self.run_container(runtime, json.loads(out), args=args), "begun\n")
 
     def starts_nothing(self, runtime):
         """`lint` says so of a profile under which it is so: where it denies or kills for what the runtime calls itself,

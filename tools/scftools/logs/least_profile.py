@@ -1,0 +1,232 @@
+"""The least profile of a program: what its log needs, and no more than a base profile allows unless that is asked for.
+
+Only what scf proves to allow no more than the base is printed, but for what is asked to be allowed beyond it.
+"""
+from __future__ import annotations
+
+import json
+from collections.abc import Iterable, Iterator, Sequence
+
+from ..base import program
+from ..base.values import dataclass, field
+from ..model import profiles
+from ..model.answers import ALLOW, ALLOWED, DEPENDS, ENOSYS, MAX_ERRNO, Answer
+from ..model.architectures import Architecture
+from ..model.entries import EQUAL, Condition, default_of
+from ..model.tables import MOST_LISTED, Tables
+from ..ask import client
+from ..ask.trials import Trial
+from ..ask.verdicts import NO_MORE
+from ..forms.engines import PASSED_ON
+from ..lint.watchlist import FALLBACKS
+from ..report.covers import Alternative
+from ..report.profile_of import entry_of
+from . import requirements
+from .counting import Seen
+from .requirements import NOT_ALLOWED, Judgement, Judges, Needs, TracedCall
+
+# What each least profile allows where the base does and an architecture has it: a process calls these, which a log
+# needn't show, to continue after a stop or a signal, and to end.
+ALWAYS_CALLED = ("restart_syscall", "rt_sigreturn", "exit", "exit_group", "sigreturn")
+# The most entries with conditions for one name.
+CONDITIONS = 64
+OLDER = {newer: older for newer, older, _ in FALLBACKS}
+
+
+@dataclass
+class Draft:
+    """The entries of a profile, by their answers and names."""
+
+    default: Answer
+    of: dict[Answer, dict[str, dict[Alternative, None]]] = field(default_factory=lambda: {ALLOW: {}})
+
+    @property
+    def allowed(self) -> dict[str, dict[Alternative, None]]:
+        return self.of[ALLOW]
+
+    def add(self, name: str, alternatives: Iterable[Alternative], answer: Answer = ALLOW) -> None:
+        self.of.setdefault(answer, {}).setdefault(name, {}).update(dict.fromkeys(alternatives))
+
+    def entries(self) -> Iterator[dict[str, object]]:
+        """The entries: of each answer first the names without conditions."""
+        for answer, of_names in self.of.items():
+            least = {name: [each for each in alternatives if not any(set(other) < set(each) for other in alternatives)]
+                     for name, alternatives in of_names.items()
+                     if answer.allows or name not in self.allowed}
+            plain = [name for name, alternatives in least.items() if () in alternatives]
+            if plain:
+                yield entry_of(plain, answer, ())
+            yield from (entry_of([name], answer, alternative) for name, alternatives in least.items()
+                        for alternative in alternatives if alternative)
+
+
+class Making:
+    """The making of a least profile of what a log needs; with `widens` also of what the base denies."""
+
+    def __init__(self, needs: Needs, judges: Judges, widens: bool):
+        self.needs, self.judges, self.widens = needs, judges, widens
+        self.top = judges.of(judges.own.oci).top
+        default = default_of(self.top)
+        self.draft = Draft(Answer("ERRNO", 1) if default.allows else default)
+        # the names that are allowed under the base's conditions, and what is allowed beyond the base
+        self.as_base: set[str] = set()
+        self.beyond: dict[str, dict[Alternative, None]] = {}
+        # lines on what the log needs and the base denies, what fails in the log as the base answers, and other lines
+        self.denied: list[str] = []
+        self.failing: dict[str, None] = {}
+        self.remarks: list[str] = []
+        self.status = program.UNKNOWN if needs.isnt_whole else program.SUCCESS
+        self.architectures = list(dict.fromkeys(
+            judgement.traced.architecture for judgement in needs.judged if not judgement.is_foreign)) or [judges.own]
+
+    def _of_any(self, architecture: Architecture, name: str) -> Judgement | None:
+        """What the base answers to a syscall, whatever its arguments are; None if the architecture doesn't have it."""
+        number = self.judges.tables[architecture.oci].number_of(name)
+        if number is None:
+            return None
+        arguments = tuple((index, None) for index in self.judges.looked_at(architecture.oci, name))
+        return self.judges.of(architecture.oci).of(TracedCall(architecture, number, name, arguments, Seen()))
+
+    def _as_base(self, architecture: Architecture, name: str) -> list[Alternative]:
+        """The conditions under which the base allows a syscall; none if it doesn't."""
+        judgement = self._of_any(architecture, name)
+        if judgement is None or judgement.disposition not in (ALLOWED, DEPENDS):
+            return []
+        return self.judges.of(architecture.oci).alternatives(judgement.traced)
+
+    def _older(self, architecture: Architecture, newer: str) -> str | None:
+        """The older syscall that libc calls where the base answers ENOSYS to this one, if the base allows that."""
+        older, judgement = OLDER.get(newer), self._of_any(architecture, newer)
+        is_enosys = judgement is not None and judgement.disposition == NOT_ALLOWED and judgement.answers == {ENOSYS}
+        return older if older and is_enosys and self._as_base(architecture, older) else None
+
+    def _widen(self, judgement: Judgement, denies: str, by: str) -> None:
+        """Allows what is needed, by what, and the base denies, or may deny."""
+        name, alternatives = judgement.traced.name, map(_conditions, judgement.traced.known_values())
+        self.denied.append(f"allowed, though PROFILE {denies} it: {requirements.describe(judgement)} ({by})")
+        self.draft.add(name, ())
+        self.beyond.setdefault(name, {}).update(dict.fromkeys(alternatives))
+
+    def _deny(self, judgement: Judgement, has_name: bool, by: str) -> None:
+        """Notes what is needed, by what, and the base denies, or allows it on request."""
+        if self.widens and has_name and not judgement.is_foreign:
+            self._widen(judgement, "denies", by)
+        else:
+            self.denied.append(f"needed, and PROFILE denies it: {requirements.describe(judgement)} ({by})")
+            self.status = program.NEGATIVE
+
+    def _take_denied(self, judgement: Judgement, has_name: bool) -> None:
+        traced, errnos = judgement.traced, judgement.traced.seen.errnos
+        answers = {min(answer.data, MAX_ERRNO) if answer.action == "ERRNO" else 0 for answer in judgement.answers}
+        is_answered = errnos == answers and 0 not in errnos
+        if has_name and self._older(traced.architecture, traced.name):
+            return
+        if not is_answered or self.widens and self.needs.has_load:
+            self._deny(judgement, has_name, requirements.where(traced.seen, self.needs.are_several))
+            return
+        self.failing[traced.shown_name] = None
+        answer = next(iter(judgement.answers))
+        if has_name and answer != self.draft.default:
+            self.draft.add(traced.name, map(_conditions, traced.known_values()), answer)
+
+    def _take(self, judgement: Judgement) -> None:
+        """Takes a syscall of the log."""
+        traced = judgement.traced
+        has_name = self.judges.tables[traced.architecture.oci].number_of(traced.name) is not None
+        if judgement.disposition == NOT_ALLOWED:
+            self._take_denied(judgement, has_name)
+            return
+        if judgement.disposition == DEPENDS and self.widens and has_name and not traced.unknown:
+            self._widen(judgement, "may deny", requirements.where(traced.seen, self.needs.are_several))
+            return
+        if not has_name:
+            self.remarks.append(f"{traced.shown_name} has no name, and isn't in the profile")
+        elif judgement.disposition in (ALLOWED, DEPENDS):
+            self.draft.add(traced.name, map(_conditions, judgement.passing))
+        if judgement.disposition == DEPENDS and traced.unknown:
+            self.as_base.add(traced.name)
+        if judgement.disposition != ALLOWED:
+            self.remarks.append(f"{requirements.describe(judgement)}: no more is allowed than by PROFILE")
+        if judgement.disposition != ALLOWED or not has_name:
+            self.status = self.status or program.UNKNOWN
+
+    def _keep_fallbacks(self, architecture: Architecture, called: Sequence[str]) -> None:
+        """Keeps the base's ENOSYS for newer syscalls by which libc calls older ones, and its conditions on these."""
+        for newer in OLDER:
+            older = self._older(architecture, newer)
+            if older and newer in called:
+                self.as_base.add(older)
+                self.draft.add(older, ())
+            if older in self.draft.allowed and self.draft.default != ENOSYS:
+                self.draft.add(newer, [()], ENOSYS)
+
+    def _keep_always(self, architecture: Architecture) -> None:
+        """Allows what a process calls that a log needn't show."""
+        for name in ALWAYS_CALLED:
+            judgement = self._of_any(architecture, name)
+            if judgement is None or name in self.draft.allowed:
+                continue
+            if judgement.disposition == NOT_ALLOWED and self.widens:
+                self._deny(judgement, True, "a process calls it to continue or to end")
+            elif judgement.disposition != NOT_ALLOWED:
+                self.as_base.add(name)
+                self.draft.add(name, ())
+
+    def _settle(self) -> None:
+        """Has the base's conditions where values aren't known or too many, and adds what is allowed beyond the base."""
+        for name, alternatives in self.draft.allowed.items():
+            if name in self.as_base or len(alternatives) > CONDITIONS:
+                self.draft.allowed[name] = dict.fromkeys(
+                    each for architecture in self.architectures for each in self._as_base(architecture, name))
+        for name, alternatives in self.beyond.items():
+            self.draft.add(name, alternatives if len(alternatives) <= CONDITIONS else [()])
+
+    def profile(self) -> dict[str, object]:
+        """The profile, which isn't proved yet."""
+        for judgement in self.needs.judged:
+            self._take(judgement)
+        for architecture in self.architectures:
+            called = [judgement.traced.name for judgement in self.needs.judged
+                      if judgement.traced.architecture == architecture]
+            self._keep_fallbacks(architecture, called)
+            self._keep_always(architecture)
+        self._settle()
+        made: dict[str, object] = {"defaultAction": "SCMP_ACT_ERRNO"} if default_of(self.top).allows else {
+            name: self.top[name] for name in ("defaultAction", "defaultErrnoRet") if name in self.top}
+        if self.top.get("architectures"):
+            seen = {architecture.oci for architecture in self.architectures}
+            made["architectures"] = [name for name in self.top["architectures"] if name in seen] or sorted(seen)
+        made.update((name, self.top[name]) for name in PASSED_ON if name in self.top)
+        return {**made, "syscalls": list(self.draft.entries())}
+
+    def all_remarks(self) -> list[str]:
+        """What is to be known of the profile, for standard error."""
+        failing = list(self.failing)
+        more = f" and {len(failing) - MOST_LISTED} more" if len(failing) > MOST_LISTED else ""
+        more += "; --widen allows them" if self.needs.has_load else ""
+        return [*requirements.log_remarks(self.needs), *self.denied, *self.remarks,
+                *([f"left out, since PROFILE answers as they fail in the log: {', '.join(failing[:MOST_LISTED])}{more}"]
+                  if failing else [])]
+
+
+def _conditions(values: dict[int, int]) -> Alternative:
+    return tuple(Condition(index, EQUAL, value, 0) for index, value in values.items())
+
+
+def check(made: bytes, judges: Judges, listed: Iterable[Architecture]) -> None:
+    """Ends the tool if scf doesn't prove that a profile allows no more than the base."""
+    tables = Tables({each.oci: judges.tables[each.oci] for each in listed}, judges.listed.reading)
+    verdict = Trial(judges.listed).verdict([client.compile_profile(made, tables)], judges.profile, "--no-more")
+    if verdict.word != NO_MORE:
+        status = program.NEGATIVE if verdict.fails else program.UNKNOWN
+        raise program.ToolError("the profile isn't printed, since it isn't proved to allow no more than PROFILE: "
+                                f"{verdict.word}", status)
+
+
+def make(needs: Needs, judges: Judges, widens: bool) -> tuple[int, str, list[str]]:
+    """The status, the least profile as JSON, and lines on it. Raises Refusal."""
+    making = Making(needs, judges, widens)
+    text = json.dumps(making.profile(), indent=4) + "\n"
+    if not (widens and making.denied):
+        check(profiles.read_as(text.encode(), judges.listed.reading), judges, making.architectures)
+    return making.status, text, making.all_remarks()
