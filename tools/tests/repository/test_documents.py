@@ -369,7 +369,7 @@ class Names(unittest.TestCase):
 
 
 # Programs that the pages run as root; another line that begins with `# ` was printed by a tool.
-AS_ROOT = ("apt", "ausearch", "make", "mkdir", "podman", "scf", "systemctl")
+AS_ROOT = ("apt", "ausearch", "make", "mkdir", "podman", "scf", "strace", "systemctl")
 # Where Debian's golang-github-containers-common, which podman recommends, puts the profile of podman.
 PODMANS = "/usr/share/containers/seccomp.json"
 
