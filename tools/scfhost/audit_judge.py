@@ -1,11 +1,11 @@
 """Judges stacks of filters by what is expected of them, each pair of a stack and a profile once."""
 from __future__ import annotations
 
-from collections.abc import Callable, Sequence
+from collections.abc import Callable
 
 from scftools.base import program
 from scftools.base.values import Any, replace
-from scftools.model.profiles import reading_of
+from scftools.model.profiles import not_compared_of, reading_of
 from scftools.model.tables import Table
 from scftools.ask.verdicts import NO_LESS, NO_MORE, OTHERWISE, SAME, Verdict
 from scftools.forms.stacks import Stack
@@ -45,7 +45,6 @@ class StackJudge:
         self.tell = tell
         # by digests of the filters and the profile
         self.judgements = Cache()
-        self.foreign = Cache()
 
     def keep(self, key: tuple[object, ...], judgement: StackJudgement) -> StackJudgement:
         comparison = judgement.comparison
@@ -55,22 +54,20 @@ class StackJudge:
         """Forgets what isn't known: it may have taken too long, and may be known with more time."""
         self.judgements.values = {key: judgement for key, judgement in self.judgements.values.items()
                                   if judgement.verdict != NOT_KNOWN}
-        self.foreign.values = {key: answers for key, answers in self.foreign.values.items()
-                               if all(answer.is_decided for answer in answers)}
 
     def judge(self, stack: Stack, asked: Request | None, relation: str = SAME) -> StackJudgement:
         """The verdict on a stack with filters."""
-        asked_of = asked or Request(verify.ALLOWS_ALL, self.table)
+        asked_of = asked or verify.nothing_request(self.table)
         stub = asked_of.applied.stub if asked_of.applied is not None else {}
         key = (stack_digest(stack.filters), sha256(asked_of.profile), reading_of(asked_of.profile), tuple(stub.items()),
-               relation, asked is None, asked_of.elsewhere, asked_of.unknown)
+               relation, asked is None, asked_of.elsewhere, not_compared_of(asked_of.profile))
         if key in self.judgements.values:
             return self.judgements.values[key]
         self.tell(len(self.judgements.values))
         return self.keep(key, self._judged(stack, asked_of, relation, asked is None))
 
     def _judged(self, stack: Stack, asked: Request, relation: str, is_of_nothing: bool) -> StackJudgement:
-        """The verdict; syscalls of other ABIs don't count if nothing is configured."""
+        """The verdict."""
         comparison = asked.comparison(stack.named, relation)
         try:
             # (one of which nothing is shown needs no second look)
@@ -85,10 +82,8 @@ class StackJudge:
         if is_of_nothing:
             # (the call that shows it would be answered by no profile of a user)
             return replace(judgement, shown=None)
-        if judgement.verdict in (WEAKER, NOT_KNOWN):
-            return judgement
         names = left_out(comparison.profile, comparison.tables).architectures
-        return self._with_foreign(judgement, comparison, [*names, *asked.unknown], asked.elsewhere)
+        return replace(judgement, not_compared=(*names, *not_compared_of(asked.profile)))
 
     def _of_verdict(self, comparison: Comparison, verdict: Verdict) -> StackJudgement:
         """The verdict on what is judged: if some syscalls differ, whether any is more permissive, or any stricter."""
@@ -105,22 +100,6 @@ class StackJudge:
             return _undecided(no_less)
         return StackJudgement(OTHERWISE if no_less.holds else STRICTER, shown=verdict if no_less.holds else no_less,
                               comparison=comparison)
-
-    def _with_foreign(self, judgement: StackJudgement, comparison: Comparison, names: Sequence[str],
-                      elsewhere: Sequence[str]) -> StackJudgement:
-        """Adds to a judgement the i386 and x32 syscalls that aren't compared: weaker if some are allowed and neither
-        the profile nor another one names their architecture."""
-        key = stack_digest([part.data for part in comparison.filters]), tuple(comparison.tables.of)
-        if key not in self.foreign.values:
-            self.foreign.keep(key, comparison.foreign(comparison.scope), 0)
-        for answer in self.foreign.values[key]:
-            if answer.abi.oci in names or answer.abi.oci in elsewhere:
-                continue
-            if answer.not_denied:
-                return StackJudgement(WEAKER, why=f"the profile doesn't name {answer.abi.oci}; {answer.describe()}")
-            if not answer.is_decided:
-                judgement = replace(judgement, verdict=NOT_KNOWN, why=answer.describe())
-        return replace(judgement, not_compared=tuple(names))
 
     def judge_all(self, stack: Stack, expected: Expectation) -> StackJudgement:
         """The verdict on a stack with filters beside all that is expected."""

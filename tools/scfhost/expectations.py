@@ -7,7 +7,7 @@ from collections.abc import Callable, Iterable, Sequence
 
 from scftools.base import child, program
 from scftools.base.values import Any, dataclass, replace
-from scftools.model.architectures import I386
+from scftools.model.profiles import elsewhere_of
 from scftools.model.tables import Table
 from scftools.ask.questions import IS_ALLOWED
 from scftools.ask.verdicts import SAME
@@ -132,12 +132,10 @@ class Expectations:
                 self.of_lists[key] = Expectation(source=source, why=str(why))
         return self.of_lists[key]
 
-    def _of_groups(self, profiles: Sequence[tuple[bytes, Sequence[str]]], source: str,
-                   doubt: str | None = None) -> Expectation:
+    def _of_groups(self, profiles: Sequence[bytes], source: str, doubt: str | None = None) -> Expectation:
         """The expectation of several profiles, each for its architectures."""
-        named = [oci for _, architectures in profiles for oci in architectures]
-        asked, *others = (self.options.request(profile, elsewhere=tuple(oci for oci in named if oci not in of_profile))
-                          for profile, of_profile in profiles)
+        asked, *others = (self.options.request(profile, elsewhere=elsewhere)
+                          for profile, elsewhere in zip(profiles, elsewhere_of(profiles)))
         return Expectation(asked, source, others=tuple(others), doubt=doubt)
 
     def _of_lxc(self, container: ContainerDescription) -> Expectation:
@@ -150,14 +148,14 @@ class Expectations:
                 return Expectation(source=path)
             policy = lxc.read_lxc_policy(container.read(policy_path, sandbox_rules.MOST_LIST_BYTES))
             policies = [policy, *policy.others] if self.options.scope is None else [policy]
-            return self._of_groups([(each.data(), each.architectures) for each in policies], policy_path)
+            return self._of_groups([each.data() for each in policies], policy_path)
 
         return self._of_list(path, path, read)
 
     def of_firejail(self, sandbox: sandbox_programs.Firejail) -> Expectation:
-        """The expectation of the programs in a sandbox of firejail, of which only x86-64 syscalls are known."""
+        """The expectation of the programs in a sandbox of firejail."""
         return self._of_list(sandbox, sandbox.profile, lambda: Expectation(
-            self.options.request(sandbox.policy().data(), unknown=(I386,)), sandbox.profile))
+            self.options.request(sandbox.policy().data()), sandbox.profile))
 
     def of_snap(self, tag: str) -> Expectation | None:
         """The expectation of the programs with a snap's security tag, None if the tag has no filter."""
@@ -192,7 +190,7 @@ class Expectations:
                 return Expectation(source=source)
             # (one profile names all if x86-64 alone is judged)
             groups = unit_profiles.groups_of(settings) if self.options.scope is None else [settings.architectures]
-            profiles = [(unit_profiles.profile_of(settings, group).encode(), group) for group in groups]
+            profiles = [unit_profiles.profile_of(settings, group).encode() for group in groups]
         except (units.SettingError, program.ToolError) as why:
             return Expectation(source=source, why=str(why))
         return self._of_groups(profiles, source, settings.doubt)

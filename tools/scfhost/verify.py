@@ -9,13 +9,13 @@ from scftools.base import output, program
 from scftools.base.values import Any, dataclass, field, replace
 from scftools.model import profiles, tables
 from scftools.model.tables import Table
-from scftools.ask import reasons, verdicts
+from scftools.ask import other_abis, reasons, verdicts
 from scftools.ask.verdicts import Report
 from scftools.forms import engines, filters, runtimes
 from scftools.forms.filters import Filter
 from scftools.forms.profile_inputs import ProfileInput
 from scftools.forms.stacks import Inspection, Stack
-from scftools.report import compare_output, stack_comparison
+from scftools.report import compare, compare_output, stack_comparison
 from scftools.report.blocks import OF_ALL, blocks_of, of_threads
 from scftools.report.compare import Comparison
 from scftools.report.stack_comparison import StackComparison
@@ -66,10 +66,9 @@ class Request:
     scope: str | None = None
     relation: str = verdicts.SAME
     applied: ProfileInput | None = None
-    # the OCI names of architectures of which another profile speaks
+    # the OCI names of architectures that another profile names, and the questions about those
     elsewhere: tuple[str, ...] = ()
-    # those of which nothing is known
-    unknown: tuple[str, ...] = ()
+    others: tuple[Request, ...] = ()
     # whether the profile is what a container's configuration says, and that has one
     configured: bool | None = None
 
@@ -90,28 +89,33 @@ class Request:
         return fault is None or fault.kind in ("Conflict", "RepeatedIndex")
 
     def judge(self, stack: Stack) -> Block:
-        comparison = self.comparison(stack.named)
-        scope = self.scope or comparison.scope
-        comparison, status, report = comparison.run_by_stub(scope)
+        unit = [each.comparison(stack.named) for each in (self, *self.others)]
+        comparison, status, report = compare.compare_unit(unit, self.scope)
         has_stub = report.verdict is not None and report.verdict.word == verdicts.SAME
-        return Block(stack, status, comparison, report, comparison.stub if has_stub else {}, scope)
+        return Block(stack, status, comparison, report, comparison.stub if has_stub else {},
+                     self.scope or comparison.scope)
 
     def comparison(self, stack: Sequence[Filter], relation: str | None = None) -> Comparison:
         """The comparison of filters with the profile."""
         origins, stub = (None, {}) if self.applied is None else (self.applied.origins, self.applied.stub)
         return Comparison(stack, self.profile, self.table, relation or self.relation, origins, stub,
-                          is_native=self.scope == verdicts.NATIVE_SCOPE)
+                          is_native=self.scope == verdicts.NATIVE_SCOPE, elsewhere=self.elsewhere)
 
     def notes(self, block: Block) -> Iterator[str]:
         """What is added to scf's lines."""
         yield from compare_output.comparison_notes(block.comparison, block.report, block.scope)
         if block.stub and self.applied is not None:
             yield from self.applied.stub_notes(block.stub)
-        yield from compare_output.foreign_lines(block.comparison, block.report, block.scope)
 
     def as_json(self, block: Block) -> dict[str, object]:
         members = compare_output.comparison_json(block.comparison, block.report, block.scope, block.status)
         return {**members, "stub": block.stub} if block.stub else members
+
+
+def nothing_request(*settings: Any, **named: Any) -> Request:
+    """The question where nothing is configured, by the other settings of a request: other ABIs' syscalls are allowed,
+    too."""
+    return Request(ALLOWS_ALL, *settings, elsewhere=other_abis.NAMES, **named)
 
 
 def request_of(config: dict[str, Any], runtime: str | None, keeps_first: bool, table: Table, relation: str,

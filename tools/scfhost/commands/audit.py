@@ -17,8 +17,8 @@ is configured. `weaker`: some syscall is more permissive than configured, and on
 `otherwise`: nothing is more or less permissive, but some answers differ, such as the errno. `stricter`: nothing is more
 permissive. `as configured`: every syscall gets the profile's answer, of each architecture that the profile names and
 scf has a table of, or with --native of x86-64 alone; a line says which weren't compared. The unconfined stand first.
-With --baseline a row is also weaker if it allows more than the profile FILE, and always if it allows an i386 or x32
-syscall and the profile doesn't name its architecture.
+With --baseline a row is also weaker if it allows more than the profile FILE. A profile denies all syscalls of another
+ABI of the machine, such as i386 or x32 on x86-64, that it doesn't name; --native doesn't ask about these.
 
 Containers are known by the files of runc, crun, containerd, Docker, podman and CRI-O. --runtime-root is a folder that
 was given to a runtime as --root, may have wildcards, and may be given several times. What a user could have written

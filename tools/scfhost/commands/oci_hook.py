@@ -10,9 +10,10 @@ A runtime starts a hook with the container's state on standard input. The profil
 the bundle, with --runtime as that runtime applies it, and the filters are read from the kernel as by
 `scf filters-of`, for all processes of the container. The syscalls of each architecture that the profile names are
 compared, as far as scf has a table of it, with --native x86-64's alone. With the policy `same` each must be answered as
-the profile says, with `no-more` none more permissively. The result goes to standard error and to the system log, or
-with --json as one object to standard output and to the log. A container whose configuration has no profile is unconfined
-by configuration, and is rejected too, except with --allow-unconfined.
+the profile says, with `no-more` none more permissively; those of another ABI of the machine that it doesn't name must
+be denied, as by `scf compare`. The result goes to standard error and to the system log, or with --json as one object to
+standard output and to the log. A container whose configuration has no profile is unconfined by configuration, and is
+rejected too, except with --allow-unconfined.
 
 --kill kills the container unless it is known to be confined, and only then says why. It also kills it if that isn't
 known at the deadline, if this tool is stopped or ended before it knows, and if its own options are wrong. runc ends a

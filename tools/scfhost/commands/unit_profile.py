@@ -14,7 +14,8 @@ out, and why, goes to standard error.
 
 `scf verify-process` tells whether a unit's main process is confined so. On i386 systemd applies
 RestrictAddressFamilies= not at all, and MemoryDenyWriteExecute= to other syscalls. One profile can't say that of a unit
-that permits i386 syscalls: the one that is printed leaves i386 out, and --arch i386 prints the profile for it.
+that permits i386 syscalls: the one that is printed leaves i386 out, and --arch i386 prints the profile for it, which
+`scf compare` and `scf verify-process` take by --also.
 
 The rules of RestrictNamespaces= and of the settings after it are those of systemd 252.39 and 257.13, and of later ones
 of these series; if another version runs, a line on standard error says so. From 254 on MemoryDenyWriteExecute= adds no

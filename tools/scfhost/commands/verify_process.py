@@ -4,7 +4,7 @@
                        [--runtime runc|crun|docker|podman] [--engine docker|docker-20.10|podman]
                        [--caps LIST] [--kernel X.Y] [--arch-map native|all] [--ignore MEMBER ..]
                        [--limit N] [--splits N] [--strict] [--table FILE] [--verbose] [--json]
-                       PID PROFILE
+                       [--also PROFILE ..] PID PROFILE
     scf verify-process [--native|--calls] [--no-more|--no-less] [--all] [--force] [--limit N]
                        [--splits N] [--table FILE] [--json] PID --beside FOLDER
 
@@ -36,9 +36,9 @@ With --beside the filters are compared with those that `scf filters-of` wrote in
 upgrade or from another one, over each possible record unless --native.
 
 With a profile the syscalls of each architecture that it names are compared, as far as scf has a table of it; with
---native x86-64's alone, and with --calls each that a table names by itself. Of i386 and x32, which an x86-64 kernel
-also has, the tool says whether any syscall is allowed that isn't compared, and gives one. If scf can't decide that,
-some are tried.
+--native x86-64's alone, and with --calls each that a table names by itself. As by `scf compare`, all syscalls of
+another ABI of the machine that the profile doesn't name must be denied, unless --native or --no-less is given; --also
+gives the other profile of a unit that has two (`scf unit-profile --arch i386`).
 
 The exit status is the worst of all stacks, 1 before 3 before 4 before 0: 0 same, no more or no less, 1 differs, more,
 less, not confined or refused, 2 usage error, 3 the filters can't be read or an input or the output failed, 4 undecided
@@ -55,7 +55,8 @@ import sys
 
 from scftools.base import inputs, output, program
 from scftools.base.values import replace
-from scftools.model import tables
+from scftools.model import profiles, tables
+from scftools.ask import verdicts
 from scftools.cli import words
 from scftools.forms import engines, profile_inputs, runtimes
 from .. import configurations, containers, processes, verify
@@ -68,7 +69,7 @@ def read_words():
     parser.add("--force")
     parser.relation()
     runtimes.add_options(parser, without_caps="the bounding set of PID")
-    parser.add("--limit", "--splits", "--strict", "--table", "--verbose", "--json", "pid")
+    parser.add("--also", "--limit", "--splits", "--strict", "--table", "--verbose", "--json", "pid")
     parser.add_argument("--beside", metavar="FOLDER", help="compare with the filters that filters-of wrote")
     if not any(word.partition("=")[0] == "--beside" for word in sys.argv):
         parser.add_argument("profile", metavar="PROFILE",
@@ -77,13 +78,15 @@ def read_words():
     options = parser.parse_args()
     if options.beside is not None:
         options.profile = None
-        if options.runtime is not None or options.verbose or options.strict:
-            parser.error("--runtime, --verbose and --strict speak of a profile, and --beside has none")
+        if options.runtime is not None or options.verbose or options.strict or options.also:
+            parser.error("--runtime, --verbose, --strict and --also speak of a profile, and --beside has none")
+    if options.also and options.scope == verdicts.NATIVE_SCOPE:
+        parser.error("--also is for other architectures' profiles, and --native takes one alone")
     if options.runtime is None and runtimes.is_engines(options):
         parser.error("--engine, --caps, --kernel, --arch-map and --ignore need --runtime")
     options.setting = runtimes.setting_of_words(options, parser)
     options.pid = processes.number_in(options.pid, parser)
-    parser.one_standard_input([options.profile, options.table])
+    parser.one_standard_input([options.profile, *options.also, options.table])
     return options
 
 
@@ -128,22 +131,30 @@ def read_profile(name, is_engines):
                                 f"'{{{{.OCIConfigPath}}}}' NAME` prints it") from why
 
 
+def profiles_in(data, name, options, kernel):
+    """The profiles in what was read of a file, as the container's runtime applies them."""
+    if options.runtime is not None:
+        return [runtimes.applied_in(data, name, options.runtime, setting_of(options, kernel), options.strict)]
+    return profile_inputs.profile_in(data, name, is_runtimes=True, is_strict=options.strict).parts
+
+
 def request_of(options, kernel):
     """How each stack is compared, and with what."""
     settings = tables.read_table(options.table), options.scope, options.relation
     if options.beside is not None:
         return verify.SavedRequest(verify.read_saved(options.beside), *settings)
-    name, runtime = options.profile, options.runtime
-    data = read_profile(name, runtime is not None)
-    configured = is_configured(data, name, kernel, options.pid)
+    data = read_profile(options.profile, options.runtime is not None)
+    configured = is_configured(data, options.profile, kernel, options.pid)
     if configured is False:
-        return verify.Request(verify.ALLOWS_ALL, *settings, configured=False)
-    if runtime is None:
-        profile = profile_inputs.profile_in(data, name, is_runtimes=True, is_strict=options.strict)
-        request = verify.Request(profile.data, *settings)
-        return replace(request, configured=True) if configured and request.is_accepted else request
-    applied = runtimes.applied_in(data, name, runtime, setting_of(options, kernel), options.strict)
-    return verify.Request(applied.data, *settings, applied, configured=configured)
+        return verify.nothing_request(*settings, configured=False)
+    unit = profiles_in(data, options.profile, options, kernel)
+    for name in options.also:
+        unit += profiles_in(read_profile(name, options.runtime is not None), name, options, kernel)
+    request, *others = (
+        verify.Request(given.data, *settings, None if options.runtime is None else given, elsewhere)
+        for given, elsewhere in zip(unit, profiles.elsewhere_of([given.data for given in unit])))
+    is_known = options.runtime is not None or configured and request.is_accepted
+    return replace(request, others=tuple(others), configured=configured if is_known else None)
 
 
 def other_runtime(options, kernel, request, worst):

@@ -109,8 +109,5 @@ class Differences(Lookup):
             if verdict is None:
                 return None
             if verdict.call is not None:
-                names, arguments = tuple(table.names_of(number)), " ".join(map(hex, verdict.call.arguments))
-                line = (f"{number} {','.join(names)} {verdict.word} args {arguments} filter {verdict.filters.line} "
-                        f"{self._beside} {verdict.profile.line}")
-                failing.append(NamedCall(architecture.marked(line), number, names, verdict, architecture))
+                failing.append(NamedCall.of(verdict, architecture, table.names_of(number), self._beside))
         return failing if self.regions is not None else None

@@ -1,4 +1,4 @@
-"""Syscalls of other ABIs of a machine, which a comparison of its own leaves out: whether filters allow any.
+"""Syscalls of a machine's other ABIs, which a profile doesn't name: whether filters deny all of them.
 
 A filter that doesn't test the architecture takes the number of an i386 syscall for one of x86-64; and x32 syscalls have
 the architecture of x86-64, with numbers from 0x40000000 on. An x86-64 kernel has no other ABIs, one of aarch64 has arm.
@@ -8,83 +8,91 @@ from __future__ import annotations
 from collections.abc import Sequence
 
 from ..base.values import dataclass
-from ..model.answers import ALLOWED, DENIED, Answer
+from ..model import tables
+from ..model.answers import ALLOWED, KILL_PROCESS, Answer
 from ..model.architectures import JUDGED, NATIVE, Architecture
 from ..model.calls import NO_CALL, Call, number_text
 from ..model.tables import Table
 from .explanation import join_names
 from .questions import IS_DENIED, Asker
 from .regions import Numbers, Region
+from .verdicts import MORE, NO_MORE, Verdict
 
 # By the OCI name of a machine's own architecture its other ABIs, of the machines whose other ABIs are known.
 OF_MACHINES = {row.oci: tuple(JUDGED[abi] for _, abi in row.modes) for row in JUDGED.values() if row.modes}
 ABIS = OF_MACHINES[NATIVE]
+# The OCI names of all of them.
+NAMES = tuple(abi.oci for abis in OF_MACHINES.values() for abi in abis)
 NO_OTHER_ABIS = "other ABIs: the kernel has no others"
 EVERY_SYSCALL_DENIED = "other ABIs: every {} syscall is denied; the kernel has no others"
 
 
-def _last(architecture: Architecture) -> int:
-    """The last number of a record that a kernel makes of a syscall."""
-    return min(architecture.last, NO_CALL - 1)
-
-
 @dataclass(frozen=True)
 class AbiAccess:
-    """An ABI's access: that each of its syscalls is denied, or one that isn't, with its answer; or that neither is
-    known."""
+    """An ABI, and whether each of its syscalls is denied: the verdict beside a profile that kills for them, with one
+    that isn't."""
 
     abi: Architecture
-    not_denied: tuple[Call, Answer] | None = None
-    is_decided: bool = True
+    verdict: Verdict
 
     @property
     def are_denied(self) -> bool:
-        return self.is_decided and self.not_denied is None
+        return self.verdict.holds
 
     @property
-    def _names(self) -> list[str]:
-        """The names of the syscall that isn't denied."""
+    def is_decided(self) -> bool:
+        return self.verdict.holds or self.verdict.fails
+
+    @property
+    def not_denied(self) -> tuple[Call, Answer] | None:
+        """A syscall that isn't denied, with its answer."""
+        call, answer = self.verdict.call, self.verdict.filters
+        return (call, answer) if call is not None and answer is not None else None
+
+    @property
+    def names(self) -> list[str]:
+        """The names of that syscall."""
         return self.not_denied[0].names(Table(b"")) if self.not_denied else []
 
     def describe(self) -> str:
         if self.not_denied is None:
-            access = "every syscall is denied" if self.is_decided else "undecided whether any syscall is allowed"
+            access = "every syscall is denied" if self.are_denied else "undecided whether any syscall is allowed"
             return f"{self.abi.name}: {access}"
         call, answer = self.not_denied
         which = "some syscalls are allowed" if answer.disposition == ALLOWED else "not every syscall is denied"
         text = number_text(call.number, call.architecture)
-        shown = f"{self._names[0]} ({text.partition(' ')[2]})" if self._names else text
+        shown = f"{self.names[0]} ({text.partition(' ')[2]})" if self.names else text
         return f"{self.abi.name}: {which}, such as {shown}: {answer}"
 
     def as_json(self) -> dict[str, object]:
-        shown = [{"number": call.number, "names": self._names, "architecture": hex(call.architecture),
+        shown = [{"number": call.number, "names": self.names, "architecture": hex(call.architecture),
                   "answer": answer.as_json()} for call, answer in filter(None, [self.not_denied])]
         return {"kind": self.abi.name, "is_decided": self.is_decided, "not_denied": shown}
 
 
-def _asked(asker: Asker) -> AbiAccess:
-    """The access of an ABI, by a comparison."""
-    architecture = asker.architecture
-    verdict = asker.of_numbers(IS_DENIED, 0, _last(architecture) - architecture.first)
-    if verdict.call is not None and verdict.filters is not None:
-        return AbiAccess(architecture, (verdict.call, verdict.filters))
-    return AbiAccess(architecture, is_decided=verdict.holds)
+def _shown_number(architecture: Architecture, low: int, high: int) -> int:
+    """Of a range of numbers the first that has a name, if any has."""
+    table = tables.architecture_table(architecture.oci) or Table(b"")
+    named = sorted(architecture.first + number for number in table.numbers())
+    return next((number for number in named if low <= number <= high), low)
 
 
 def abi_access(filters: Sequence[bytes], filter_regions: Sequence[Region] | None,
-               architecture: Architecture) -> AbiAccess:
-    """Whether filters with these regions, or with these differences from a profile that denies the ABI, or None if they
-    are unfinished, allow a syscall of an ABI."""
-    numbers = Numbers(filter_regions, architecture, _last(architecture))
-    if filter_regions is None or numbers.ranges is None:
-        return AbiAccess(architecture, is_decided=False)
-    for low, _, here in numbers.ranges:
+               architecture: Architecture, last: int = NO_CALL - 1) -> AbiAccess:
+    """Whether filters deny each syscall of an ABI with a number up to the last that a kernel may have, or another one,
+    given their regions, or their differences from a profile that denies the ABI, or None if these are unfinished.
+    Raises Refusal."""
+    last = min(architecture.last, last)
+    ranges = None if filter_regions is None else Numbers(filter_regions, architecture, last).ranges
+    for low, high, here in ranges or ():
         for region in here:
-            if region.is_decided and region.answer.disposition != DENIED:
-                return AbiAccess(architecture, (region.call_of(low, architecture.number), region.answer))
-    are_decided = all(region.answer is not None and region.answer.denies for _, _, here in numbers.ranges
-                      for region in here)
-    return AbiAccess(architecture) if are_decided else _asked(Asker(filters, architecture))
+            if region.is_decided and not region.answer.denies:
+                call = region.call_of(_shown_number(architecture, low, high), architecture.number)
+                return AbiAccess(architecture, Verdict(MORE, call, region.answer, KILL_PROCESS))
+    are_denied = ranges is not None and all(region.answer is not None and region.answer.denies
+                                            for _, _, here in ranges for region in here)
+    return AbiAccess(architecture, Verdict(NO_MORE) if are_denied else Asker(filters, architecture).of_numbers(
+        IS_DENIED, 0, last - architecture.first))
 
 
 def machine_access(filters: Sequence[bytes], filter_regions: Sequence[Region] | None, machine: str) -> list[AbiAccess]:
@@ -93,13 +101,12 @@ def machine_access(filters: Sequence[bytes], filter_regions: Sequence[Region] | 
 
 
 def are_none(accesses: Sequence[AbiAccess]) -> bool:
-    """Whether it is proved that every foreign syscall is denied."""
+    """Whether it is proved that every syscall of these ABIs is denied."""
     return all(access.are_denied for access in accesses)
 
 
-def access_lines(accesses: Sequence[AbiAccess], profile_names: Sequence[str] = ()) -> list[str]:
-    """A line for each ABI, or one for all that are denied, given a profile that names these other architectures."""
+def access_lines(accesses: Sequence[AbiAccess]) -> list[str]:
+    """A line for each ABI of a machine, or one for all that are denied."""
     if are_none(accesses):
         return [EVERY_SYSCALL_DENIED.format(join_names([access.abi.name for access in accesses]))]
-    named = {name: f"; the profile also names {name}, which is judged without --native" for name in profile_names}
-    return [*(access.describe() + named.get(access.abi.oci, "") for access in accesses), NO_OTHER_ABIS]
+    return [*(access.describe() for access in accesses), NO_OTHER_ABIS]

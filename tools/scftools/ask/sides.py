@@ -93,7 +93,7 @@ class Sides:
             results.append(self.asked(SCOPES[CALLS], relation, name))
             if results[-1][1].verdict is None:
                 return results[-1]
-        status, first = min(results, key=lambda result: (not result[1].verdict.fails, result[1].verdict.holds))
+        status, first = min(results, key=lambda result: result[1].verdict.order)
         calls = tuple(call for _, report in results for call in report.calls)
         return status, replace(first, lines=(first.lines[0], *(call.line for call in calls)), calls=calls)
 

@@ -66,6 +66,15 @@ class Verdict:
         return self.word in FAILING
 
     @property
+    def order(self) -> tuple[bool, bool]:
+        """Of several verdicts the least speaks for all: the first that fails, else the first that doesn't hold."""
+        return not self.fails, self.holds
+
+    def of_relation(self, relation: str) -> Verdict:
+        """The same as a verdict on another relation."""
+        return replace(self, word=relation if self.holds else FAILING_WORDS[relation] if self.fails else self.word)
+
+    @property
     def status(self) -> int:
         """scf's exit status with it."""
         return program.SUCCESS if self.holds else program.NEGATIVE if self.fails else program.UNKNOWN
@@ -99,6 +108,15 @@ class NamedCall:
     names: tuple[str, ...]
     verdict: Verdict
     architecture: Architecture | None = None
+
+    @classmethod
+    def of(cls, verdict: Verdict, architecture: Architecture, names: Sequence[str],
+           beside: str = "profile") -> NamedCall:
+        """The line of a syscall of an architecture whose verdict has an example."""
+        number = verdict.call.number - architecture.first
+        words = (str(number), ",".join(names), verdict.word, "args", *map(hex, verdict.call.arguments),
+                 f"filter {verdict.filters.line}", f"{beside} {verdict.profile.line}")
+        return cls(architecture.marked(" ".join(filter(None, words))), number, tuple(names), verdict, architecture)
 
     @property
     def record(self) -> Call:

@@ -49,6 +49,8 @@ SHARED: dict[str, dict[str, Any]] = {
     **{name: {"action": "store_true", "help": argparse.SUPPRESS} for name in ("--architectures", "--left-out")},
     **{name: {"metavar": "N", "help": argparse.SUPPRESS}
        for name in ("--nr-from", "--nr-to", "--reading", "--total-limit")},
+    "--also": {"metavar": "PROFILE", "action": "append", "default": [],
+               "help": "another profile of the same unit, for other architectures; may be given several times"},
     "--caps": {"metavar": "LIST",
                "help": "PROFILE is an engine's own: resolve it, as resolve-profile does, for a container with these "
                        "capabilities: docker, podman, none or a list such as CAP_KILL,SYS_ADMIN"},

@@ -3,7 +3,7 @@
     scf compare [--native|--all|--calls] [--no-more|--no-less|--disposition] [--limit N]
                 [--splits N] [--strict] [--runtime runc|crun|docker|podman|sandbox]
                 [--table FILE] [--caps LIST] [--machine NAME] [--verbose] [--json] [--html FILE]
-                FILTER.. PROFILE
+                [--also PROFILE ..] FILTER.. PROFILE
     scf compare [--native|--all|--calls] [--no-more|--no-less|--disposition] [--limit N]
                 [--splits N] [--table FILE] [--json] FILTER.. --beside FILTER..
 
@@ -17,9 +17,11 @@ x86-64. With --json one object is printed instead, which says the same; --html a
 which replaces FILE at once.
 
 The syscalls of each architecture that the profile names are compared, as far as scf has a table of it
-(`scf call-table -h` names those). A profile without a list is for x86-64. --native compares x86-64's
-alone, whatever the profile names, and --calls each syscall that a table names by itself. If the filters allow any i386
-or x32 syscall that isn't compared, a line after the verdict says so. --all compares each possible record, also for
+(`scf call-table -h` names those). A profile without a list is for x86-64. A runtime kills a program that makes a
+syscall of another ABI of the machine, such as i386 or x32 on x86-64, that the profile doesn't name: the filters must
+deny all of these, by whatever answer, or they differ (with --no-more, allow more). --also gives another profile of the
+same unit, for other architectures, and all are judged. --native compares x86-64's syscalls alone, whatever the profile
+names, and --calls each syscall that a table names by itself. --all compares each possible record, also for
 architectures and numbers that no kernel has. If it finds a difference on an architecture that the profile names and scf
 has no table of, the first line is `undetermined: the profile is for this architecture, too`. --table FILE takes the
 place of x86-64's table.
@@ -52,11 +54,10 @@ Examples:
     scf compare --no-more old.bpf new.bpf profile.json
     scf compare old.bpf --beside new.bpf
 """
-import itertools
 import sys
 
 from ..base import output, program
-from ..model import tables
+from ..model import profiles, tables
 from ..ask import verdicts
 from ..cli import words
 from ..forms import filters, runtimes
@@ -73,7 +74,7 @@ def read_words():
     runtimes.add_option(parser, is_sandboxes=True)
     parser.add_argument("--beside", metavar="FILTER", nargs="*",
                         help="compare with these filters, oldest first, and not with a profile")
-    parser.add("filters")
+    parser.add("--also", "filters")
     if not any(word.partition("=")[0] == "--beside" for word in sys.argv):
         parser.add_argument("profile", metavar="PROFILE",
                             help="a resolved profile, or a config.json; - is standard input; none with --beside")
@@ -82,10 +83,12 @@ def read_words():
         parser.error("argument --beside: expected at least one argument")
     for name, value in (("--caps", options.caps), ("--verbose", options.verbose), ("--html", options.html),
                         ("--strict", options.strict), ("--runtime", options.runtime),
-                        ("--machine", options.machine)):
+                        ("--machine", options.machine), ("--also", options.also)):
         if options.beside is not None and value:
             parser.error(f"{name} speaks of a profile, and --beside has none")
-    others = [options.profile] if options.beside is None else options.beside
+    if options.also and options.scope in (verdicts.NATIVE_SCOPE, verdicts.ALL):
+        parser.error("--also is for other architectures' profiles, and --native and --all take one alone")
+    others = [options.profile, *options.also] if options.beside is None else options.beside
     parser.one_standard_input([*options.filters, *others, options.table])
     return options
 
@@ -96,8 +99,7 @@ def write_page(options, comparison, report, scope):
 
     from ..report import pages  # pylint: disable=import-outside-toplevel
 
-    added = [*compare_output.comparison_notes(comparison, report, scope),
-             *compare_output.foreign_lines(comparison, report, scope, is_quiet=True)]
+    added = [*compare_output.comparison_notes(comparison, report, scope)]
     words_of_record = [word for at, word in enumerate(sys.argv[1:]) if word not in ("--json", "--html")
                        and sys.argv[at] != "--html"]
     page = pages.comparison_page(comparison, report, added, shlex.join([program.name(), *words_of_record]))
@@ -110,19 +112,19 @@ def main():
         from ..report import stack_comparison  # pylint: disable=import-outside-toplevel
 
         return stack_comparison.tell(options)
-    stack = filters.read_stack(options.filters)
-    profile = runtimes.profile_of_options(options)
-    comparison = compare.Comparison(stack, profile.data, tables.read_table(options.table), options.relation,
-                                    profile.origins, profile.stub, is_native=options.scope == verdicts.NATIVE_SCOPE)
+    stack, unit = filters.read_stack(options.filters), runtimes.unit_of_options(options)
+    table = tables.read_table(options.table)
+    comparison, status, report = compare.compare_unit([
+        compare.Comparison(stack, given.data, table, options.relation, given.origins, given.stub,
+                           is_native=options.scope == verdicts.NATIVE_SCOPE, elsewhere=elsewhere)
+        for given, elsewhere in zip(unit, profiles.elsewhere_of([given.data for given in unit]))], options.scope)
     scope = options.scope or comparison.scope
-    comparison, status, report = comparison.run_by_stub(scope)
     report = verdicts.most_telling(report, comparison.table, comparison.of_calls)
     if options.html is not None:
         write_page(options, comparison, report, scope)
     if options.json:
         output.put_json(compare_output.comparison_json(comparison, report, scope, status))
         return status
-    added = itertools.chain(compare_output.comparison_notes(comparison, report, scope),
-                            compare_output.foreign_lines(comparison, report, scope, is_quiet=True))
-    output.put_explained(report.printed if options.verbose else report.brief, added)
+    output.put_explained(report.printed if options.verbose else report.brief,
+                         compare_output.comparison_notes(comparison, report, scope))
     return status

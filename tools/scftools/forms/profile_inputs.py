@@ -59,6 +59,13 @@ class ProfileInput:
         """The same, read with TRAP's data if that is what `--runtime` names."""
         return self if runtime != SANDBOX else replace(self, data=profiles.read_as(self.data, SANDBOX))
 
+    @property
+    def parts(self) -> list[ProfileInput]:
+        """The profile, and those that the file has for other architectures."""
+        others = self.data.others if isinstance(self.data, DerivedProfile) else ()
+        reading = profiles.reading_of(self.data)
+        return [self, *(replace(self, data=profiles.read_as(other, reading)) for other in others)]
+
     def judged(self, table: Table, is_native: bool) -> Tables:
         """The tables that it is judged by, and how it is read."""
         return replace(tables.tables_of_profile(self.data, table, is_native), stub=self.stub)
@@ -128,10 +135,8 @@ def plain(data: bytes, name: str) -> bytes:
     _refuse_others(data, label)
     sandbox = _sandbox_of(data)
     if sandbox is not None:
-        text, notes = sandbox.profile_of(data, label)
+        profile, notes = sandbox.profile_of(data, label)
         program.say(f"{label} is {sandbox.kind}: its rules are the profile", *engines.at_most(notes))
-        profile = DerivedProfile(text)
-        profile.has_comments = True
         return profile
     try:
         spec = kubernetes.spec_of(data)

@@ -9,6 +9,7 @@ from __future__ import annotations
 import functools
 import json
 import os
+import types
 from collections.abc import Iterator, Sequence
 
 from ..base import inputs, program
@@ -440,3 +441,9 @@ def input_in(data: bytes, options: Any, is_strict: bool | None = False) -> Profi
 def profile_of_options(options: Any) -> ProfileInput:
     """The profile that a command line names."""
     return input_in(text_of(options), options, options.strict)
+
+
+def unit_of_options(options: Any) -> list[ProfileInput]:
+    """All profiles that a command line names of a unit, each for its architectures."""
+    named = [types.SimpleNamespace(**{**vars(options), "profile": name}) for name in (options.profile, *options.also)]
+    return [part for given in map(profile_of_options, named) for part in given.parts]

@@ -66,17 +66,31 @@ class ReadProfile(bytes):
 class DerivedProfile(ReadProfile):
     """A profile that a tool made of another one: no line and no column of it is one of the user's file. `within` is the
     member of the file that it is, or None if the file has other entries; `absent` has by architectures the names of
-    which a runtime's libseccomp makes no rule there, though a table has them."""
+    which a runtime's libseccomp makes no rule there, though a table has them. `others` are the profiles of other
+    architectures that the file describes, too, and `not_compared` the OCI names of ABIs whose rules aren't known."""
 
     within: str | None = None
     # whether the comment of each entry has the lines of the file that it stands on
     has_comments: bool = False
     absent: dict[str, frozenset[str]] = {}
+    others: tuple[bytes, ...] = ()
+    not_compared: tuple[str, ...] = ()
 
 
 def reading_of(data: bytes) -> str:
     """How a profile is read."""
     return data.reading if isinstance(data, ReadProfile) else STRICT
+
+
+def not_compared_of(data: bytes) -> tuple[str, ...]:
+    """The OCI names of ABIs that a profile leaves out, since it isn't known what is configured for them."""
+    return data.not_compared if isinstance(data, DerivedProfile) else ()
+
+
+def elsewhere_of(unit: Sequence[bytes]) -> list[tuple[str, ...]]:
+    """For each of a unit's profiles the OCI names that the others have."""
+    named = [architectures_of(data) for data in unit]
+    return [tuple(oci for other, names in enumerate(named) if other != at for oci in names) for at in range(len(unit))]
 
 
 def read_as(data: bytes, reading: str) -> ReadProfile:

@@ -7,7 +7,7 @@ import math
 from collections.abc import Iterator, Sequence
 
 from ..base import output, program
-from ..base.values import dataclass, field, replace
+from ..base.values import dataclass, field
 from ..model import bundles, constants, tables
 from ..model.answers import DISPOSITIONS, FIRST_X32, Answer
 from ..model.architectures import JUDGED, NATIVE, Architecture
@@ -232,8 +232,7 @@ def _of_unnamed(pair: ProfilePair) -> Change | None:
 
 def _whole(pair: ProfilePair, relation: str) -> Verdict:
     """The verdict on whether the new profile has a relation to the old one."""
-    turned = pair.verdict(TURNED.get(relation, relation))
-    return replace(turned, word=relation if turned.holds else FAILING_WORDS[relation] if turned.fails else turned.word)
+    return pair.verdict(TURNED.get(relation, relation)).of_relation(relation)
 
 
 def changes_of_profiles(old: ProfileInput, new: ProfileInput, table: Table, relation: str,

@@ -1,12 +1,13 @@
 """Runs of `scf compare` on filters and a profile, over each scope."""
 from __future__ import annotations
 
+import functools
 from collections.abc import Sequence
 
 from ..base.values import dataclass, field, replace
 from ..model import architectures, bundles, entries, profiles, tables
 from ..model.answers import Answer
-from ..model.calls import Call
+from ..model.calls import SKIPPED, Call
 from ..model.profiles import Origin, Profile
 from ..model.tables import Table, Tables
 from ..ask import other_abis, reasons, regions
@@ -15,7 +16,8 @@ from ..ask.differences import beyond
 from ..ask.other_abis import AbiAccess
 from ..ask.reasons import Reason
 from ..ask.sides import Sides
-from ..ask.verdicts import ALL, CALLS, FOR_OTHER_ABI, LISTED, NATIVE_SCOPE, SAME, SCOPES, UNDETERMINED, Report, Verdict
+from ..ask.verdicts import (ALL, CALLS, FOR_OTHER_ABI, LISTED, NATIVE_SCOPE, NO_LESS, SAME, SCOPES, UNDETERMINED,
+                            UNFINISHED, NamedCall, Report, Verdict)
 from ..forms.filters import Filter
 
 
@@ -29,7 +31,8 @@ def default_of(profile: bytes) -> Answer | None:
 class Comparison(Sides):
     """Filters, oldest first, a profile and x86-64's table; a relation; of a resolved profile the index of each entry in
     the user's, and for each architecture the least number of a record that runc answers with ENOSYS; whether x86-64
-    alone is judged, whatever the profile names; and the OCI name of the table's architecture, if that isn't x86-64."""
+    alone is judged, whatever the profile names; the OCI name of the table's architecture, if that isn't x86-64; and the
+    names of other ABIs that aren't asked about, since another profile has them."""
 
     filters: Sequence[Filter]
     profile: bytes
@@ -39,6 +42,7 @@ class Comparison(Sides):
     stub: dict[str, int] = field(default_factory=dict)
     is_native: bool = False
     architecture: str = architectures.NATIVE
+    elsewhere: Sequence[str] = ()
 
     @property
     def tables(self) -> Tables:
@@ -89,8 +93,8 @@ class Comparison(Sides):
         if report.verdict is None:
             return status, report
         beside = left_out(self.profile, self.tables)
-        if scope == ALL:
-            report = self._of_all(report, relation, beside.architectures)
+        report = self._of_all(report, relation, beside.architectures) if scope == ALL else \
+            self._with_other_abis(report, scope, relation)
         return report.verdict.status, replace(report, skipped=beside.skipped, architectures=beside.architectures)
 
     def _of_all(self, report: Report, relation: str, without_table: Sequence[str]) -> Report:
@@ -107,10 +111,28 @@ class Comparison(Sides):
         return replace(report, lines=(FOR_OTHER_ABI, *report.lines[1:3]),
                        verdict=replace(report.verdict, word=UNDETERMINED, profile=None))
 
+    def _with_other_abis(self, report: Report, scope: str, relation: str) -> Report:
+        """The report with the verdict on other ABIs, where that is worse; call by call with a line for each of which
+        some syscall isn't denied."""
+        if scope != CALLS and report.verdict.fails:
+            # (they decide nothing any more, and may take long)
+            return report
+        others = self.of_other_abis(scope, relation)
+        worst = min((report.verdict, *others), key=lambda verdict: verdict.order)
+        if scope != CALLS:
+            return report if worst is report.verdict else Report.of(worst)
+        calls = [*report.calls, *(NamedCall.of(verdict, access.abi, access.names)
+                                  for access, verdict in zip(self.accesses, others) if verdict.call is not None)]
+        whole = Report.of(replace(worst, call=None, filters=None, profile=None))
+        return replace(whole, lines=(*whole.lines, *(call.line for call in calls)), calls=tuple(calls))
+
     def known_verdict(self, scope: str, relation: str) -> Verdict | None:
         known = super().known_verdict(scope, relation)
         abi = known and known.call and known.call.abi
-        return None if scope == ALL and abi in left_out(self.profile, self.tables).architectures else known
+        if known is None or scope == ALL and abi in left_out(self.profile, self.tables).architectures:
+            return None
+        others = [] if known.fails else self.of_other_abis(scope, relation)
+        return min((known, *others), key=lambda verdict: verdict.order)
 
     def reason_of(self, call: Call) -> Reason:
         """The profile's reason for its answer to a syscall."""
@@ -118,17 +140,37 @@ class Comparison(Sides):
         return reasons.profile_reason(self.profile, self.tables, call.words()) if region is None else \
             reasons.region_reason(region.beside.line)
 
-    def foreign(self, scope: str) -> list[AbiAccess]:
-        """For other ABIs that a scope doesn't cover, all of whose syscalls the profile denies, whether some are
-        allowed."""
-        judged, filters = self.tables.of if scope in (LISTED, CALLS) else (), self.stacks[0]
-        others = [abi for abi in other_abis.ABIS if abi.oci not in judged]
+    @functools.cached_property
+    def accesses(self) -> list[AbiAccess]:
+        """The access of each other ABI of a machine whose own ABI the profile is for, which neither the profile nor
+        another one names: a runtime kills for its syscalls, by all numbers but -1, which skips one and which
+        libseccomp's filters leave to the default."""
+        judged, filters = self.tables.of, self.stacks[0]
+        named = {*judged, *self.elsewhere, *profiles.not_compared_of(self.profile)}
+        abis = [abi for machine in judged for abi in other_abis.OF_MACHINES.get(machine, ()) if abi.oci not in named]
         try:
-            listed = self.differences.regions if others else []
+            listed = self.differences.regions if abis else []
             listed = regions.regions_of_filters(filters) if listed is None else listed
+            return [other_abis.abi_access(filters, listed, abi, SKIPPED - 1) for abi in abis]
         except Refusal:
-            listed = None
-        return [other_abis.abi_access(filters, listed, abi) for abi in others]
+            return [AbiAccess(abi, Verdict(UNFINISHED)) for abi in abis]
+
+    def asked_accesses(self, scope: str, relation: str | None = None) -> list[AbiAccess]:
+        """Those that a relation over a scope asks about: whether a filter is stricter on them isn't asked, and nor are
+        they where x86-64 alone is judged, or each record."""
+        is_asked = not self.is_native and scope != ALL and (relation or self.relation) != NO_LESS
+        return self.accesses if is_asked else []
+
+    def of_other_abis(self, scope: str, relation: str) -> list[Verdict]:
+        """The verdicts on them: all of an ABI's syscalls are denied, or one is shown that isn't."""
+        return [access.verdict.of_relation(relation) for access in self.asked_accesses(scope, relation)]
+
+
+def compare_unit(comparisons: Sequence[Comparison], scope: str | None) -> tuple[Comparison, int, Report]:
+    """Of the comparisons of a stack with each profile of a unit the one that speaks for all, with scf's status and
+    report: that of a fault, else the first that fails, else the first that doesn't hold."""
+    results = [comparison.run_by_stub(scope) for comparison in comparisons]
+    return min(results, key=lambda result: () if result[2].verdict is None else result[2].verdict.order)
 
 
 def left_out(profile: bytes, judged: Tables) -> Report:

@@ -4,12 +4,12 @@ from __future__ import annotations
 from collections.abc import Iterator, Sequence
 
 from ..base.values import Any, replace
-from ..model import architectures, tables
+from ..model import profiles, tables
 from ..model.answers import DENIED, Answer
+from ..model.architectures import JUDGED
 from ..model.calls import Call
-from ..ask import explanation, other_abis, reasons
+from ..ask import explanation, reasons
 from ..ask.client import Refusal
-from ..ask.explanation import join_names
 from ..ask.verdicts import (ALL, CALLS, DIFFERS, LESS, LISTED, MORE, NATIVE_SCOPE, NO_LESS, NO_MORE, SAME, UNDECIDED,
                             Fault, NamedCall, Report, Verdict)
 from ..forms import refusals
@@ -17,9 +17,6 @@ from . import listing, newer
 from .compare import Comparison
 from .listing import Giver
 
-# What is compared in a scope, which leaves out other ABIs.
-COMPARED = {NATIVE_SCOPE: "x86-64 syscalls", CALLS: "each {} syscall in the table{}", LISTED: "{} syscalls"}
-ABIS_CHECKED = "; other ABIs are only checked for any allowed syscall:"
 # What is printed of syscalls that fail a relation.
 FAILED_RELATIONS = {DIFFERS: "that differ", MORE: "answered more permissively than by {}",
           LESS: "answered more strictly than by {}"}
@@ -131,19 +128,12 @@ def left_out_lines(comparison: Comparison, report: Report) -> Iterator[str]:
     yield from explanation.explain_architectures(report)
 
 
-def foreign_lines(comparison: Comparison, report: Report, scope: str, is_quiet: bool = False) -> Iterator[str]:
-    """Lines on what is compared, and on whether syscalls of other ABIs, which a scope doesn't cover, are allowed; if
-    quiet, only where some may be."""
-    if scope not in COMPARED or report.verdict is None:
-        return
-    names = comparison.tables.names
-    compared = f"compared: {COMPARED[scope].format(join_names(names), 's' * (len(names) > 1))}"
-    foreign = comparison.foreign(scope)
-    if foreign and not (is_quiet and other_abis.are_none(foreign)):
-        yield compared + ABIS_CHECKED
-        yield from other_abis.access_lines(foreign, report.architectures)
-    elif not is_quiet and not comparison.tables.is_native:
-        yield compared + ("; an x86-64 kernel has no others" if architectures.NATIVE in comparison.tables.of else "")
+def other_abi_lines(comparison: Comparison, scope: str) -> Iterator[str]:
+    """A line for each other ABI that isn't proved to be denied, or of which it isn't known what is configured."""
+    yield from (f"{access.describe()}; the profile doesn't name {access.abi.oci}"
+                for access in comparison.asked_accesses(scope) if not access.are_denied)
+    yield from (f"{JUDGED[oci].name}: not compared, since its rules aren't known"
+                for oci in profiles.not_compared_of(comparison.profile))
 
 
 def _giver(comparison: Comparison, call: Call, answer: Answer) -> Giver | None:
@@ -189,6 +179,7 @@ def comparison_notes(comparison: Comparison, report: Report, scope: str) -> Iter
         yield from explanation.explain_verdict(report, table, scope != ALL, count)
         yield from difference_lines(comparison, report.verdict)
         yield from left_out_lines(comparison, report)
+        yield from other_abi_lines(comparison, scope)
     yield from after
     yield from (line for _, line in responsible_files(comparison, report, scope))
 
@@ -219,8 +210,10 @@ def comparison_json(comparison: Comparison, report: Report, scope: str, status: 
     if report.skipped:
         members["unknown"] = [{"name": name, "nearest": near}
                               for name, near in tables.classify(report.skipped, comparison.tables).unknown]
-    if scope in COMPARED and report.verdict is not None:
-        members["foreign"] = [access.as_json() for access in comparison.foreign(scope)]
+    if scope != ALL and report.verdict is not None:
+        members["foreign"] = [access.as_json() for access in comparison.asked_accesses(scope)]
+    if profiles.not_compared_of(comparison.profile):
+        members["not_compared"] = list(profiles.not_compared_of(comparison.profile))
     files = [name for name, _ in responsible_files(comparison, report, scope)]
     if files:
         members["files"] = files

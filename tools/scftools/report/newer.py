@@ -14,7 +14,7 @@ from ..model.calls import ARCHITECTURE, NUMBER, Call
 from ..model.tables import Table
 from ..ask.explanation import join_names
 from ..ask.regions import Numbers, Region
-from ..ask.verdicts import DIFFERS, SAME, NamedCall, Verdict
+from ..ask.verdicts import DIFFERS, LISTED, SAME, NamedCall, Verdict
 from .compare import Comparison, default_of
 
 
@@ -84,6 +84,7 @@ def another_call(comparison: Comparison, above: Newer) -> Verdict | None:
     """The verdict on the syscalls that aren't among these, or None if they are the same."""
     of_others = (comparison.of_numbers(name, JUDGED[name].first, above.bounds.get(name, JUDGED[name].last + 1) - 1)
                  for name in comparison.tables.of)
+    of_others = itertools.chain(of_others, comparison.of_other_abis(LISTED, comparison.relation))
     return next((verdict for verdict in of_others if not verdict.holds), None)
 
 

@@ -306,7 +306,8 @@ class ProfileRequest:
         """The comparison of the filters with a profile, which has the stub that they have if the relation is the
         same."""
         comparison = Comparison(self.filters, profiles.read_as(engines.to_bytes(profile), reading_of(profile)),
-                                self.table, OF_FILTERS[relation], architecture=self.architecture.oci)
+                                self.table, OF_FILTERS[relation], architecture=self.architecture.oci,
+                                elsewhere=other_abis.NAMES)
         if self.runtime is None:
             return comparison
         applied = runtimes.applied(engines.parse_json(comparison.profile), self.runtime)

@@ -11,8 +11,9 @@ class Bundle(Case):
         self.says_usage("bundle")
 
     def test_a_bundle_is_compared_over_all_records_and_files_are_not(self):
-        """As --help says: this filter doesn't deny i386's syscalls, as the profile says without naming i386."""
-        allows = self.file("f.bpf", filter_of([0], foreign=0x7FFF0000))
+        """As --help says: this filter denies i386's syscalls by another answer than the profile, which doesn't name
+        i386."""
+        allows = self.file("f.bpf", filter_of([0], foreign=0x00050001))
         profile = self.file("p.json", profile_of("read"))
         self.assertIn("can be `same` by files and `differs` by a bundle", self.run_tool("bundle", "--help")[1])
         self.assertEqual(self.run_tool("compare", allows, profile)[1].split("\n")[0], "same")

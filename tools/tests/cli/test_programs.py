@@ -365,7 +365,7 @@ class Objects(Case):
         self.assertEqual((of_i386["call"]["architecture"], of_i386["filter"], of_i386["profile"]["action"]),
                          (hex(I386), {"action": "KILL_PROCESS", "data": 0}, "ALLOW"))
         self.assertEqual(found("--native", same, profile),
-                         {"status": 0, "scope": "native", "verdict": "same", "calls": [], **left_out, **foreign})
+                         {"status": 0, "scope": "native", "verdict": "same", "calls": [], **left_out, "foreign": []})
         call = {"number": 231, "names": ["exit_group"], "c": "exit_group(0)", "architecture": "0xc000003e",
                 "pointer": "0x0", "arguments": ["0x0"] * 6}
         sides = {"call": call, "filter": {"action": "ALLOW", "data": 0},
@@ -378,7 +378,7 @@ class Objects(Case):
                           **left_out, "other_architectures": []})
         self.assertEqual(found("--native", wrong, profile),
                          {"status": 1, "scope": "native", "verdict": "differs", **sides, **why, **relations,
-                          "calls": [line], **left_out, **foreign})
+                          "calls": [line], **left_out, "foreign": []})
         self.assertEqual(found("--calls", wrong, alone),
                          {"status": 1, "scope": "calls", "verdict": "differs", **relations, "calls": [line], **left_out,
                           "other_architectures": [], **foreign})

@@ -8,8 +8,9 @@ import subprocess
 import unittest
 from unittest import mock
 
-from support.common import Case
+from support.common import ALLOW, EPERM, Case, jeq, load, ret
 
+from scftools.model import profiles
 from scftools.forms import filter_loads
 from scftools.forms.lists import firejail, sandbox_rules, sandboxes
 
@@ -302,6 +303,15 @@ class Profiles(Lists):
         status, _, err = self.run_tool("ask", self.file("list", "seccomp.drop a\n?HAS_X11: seccomp\n"))
         self.assertEqual((status, "line 2: whether its condition holds isn't known" in err), (4, True))
 
+    def test_i386_is_not_compared_unless_it_is_denied(self):
+        """Of filters that allow it, and nothing else."""
+        allows = self.file("f.bpf", load(4) + jeq(0x40000003, 0, 1) + ret(ALLOW) + ret(EPERM))
+        for more, expected in (("", (0, ["no more", "# i386: not compared, since its rules aren't known", ""])),
+                               ("seccomp.block-secondary\n", (1, ["more"]))):
+            status, out, _ = self.run_tool("compare", "--no-more", allows,
+                                           self.file("list", f"seccomp.drop mkdir\n{more}"))
+            self.assertEqual((status, out.split("\n")[:len(expected[1])]), expected)
+
     @unittest.skipUnless(HAS_STRACE and shutil.which("firejail"), "this takes strace and firejail")
     def test_what_firejail_loads(self):
         """Of each profile the filters of the program; before it, firejail confines helpers of its own."""
@@ -344,6 +354,14 @@ class Readers(unittest.TestCase):
         with mock.patch.object(sandbox_rules.libseccomp, "installed", return_value=None):
             found = read(b"@complain\nnosuch\n")
         self.assertEqual((found.profile()["syscalls"][0]["names"], found.remarks), (["nosuch"], []))
+
+    def test_abis_with_other_rules(self):
+        """Those of i386 are another profile of LXC's; of firejail they aren't known, unless it denies i386."""
+        (other,) = sandboxes.sandbox_of(b"2\ndenylist\n").read(b"2\ndenylist\nsocket errno 1\n").data().others
+        self.assertEqual(profiles.architectures_of(other), (I386,))
+        for text, left_out in ((b"seccomp.drop mkdir\n", (I386,)),
+                               (b"seccomp.drop mkdir\nseccomp.block-secondary\n", ())):
+            self.assertEqual(profiles.not_compared_of(sandboxes.sandbox_of(text).read(text).data()), left_out)
 
     def test_letters_that_forge_a_line(self):
         for text in (b"2\ndenylist\nread\rerrno 1\n", b"2\ndenylist\nread\0\n", b"2\ndenylist\n\xc2\x85\n",

@@ -19,7 +19,7 @@ from scftools.forms.stacks import Stack
 from scfhost import containers
 
 filters_of = module("filters-of")
-ALLOWS_ALL = b'{"defaultAction":"SCMP_ACT_ALLOW"}'
+ALLOWS_ALL = b'{"defaultAction":"SCMP_ACT_ALLOW","architectures":["SCMP_ARCH_X86_64","SCMP_ARCH_X86","SCMP_ARCH_X32"]}'
 MOUNT, UMOUNT2 = 165, 166
 ROOT = unittest.skipIf(os.geteuid(), "only root may do this")
 
@@ -365,15 +365,15 @@ class VerifyProcess(Confined):
         many = load(16) + b"".join(jeq(number, 59 - number, 0) for number in range(60)) + ret(ALLOW)
         profile = refuses("riscv_flush_icache")
         child = self.child([OLDEST], [many], [load(0) + jeq(MOUNT, 0, 1) + ret(EPERM) + ret(ALLOW)])
-        status, out = self.verify(child, profile, "--limit", "30")
+        status, out = self.verify(child, profile, "--native", "--limit", "30")
         self.assertEqual((status, [block.split("\n")[0] for block in out.split("\n\n")]),
                          (1, ["differs", "unfinished", "same"]))
         self.assertNotIn("skipped riscv_flush_icache\n", out)
         self.assertEqual(out.count("# names in the profile that were skipped"), 1)
-        out = self.verify(child, profile, "--limit", "30", "--verbose")[1]
+        out = self.verify(child, profile, "--native", "--limit", "30", "--verbose")[1]
         self.assertEqual(out.count("skipped riscv_flush_icache\n"), 1)
         child = self.child([OLDEST], [many])
-        status, out = self.verify(child, profile, "--limit", "30")
+        status, out = self.verify(child, profile, "--native", "--limit", "30")
         self.assertEqual((status, [block.split("\n")[0] for block in out.split("\n\n")]), (4, ["unfinished", "same"]))
 
     @here
@@ -391,30 +391,27 @@ class VerifyProcess(Confined):
         self.assertEqual(self.run_tool("filters-of", str(child.pid), "out")[0], 3)
 
     @here
-    def test_the_scope_and_foreign_calls(self):
-        """What isn't looked at is said, and whether some of it is let through."""
-        status, out = self.verify(self.child([refusing(MOUNT)]), refuses("mount"))
-        self.assertEqual(status, 0)
-        notes = comments(out)
-        self.assertIn("compared: x86-64 syscalls; other ABIs are only checked for any allowed syscall:", notes)
-        self.assertIn("other ABIs: every i386 and x32 syscall is denied; the kernel has no others", notes)
+    def test_other_abis(self):
+        """What the profile doesn't name must be denied, unless x86-64 alone is asked about."""
         untested = load(0) + jeq(MOUNT, 0, 1) + ret(EPERM) + ret(ALLOW)
         child, named = self.child([untested]), refuses("mount", architectures=["SCMP_ARCH_X86_64", "SCMP_ARCH_X86"])
-        status, out = self.verify(child, named, "--native")
-        notes = comments(out)
-        self.assertEqual((status, out.split("\n")[0]), (0, "same"))
-        self.assertIn("i386: some syscalls are allowed, such as restart_syscall (0): ALLOW; the profile also names "
-                      "SCMP_ARCH_X86, which is judged without --native", notes)
+        self.assertEqual(self.verify(child, named, "--native")[1].split("\n")[0], "same")
         status, out = self.verify(child, named)
         self.assertEqual((status, out.split("\n")[0]), (1, "differs"))
-        self.assertIn("compared: x86-64 and i386 syscalls; other ABIs are only checked for any allowed syscall:",
+        self.assertIn("x32: some syscalls are allowed, such as read (0x40000000 + 0): ALLOW; the profile doesn't name "
+                      "SCMP_ARCH_X32", comments(out))
+        logs_one = (load(4) + jeq(I386, 0, 4) + load(0) + jeq(3, 0, 1) + ret(0x7FFC0000) + ret(EPERM) + refusing(MOUNT))
+        status, out = self.verify(self.child([logs_one]), refuses("mount"))
+        self.assertEqual((status, out.split("\n")[:4]), (1, [
+            "differs", "call nr 3 arch 0x40000003 ip 0x0 args 0x0 0x0 0x0 0x0 0x0 0x0", "filter LOG 0",
+            "profile KILL_PROCESS 0"]))
+        self.assertIn("i386: some syscalls are allowed, such as read (3): LOG; the profile doesn't name SCMP_ARCH_X86",
                       comments(out))
-        self.assertIn("x32: some syscalls are allowed, such as read (0x40000000 + 0): ALLOW", notes)
-        logs_one = (load(4) + jeq(I386, 1, 0) + ret(ALLOW) + load(0) + jeq(3, 0, 1) + ret(0x7FFC0000)
-                    + ret(EPERM))
-        notes = comments(self.verify(self.child([logs_one]), ALLOWS_ALL)[1])
-        self.assertIn("i386: some syscalls are allowed, such as read (3): LOG", notes)
-        self.assertIn("other ABIs: the kernel has no others", notes)
+        reads = {"defaultAction": "SCMP_ACT_ERRNO", "architectures": ["SCMP_ARCH_X86"],
+                 "syscalls": [{"names": ["read"], "action": "SCMP_ACT_LOG"}]}
+        of_i386 = self.file("i386.json", json.dumps(reads))
+        status, out = self.verify(self.child([logs_one]), refuses("mount"), "--also", of_i386)
+        self.assertEqual((status, out.split("\n")[0]), (0, "same"))
 
     @here
     def test_named_calls_alone(self):
@@ -423,7 +420,6 @@ class VerifyProcess(Confined):
         self.assertEqual(self.verify(child, refuses("mount"))[0], 1)
         status, out = self.verify(child, refuses("mount"), "--calls")
         self.assertEqual((status, out.split("\n")[0]), (0, "same"))
-        self.assertIn("compared: each x86-64 syscall in the table; other ABIs are only checked for any allowed syscall:", comments(out))
 
     @here
     def test_json(self):
@@ -661,7 +657,6 @@ class Containers(Confined):
                                        "differ")
         self.assertTrue(first.startswith("only syscalls with numbers above all that the profile names differ, the first is "
                                          "process_madvise (440)"), first)
-        self.assertIn("# other ABIs: every i386 and x32 syscall is denied; ", out)
         self.assertIn(f"# process {pid} (busybox) has 1 filter, of ", out)
         profile["syscalls"][0]["names"] = [name for name in allowed if name != "chroot"] + ["mount"]
         status, out, _ = self.verify(pid, json.dumps(profile))

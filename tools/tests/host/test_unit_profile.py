@@ -641,15 +641,18 @@ class OtherSettings(Audited, OwnUnits):
         """On each architecture that a unit permits, the process answers as the profile says."""
         self.start(*NAMES)
         for unit in NAMES:
-            process = self.pid_of(unit)
+            process, profiles = self.pid_of(unit), {}
             for name in ("x86-64", "i386", "x32"):
                 status, out, err = self.on(tool("unit-profile"), "--arch", name, unit)
                 if unit == "scf-native.service" and name != "x86-64":
                     self.assertEqual((status, out), (1, ""), err)
                     continue
                 self.assertEqual(status, 0, err)
-                actual = self.run_tool("verify-process", process, self.file("profile.json", out))
-                self.assertEqual((actual[0], actual[1].split("\n")[0]), (0, "same"), (unit, name, actual))
+                profiles.setdefault(out, self.file(f"{name}.json", out))
+            for path in profiles.values():
+                others = [f"--also={other}" for other in profiles.values() if other != path]
+                actual = self.run_tool("verify-process", *others, process, path)
+                self.assertEqual((actual[0], actual[1].split("\n")[0]), (0, "same"), (unit, path, actual))
 
     def change(self, texts):
         """Changes what units state after their start."""

@@ -337,14 +337,18 @@ class Foreign(Case):
                                 "x32: not every syscall is denied, such as read (0x40000000 + 0): TRACE 0"])
 
     def test_which_are_denied(self):
-        """i386, all of which this filter allows, isn't among them where it is judged otherwise."""
+        """i386, all of which this filter allows, isn't among them where the profile, or another one, names it."""
         i386, _ = other_abis.ABIS
-        for data, names, shown in ((allows_alone(i386), ["SCMP_ARCH_X86_64", i386.oci], "x32"),
-                                   (ret(EPERM), ["SCMP_ARCH_X86_64"], "i386 and x32")):
+        for data, names, elsewhere, shown in (
+                (allows_alone(i386), ["SCMP_ARCH_X86_64", i386.oci], (), [("x32", True)]),
+                (allows_alone(i386), ["SCMP_ARCH_X86_64"], (i386.oci,), [("x32", True)]),
+                (allows_alone(i386), ["SCMP_ARCH_X86_64"], (), [("i386", False), ("x32", True)]),
+                (ret(ALLOW), [i386.oci], (), []),
+                (ret(EPERM), ["SCMP_ARCH_X86_64", "SCMP_ARCH_AARCH64"], (), [("i386", True), ("x32", True),
+                                                                            ("arm", True)])):
             given = json.dumps({"defaultAction": "SCMP_ACT_ERRNO", "architectures": names}).encode()
-            comparison = compare.Comparison([Filter("", data)], given, tables.read_table(None))
-            self.assertEqual(other_abis.access_lines(comparison.foreign(verdicts.LISTED)),
-                             [f"other ABIs: every {shown} syscall is denied; the kernel has no others"])
+            comparison = compare.Comparison([Filter("", data)], given, tables.read_table(None), elsewhere=elsewhere)
+            self.assertEqual([(access.abi.name, access.are_denied) for access in comparison.accesses], shown)
 
     def test_undecided_and_unfinished(self):
         """It is said so."""
@@ -387,9 +391,7 @@ class VerifyProcess(Confined):
         self.assertEqual((status, out.split("\n")[0], out.split("\n")[4]),
                          (1, "differs", "# it is stricter, and never more permissive than the profile"))
         status, out, _ = self.run_tool("verify-process", "--no-more", str(child.pid), given)
-        self.assertEqual((status, out.split("\n")[:3]), (0, [
-            "no more", "# compared: x86-64 syscalls; other ABIs are only checked for any allowed syscall:",
-            f"# {other_abis.EVERY_SYSCALL_DENIED.format('i386 and x32')}"]))
+        self.assertEqual((status, out.split("\n")[0]), (0, "no more"))
         status, out, _ = self.run_tool("verify-process", "--no-less", str(child.pid), given)
         self.assertEqual((status, out.split("\n")[0]), (1, "less"))
         self.assertIn("\n# the syscall is denied by the filter, and allowed by the profile\n", out)

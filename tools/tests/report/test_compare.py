@@ -279,9 +279,9 @@ class Compare(Case):
             self.assertEqual(self.run_tool("compare", *stack, self.profile)[:2], (0, "same\n"))
 
 
-def of_abis(native, i386, x32):
-    """A filter of three parts, and x86-64's numbers with bit 31 allowed."""
-    x32 = load(0) + insn(0x45, 0x80000000, 0, 1) + ret(ALLOW) + jge(0x40000000, 0, len(x32) // 8) + x32 + native
+def of_abis(native, i386, x32, bit=0x80000000):
+    """A filter of three parts, and x86-64's numbers with these bits allowed."""
+    x32 = load(0) + insn(0x45, bit, 0, 1) + ret(ALLOW) + jge(0x40000000, 0, len(x32) // 8) + x32 + native
     return load(4) + jeq(I386, 0, len(i386) // 8) + i386 + jeq(X86_64, 1, 0) + ret(KILL_PROCESS) + x32
 
 
@@ -312,7 +312,8 @@ class OtherAbis(Case):
             for words in (("--native",), ("--native", "--no-more")):
                 status, lines = self.said(*words, filters, self.profile("X86", "X32"))
                 self.assertEqual((status, lines[0]), (0, "no more" if "--no-more" in words else "same"))
-            self.assertEqual(self.said("--calls", filters, self.profile())[1][0], "same")
+            self.assertEqual(self.said("--calls", filters, self.profile())[1][1].split(" args")[0],
+                             "x32 0 read differs" if filters == self.lets_both else "x32 1073741824 differs")
         self.assertEqual(self.said("--native", self.wrong, self.profile("X86", "X32"))[0], 1)
 
     def test_each_call_of_each_architecture(self):
@@ -388,26 +389,56 @@ class OtherAbis(Case):
             "differs", "call nr 0 arch 0xc000003e ip 0x0 args 0x0 0x0 0x0 0x0 0x0 0x0"])
         self.assertEqual(self.said(fits, self.profile("MIPS"))[1][:2], ["same", "other SCMP_ARCH_MIPS"])
 
-    def test_what_is_allowed_is_said(self):
-        """Behind the verdict; nothing where nothing is."""
-        both, x32 = self.profile("X86", "X32"), "x32: some syscalls are allowed, such as read (0x40000000 + 0): ALLOW"
-        status, lines = self.said("--native", self.lets_both, both)
+    def test_what_a_profile_does_not_name_is_denied(self):
+        """Or differs, by a call; --native doesn't ask."""
+        status, lines = self.said("--native", self.lets_both, self.profile("X86", "X32"))
         self.assertEqual((status, lines), (0, [
             "same", "other SCMP_ARCH_X86", "other SCMP_ARCH_X32",
-            "# --native leaves out SCMP_ARCH_X86 and SCMP_ARCH_X32, which the profile also names",
-            "# compared: x86-64 syscalls; other ABIs are only checked for any allowed syscall:",
-            "# i386: every syscall is denied; the profile also names SCMP_ARCH_X86, which is judged without --native",
-            f"# {x32}; the profile also names SCMP_ARCH_X32, which is judged without --native",
-            "# other ABIs: the kernel has no others", ""]))
-        fits = of_abis(load(0) + jeq(READ, 1, 0) + ret(EPERM) + ret(ALLOW),
-                       load(0) + jeq(3, 1, 0) + ret(EPERM) + ret(ALLOW), ret(ALLOW))
-        status, lines = self.said(self.file("f.bpf", fits), self.profile("X86"))
-        self.assertEqual((status, lines), (0, [
-            "same", "# compared: x86-64 and i386 syscalls; other ABIs are only checked for any allowed syscall:",
-            f"# {x32}", "# other ABIs: the kernel has no others", ""]))
-        self.assertEqual(self.said(self.lets_i386, self.profile())[1], ["same", ""])
-        report_json = json.loads(self.run_tool("compare", "--native", "--json", self.lets_both, both)[1])
-        self.assertEqual([bool(access["not_denied"]) for access in report_json["foreign"]], [False, True])
+            "# --native leaves out SCMP_ARCH_X86 and SCMP_ARCH_X32, which the profile also names", ""]))
+        fits = self.file("f.bpf", of_abis(load(0) + jeq(READ, 1, 0) + ret(EPERM) + ret(ALLOW),
+                                          load(0) + jeq(3, 1, 0) + ret(EPERM) + ret(ALLOW), ret(ALLOW)))
+        shown = "call nr 1073741824 arch 0xc000003e ip 0x0 args 0x0 0x0 0x0 0x0 0x0 0x0"
+        open_abi = "# x32: some syscalls are allowed, such as read (0x40000000 + 0): ALLOW; the profile doesn't name " \
+                   "SCMP_ARCH_X32"
+        for words, word in (((), "differs"), (("--no-more",), "more"), (("--disposition",), "differs")):
+            status, lines = self.said(*words, fits, self.profile("X86"))
+            self.assertEqual((status, lines[:4]), (1, [word, shown, "filter ALLOW 0", "profile KILL_PROCESS 0"]), words)
+            self.assertIn("# the syscall is read (0x40000000 + 0), an x32 syscall", lines)
+            self.assertIn("# by no entry: the syscall is of another ABI", lines)
+            self.assertIn(open_abi, lines)
+        self.assertEqual(self.said("--calls", fits, self.profile("X86")), (1, [
+            "differs", "x32 0 read differs args 0x0 0x0 0x0 0x0 0x0 0x0 filter ALLOW 0 profile KILL_PROCESS 0",
+            open_abi, ""]))
+        self.assertEqual(self.said("--no-less", fits, self.profile("X86")), (0, ["no less", ""]))
+        report_json = json.loads(self.run_tool("compare", "--json", fits, self.profile("X86"))[1])
+        self.assertEqual((report_json["call"]["number"], report_json["profile"]["action"], report_json["no_more"]),
+                         (0x40000000, "KILL_PROCESS", "more"))
+        self.assertEqual([(access["kind"], len(access["not_denied"])) for access in report_json["foreign"]],
+                         [("x32", 1)])
+
+    def test_number_minus_one(self):
+        """It skips a syscall, and libseccomp's filters leave it to the default: it isn't one of x32."""
+        native = load(0) + jeq(READ, 1, 0) + ret(EPERM) + ret(ALLOW)
+        x32 = load(0) + jeq(0xFFFFFFFF, 0, 1) + ret(ALLOW) + ret(EPERM)
+        self.assertEqual(self.said(self.file("f.bpf", of_abis(native, ret(EPERM), x32, 0)), self.profile()),
+                         (0, ["same", ""]))
+        status, lines = self.said(self.file("f.bpf", of_abis(native, ret(EPERM), ret(EPERM))), self.profile())
+        self.assertEqual((status, lines[1].split(" ip ")[0]), (1, "call nr 2147483648 arch 0xc000003e"))
+
+    def test_all_profiles_of_a_unit(self):
+        """Each judges its architectures, and none those of another one."""
+        native = load(0) + jeq(READ, 1, 0) + ret(EPERM) + ret(ALLOW)
+        fits = self.file("f.bpf", of_abis(native, load(0) + jeq(4, 1, 0) + ret(EPERM) + ret(ALLOW), ret(EPERM), 0))
+        ours = self.profile()
+        i386 = {"architectures": ["SCMP_ARCH_X86"]}
+        writes, reads = (self.file(f"{name}.json", json.dumps({**json.loads(profile_of(name)), **i386}))
+                         for name in ("write", "read"))
+        self.assertEqual(self.said("--also", writes, fits, ours), (0, ["same", ""]))
+        self.assertEqual(self.said(fits, ours)[1][0], "differs")
+        status, lines = self.said("--also", reads, fits, ours)
+        self.assertEqual((status, lines[1][:26]), (1, "call nr 4 arch 0x40000003 "))
+        for words in ("--native", "--all"):
+            self.assertEqual(self.run_tool("compare", words, "--also", writes, fits, ours)[0], 2)
 
     def test_ask(self):
         for arch, number, names, line in (("i386", "3", ("X86",), "ALLOW 0 entry 0"),

@@ -432,7 +432,7 @@ class Consoles(Page):
         self.assertGreaterEqual((ran, compared), (10, 4) if os.path.exists(PODMANS) else (7, 1))
         for block, _ in blocks_of(text_of("docs", "RECIPES.md")):
             self.assertEqual(self.run_words(["sh", "-c", block], env=self.env),
-                             (0, "allows nothing that the profile denies\n", ""))
+                             (0, "allows nothing that the profile denies, on this ABI or another\n", ""))
 
     @unittest.skipUnless(os.path.exists(PODMANS), "podman's profile isn't here")
     def test_runtimes(self):

@@ -16,7 +16,7 @@ from collections.abc import Callable, Iterator
 from ...base.values import Pattern, dataclass, field
 from ...model import constants, tables
 from ...model.answers import ALLOW, ENOSYS, Answer
-from ...model.architectures import NATIVE
+from ...model.architectures import I386, NATIVE
 from ...model.entries import Condition
 from . import sandbox_rules
 from .sandbox_rules import KILL, LOG, LOWER_HALF, ListError, Policy, Rule, UnknownRules, error_at
@@ -319,7 +319,8 @@ def policy_of(settings: StatedSettings, reader: GroupReader) -> Policy:
     answer = _answer_of(text, at)
     default, answers, line = _main_list(settings, reader, answer)
     restrictions = _restrictions(settings, answer)
-    policy = Policy(default, remarks=list(dict.fromkeys(settings.remarks)))
+    policy = Policy(default, remarks=list(dict.fromkeys(settings.remarks)),
+                    not_compared=() if "seccomp.block-secondary" in settings.of else (I386,))
     policy.add_known(rule for name in dict.fromkeys([*answers, *restrictions])
                      for rule in _rules_of(name, (answers.get(name, default), line), restrictions.get(name)))
     if reader.known is None:

@@ -11,6 +11,7 @@ from ...model import libseccomp, multiplexed, tables
 from ...model.answers import Answer
 from ...model.architectures import NATIVE
 from ...model.entries import Condition
+from ...model.profiles import DerivedProfile
 
 # The most bytes of a list, lines, letters of a line and rules; and the most names in a remark.
 MOST_LIST_BYTES, MOST_LINES, MOST_LETTERS, MOST_LIST_RULES, MOST_IN_REMARK = 1 << 20, 1 << 14, 1 << 15, 1 << 14, 8
@@ -59,8 +60,9 @@ class Policy:
     remarks: list[str] = field(default_factory=list)
     # whether libseccomp adds i386's rules of socketcall and ipc
     is_multiplexed: bool = False
-    # those of architectures that have other rules
+    # those of architectures that have other rules, and the ABIs whose rules aren't known
     others: list[Policy] = field(default_factory=list)
+    not_compared: tuple[str, ...] = ()
 
     def add(self, rule: Rule) -> None:
         if len(self.rules) == MOST_LIST_RULES:
@@ -112,8 +114,11 @@ class Policy:
         top = {**self.default.default(), "architectures": list(self.architectures), "syscalls": made}
         return multiplexed.with_rules(top)[0] if self.is_multiplexed else top
 
-    def data(self) -> bytes:
-        return json.dumps(self.profile()).encode()
+    def data(self) -> DerivedProfile:
+        profile = DerivedProfile(json.dumps(self.profile()).encode())
+        profile.has_comments, profile.not_compared = True, self.not_compared
+        profile.others = tuple(other.data() for other in self.others)
+        return profile
 
 
 def lines_text(numbers: Iterable[int]) -> str:

@@ -5,7 +5,7 @@ from collections.abc import Callable
 
 from ...base import program
 from ...base.values import Pattern, dataclass
-from ...model.profiles import Refused
+from ...model.profiles import DerivedProfile, Refused
 from . import firejail, lxc, snapd
 from .sandbox_rules import ListError, Policy
 
@@ -19,7 +19,7 @@ class Sandbox:
     sign: Pattern
     read: Callable[[bytes], Policy]
 
-    def profile_of(self, data: bytes, label: str) -> tuple[bytes, list[str]]:
+    def profile_of(self, data: bytes, label: str) -> tuple[DerivedProfile, list[str]]:
         """The profile of a list, and notes on it; raises ToolError."""
         try:
             policy = self.read(data)
