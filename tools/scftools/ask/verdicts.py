@@ -89,10 +89,10 @@ class Verdict:
         answers = (answer for answer in (self.filters, self.profile) if answer is not None)
         return {ALLOWED, DENIED} == {answer.disposition for answer in answers}
 
-    def as_json(self, table: Table, other_side: str = "profile") -> dict[str, object]:
-        """Its example, as members of an object; `other` is what the other side is called."""
+    def as_json(self, table: Table, sides: tuple[str, str] = ("filter", "profile")) -> dict[str, object]:
+        """Its example, as members of an object, with these names of both sides."""
         members: dict[str, object] = {} if self.call is None else {"call": self.call.as_json(table)}
-        for side, answer in (("filter", self.filters), (other_side, self.profile)):
+        for side, answer in zip(sides, (self.filters, self.profile)):
             if answer is not None:
                 members[side] = answer.as_json()
         return members if self.at is None else {**members, "at": self.at}

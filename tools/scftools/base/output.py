@@ -129,7 +129,7 @@ def flush() -> None:
 
 
 # The version of docs/JSON.md: members may be added to it; one that goes or changes its meaning makes another version.
-SCHEMA_VERSION = 2
+SCHEMA_VERSION = 3
 
 
 def put_json(value: dict[str, object]) -> None:

@@ -402,7 +402,7 @@ class Objects(Case):
                 "arguments": ["0x7", *["0x0"] * 5]}
         answer = {"action": "ERRNO", "data": 2, "errno": "ENOENT", "does": "the syscall fails with ENOENT"}
         status, out, _ = self.run_tool("decide", "--nr=0", "--json", "--a0=7", item, two)
-        self.assertEqual((status, json.loads(out)), (0, {"schema": 2, "status": 0, "calls": [
+        self.assertEqual((status, json.loads(out)), (0, {"schema": 3, "status": 0, "calls": [
             {"status": 0, "call": call, "answer": answer, "filters": [two],
              "path": {"filter": two, "indexes": [0]}}]}))
         status, out, _ = self.run_tool("run", "--json", "--a0=7", "--nr", "read", "--nr", "x", two)

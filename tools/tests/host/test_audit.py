@@ -1345,7 +1345,7 @@ class Output(Case):
         value = audit_output.audit_json(self.audit, self.table, earlier)
         self.assertEqual(value["since"], {"time": "yes\\x0aterday", "changes": changes})
         for name, each in (("audit", value), *(("audit-lines", change) for change in changes)):
-            self.assertEqual([*json_schema.faults({"schema": 2, **each}, {"$ref": f"#/$defs/{name}"}, name)], [])
+            self.assertEqual([*json_schema.faults({"schema": 3, **each}, {"$ref": f"#/$defs/{name}"}, name)], [])
 
     def test_nothing_changed(self):
         earlier = audit_output.Earlier.of_object(audit_output.audit_json(self.audit, self.table))

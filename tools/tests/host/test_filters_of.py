@@ -86,7 +86,7 @@ class Programs(Confined):
             for name, words in (("verify-process", (str(pid), profile)), ("surface", ("--pid", str(pid)))):
                 status, out, err = self.run_tool(name, "--json", *words)
                 self.assertEqual((status, err), (3, f"{name}: {why}\n"))
-                self.assertEqual(json.loads(out), {"status": 3, "verdict": None, "stacks": [], "why": why, "schema": 2})
+                self.assertEqual(json.loads(out), {"status": 3, "verdict": None, "stacks": [], "why": why, "schema": 3})
 
     @here
     def test_a_zombie(self):

@@ -349,7 +349,7 @@ class Supervised(Confined):
         self.assertEqual(status, program.IO_ERROR)
         self.assertTrue(err.endswith(" (--force stops it)\n"), err)
         self.assertEqual(json.loads(out), {"status": 3, "verdict": None, "stacks": [],
-                                           "why": err.partition(": ")[2].rstrip("\n"), "schema": 2})
+                                           "why": err.partition(": ")[2].rstrip("\n"), "schema": 3})
         self.is_made_once(child, supervisor, call)
 
     def test_a_filter_that_notifies_of_other_calls(self):

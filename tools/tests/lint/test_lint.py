@@ -83,7 +83,7 @@ class Usage(Linted):
         clean = profile(entry("read", "write", comment="as it is"), defaultErrnoRet=38)
         for words in ((), ("--strict",)):
             self.assertEqual(self.run_lint(clean, *words), (0, "# no findings\n", ""))
-        self.assertEqual(self.report(clean, "--strict"), {"schema": 2, "status": 0, "findings": [], "undecided": []})
+        self.assertEqual(self.report(clean, "--strict"), {"schema": 3, "status": 0, "findings": [], "undecided": []})
 
     def test_strict_and_except(self):
         odd = profile(entry("umont2"), default=ALLOW)

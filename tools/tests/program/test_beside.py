@@ -6,7 +6,7 @@ import os
 import random
 
 from support.common import (ALLOW, ENOSYS, EPERM, KILL_PROCESS, LOG, PROGRAM, TRACE, USER_NOTIF, X32, X86_64, Case,
-                            filter_of, insn, jeq, jge, load, part, ret)
+                            filter_of, insn, jeq, jge, load, part, profile_of, ret)
 from support.confined import NEWEST, OLDEST, Confined, here
 from support.stand_in import StandIn, unpacked
 from scftools.model import calls
@@ -171,14 +171,31 @@ class Tools(Case):
         self.assertEqual((status, lines[4]), (1, "# it is stricter, and never more permissive than the other side"))
         self.assertEqual(lines[-2:], ["# syscalls in the table that differ: 1",
                                       "# 1 write differs args 0x0 0x0 0x0 0x0 0x0 0x0 filter ERRNO 1 beside ALLOW 0"])
-        status, lines = self.said("diff", more, less)
-        self.assertEqual((status, lines[4]), (1, "# it is more permissive, and never stricter than the other side"))
-        self.assertEqual(self.said("diff", "--no-more", less, more), (0, ["no more"]))
-        self.assertEqual(self.said("diff", "--no-less", less, more)[0], 1)
+        status, lines = self.said("diff", less, more)
+        self.assertEqual((status, lines[4]), (1, "# it is more permissive, and never stricter than the old filter"))
         errno = self.file("3.bpf", filter_of([READ]).replace(ret(EPERM), ret(ENOSYS)))
         self.assertEqual(self.said("diff", "--disposition", less, errno), (0, ["same disposition"]))
         self.assertEqual(self.said("diff", less, errno)[1][4],
-                         "# it is neither more permissive nor stricter than the other side: only the answers differ")
+                         "# it is neither more permissive nor stricter than the old filter: only the answers differ")
+
+    def test_an_old_one_judges_a_new_one(self):
+        """As by compare-profiles of the profiles that say the same, and the lines tell both by their age."""
+        less, more = self.file("1.bpf", filter_of([READ])), self.file("2.bpf", filter_of([READ, WRITE]))
+        profiles = {path: self.file(f"{path}.json", profile_of(*names))
+                    for path, names in ((less, ["read"]), (more, ["read", "write"]))}
+        line = "1 write {} args 0x0 0x0 0x0 0x0 0x0 0x0 old {} new {}"
+        for word, old, new, failing in (("--no-more", less, more, "more"), ("--no-less", more, less, "less")):
+            self.assertEqual(self.said("diff", word, new, old), (0, [word[2:].replace("-", " ")]))
+            status, lines = self.said("diff", word, old, new)
+            self.assertEqual((status, lines[0]), (1, failing))
+            answers = ("ERRNO 1", "ALLOW 0") if failing == "more" else ("ALLOW 0", "ERRNO 1")
+            self.assertEqual(lines[2:4], [f"{age} {answer}" for age, answer in zip(("old", "new"), answers)])
+            self.assertIn(f"# the old filter answers {answers[0][:5]}", "\n".join(lines))
+            self.assertEqual(lines[-1], f"# {line.format(failing, *answers)}")
+            self.assertEqual(self.said("diff", "--calls", word, old, new)[1][1], line.format(failing, *answers))
+            for first, second in ((old, new), (new, old)):
+                self.assertEqual(self.said("compare-profiles", word, profiles[first], profiles[second])[0],
+                                 self.said("diff", word, first, second)[0])
 
     def test_stacks(self):
         first, second, both = (self.file(f"{at}.bpf", filter_of(item)) for at, item in
@@ -212,17 +229,17 @@ class Tools(Case):
         value = json.loads(self.run_tool("diff", "--json", first, second)[1])
         self.assertEqual((value["status"], value["scope"], value["relation"], value["verdict"]),
                          (1, "all", "same", "differs"))
-        self.assertEqual({value["filter"]["action"], value["beside"]["action"]}, {"ALLOW", "ERRNO"})
-        self.assertEqual((value["path"]["filter"], value["path_beside"]["filter"]), (first, second))
+        self.assertEqual({value["old"]["action"], value["new"]["action"]}, {"ALLOW", "ERRNO"})
+        self.assertEqual((value["path_old"]["filter"], value["path_new"]["filter"]), (first, second))
         self.assertEqual((value["no_more"], value["no_less"]), ("more", "less"))
-        self.assertEqual([(call["number"], call["names"], call["filter"]["action"], call["beside"]["action"])
+        self.assertEqual([(call["number"], call["names"], call["old"]["action"], call["new"]["action"])
                           for call in value["calls"]],
                          [(READ, ["read"], "ALLOW", "ERRNO"), (WRITE, ["write"], "ERRNO", "ALLOW")])
         self.assertEqual(json.loads(self.run_tool("diff", "--json", first, first)[1])["verdict"], "same")
 
     def test_faults(self):
         good, bad = self.file("1.bpf", filter_of([READ])), self.file("2.bpf", jeq(0, 0, 9) + ret(ALLOW))
-        for words, source in (((good, bad), "beside"), ((bad, good), "filter")):
+        for words, source in (((good, bad), "filter"), ((bad, good), "beside")):
             status, lines = self.said("diff", *words)
             self.assertEqual((status, lines[0].split()[:2]), (1, ["fault", source]))
             self.assertEqual(lines[-1], f"# the filter is {bad}")
@@ -249,19 +266,19 @@ class Tools(Case):
 
         chroot = jeq(161, 0, 1) + ret(EPERM)
         one, other, alike = filter_file("1", ALLOW, chroot), filter_file("2", KILL_PROCESS), filter_file("3", ALLOW)
-        shown = ["call nr 161 arch 0xc000003e ip 0x0 args 0x0 0x0 0x0 0x0 0x0 0x0", "filter ERRNO 1", "beside ALLOW 0"]
+        shown = ["call nr 161 arch 0xc000003e ip 0x0 args 0x0 0x0 0x0 0x0 0x0 0x0", "filter ERRNO 1"]
         for words in ([], ["--no-less"]):
-            out = self.run_tool("diff", *words, one, other)[1].split("\n")
-            self.assertEqual(out[1:4], shown)
+            out = self.run_tool("diff", *words, other, one)[1].split("\n")
+            self.assertEqual(out[1:4], [shown[0], "old ALLOW 0", "new ERRNO 1"])
             self.assertIn("# the syscall is chroot (161)", out)
-            found = json.loads(self.run_tool("diff", "--json", *words, one, other)[1])
-            self.assertEqual((found["call"]["names"], found["filter"]["action"]), (["chroot"], "ERRNO"))
+            found = json.loads(self.run_tool("diff", "--json", *words, other, one)[1])
+            self.assertEqual((found["call"]["names"], found["new"]["action"]), (["chroot"], "ERRNO"))
         for words, first in (([], alike), (["--no-more"], one)):
-            out = self.run_tool("diff", *words, first, other)[1].split("\n")
+            out = self.run_tool("diff", *words, other, first)[1].split("\n")
             self.assertEqual(out[1], shown[0].replace("161", str(X32)))
         profile = self.file("p.json", json.dumps({"defaultAction": "SCMP_ACT_ALLOW", "syscalls": []}))
         self.assertEqual(self.run_tool("compare", "--all", one, profile)[1].split("\n")[1:4],
-                         [*shown[:2], "profile ALLOW 0"])
+                         [*shown, "profile ALLOW 0"])
 
 
 class Saved(Confined):
