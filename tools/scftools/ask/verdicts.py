@@ -46,6 +46,11 @@ LEFT_OUT = ("skipped ", "other ")
 LEFT_OUT_END = b"left-out skipped"
 
 
+def relation_json(relation: str) -> dict[str, object]:
+    """The relation that was asked for as a member of an object, if it isn't that both sides answer the same."""
+    return {} if relation == SAME else {"relation": relation}
+
+
 @dataclass(frozen=True)
 class Verdict:
     """A verdict, with its example and both answers if it is `differs`, `more` or `less`, and an instruction index if

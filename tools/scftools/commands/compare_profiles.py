@@ -10,12 +10,12 @@
 OLD and NEW are resolved OCI seccomp profiles, or whole config.json files that hold one. scf compares what both answer
 to every record; if they differ, that is told syscall by syscall. First comes the verdict over the syscalls of each
 architecture that a profile names and scf has a table of, or with --native of x86-64's alone, `same` or `differs`, and
-the number of changes of each kind. Then the changes: those where NEW is more permissive (`more`), those where it is
-stricter (`less`; some are both), and those that only get another answer (`otherwise`). Each has a line: the
-architecture if it isn't x86-64, the number, the names, the kind, the arguments of an example, and for both profiles the
-answer to it and what gives it, as `scf ask` says. Lines marked by `# ` add the conditions that the example meets, and
-at the end the entries. --no-more asks whether NEW is nowhere more permissive than OLD, --no-less whether it is nowhere
-stricter: the verdict and the exit status answer that.
+the number of changes of each kind; a profile kills for the syscalls of an architecture that it doesn't name. Then the
+changes: those where NEW is more permissive (`more`), those where it is stricter (`less`; some are both), and those that
+only get another answer (`otherwise`). Each has a line: the architecture if it isn't x86-64, the number, the names, the
+kind, the arguments of an example, and for both profiles the answer to it and what gives it, as `scf ask` says. Lines
+marked by `# ` add the conditions that the example meets, and at the end the entries. --no-more asks whether NEW is
+nowhere more permissive than OLD, --no-less whether it is nowhere stricter: the verdict and the exit status answer that.
 
 With --engine, --caps, --kernel, --machine, --arch-map, --ignore or --keep-first both are an engine's own profiles, and
 are resolved for one container as by `scf resolve-profile`. With --runtime both are read as that runtime reads them, and
@@ -33,7 +33,7 @@ Examples:
 """
 from ..base import output, program
 from ..model import profiles, tables
-from ..ask import client
+from ..ask import client, verdicts
 from ..cli import words
 from ..forms import engines, profile_inputs, refusals, runtimes
 from ..report import changes
@@ -98,7 +98,7 @@ def refuse(why, options, table, source):
     if fault.kind == "EngineForm":
         sentences.append("--caps and the like resolve both profiles as an engine does")
     if options.json:
-        output.put_json({"status": why.status, "relation": options.relation, "verdict": None,
+        output.put_json({"status": why.status, **verdicts.relation_json(options.relation), "verdict": None,
                          "fault": {**fault.as_json(sentences), "side": side}})
         return why.status
     output.put_line(fault.line)

@@ -20,7 +20,7 @@ from ..ask.explanation import MORE_SPLITS, join_names
 from ..ask.reasons import Reason
 from ..ask.sides import Sides
 from ..ask.verdicts import (FAILING_WORDS, LESS, MORE, NO_LESS, NO_MORE, OTHERWISE, SAME, UNDECIDED, UNFINISHED, Report,
-                            Verdict, checked)
+                            Verdict, checked, relation_json)
 from ..forms.profile_inputs import ProfileInput
 from . import compare
 
@@ -87,6 +87,13 @@ class ProfilePair(Sides):
         old, new = (side.source.data for side in self.sides.values())
         return bundles.comparison_bundle(self.stacks[0], new, judged) if self.stacks else \
             bundles.profiles_bundle(old, new, judged)
+
+    @property
+    def either(self) -> list[tuple[Architecture, Table]]:
+        """The architectures that one of them is judged for, with their tables: the other one kills for their
+        syscalls."""
+        judged = {name: table for side in self.sides.values() for name, table in side.judged.of.items()}
+        return [(architecture, judged[name]) for name, architecture in JUDGED.items() if name in judged]
 
     @property
     def both(self) -> list[tuple[Architecture, Table]]:
@@ -201,11 +208,12 @@ def _of_calls(pair: ProfilePair) -> list[Change]:
     """The syscalls that differ: first more permissive, then stricter, then others. Where the differences don't tell,
     a number for which scf has an example may have others."""
     changes = []
-    for architecture, table in pair.both:
+    for architecture, table in pair.either:
         listed = [(number, tuple(table.names_of(number)), _of_number(pair, architecture, number))
                   for number in sorted(table.numbers())]
         if pair.differences.regions is None or None in [kinds for _, _, kinds in listed]:
-            lines_of_scf = [(line, line.verdict) for line in pair.calls_of(architecture.oci)]
+            is_asked = architecture.oci in pair.tables.of
+            lines_of_scf = [(line, line.verdict) for line in (pair.calls_of(architecture.oci) if is_asked else ())]
             listed = [(line.number, line.names, {UNDECIDED if verdict.fails else verdict.word: verdict.call})
                       for line, verdict in lines_of_scf]
         changes += [Change(number, names, kind, call, pair.reasons_of(call) if call else {}, architecture)
@@ -279,7 +287,8 @@ def _conditions(pair: ProfilePair, change: Change) -> Iterator[str]:
 def _entries(changes: Changes) -> Iterator[str]:
     """The entries that give answers, each once, the stubs, and the defaults."""
     for name, side in changes.pair.sides.items():
-        of_side = [change.reasons[name] for change in changes.all if change.reasons]
+        of_side = [change.reasons[name] for change in changes.all
+                   if change.reasons and not change.reasons[name].is_foreign]
         # (a stub stands behind all entries)
         reason_of = {math.inf if reason.is_stub else reason.entry: reason for reason in of_side}
         for place in sorted(place for place in reason_of if place is not None):
@@ -348,7 +357,7 @@ def _change_json(pair: ProfilePair, change: Change, table: Table) -> dict[str, o
 def changes_json(changes: Changes, table: Table) -> dict[str, object]:
     """The object with everything that `change_lines` prints."""
     pair, unnamed = changes.pair, changes.unnamed
-    return {"status": changes.status, "relation": changes.relation, "verdict": changes.verdict,
+    return {"status": changes.status, **relation_json(changes.relation), "verdict": changes.verdict,
             "counts": changes.counts, "changes": [_change_json(pair, change, table) for change in changes.calls],
             "unnamed": None if unnamed is None else _change_json(pair, unnamed, table),
             "skipped": {side: list(report.skipped) for side, report in changes.left_out.items()},

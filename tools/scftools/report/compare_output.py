@@ -11,7 +11,7 @@ from ..model.calls import Call
 from ..ask import explanation, reasons
 from ..ask.client import Refusal
 from ..ask.verdicts import (ALL, CALLS, DIFFERS, LESS, LISTED, MORE, NATIVE_SCOPE, NO_LESS, NO_MORE, SAME, UNDECIDED,
-                            Fault, NamedCall, Report, Verdict)
+                            Fault, NamedCall, Report, Verdict, relation_json)
 from ..forms import refusals
 from . import listing, newer
 from .compare import Comparison
@@ -190,8 +190,7 @@ def comparison_json(comparison: Comparison, report: Report, scope: str, status: 
                                   "verdict": report.verdict.word if report.verdict else None}
     if scope == LISTED:
         members["architectures"] = list(comparison.tables.of)
-    if comparison.relation != SAME:
-        members["relation"] = comparison.relation
+    members.update(relation_json(comparison.relation))
     if report.fault:
         members["fault"] = report.fault.as_json(fault_sentences(comparison, report.fault))
     if report.verdict:

@@ -155,7 +155,8 @@ def added(comparison: StackComparison, report: Report, scope: str) -> Iterator[s
 def stack_comparison_json(comparison: StackComparison, report: Report, scope: str, status: int) -> dict[str, object]:
     """The object with everything that `added` prints."""
     verdict, table = report.verdict, comparison.table
-    members: dict[str, object] = {"status": status, "scope": scope, "relation": comparison.relation, "verdict": None}
+    members: dict[str, object] = {"status": status, "scope": scope, **verdicts.relation_json(comparison.relation),
+                                  "verdict": None}
     if report.fault is not None:
         members["fault"] = report.fault.as_json(explanation.explain_fault(report.fault))
         members["files"] = faulty(comparison, report)

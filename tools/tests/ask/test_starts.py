@@ -112,7 +112,7 @@ class Starts(Counting):
         self.assertEqual(self.starts("compare-profiles", "--runtime", "runc", first, other), 1)
         self.assertEqual(self.starts("compare-profiles", "--runtime", "runc", first, alike, status=1), 1)
         self.assertEqual(self.starts("compare-profiles", "--runtime", "runc", first, greater, status=1), 3)
-        self.assertEqual(self.starts("compare-profiles", first, listed, status=1), 2)
+        self.assertEqual(self.starts("compare-profiles", first, listed, status=1), 3)
 
     def test_compare(self):
         """What differs, and how, is one answer; the last is the path that is shown. An example that says little is

@@ -227,8 +227,7 @@ class Tools(Case):
     def test_json(self):
         first, second = self.file("1.bpf", filter_of([READ])), self.file("2.bpf", filter_of([WRITE]))
         value = json.loads(self.run_tool("diff", "--json", first, second)[1])
-        self.assertEqual((value["status"], value["scope"], value["relation"], value["verdict"]),
-                         (1, "all", "same", "differs"))
+        self.assertEqual((value["status"], value["scope"], value["verdict"]), (1, "all", "differs"))
         self.assertEqual({value["old"]["action"], value["new"]["action"]}, {"ALLOW", "ERRNO"})
         self.assertEqual((value["path_old"]["filter"], value["path_new"]["filter"]), (first, second))
         self.assertEqual((value["no_more"], value["no_less"]), ("more", "less"))

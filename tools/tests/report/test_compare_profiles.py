@@ -150,9 +150,16 @@ class Program(Case):
         report = json.loads(self.compared(old, new, "--json")[1][0])
         self.assertEqual([(change["architecture"], change["number"]) for change in report["changes"]], [("i386", 7)])
         alone = profile(("read", "ALLOW", {}), architectures=["SCMP_ARCH_X86_64"])
-        for old_path, new_path, word in ((new, alone, "old"), (alone, new, "new")):
+        names = tables.architecture_table("SCMP_ARCH_X86").numbers()
+        for old_path, new_path, word, kind, answers in (
+                (new, alone, "old", LESS, "old ALLOW entry 0 new KILL_PROCESS foreign"),
+                (alone, new, "new", MORE, "old KILL_PROCESS foreign new ALLOW entry 0")):
             status, lines = self.compared(old_path, new_path)
-            self.assertEqual((status, lines[:2]), (1, ["differs", "more 0, less 0, otherwise 0"]))
+            self.assertEqual((status, lines[0]), (1, "differs"))
+            self.assertEqual(lines[1],
+                             f"more {int(kind == MORE)}, less {int(kind == LESS)}, otherwise {len(names) - 1}")
+            self.assertEqual(lines[3], f"i386 3 read {kind} {NO_ARGUMENTS} {answers}")
+            self.assertFalse([line for line in lines if line.startswith(f"# {word}: default: KILL")], lines)
             self.assertIn(f"# only the {word} profile names SCMP_ARCH_X86: the {'new' if word == 'old' else 'old'} one "
                           "kills a process that makes such a syscall", lines)
             self.assertEqual(self.compared(old_path, new_path, "--no-more")[0], 0 if word == "old" else 1)
@@ -174,8 +181,9 @@ class Program(Case):
         status, lines = self.compared(READ_WRITE, new, "--json")
         self.assertEqual((status, len(lines)), (1, 1))
         report = json.loads(lines[0])
-        self.assertEqual({key: report[key] for key in ("status", "relation", "verdict", "counts", "unnamed")}, {
-            "status": 1, "relation": "same", "verdict": "differs", "unnamed": None,
+        self.assertNotIn("relation", report)
+        self.assertEqual({key: report[key] for key in ("status", "verdict", "counts", "unnamed")}, {
+            "status": 1, "verdict": "differs", "unnamed": None,
             "counts": {MORE: 1, LESS: 1, OTHERWISE: 0, "undecided": 0, "unfinished": 0}})
         more, less = report["changes"]
         self.assertEqual([more[key] for key in ("number", "names", "change")], [41, ["socket"], MORE])
