@@ -100,7 +100,9 @@ class Audited:
     def restate(self, name, seccomp, keeps=False):
         """Changes what a container's configuration says, after its start, and unless `keeps` what runc says that it was
         started with."""
-        started = None if seccomp is None else {"default_action": 4, "architectures": ["amd64"], "syscalls": [
+        names = [] if seccomp is None else [name[10:].lower().replace("x86_64", "amd64")
+                                            for name in seccomp.get("architectures", ())]
+        started = None if seccomp is None else {"default_action": 4, "architectures": names, "syscalls": [
             {"name": called, "action": 2, "errnoRet": entry["errnoRet"], "args": []}
             for entry in seccomp["syscalls"] for called in entry["names"]]}
         if not keeps:
