@@ -66,7 +66,7 @@ abbrev pub facts_at : List NumberFacts → List ℕ → List WordFact
 facts_at words indices = flat_map (λ index. option_map_or (facts_of_set index) (slice_get words index) []) indices
 
 abbrev pub facts_of : Region → List WordFact
-facts_of region = facts_at region.words.sets word_indices
+facts_of region = facts_at region.words word_indices
 
 abbrev pub bit_of : Bool → ℕ
 bit_of true = 1

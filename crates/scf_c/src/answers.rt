@@ -180,7 +180,7 @@ fn add_set(facts: &mut Vec<WordFact>, index: u8, word: &WordSet) -> Result<(), A
 /// Adds what is known of the words with these indices.
 fn add_words(facts: &mut Vec<WordFact>, words: &Snapshot, indices: &[u8]) -> Result<(), AllocError>
     requires { AllByRecursion (λ index. index < 16) indices.now }
-    ensures { OnOk result (facts.new.items ≡ facts.old.items ++ facts_at words.now.sets indices.now) }
+    ensures { OnOk result (facts.new.items ≡ facts.old.items ++ facts_at words.now indices.now) }
 {
     let Some((index, later)) = indices.split_first() else {
         return Ok(());

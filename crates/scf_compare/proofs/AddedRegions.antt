@@ -65,11 +65,8 @@ module _ {F K N : Type 0} (store : Store F) (compared : Compared) (tree : K → 
           (λ (call : CallRecord) shown. (shown.0, (is.words (words_of call)).1 shown.1));
       ends = rw is.same_leaf is_leaf;
       exact = λ exact.
-          let given = is.exact exact in (
-            given.1,
-            given.2,
-            λ words inside. rw is.same_leaf (tells given.0 words ((is.words words).0 inside)),
-          );
+          let given = is.exact exact in
+          (given.1, λ words inside. rw is.same_leaf (tells given.0 words ((is.words words).0 inside)));
     }
 
     one_more : (region : Region) → IsRegionOf (store.allows old.facts (store.level old.facts)) leaf is_whole region

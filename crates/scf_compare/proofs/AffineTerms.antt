@@ -12,8 +12,6 @@ use Rattle.scf_compare.proofs.BitSlices.{number_fits}
 use Rattle.scf_compare.proofs.Bits.{each_bit, whole_word}
 use Rattle.scf_compare.proofs.KnownBits.{quotient_grows}
 use Rattle.scf_facts.specs.HighMask.{IsHighMask}
-use Rattle.scf_facts.specs.Terms.{word_term_value}
-use Rattle.scf_facts.specs.declared.term.WordTerm.{WordTerm}
 use Rattle.scf_compare.specs.internal.AffineTerms.{is_within}
 
 -- ---- XOR
@@ -297,13 +295,6 @@ pub by_odd : (x f o c s a d : ℕ) → f ≡ o * 2 ^ c → x * 2 ^ c % 2 ^ 32 �
     → (x * f % 2 ^ 32 + a) % 2 ^ 32 / d ≡ (s * o % 2 ^ 32 + a) % 2 ^ 32 / d
 by_odd x f o c s a d parts shifted =
     ap (λ n. (n + a) % 2 ^ 32 / d) (by_parts x f o c parts ∙ ap (λ n. n * o % 2 ^ 32) shifted)
-
--- the value of a term whose left shift loses no bit
-pub term_of : (term : WordTerm) (n : ℕ) → term.mask / 2 ^ term.right * 2 ^ term.left < 2 ^ 32 → word_term_value term n
-    ≡ (bit_xor (bit_and n term.mask / 2 ^ term.right * 2 ^ term.left) term.xor_mask * term.factor % 2 ^ 32
-    + term.addend) % 2 ^ 32 / term.divisor
-unfolding word_term_value
-term_of term n fits = rw (mod-eq_of_lt (number_fits n term.mask term.right term.left fits)) refl
 
 -- a number times another and its inverse
 there_and_back : (n o i : ℕ) → n < 2 ^ 32 → o * i % 2 ^ 32 ≡ 1 → n * o % 2 ^ 32 * i % 2 ^ 32 ≡ n

@@ -4,8 +4,6 @@ use Rattle.scf_compare.proofs.Bits.{whole_word}
 use Rattle.scf_compare.proofs.Common.{and_twice}
 use Rattle.scf_facts.specs.HighMask.{IsHighMask}
 use Rattle.scf_compare.proofs.Common.{List, slice_index}
-use Rattle.scf_compare.specs.declared.bit_slice.BitSlice.{BitSlice}
-use Rattle.scf_compare.specs.internal.BitSlices.{IsWhole, bit_slice_value}
 
 -- ---- masks and shifts
 
@@ -156,12 +154,6 @@ first_unit z l low some =
       λ least. let lies : low - 1 < z * 2 ^ l = omega (arith, least, some) in omega (arith, past.1 lies),
       λ least. let lies : (low - 1) / 2 ^ l < z = omega (arith, least) in omega (arith, past.0 lies),
     )
-
--- the number of a whole word
-pub of_whole : (bit_slice : BitSlice) (words : List ℕ) → IsWhole bit_slice
-    → bit_slice_value bit_slice words ≡ slice_index words bit_slice.word % 2 ^ 32
-of_whole bit_slice words whole =
-    rw (whole.mask, whole.right, whole.left) (omega (arith, and_mask (slice_index words bit_slice.word) 32))
 
 -- ---- what functions cite
 

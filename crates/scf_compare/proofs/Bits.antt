@@ -1,5 +1,5 @@
 -- Words under masks.
-pub use Rattle.scf_facts.proofs.TermLaws.{computed_fits, value_fits}
+use Rattle.std.proofs.Math.Nat.{div-le_self}
 use Rattle.scf_compare.proofs.Common.{div-one, ◌+◌, ◌*◌, ◌/◌, ◌%◌, add_comm, and_comm, mul_comm, or_comm, xor_comm, Arithmetic, Add, Sub, Mul, Div, Or, And, Lsh, Rsh, Xor, value_computed, and_le_l, or_lt, same_from_bits, xor_lt, ◌≡◌, ◌≢◌, ℕ, ◌-◌, ◌<◌, ◌≤◌, ◌^◌, true, false, eqb, leb, List, sym, ◌∙◌, arith, bit_and, slice_index, eq-eqb, eqb-true, and_mask, bit_at_and, bit_at_or, bit_at_xor, bit_at-lt, bit_at-zero, mod-eq_of_lt, IsWords, word_below}
 
 -- what each bit is of numbers that are joined
@@ -43,3 +43,11 @@ product_with_one a v fits one = rw one (omega arith)
 
 pub quotient_by_one : (a v : ℕ) → v ≡ 1 → a / v ≡ a
 quotient_by_one a v one = rw one (div-one a)
+
+-- ---- what is computed
+
+-- a computation on 32-bit numbers has a 32-bit result
+pub computed_fits : (arithmetic : Arithmetic) (a v : ℕ) → a < 2 ^ 32 → v < 2 ^ 32
+    → value_computed arithmetic a v < 2 ^ 32
+computed_fits arithmetic a v h k =
+    grind (arith, div-le_self a, and_le_l a v, or_lt 32 a v h k, xor_lt 32 a v h k, value_computed)

@@ -1,7 +1,6 @@
 -- A condition on an argument by the halves of the argument.
 use Rattle.scf_compare.proofs.Common.{◌≡◌, ◌∙◌, ℕ, ◌+◌, ◌*◌, ◌<◌, ◌^◌, true, false, List, ap, arith, slice_index, Atom, atom_answer, ArgumentBits, Bits32, Bits64, taken_of, IsWords, call_of, argument, words_of-call_of, argument_low, argument_high, IsRecord-call_of}
-use Rattle.scf_facts.proofs.TermLaws.{own_number}
-use Rattle.scf_facts.specs.Atoms.{IsOfWord, answer_at, word_of}
+use Rattle.scf_facts.specs.Atoms.{answer_at, word_of}
 use Rattle.scf_compare.specs.declared.question.ConditionPart.{ConditionPart}
 use Rattle.scf_compare.specs.internal.Conditions.{asks_of_zero, half_asked, word_asked}
 
@@ -29,7 +28,7 @@ half_is_zero bits part register h = grind arith
 
 -- an atom about the word of a half answers as it does at the half
 pub answer_there : (bits : ArgumentBits) (part : ConditionPart) (atom : Atom) (words : List ℕ) (i : ℕ) → IsWords words
-    → asks_of_zero bits part ≡ false → IsOfWord atom → word_of atom ≡ word_asked part (2 * i + 4)
+    → asks_of_zero bits part ≡ false → word_of atom ≡ word_asked part (2 * i + 4)
     → atom_answer atom words ≡ answer_at atom (half_asked part (taken_of bits (argument (call_of words) i)))
-answer_there bits part atom words i w h own is =
-    ap (answer_at atom) (own_number atom own words ∙ ap (slice_index words) is ∙ half_there words i w bits part h)
+answer_there bits part atom words i w h is =
+    ap (answer_at atom) (ap (slice_index words) is ∙ half_there words i w bits part h)

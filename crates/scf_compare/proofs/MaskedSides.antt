@@ -20,9 +20,9 @@ use Rattle.scf_compare.specs.declared.side.Side.{Side}
 use Rattle.scf_compare.specs.declared.side.Side.TheVariants.{Stack, Profile as OfProfile, Profiles as OfProfiles}
 use Rattle.scf_compare.specs.declared.step.Step.{Step}
 use Rattle.scf_compare.specs.declared.value.Decision.{Decision}
-use Rattle.scf_compare.specs.declared.value.Decision.TheVariants.{Known as Decided, Asks, AsksTerm, Open}
+use Rattle.scf_compare.specs.declared.value.Decision.TheVariants.{Known as Decided, Asks, Open}
 use Rattle.scf_compare.specs.declared.value.Value.{Value}
-use Rattle.scf_compare.specs.declared.value.Value.TheVariants.{Known, Slice, Affine, Bits, Binary, Computed}
+use Rattle.scf_compare.specs.declared.value.Value.TheVariants.{Known, Slice, Affine, Computed}
 use Rattle.scf_compare.specs.internal.Conditions.{HasMasksOf}
 use Rattle.scf_compare.specs.internal.Filters.{IsStepOf}
 use Rattle.scf_compare.specs.internal.Trees.{Costs, IsProper, StaysPlain}
@@ -64,8 +64,6 @@ carried masks true true (Slice bit_slice) goes is = is
 carried masks true false (Slice bit_slice) goes is = absurd (let no = goes refl in cc)
 carried masks false to (Slice bit_slice) goes is = (is.0, λ _. is.1 refl)
 carried masks from to (Affine term) goes is = absurd is
-carried masks from to (Bits term mask) goes is = absurd is
-carried masks from to (Binary term) goes is = absurd is
 carried masks from to (Computed computed) goes is = absurd is
 
 -- the step of a test that is decided or asked
@@ -79,7 +77,6 @@ by_decision tree tells_all masks (Asks atom true) if_true if_false step is plain
     rw is (plain, first, second)
 by_decision tree tells_all masks (Asks atom false) if_true if_false step is plain first second =
     rw is (plain, second, first)
-by_decision tree tells_all masks (AsksTerm atom holds test) if_true if_false step is plain first second = absurd plain
 by_decision tree tells_all masks (Open test) if_true if_false step is plain first second = absurd plain
 
 pub proper_by : (tree : Tree FilterNode) (is_leaf : FilterLeaf → Type 0) (decision : Decision)
@@ -89,8 +86,6 @@ proper_by tree is_leaf (Decided true) if_true if_false step is asks first second
 proper_by tree is_leaf (Decided false) if_true if_false step is asks first second = rw is second
 proper_by tree is_leaf (Asks atom true) if_true if_false step is asks first second = rw is (asks, first, second)
 proper_by tree is_leaf (Asks atom false) if_true if_false step is asks first second = rw is (asks, second, first)
-proper_by tree is_leaf (AsksTerm atom true test) if_true if_false step is asks first second = rw is (asks, first, second)
-proper_by tree is_leaf (AsksTerm atom false test) if_true if_false step is asks first second = rw is (asks, second, first)
 proper_by tree is_leaf (Open test) if_true if_false step is asks first second = rw is (tt, first, second)
 
 pub costs_by : (tree : Tree FilterNode) (decision : Decision) (if_true if_false : FilterNode)
@@ -100,8 +95,6 @@ costs_by tree (Decided true) if_true if_false step size is within = rw is (omega
 costs_by tree (Decided false) if_true if_false step size is within = rw is (omega (arith, within))
 costs_by tree (Asks atom true) if_true if_false step size is within = rw is within
 costs_by tree (Asks atom false) if_true if_false step size is within = rw is (omega (arith, within))
-costs_by tree (AsksTerm atom true test) if_true if_false step size is within = rw is within
-costs_by tree (AsksTerm atom false test) if_true if_false step size is within = rw is (omega (arith, within))
 costs_by tree (Open test) if_true if_false step size is within = rw is within
 
 -- of a condition under masks so is the test

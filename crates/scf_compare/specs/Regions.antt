@@ -1,5 +1,5 @@
 -- What regions say of the records in them.
-use Rattle.std.specs.Prelude.{◌≡◌, ◌*◌, ◌≤◌, [], ℕ, List, All, AllPairs, Contains, IfSome, IsSome, IsTrue}
+use Rattle.std.specs.Prelude.{◌*◌, ◌≤◌, ℕ, List, All, AllPairs, Contains, IfSome, IsSome, IsTrue}
 use Rattle.scf_insn.specs.declared.record.CallRecord.{CallRecord}
 use Rattle.scf_insn.specs.Words.{IsRecord, IsWords, call_of, words_of}
 use Rattle.scf_facts.specs.WordSets.{AllowsWords}
@@ -16,12 +16,12 @@ pub record IsCovered (left right : Behavior) (regions : List Region) (words : Li
   pub answered : Tells left right region.leaf words
 
 -- A region has only words of records of the scope, its example is one of these, and both sides end where it says. If it
--- is exact, it has an example, nothing is known of terms, and both sides answer all words in it as it says.
+-- is exact, it has an example, and both sides answer all words in it as it says.
 pub record IsRegion (left right : Behavior) (in_scope : CallRecord → Type 0) (region : Region) : Type 0 where
   pub within : (words : List ℕ) → AllowsWords region.words words → IsWords words × in_scope (call_of words)
   pub shown : IfSome region.example (λ call. IsRecord call × AllowsWords region.words (words_of call))
   pub ends : IsLeaf left right region.leaf
-  pub exact : IsTrue region.is_exact → IsSome region.example × (region.words.terms ≡ [])
+  pub exact : IsTrue region.is_exact → IsSome region.example
       × ((words : List ℕ) → AllowsWords region.words words → Tells left right region.leaf words)
 
 -- two regions, if both are exact, have no words in common

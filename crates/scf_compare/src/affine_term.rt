@@ -4,7 +4,6 @@ ghost use Rattle.std.specs.Prelude.{◌≡◌, ◌-◌, ◌*◌, ◌/◌, ◌%�
 ghost use Rattle.std.specs.Prelude.{◌==◌, bit_and, bit_or, bit_xor, slice_index};
 ghost use Rattle.scf_insn.specs.Words.{IsWords};
 ghost use Rattle.scf_facts.specs.Bits.{HasBits};
-ghost use Rattle.scf_facts.specs.Terms.{first_word, term_value};
 ghost use Rattle.scf_machine.specs.Machine.{holds, value_computed};
 ghost use Rattle.scf_compare.specs.internal.AffineTerms.{IsAffineTerm, affine_value, is_within, product_value};
 ghost use Rattle.scf_compare.specs.internal.AffineTerms.{sum_value, xored_value};
@@ -15,7 +14,7 @@ use crate::bit_slice::BitSlice;
 use crate::computed::Computed;
 use crate::sources::OpenTest;
 use crate::value::{Decision, Value};
-use scf_facts::{Bits, Term, WordTerm, inverse_of, is_high_mask};
+use scf_facts::{Bits, is_high_mask};
 use scf_insn::{Arithmetic, Test};
 
 /// `((bit_slice ^ xor_mask) * factor + addend) / divisor`, where the product and the sum are modulo 2^32.
@@ -57,16 +56,6 @@ impl AffineTerm {
             .times(self.factor)
             .plus(self.addend)
             .over(self.divisor)
-    }
-
-    /// The known bits of the number under a mask, and the bits of the word on which that depends.
-    pub(crate) fn in_bits_under(self, mask: u32, word: Bits) -> Computed
-        requires { IsAffineTerm self }
-        ensures { (words : List ℕ) → HasBits word (slice_index words self.bit_slice.word)
-            → IsComputedNumber result (bit_and (affine_value self words) mask) }
-    {
-        self.in_bits(word)
-            .combined(Arithmetic::And, Computed::constant(mask))
     }
 
     /// `self op v`, if it is an affine term.
@@ -358,64 +347,6 @@ impl AffineTerm {
         }
     }
 
-    /// The test of `self` against `v`, as an atom about the term.
-    fn ask(self, test: Test, v: u32) -> Decision
-        requires { IsAffineTerm self }
-        ensures asks { IsTestDecision result }
-        ensures decides { (words : List ℕ) → IsWords words
-            → Decides result words (holds test (affine_value self words) v) }
-    {
-        Decision::about(self.normal().term(), test, v)
-    }
-
-    /// The test of `self` against `v`, as an atom about its word, or else about the term.
-    pub(crate) fn decide_or_ask(self, test: Test, v: u32) -> Decision
-        requires { IsAffineTerm self }
-        ensures asks { IsTestDecision result }
-        ensures decides { (words : List ℕ) → IsWords words
-            → Decides result words (holds test (affine_value self words) v) }
-    {
-        match self.decide(test, v) {
-            Decision::Open(_) => self.ask(test, v),
-            decision => decision,
-        }
-    }
-
-    /// The test of `self & mask` against `v`, as an atom about its word or the term, if it is no order.
-    #[tactic(auto, using(std::proofs::lemmas::Nat::and_assoc))]
-    pub(crate) fn decide_bits(self, mask: u32, test: Test, v: u32) -> Decision
-        requires { IsAffineTerm self }
-        ensures asks { IsTestDecision result }
-        ensures decides { (words : List ℕ) → IsWords words
-            → Decides result words (holds test (bit_and (affine_value self words) mask) v) }
-    {
-        match test {
-            Test::Equal if v == 0 => self.decide_or_ask(Test::CommonBit, mask).negated(),
-            Test::Equal => Decision::has_bits(self.normal().term(), mask, v),
-            Test::CommonBit => self.decide_or_ask(Test::CommonBit, mask & v),
-            Test::Greater | Test::GreaterOrEqual => Decision::Open(OpenTest::NONE),
-        }
-    }
-
-    /// As a number that is computed from its word.
-    #[tactic(auto, using(crate::proofs::AffineTerms::term_of))]
-    fn term(self) -> Term
-        requires { IsAffineTerm self }
-        ensures word { first_word result ≡ self.bit_slice.word }
-        ensures value { (words : List ℕ) → IsWords words → term_value result words ≡ affine_value self words }
-    {
-        Term::Word(WordTerm {
-            word: self.bit_slice.word,
-            right: self.bit_slice.right as u8,
-            left: self.bit_slice.left as u8,
-            mask: self.bit_slice.mask,
-            xor_mask: self.xor_mask,
-            factor: self.factor,
-            addend: self.addend,
-            divisor: self.divisor,
-        })
-    }
-
     /// The same number with an odd factor of the lesser of both signs, where bits of the slice remain: so `w * 2 * 3`
     /// and `w * 6` are one term, and `-w * 3` and `-(w * 3)`.
     fn normal(self) -> AffineTerm
@@ -610,4 +541,16 @@ fn odd_part(number: u32) -> (u32, u32)
     }
     let count = number.trailing_zeros();
     (number >> count, count)
+}
+
+/// The inverse of an odd number modulo 2^32. An even number has none.
+fn inverse_of(number: u32) -> Option<u32>
+    ensures { IfSome result (λ inverse. number * inverse % 2 ^ 32 ≡ 1) }
+{
+    let mut inverse = number;
+    for _step in 0..4 {
+        let error = number.wrapping_mul(inverse).wrapping_sub(1);
+        inverse = inverse.wrapping_mul(1u32.wrapping_sub(error));
+    }
+    (number.wrapping_mul(inverse) == 1).then_some(inverse)
 }

@@ -88,14 +88,6 @@ pub(crate) fn difference_in_scope<C: Comparison>(
     }
 }
 
-/// The difference that guessed words show, if they are in the scope and show one.
-fn guessed_difference<C: Comparison, F: WordFacts>(comparison: &C, facts: &F) -> Option<Finding>
-    ensures { IfSome result (IsFound (C.compared comparison.now)) }
-{
-    let words = facts.guess()?;
-    difference_in_scope(comparison, CallRecord::from_words(&words))
-}
-
 /// Judges a leaf by what the store knows there. A record is shown only after both sides answered it.
 pub(crate) fn judge<C: Comparison, F: WordFacts>(
     comparison: &C,
@@ -115,11 +107,10 @@ pub(crate) fn judge<C: Comparison, F: WordFacts>(
     if is_related(comparison, leaf) || facts.is_empty() {
         return Judged::Related;
     }
-    let difference = match facts.pick() {
-        Some(words) => difference_by(comparison, CallRecord::from_words(&words)),
-        None => guessed_difference(comparison, facts),
+    let Some(words) = facts.pick() else {
+        return Judged::Open;
     };
-    match difference {
+    match difference_by(comparison, CallRecord::from_words(&words)) {
         Some(finding) => Judged::Fails(finding),
         None => Judged::Open,
     }

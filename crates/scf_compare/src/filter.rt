@@ -221,11 +221,7 @@ pub(crate) fn waits_in_filter(
         }
         ControlFlow::Jump(_) | ControlFlow::ReturnConstant => false,
         ControlFlow::ConditionalJump(_, operand, ..) => {
-            operand == Operand::Index
-                || matches!(
-                    registers.a,
-                    Value::Bits(..) | Value::Binary(_) | Value::Computed(_)
-                )
+            operand == Operand::Index || matches!(registers.a, Value::Computed(_))
         }
         ControlFlow::DivideByIndex(_) | ControlFlow::ReturnAccumulator => true,
     }
@@ -242,12 +238,8 @@ fn step_by(
     match decision {
         Decision::Known(true) => Step::Next(if_true),
         Decision::Known(false) => Step::Next(if_false),
-        Decision::Asks(atom, true) | Decision::AsksTerm(atom, true, _) => {
-            Step::Branch(Some(atom), if_true, if_false)
-        }
-        Decision::Asks(atom, false) | Decision::AsksTerm(atom, false, _) => {
-            Step::Branch(Some(atom), if_false, if_true)
-        }
+        Decision::Asks(atom, true) => Step::Branch(Some(atom), if_true, if_false),
+        Decision::Asks(atom, false) => Step::Branch(Some(atom), if_false, if_true),
         Decision::Open(_) => Step::Branch(None, if_true, if_false),
     }
 }

@@ -2,7 +2,7 @@
 
 ghost use Rattle.std.specs.Prelude.{◌≡◌, ◌+◌, ◌*◌, ◌<◌, ◌^◌, ℕ};
 ghost use Rattle.scf_insn.specs.Kernel.{seccomp_data_args};
-ghost use Rattle.scf_facts.specs.Atoms.{IsOfWord, word_of};
+ghost use Rattle.scf_facts.specs.Atoms.{word_of};
 ghost use Rattle.scf_profile.specs.NumberTests.{test_of};
 ghost use Rattle.scf_compare.specs.Masked.{IsMaskedCondition};
 ghost use Rattle.scf_compare.specs.internal.Conditions.{CostsAt, IsAtTest, Splits, asks_of_zero, successor_at_zero, word_asked};
@@ -72,7 +72,6 @@ impl Question {
 #[tactic(auto, using(crate::proofs::MaskedSides::masked_test))]
 pub(crate) fn question_of(condition: Condition, part: ConditionPart) -> Question
     requires { condition.index < seccomp_data_args }
-    ensures of_word { IsOfWord result.atom }
     ensures within { word_of result.atom < 16 }
     ensures word { word_of result.atom ≡ word_asked part (2 * condition.index + 4) }
     ensures splits { let test = test_of condition in

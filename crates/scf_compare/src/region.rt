@@ -17,9 +17,8 @@ pub struct Region {
     pub example: Option<CallRecord>,
     /// What both sides answer them.
     pub leaf: PairLeaf,
-    /// Whether every record with such words comes to the leaf, and there is one; nothing is known of terms then, so
-    /// what is known of each word says it all. Otherwise a test on the path wasn't decided by words: such a record may
-    /// come to another leaf.
+    /// Whether every record with such words comes to the leaf, and there is one. Otherwise a test on the path wasn't
+    /// decided by words: such a record may come to another leaf.
     pub is_exact: bool,
 }
 
@@ -44,7 +43,7 @@ pub(crate) fn region_of<F: Snapshots>(
         None => None,
     };
     let words = facts.snapshot()?;
-    let is_exact = is_whole && example.is_some() && words.is_of_words();
+    let is_exact = is_whole && example.is_some();
     Ok(Some(Region {
         words,
         example,

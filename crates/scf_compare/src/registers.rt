@@ -128,7 +128,7 @@ impl KnownRegisters {
         ensures describes { (words : List ℕ) (s : State) → Describes self.old words s → Describes self.new words s }
         ensures accumulator { self.new.a ≡ self.old.a }
     {
-        if let Decision::Open(test) | Decision::AsksTerm(_, _, test) = decision {
+        if let Decision::Open(test) = decision {
             self.open = self.open.or(Some(test));
         }
     }

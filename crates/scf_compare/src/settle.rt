@@ -122,7 +122,7 @@ fn advance_again<C: Comparison, F: WordFacts>(
 {
     match settling.step(&frontier.facts, known, &node) {
         Step::Next(next) => Ok(Some(Stage::At(next))),
-        Step::Branch(Some(atom), if_true, if_false) if !atom.is_of_term() => {
+        Step::Branch(Some(atom), if_true, if_false) => {
             let next = ask(settling, frontier, known, Some(atom), if_true, if_false)?;
             Ok(Some(Stage::At(next)))
         }

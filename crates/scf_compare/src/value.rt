@@ -1,8 +1,6 @@
 //! Abstract values: what is known of a register or a scratch word on a path through a filter.
 
-ghost use Rattle.std.specs.Prelude.{◌≡◌, ◌==◌, ℕ, ◌%◌, ◌^◌, ◌<◌, List, Bool, false, true, not, IfSome, IsSome, bit_and};
-ghost use Rattle.std.specs.Prelude.{slice_index};
-ghost use Rattle.scf_facts.specs.Terms.{binary_value, first_word, term_value};
+ghost use Rattle.std.specs.Prelude.{◌≡◌, ℕ, ◌%◌, ◌^◌, ◌<◌, List, Bool, false, true, not, IfSome, IsSome};
 ghost use Rattle.scf_insn.specs.Words.{IsWords};
 ghost use Rattle.scf_machine.specs.Machine.{holds, value_computed};
 ghost use Rattle.scf_compare.specs.Masked.{IsMaskOf, IsMaskedTest};
@@ -16,7 +14,7 @@ use crate::bit_slice::BitSlice;
 use crate::computed::Computed;
 use crate::known_bits::{known_outcome, told_bits};
 use crate::sources::OpenTest;
-use scf_facts::{Atom, BinaryTerm, Tell, Term, WordFacts};
+use scf_facts::{Atom, WordFacts};
 use scf_insn::{Arithmetic, Test};
 use scf_machine::holds_of;
 
@@ -28,10 +26,6 @@ pub(crate) enum Value {
     Slice(BitSlice),
     /// An affine term of a bit slice.
     Affine(AffineTerm),
-    /// Bits of an affine term under a mask.
-    Bits(AffineTerm, u32),
-    /// The result of an operation on two whole words.
-    Binary(BinaryTerm),
     /// Anything else, by the bits that are known of it.
     Computed(Computed),
 }
@@ -42,8 +36,6 @@ pub(crate) enum Decision {
     Known(bool),
     /// It holds exactly if the atom has this answer.
     Asks(Atom, bool),
-    /// So it does, and the atom is about a term: an open test, unless its answer was learned.
-    AsksTerm(Atom, bool, OpenTest),
     /// Neither an atom nor the known bits decide it.
     Open(OpenTest),
 }
@@ -60,13 +52,6 @@ impl Value {
             Value::Known(value) => Computed::constant(value),
             Value::Slice(bit_slice) => bit_slice.in_bits(told_bits(facts, bit_slice.word)),
             Value::Affine(term) => term.in_bits(told_bits(facts, term.bit_slice.word)),
-            Value::Bits(term, mask) => {
-                term.in_bits_under(mask, told_bits(facts, term.bit_slice.word))
-            }
-            Value::Binary(term) => word_in_bits(facts, term.first).combined(
-                term.arithmetic,
-                word_in_bits(facts, term.second),
-            ),
             Value::Computed(computed) => computed,
         }
     }
@@ -94,8 +79,7 @@ impl Value {
         }
     }
 
-    /// The abstract result of `self op other` by the known bits of both: exact, if these make one of them a constant,
-    /// or as bits of an affine term or a binary term.
+    /// The abstract result of `self op other` by the known bits of both: exact, if these make one of them a constant.
     fn result_in_bits<F: WordFacts>(self, facts: &F, arithmetic: Arithmetic, other: Value) -> Value
         requires value { IsValue self }
         requires other { IsValue other }
@@ -109,19 +93,10 @@ impl Value {
         let exact = self
             .folded(first)
             .exact_result(arithmetic, other.folded(second));
-        if let Some(value) = exact {
-            return value;
+        match exact {
+            Some(value) => value,
+            None => first.combined(arithmetic, second).value(),
         }
-        let computed = first.combined(arithmetic, second).value();
-        if let Value::Computed(_) = computed {
-            if let Some(bits) = self.masked_result(arithmetic, other) {
-                return bits;
-            }
-            if let Some(term) = self.binary_result(arithmetic, other) {
-                return Value::Binary(term);
-            }
-        }
-        computed
     }
 
     /// The value, or the number that its bits are, if all of them are known.
@@ -154,38 +129,6 @@ impl Value {
         match self.bit_slice_result(arithmetic, other) {
             Some(value) => Some(value),
             None => Some(Value::Affine(self.affine_result(arithmetic, other)?)),
-        }
-    }
-
-    /// `self & other`, if one of them is an affine term or bits of one, and the other a constant.
-    #[tactic(auto, using(std::proofs::lemmas::Nat::and_comm))]
-    fn masked_result(self, arithmetic: Arithmetic, other: Value) -> Option<Value>
-        requires value { IsValue self }
-        requires other { IsValue other }
-        ensures value { IfSome result IsValue }
-        ensures stands { IfSome result (λ value. (words : List ℕ) (a v : ℕ) → Abstracts self words a
-            → Abstracts other words v
-            → Abstracts value words (value_computed arithmetic a v)) }
-    {
-        match (arithmetic, self, other) {
-            (Arithmetic::And, value, Value::Known(v)) => value.under_mask(v),
-            (Arithmetic::And, Value::Known(v), value) => value.under_mask(v),
-            _ => None,
-        }
-    }
-
-    /// `self & v`, as bits of an affine term.
-    #[tactic(auto, using(std::proofs::lemmas::Nat::and_assoc))]
-    fn under_mask(self, v: u32) -> Option<Value>
-        requires value { IsValue self }
-        ensures value { IfSome result IsValue }
-        ensures stands { IfSome result (λ value. (words : List ℕ) (a : ℕ) → Abstracts self words a
-            → Abstracts value words (bit_and a v)) }
-    {
-        match self {
-            Value::Affine(term) => Some(Value::Bits(term, v)),
-            Value::Bits(term, mask) => Some(Value::Bits(term, mask & v)),
-            Value::Known(_) | Value::Slice(_) | Value::Binary(_) | Value::Computed(_) => None,
         }
     }
 
@@ -240,7 +183,7 @@ impl Value {
         match self {
             Value::Slice(bit_slice) => Some(AffineTerm::of(bit_slice)),
             Value::Affine(term) => Some(term),
-            Value::Known(_) | Value::Bits(..) | Value::Binary(_) | Value::Computed(_) => None,
+            Value::Known(_) | Value::Computed(_) => None,
         }
     }
 
@@ -259,23 +202,6 @@ impl Value {
             _ => self
                 .affine_term()?
                 .combined(arithmetic, other.affine_term()?),
-        }
-    }
-
-    /// `self op other` as a binary term, if both are whole words.
-    #[tactic(auto, using(crate::proofs::BitSlices::of_whole))]
-    fn binary_result(self, arithmetic: Arithmetic, other: Value) -> Option<BinaryTerm>
-        requires value { IsValue self }
-        requires other { IsValue other }
-        ensures term { IfSome result (λ term. IsValue (Value.Binary term)) }
-        ensures number { IfSome result (λ term. (words : List ℕ) (a v : ℕ) → Abstracts self words a
-            → Abstracts other words v
-            → value_computed arithmetic a v ≡ binary_value term words) }
-    {
-        match (self, other) {
-            (Value::Slice(first), Value::Slice(second)) if first.is_whole() && second.is_whole() =>
-                { Some(BinaryTerm::of(arithmetic, first.word, second.word)) }
-            _ => None,
         }
     }
 
@@ -306,43 +232,7 @@ impl Value {
     {
         match self.decide_by_atoms(test, other) {
             Decision::Open(_) => self.decide_by_bits(facts, test, other),
-            Decision::AsksTerm(atom, holds, _) => {
-                self.decide_by_term(facts, test, other, atom, holds)
-            }
             decision => decision,
-        }
-    }
-
-    /// The decision where the test holds exactly if an atom about a term has this answer: by what the store remembers
-    /// of the term, so both sides are told the same, then by the known bits of both.
-    #[cold]
-    #[inline(never)]
-    fn decide_by_term<F: WordFacts>(
-        self,
-        facts: &F,
-        test: Test,
-        other: Value,
-        atom: Atom,
-        answer: bool,
-    ) -> Decision
-        requires value { IsValue self }
-        requires other { IsValue other }
-        requires asks { IsTestDecision (Decision.Asks atom answer) }
-        ensures asks { IsTestDecision result }
-        ensures decides { (words : List ℕ) (a v : ℕ) → IsWords words
-            → F.allows facts.now (F.level facts.now) words
-            → Abstracts self words a
-            → Abstracts other words v
-            → Decides (Decision.Asks atom answer) words (holds test a v)
-            → Decides result words (holds test a v) }
-    {
-        match facts.tell(atom) {
-            Tell::Always => Decision::Known(answer),
-            Tell::Never => Decision::Known(!answer),
-            Tell::Maybe => match self.decide_by_bits(facts, test, other) {
-                Decision::Open(open_test) => Decision::AsksTerm(atom, answer, open_test),
-                decision => decision,
-            },
         }
     }
 
@@ -367,9 +257,7 @@ impl Value {
                 .folded(first)
                 .decide_by_atoms(test, other.folded(second))
             {
-                Decision::Open(_) | Decision::AsksTerm(..) => {
-                    Decision::Open(open_test(test, first, second))
-                }
+                Decision::Open(_) => Decision::Open(open_test(test, first, second)),
                 decision => decision,
             },
         }
@@ -396,39 +284,7 @@ impl Value {
                 Test::Greater => other.decide_against(Test::GreaterOrEqual, a).negated(),
                 Test::GreaterOrEqual => other.decide_against(Test::Greater, a).negated(),
             },
-            _ => self.decide_words(test, other),
-        }
-    }
-
-    /// The decision of a test of two whole words for equality or a common bit: whether their XOR or AND is 0.
-    fn decide_words(self, test: Test, other: Value) -> Decision
-        requires value { IsValue self }
-        requires other { IsValue other }
-        ensures asks { IsTestDecision result }
-        ensures decides { (words : List ℕ) (a v : ℕ) → IsWords words
-            → Abstracts self words a
-            → Abstracts other words v
-            → Decides result words (holds test a v) }
-    {
-        match test {
-            Test::Equal => self.decide_zero(Arithmetic::Xor, other),
-            Test::CommonBit => self.decide_zero(Arithmetic::And, other).negated(),
-            Test::Greater | Test::GreaterOrEqual => Decision::Open(OpenTest::NONE),
-        }
-    }
-
-    /// The decision of the test `self op other == 0` of two whole words.
-    fn decide_zero(self, arithmetic: Arithmetic, other: Value) -> Decision
-        requires value { IsValue self }
-        requires other { IsValue other }
-        ensures asks { IsTestDecision result }
-        ensures decides { (words : List ℕ) (a v : ℕ) → Abstracts self words a
-            → Abstracts other words v
-            → Decides result words (value_computed arithmetic a v == 0) }
-    {
-        match self.binary_result(arithmetic, other) {
-            Some(term) => Decision::about(Term::Binary(term), Test::Equal, 0),
-            None => Decision::Open(OpenTest::NONE),
+            _ => Decision::Open(OpenTest::NONE),
         }
     }
 
@@ -445,45 +301,16 @@ impl Value {
         match self {
             Value::Known(a) => Decision::Known(holds_of(test, a, v)),
             Value::Slice(bit_slice) => match decide_bit_slice(bit_slice, test, v) {
-                Decision::Open(_) => AffineTerm::of(bit_slice).decide_or_ask(test, v),
+                Decision::Open(_) => AffineTerm::of(bit_slice).decide(test, v),
                 decision => decision,
             },
-            Value::Affine(term) => term.decide_or_ask(test, v),
-            Value::Bits(term, mask) => term.decide_bits(mask, test, v),
-            Value::Binary(term) => Decision::about(Term::Binary(term), test, v),
+            Value::Affine(term) => term.decide(test, v),
             Value::Computed(_) => Decision::Open(OpenTest::NONE),
         }
     }
 }
 
 impl Decision {
-    /// The test of a term against `v`, as an atom about the term.
-    #[tactic(auto, using(crate::proofs::Bits::value_fits))]
-    pub(crate) fn about(term: Term, test: Test, v: u32) -> Decision
-        requires { first_word term < 16 }
-        ensures asks { IsTestDecision result }
-        ensures decides { (words : List ℕ) → Decides result words (holds test (term_value term words) v) }
-    {
-        let (low, high, holds) = match test {
-            Test::Equal => (v, v, true),
-            Test::Greater => (0, v, false),
-            Test::GreaterOrEqual => (v, u32::MAX, true),
-            Test::CommonBit => return Decision::has_bits(term, v, 0).negated(),
-        };
-        Decision::AsksTerm(Atom::TermIn { term, low, high }, holds, OpenTest::NONE)
-    }
-
-    /// The test `term & mask == value`, as an atom about the term.
-    pub(crate) fn has_bits(term: Term, mask: u32, value: u32) -> Decision
-        requires { first_word term < 16 }
-        ensures asks { IsTestDecision result }
-        ensures decides { (words : List ℕ)
-            → Decides result words (bit_and (term_value term words) mask == value) }
-    {
-        let atom = Atom::TermEq { term, mask, value };
-        Decision::AsksTerm(atom, true, OpenTest::NONE)
-    }
-
     /// The decision of the negated test.
     pub(crate) fn negated(self) -> Decision
         requires { IsTestDecision self }
@@ -495,20 +322,9 @@ impl Decision {
         match self {
             Decision::Known(outcome) => Decision::Known(!outcome),
             Decision::Asks(atom, holds) => Decision::Asks(atom, !holds),
-            Decision::AsksTerm(atom, holds, test) => Decision::AsksTerm(atom, !holds, test),
             Decision::Open(test) => Decision::Open(test),
         }
     }
-}
-
-/// The known bits of a whole word, and the word itself as what it depends on.
-#[tactic(auto, using(crate::proofs::BitSlices::of_whole))]
-fn word_in_bits<F: WordFacts>(facts: &F, word: u8) -> Computed
-    requires { word < 16 }
-    ensures { (words : List ℕ) → F.allows facts.now (F.level facts.now) words
-        → IsComputedNumber result (slice_index words word % 2 ^ 32) }
-{
-    BitSlice::of_word(word).in_bits(told_bits(facts, word))
 }
 
 /// A test of two values that their known bits don't decide.

@@ -17,19 +17,17 @@ pub use Rattle.std.specs.Int.Count.{count_leading_zeros, count_trailing_zeros, l
 pub use Rattle.std.specs.List.{AllWithin}
 pub use Rattle.scf_insn.proofs.Common.{AllByRecursion, IsPowerOfTwo, IsWords, cases_eq, cases_lt, common_steps, div-lt_iff_lt-mul, eq-eqb, eqb-false, eqb-true, length-set, list_all, nat_tests, pow_pos, take-append-drop, take_all, w32}
 pub use Rattle.scf_insn.proofs.Masks.{one_bit_of_power, power_from_one_bit}
-pub use Rattle.scf_facts.specs.Atoms.{IsOfWord, answer_at, atom_answer, word_of}
+pub use Rattle.scf_facts.specs.Atoms.{answer_at, atom_answer, word_of}
 pub use Rattle.scf_facts.specs.Bits.{HasBits, LacksBits}
 pub use Rattle.scf_facts.specs.HighMask.{IsHighMask}
 pub use Rattle.scf_facts.specs.Intervals.{LiesIn, LiesInOne}
 pub use Rattle.scf_facts.specs.Levels.{IsSameLevel}
-pub use Rattle.scf_facts.specs.Terms.{term_value}
-pub use Rattle.scf_facts.specs.WordSets.{AllowsEach, AllowsNumber, AllowsTerm, AllowsWords, NumberFacts, RecordFacts, TermFacts}
+pub use Rattle.scf_facts.specs.WordSets.{AllowsNumber, AllowsWords, NumberFacts}
 pub use Rattle.scf_facts.specs.declared.atom.Atom.{Atom}
 pub use Rattle.scf_facts.specs.declared.bits.Bits.{Bits}
 pub use Rattle.scf_facts.specs.declared.interval.Interval.{Interval}
 pub use Rattle.scf_facts.specs.declared.learned.Learned.{Learned}
-pub use Rattle.scf_facts.specs.declared.term.Term.{Term}
 pub use Rattle.scf_facts.specs.internal.Bits.{SomeLack}
 pub use Rattle.scf_facts.specs.internal.Intervals.{AreApart, AreApartFrom, ArePartsOf}
 pub use Rattle.scf_facts.specs.internal.Learned.{AllowsByLearned, Holds}
-pub use Rattle.scf_facts.specs.internal.WordSets.{EachNumber, SomeNumber, are_exact_facts, is_exact_set, no_facts}
+pub use Rattle.scf_facts.specs.internal.WordSets.{EachNumber, SomeNumber, are_exact_sets, is_exact_set, no_facts}

@@ -9,4 +9,3 @@ pub mod LowestBit
 pub mod MaskLaws
 pub mod Ones
 pub mod StoreLaws
-pub mod TermLaws

@@ -1,14 +1,13 @@
 -- What facts of each word say of lists of words.
 use Rattle.scf_insn.proofs.CallWords.{word_below}
-use Rattle.scf_facts.proofs.Common.{◌-◌, recursion_from_All, All-from_recursion, common_steps, ◌≡◌, ◌≢◌, ℕ, suc, ◌<◌, ◌^◌, ◌↔◌, List, [], ◌∷◌, refl, sym, ap, subst, ◌∙◌, arith, length, get_or, All, Bool, IsTrue, slice_index, slice_set, replicate, list_all, AllByRecursion, and_zero_r, cases_eq, get_or-set_same, get_or_read, get_or-replicate, length-set, length-replicate, All-set, AllPass-from_list_all, list_all-from_AllPass, IsOfWord, IsWords, Atom, answer_at, atom_answer, word_of, NumberFacts, AllowsNumber, EachNumber, SomeNumber, AllowsEach, AllowsTerm, AllowsWords, RecordFacts, TermFacts, are_exact_facts, no_facts, is_exact_set}
-use Rattle.scf_facts.proofs.TermLaws.{own_number}
-use Rattle.scf_facts.specs.Masks.{EachRefutesAmong, RefutesAmong}
+use Rattle.scf_facts.proofs.Common.{◌-◌, recursion_from_All, All-from_recursion, common_steps, ◌≡◌, ◌≢◌, ℕ, suc, ◌<◌, ◌^◌, ◌↔◌, List, [], ◌∷◌, refl, sym, ap, subst, ◌∙◌, arith, length, get_or, All, Bool, IsTrue, slice_index, slice_set, replicate, list_all, AllByRecursion, and_zero_r, cases_eq, get_or-set_same, get_or_read, get_or-replicate, length-set, length-replicate, All-set, AllPass-from_list_all, list_all-from_AllPass, IsWords, Atom, answer_at, atom_answer, word_of, NumberFacts, AllowsNumber, EachNumber, SomeNumber, AllowsWords, no_facts, is_exact_set}
+use Rattle.scf_facts.specs.Masks.{RefuteAmong, RefutesAmong}
 
 pub all_numbers : (x : ℕ) → x < 2 ^ 32 → AllowsNumber no_facts x
 all_numbers x fits = grind (arith, and_zero_r x)
 
 -- where nothing is known, every list of words is allowed
-pub allows_all : (n : ℕ) (words : List ℕ) → AllowsEach (replicate n no_facts) words ↔ IsWords words
+pub allows_all : (n : ℕ) (words : List ℕ) → AllowsWords (replicate n no_facts) words ↔ IsWords words
 allows_all n words = (
   λ h. h.sixteen,
   λ h. record {
@@ -23,7 +22,7 @@ module _ (sets : List NumberFacts) (index : ℕ) (old : NumberFacts)
   -- other facts of one word
   pub allows_set : (new : NumberFacts) (P : ℕ → Type 0)
       → ((x : ℕ) → x < 2 ^ 32 → AllowsNumber new x ↔ (AllowsNumber old x × P x)) → (words : List ℕ)
-      → AllowsEach (slice_set sets index new) words ↔ (AllowsEach sets words × P (slice_index words index))
+      → AllowsWords (slice_set sets index new) words ↔ (AllowsWords sets words × P (slice_index words index))
   allows_set new P same words = (
     λ h. let this = rw (get_or-set_same sets index new old lt) at
         (h.each index old (omega (arith, lt, length-set sets index new))) in
@@ -47,8 +46,8 @@ module _ (sets : List NumberFacts) (index : ℕ) (old : NumberFacts)
   exact_word all =
       subst (λ s. IsTrue (is_exact_set s)) (sym read) (AllPass-from_list_all is_exact_set sets all index old lt)
 
-  pub among_word : (masks : ℕ) → EachRefutesAmong masks sets → RefutesAmong masks old
-  unfolding EachRefutesAmong
+  pub among_word : (masks : ℕ) → RefuteAmong masks sets → RefutesAmong masks old
+  unfolding RefuteAmong
   among_word masks all = subst (RefutesAmong masks) (sym read) (all index old lt)
 
   pub exact_set : (new : NumberFacts) → (IsTrue (is_exact_set old) → IsTrue (is_exact_set new))
@@ -58,14 +57,14 @@ module _ (sets : List NumberFacts) (index : ℕ) (old : NumberFacts)
       (AllPass-from_list_all is_exact_set sets all))
 
   pub among_set : (masks : ℕ) (new : NumberFacts) → (RefutesAmong masks old → RefutesAmong masks new)
-      → EachRefutesAmong masks sets → EachRefutesAmong masks (slice_set sets index new)
-  unfolding EachRefutesAmong
+      → RefuteAmong masks sets → RefuteAmong masks (slice_set sets index new)
+  unfolding RefuteAmong
   among_set masks new keeps all =
       All-set (RefutesAmong masks) sets index new (keeps (among_word masks all)) all
 
   -- what each number of the word has, its number has in each list
   pub each_word : (P : ℕ → Type 0) → EachNumber old P → (words : List ℕ)
-      → AllowsEach sets words → P (slice_index words index)
+      → AllowsWords sets words → P (slice_index words index)
   each_word P each words h =
       grind (arith, word_below words h.sixteen index, each (slice_index words index), h.each index old lt)
 
@@ -77,7 +76,7 @@ module _ (sets : List NumberFacts) (index : ℕ) (old : NumberFacts)
       grind (arith, common_steps, cases_eq k index, others k d l, get_or_read sets index old lt read d)
 
   pub allows_other : (some : List ℕ) (x : ℕ) → index < 16
-      → AllowsEach sets some → x < 2 ^ 32 → AllowsNumber old x → AllowsEach sets (slice_set some index x)
+      → AllowsWords sets some → x < 2 ^ 32 → AllowsNumber old x → AllowsWords sets (slice_set some index x)
   allows_other some x below h fits allowed = record {
     sixteen = record {
       count = length-set some index x ∙ h.sixteen.count;
@@ -88,13 +87,13 @@ module _ (sets : List NumberFacts) (index : ℕ) (old : NumberFacts)
   }
 
   -- so an answer of some number of the word is that of some list
-  pub other_answer : (atom : Atom) (answer : Bool) → IsOfWord atom → index ≡ word_of atom → index < 16 → (some : List ℕ)
-      → AllowsEach sets some → SomeNumber old (λ x. answer_at atom x ≡ answer)
-      → (words : List ℕ) × AllowsEach sets words × (atom_answer atom words ≡ answer)
-  other_answer atom answer own asked below some h (x, fits, allowed, e) = (
+  pub other_answer : (atom : Atom) (answer : Bool) → index ≡ word_of atom → index < 16 → (some : List ℕ)
+      → AllowsWords sets some → SomeNumber old (λ x. answer_at atom x ≡ answer)
+      → (words : List ℕ) × AllowsWords sets words × (atom_answer atom words ≡ answer)
+  other_answer atom answer asked below some h (x, fits, allowed, e) = (
     slice_set some index x,
     allows_other some x below h fits allowed,
-    rw (own_number atom own _, ← asked, get_or-set_same some index x 0 (omega (arith, h.sixteen.count))) e,
+    rw (← asked, get_or-set_same some index x 0 (omega (arith, h.sixteen.count))) e,
   )
 
 -- ---- some list
@@ -114,14 +113,14 @@ some_words (s ∷ sets) some =
     )
 
 -- where nothing is known, nothing is refuted
-pub nothing_refuted : (n masks : ℕ) → EachRefutesAmong masks (replicate n no_facts)
-unfolding EachRefutesAmong
+pub nothing_refuted : (n masks : ℕ) → RefuteAmong masks (replicate n no_facts)
+unfolding RefuteAmong
 nothing_refuted n masks = λ k d lt. rw (get_or-replicate n k no_facts d (omega (arith, lt, length-replicate n no_facts)))
     (λ j e none. absurd (omega arith))
 
 -- what each word does, one does
-pub refutes_at : (sets : List NumberFacts) (masks : ℕ) → EachRefutesAmong masks sets → All (RefutesAmong masks) sets
-unfolding EachRefutesAmong
+pub refutes_at : (sets : List NumberFacts) (masks : ℕ) → RefuteAmong masks sets → All (RefutesAmong masks) sets
+unfolding RefuteAmong
 refutes_at sets masks each = each
 
 pub ruleset set_laws = (allows_set, exact_set, among_set)
@@ -131,44 +130,7 @@ pub ruleset word_laws = (number_set, each_word, exact_word, among_word)
 -- so where none is, some word allows no number
 pub some_allowed : (sets : List NumberFacts) → length sets ≡ 16
     → All (λ s. (x : ℕ) × (x < 2 ^ 32) × AllowsNumber s x) sets
-    → ((words : List ℕ) → AllowsEach sets words → ⊥) → ⊥
+    → ((words : List ℕ) → AllowsWords sets words → ⊥) → ⊥
 some_allowed sets sixteen some none =
     let r = some_words sets some in
     none r.0 (record { sixteen = record { count = r.1 ∙ sixteen; each = r.2 }; each = r.3 })
-
--- ---- words and terms
-
-none_listed : (terms : List TermFacts) → length terms ≡ 0 → terms ≡ []
-none_listed [] none = refl
-none_listed (known ∷ terms) none = absurd (omega arith)
-
--- exact facts are so of words, and know of no term
-pub exact_parts : (facts : RecordFacts) → IsTrue (are_exact_facts facts)
-    → IsTrue (list_all is_exact_set facts.sets) × (facts.terms ≡ [])
-exact_parts facts exact = grind (arith, common_steps, none_listed facts.terms)
-
--- where nothing is known of terms, what the words' facts allow is allowed
-pub allows_beside : (facts : RecordFacts) (words : List ℕ) → facts.terms ≡ [] → AllowsEach facts.sets words
-    → AllowsWords facts words
-allows_beside facts words none each = record {
-  each = each;
-  terms = rw none (λ k d lt. absurd (omega arith));
-}
-
--- so a list of words that the words' facts allow is one that is allowed
-pub both_beside : (facts : RecordFacts) (sets : List NumberFacts) (P : List ℕ → Type 0) → sets ≡ facts.sets
-    → facts.terms ≡ [] → (words : List ℕ) × AllowsEach sets words × P words
-    → (words : List ℕ) × AllowsWords facts words × P words
-both_beside facts sets P same none (words, each, is) =
-    (words, allows_beside facts words none (subst (λ s. AllowsEach s words) same each), is)
-
--- where an answer about terms alone is learned
-pub learned_term : (old new : RecordFacts) (words : List ℕ) (Q : Type 0) → new.sets ≡ old.sets
-    → All (AllowsTerm words) new.terms ↔ (All (AllowsTerm words) old.terms × Q)
-    → AllowsWords new words ↔ (AllowsWords old words × Q)
-learned_term old new words Q same terms = (
-  λ allowed.
-      let both = terms.0 allowed.terms in
-      (record { each = rw (← same) allowed.each; terms = both.0 }, both.1),
-  λ both. record { each = rw same both.0.each; terms = terms.1 (both.0.terms, both.1) },
-)

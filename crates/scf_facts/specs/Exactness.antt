@@ -2,7 +2,7 @@
 use Rattle.std.specs.Prelude.{Bool, IsTrue, ◌⊎◌}
 use Rattle.scf_insn.specs.SimpleMask.{IsSimpleMask}
 use Rattle.scf_facts.specs.declared.atom.Atom.{Atom}
-use Rattle.scf_facts.specs.declared.atom.Atom.TheVariants.{Eq, Gt, Ge, In, TermEq, TermIn}
+use Rattle.scf_facts.specs.declared.atom.Atom.TheVariants.{Eq, Gt, Ge, In}
 
 -- to learn this answer of the atom keeps facts exact: an `Eq` that fails does so under a simple mask alone
 abbrev pub KeepsExact : Atom → Bool → Type 0
@@ -10,5 +10,3 @@ KeepsExact (Eq word mask value) holds = IsTrue holds ⊎ IsSimpleMask mask
 KeepsExact (Gt word value) holds = Unit {0}
 KeepsExact (Ge word value) holds = Unit {0}
 KeepsExact (In word low high) holds = Unit {0}
-KeepsExact (TermEq term mask value) holds = ⊥
-KeepsExact (TermIn term low high) holds = ⊥

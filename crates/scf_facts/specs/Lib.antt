@@ -5,6 +5,5 @@ pub mod HighMask
 pub mod Intervals
 pub mod Levels
 pub mod Masks
-pub mod Terms
 pub mod WordSets
 pub mod internal

@@ -1,9 +1,9 @@
 -- Facts that refute values under few bits.
-use Rattle.std.specs.Prelude.{◌≡◌, ◌≤◌, ◌⊎◌, [], ℕ, List, All, Bool, IsTrue, bit_and, count_ones}
+use Rattle.std.specs.Prelude.{◌≡◌, ◌≤◌, ◌⊎◌, ℕ, List, All, Bool, IsTrue, bit_and, count_ones}
 use Rattle.scf_insn.specs.SimpleMask.{IsSimpleMask}
 use Rattle.scf_facts.specs.declared.atom.Atom.{Atom}
-use Rattle.scf_facts.specs.declared.atom.Atom.TheVariants.{Eq, Gt, Ge, In, TermEq, TermIn}
-use Rattle.scf_facts.specs.WordSets.{NumberFacts, RecordFacts}
+use Rattle.scf_facts.specs.declared.atom.Atom.TheVariants.{Eq, Gt, Ge, In}
+use Rattle.scf_facts.specs.WordSets.{NumberFacts}
 
 -- the bits of one mask are among those of another
 abbrev pub IsAmong : ℕ → ℕ → Type 0
@@ -18,12 +18,8 @@ abbrev pub RefutesAmong : ℕ → NumberFacts → Type 0
 RefutesAmong masks facts = All (λ bits. IsAmong bits.mask masks) facts.refuted
 
 -- so does each word
-unfoldable pub EachRefutesAmong : ℕ → List NumberFacts → Type 0
-EachRefutesAmong masks sets = All (RefutesAmong masks) sets
-
--- each word does so, and nothing is known of terms
-abbrev pub RefuteAmong : ℕ → RecordFacts → Type 0
-RefuteAmong masks facts = EachRefutesAmong masks facts.sets × (facts.terms ≡ [])
+unfoldable pub RefuteAmong : ℕ → List NumberFacts → Type 0
+RefuteAmong masks sets = All (RefutesAmong masks) sets
 
 -- to learn this answer of the atom refutes nothing, or refutes under bits of a mask
 abbrev pub KeepsAmong : ℕ → Atom → Bool → Type 0
@@ -31,5 +27,3 @@ KeepsAmong masks (Eq word mask value) holds = IsTrue holds ⊎ IsSimpleMask mask
 KeepsAmong masks (Gt word value) holds = Unit {0}
 KeepsAmong masks (Ge word value) holds = Unit {0}
 KeepsAmong masks (In word low high) holds = Unit {0}
-KeepsAmong masks (TermEq term mask value) holds = ⊥
-KeepsAmong masks (TermIn term low high) holds = ⊥

@@ -111,10 +111,6 @@ impl WordFacts for AtomList {
         }
         all_agree(&self.learned, &words).then_some(words)
     }
-
-    fn guess(&self) -> Option<[u32; 16]> {
-        None
-    }
 }
 
 /// Whether the words give each learned answer.

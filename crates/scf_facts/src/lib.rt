@@ -1,4 +1,4 @@
-//! What is known of the sixteen words of a call record, and of terms of them.
+//! What is known of the sixteen words of a call record.
 #![tactic(auto)]
 
 mod atom;
@@ -14,8 +14,6 @@ mod least;
 mod query;
 mod shared_set;
 mod snapshot;
-mod term;
-mod term_set;
 mod word_facts;
 mod word_set;
 mod word_sets;
@@ -27,7 +25,6 @@ pub use high_mask::is_high_mask;
 pub use interval::Interval;
 pub use laws::word_sets_start_exact;
 pub use snapshot::{Snapshot, Snapshots};
-pub use term::{BinaryTerm, Term, WordTerm, inverse_of};
 pub use word_facts::WordFacts;
 pub use word_set::WordSet;
 pub use word_sets::WordSets;

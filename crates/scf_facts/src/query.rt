@@ -1,4 +1,4 @@
-//! An atom's question about a number, as an interval or as bits.
+//! An atom's question about its word, as an interval or as bits.
 
 ghost use Rattle.std.specs.Prelude.{◌≡◌, ℕ};
 ghost use Rattle.scf_facts.specs.internal.Query.{Asks, AsksAmong, AsksSimply};
@@ -8,7 +8,7 @@ use crate::bits::Bits;
 use crate::high_mask::is_high_mask;
 use crate::interval::Interval;
 
-/// An atom's question about the number that it asks of.
+/// An atom's question about its word.
 #[derive(Clone, Copy)]
 pub(crate) enum Query {
     /// Is the value in `range`? It is exactly if the atom has the answer `answer`.
@@ -29,14 +29,14 @@ impl Query {
         match atom {
             Atom::Gt { value, .. } => Query::within(0, value, false),
             Atom::Ge { value, .. } => Query::within(value, u32::MAX, true),
-            Atom::In { low, high, .. } | Atom::TermIn { low, high, .. } => {
+            Atom::In { low, high, .. } => {
                 if low > high {
                     Query::within(0, u32::MAX, false)
                 } else {
                     Query::within(low, high, true)
                 }
             }
-            Atom::Eq { mask, value, .. } | Atom::TermEq { mask, value, .. } => {
+            Atom::Eq { mask, value, .. } => {
                 if value & mask != value {
                     Query::within(0, u32::MAX, false)
                 } else if mask == u32::MAX {

@@ -3,7 +3,7 @@
 ghost use Rattle.std.specs.Prelude.{◌≡◌, ◌+◌, ◌<◌, ◌≤◌, ◌↔◌, ℕ, List, Bool, IsTrue, true, false};
 ghost use Rattle.std.specs.Prelude.{IsSome, IfSome, IfOk, OnOk, OnErr, bit_and, slice_index};
 ghost use Rattle.scf_insn.specs.Words.{IsWords};
-ghost use Rattle.scf_facts.specs.Atoms.{IsOfWord, atom_answer, word_of};
+ghost use Rattle.scf_facts.specs.Atoms.{atom_answer, word_of};
 ghost use Rattle.scf_facts.specs.Bits.{HasBits};
 ghost use Rattle.scf_facts.specs.Exactness.{KeepsExact};
 ghost use Rattle.scf_facts.specs.Levels.{IsSameLevel};
@@ -20,7 +20,7 @@ use std::alloc::Global;
 /// count of open marks is the level of what is known now.
 ///
 /// A store may be exact (complete) at a level. Then `is_empty` is true whenever no list is allowed, `pick` finds a list
-/// whenever one is, and `tell` knows every answer about a word on which all allowed lists agree. The first two are so
+/// whenever one is, and `tell` knows every answer on which all allowed lists agree. The first two are so
 /// too while it refutes under few bits alone.
 pub trait WordFacts: Sized + Drop {
     /// The count of open marks: the level of what is known now.
@@ -90,11 +90,11 @@ pub trait WordFacts: Sized + Drop {
         ensures law_never { result ≡ Tell.Never
             → (words : List ℕ) → allows self.now (level self.now) words
             → atom_answer atom words ≡ false }
-        ensures told_always { IsOfWord atom → IsTrue (is_exact self.now (level self.now))
+        ensures told_always { IsTrue (is_exact self.now (level self.now))
             → (some : List ℕ) → allows self.now (level self.now) some
             → ((words : List ℕ) → allows self.now (level self.now) words → atom_answer atom words ≡ true)
             → result ≡ Tell.Always }
-        ensures told_never { IsOfWord atom → IsTrue (is_exact self.now (level self.now))
+        ensures told_never { IsTrue (is_exact self.now (level self.now))
             → (some : List ℕ) → allows self.now (level self.now) some
             → ((words : List ℕ) → allows self.now (level self.now) words → atom_answer atom words ≡ false)
             → result ≡ Tell.Never };
@@ -125,7 +125,4 @@ pub trait WordFacts: Sized + Drop {
             → (words : List ℕ) → allows self.now (level self.now) words → IsSome result }
         ensures found_among { (masks : ℕ) → AreFew masks → refutes_among self.now (level self.now) masks
             → (words : List ℕ) → allows self.now (level self.now) words → IsSome result };
-
-    /// A list of words to try where `pick` finds none: no law says that it is allowed.
-    fn guess(&self) -> Option<[u32; 16]>;
 }

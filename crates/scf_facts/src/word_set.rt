@@ -199,18 +199,6 @@ impl WordSet {
         }
     }
 
-    /// The bits under a mask, if they are all known.
-    #[tactic(auto, using(crate::proofs::TermLaws::under_known))]
-    pub(crate) fn value_under(&self, mask: u32) -> Option<u32>
-        ensures { IfSome result (λ value. EachNumber self.now (λ x. bit_and x mask ≡ value)) }
-    {
-        let known = self.known_bits();
-        if known.mask & mask != mask {
-            return None;
-        }
-        Some(known.value & mask)
-    }
-
     /// The bits of all refuted masks.
     #[tactic(auto, using(crate::proofs::MaskLaws::join_among))]
     pub(crate) fn refuted_bits(&self) -> u32

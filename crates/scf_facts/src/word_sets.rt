@@ -1,9 +1,9 @@
-//! A store that keeps a set of values for each word, and for terms of words.
+//! A store that keeps a set of values for each word.
 
 ghost use Rattle.std.specs.Prelude.{◌≡◌, ◌<◌, ℕ, List, length, slice_index_or, true, false};
 ghost use Rattle.scf_facts.specs.Masks.{RefuteAmong};
 ghost use Rattle.scf_facts.specs.WordSets.{AllowsWords};
-ghost use Rattle.scf_facts.specs.internal.WordSets.{are_exact_facts};
+ghost use Rattle.scf_facts.specs.internal.WordSets.{are_exact_sets};
 
 use crate::atom::{Atom, Tell};
 use crate::bits::Bits;
@@ -12,15 +12,14 @@ use crate::word_facts::WordFacts;
 use scf_insn::Memory;
 use std::alloc::Global;
 
-/// For each word its possible values, as sorted intervals, known bits and refuted bits under masks; and so for each
-/// term of which something was learned.
+/// For each word its possible values, as sorted intervals, known bits and refuted bits under masks.
 ///
-/// Everything learned becomes intervals or known bits, except an `Eq` that is false under a mask of several bits, and
-/// what is learned of terms. Without such an answer the store is exact. With one, `tell` still knows what was itself
+/// Everything learned becomes intervals or known bits, except an `Eq` that is false under a mask of several bits.
+/// Without such an answer the store is exact. With one, `tell` still knows what was itself
 /// learned, and an `Eq` under known bits. `known_bits` gives a word's known bits and those that the ends of its
 /// intervals have in common. `pick` tries the least value, the ends of the intervals, the known value and that value
 /// with one further bit; if all are refuted, it searches bit by bit until a value is found, there is none, or the tries
-/// run out. Where a term's value isn't allowed then, it tries words for some of the values that are.
+/// run out.
 ///
 /// A mark saves what is known. Levels share a set that they know alike.
 #[derive(Drop)]
@@ -35,7 +34,7 @@ impl WordFacts for WordSets {
 
     ghost allows = { λ facts level. AllowsWords (slice_index_or facts.saved.items level facts.known) };
 
-    ghost is_exact = { λ facts level. are_exact_facts (slice_index_or facts.saved.items level facts.known) };
+    ghost is_exact = { λ facts level. are_exact_sets (slice_index_or facts.saved.items level facts.known) };
 
     ghost refutes_among = { λ facts level masks.
         RefuteAmong masks (slice_index_or facts.saved.items level facts.known) };
@@ -93,10 +92,6 @@ impl WordFacts for WordSets {
     #[tactic(auto, using(crate::proofs::Levels::now))]
     fn pick(&self) -> Option<[u32; 16]> {
         self.known.pick()
-    }
-
-    fn guess(&self) -> Option<[u32; 16]> {
-        self.known.guess()
     }
 }
 

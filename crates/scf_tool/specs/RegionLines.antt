@@ -98,7 +98,7 @@ leaf_text true leaf = side_text leaf.left ++ (codes " beside " ++ side_text leaf
 
 abbrev pub region_line : Bool → Region → List ℕ
 region_line has_both region =
-    (leaf_text has_both region.leaf ++ exactness_text region.is_exact) ++ (words_text region.words.sets ++ codes "\n")
+    (leaf_text has_both region.leaf ++ exactness_text region.is_exact) ++ (words_text region.words ++ codes "\n")
 
 -- the line of a record in a region, if examples are asked for and one is known
 abbrev pub example_text : Bool → Region → List ℕ

@@ -169,7 +169,7 @@ fn add_word_set(text: &mut Buffer, index: u8, word: &WordSet) -> Result<(), Memo
 /// Adds the word of a record with this index, if something is known of it.
 fn add_word_at(text: &mut Buffer, words: &Snapshot, index: u8) -> Result<(), Memory>
     requires { index < 16 }
-    ensures { Adds text.old (option_map_or (word_text index) (slice_get words.now.sets index) []) result text.new }
+    ensures { Adds text.old (option_map_or (word_text index) (slice_get words.now index) []) result text.new }
 {
     add_word_set(text, index, words.word(index))
 }
@@ -178,7 +178,7 @@ fn add_word_at(text: &mut Buffer, words: &Snapshot, index: u8) -> Result<(), Mem
 fn add_words_at(text: &mut Buffer, words: &Snapshot, indices: &[u8]) -> Result<(), Memory>
     requires { AllByRecursion (λ index. index < 16) indices.now }
     ensures { Adds text.old
-        (flat_map (λ index. option_map_or (word_text index) (slice_get words.now.sets index) []) indices.now)
+        (flat_map (λ index. option_map_or (word_text index) (slice_get words.now index) []) indices.now)
         result text.new }
 {
     let Some((index, later)) = indices.split_first() else {
@@ -190,7 +190,7 @@ fn add_words_at(text: &mut Buffer, words: &Snapshot, indices: &[u8]) -> Result<(
 
 /// Adds what is known of a record's words.
 fn add_words(text: &mut Buffer, words: &Snapshot) -> Result<(), Memory>
-    ensures { Adds text.old (words_text words.now.sets) result text.new }
+    ensures { Adds text.old (words_text words.now) result text.new }
 {
     add_words_at(text, words, &WORD_INDICES)
 }

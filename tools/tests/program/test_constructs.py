@@ -5,8 +5,7 @@ import unittest
 from support import constructs
 from support.common import ALLOW, CORE, EPERM, Case, insn, load, part, ret
 from support.constructs import (
-    ADD, AND, DIV, JEQ, JGE, JGT, JSET, LD_K, LD_M, LSH, MUL, NEG, OR, RSH, ST, SUB, TAX, WORD, X, XOR, FilterPair,
-    ProfilePair)
+    ADD, AND, JEQ, JGE, LD_K, LD_M, LSH, MUL, NEG, ST, SUB, TAX, WORD, X, FilterPair, ProfilePair)
 
 # Of each kind of pair: its constructs, how many pairs of each are drawn, the seed, and the construct of a plain test.
 KINDS = {ProfilePair: (constructs.CONSTRUCTS, 16, 30, constructs.by_mask),
@@ -52,49 +51,6 @@ class Constructs(unittest.TestCase):
             self.assertGreater(differing, 0)
 
 
-class Terms(Case):
-    """Both sides compute the same from one word or two, and ask the same of it by tests with exchanged branches, or an
-    order by its neighbour: what the first one is told the second one is told, too, so no split is needed."""
-
-    TESTS = {JEQ: JEQ, JSET: JSET, JGT: JGE, JGE: JGT}
-
-    def asking(self, body, test, value, is_turned):
-        if not is_turned:
-            return body + insn(test, value, 0, 1) + ret(ALLOW) + ret(EPERM)
-        value += {JGT: 1, JGE: -1}.get(test, 0)
-        return body + insn(self.TESTS[test], value, 1, 0) + ret(EPERM) + ret(ALLOW)
-
-    def assert_same(self, first, second, what):
-        data = part("filter", first) + part("beside", second)
-        self.assertEqual(self.run_words([*CORE, "compare", "--beside", "--splits", "0"], data), (0, "same\n", ""), what)
-
-    def test_by_constants_and_of_words(self):
-        dice = random.Random(25)
-        words = [load(16) + insn(TAX, 0) + load(24), load(24) + insn(TAX, 0) + load(16)]
-        for operation in (ADD, SUB, MUL, DIV, OR, AND, XOR):
-            for test in self.TESTS:
-                for _ in range(4):
-                    constant, value = (dice.randrange(1, 1 << dice.randrange(2, 32)) for _ in range(2))
-                    one = load(16) + insn(operation, constant)
-                    exchanged = words[operation not in (SUB, DIV)]
-                    for bodies in ((one, one), (words[0] + insn(operation | X, 0), exchanged + insn(operation | X, 0))):
-                        sides = [self.asking(body, test, value, is_turned) for body, is_turned in zip(bodies, (0, 1))]
-                        self.assert_same(*sides, (operation, test, constant, value))
-
-    def test_shifts_by_a_word(self):
-        """Of a word by the low five bits of another one, beside the same shift behind an order of the word."""
-        dice = random.Random(26)
-        for shift in (LSH, RSH):
-            for test in self.TESTS:
-                for _ in range(4):
-                    body = load(24) + insn(AND, 31) + insn(TAX, 0) + load(16) + insn(shift | X, 0)
-                    value = dice.randrange(1, 1 << dice.randrange(2, 32))
-                    one, other = (self.asking(body, test, value, is_turned) for is_turned in (False, True))
-                    behind = load(16) + insn(JGE, dice.getrandbits(32), 0, len(other) // 8) + other + other
-                    data = part("filter", one) + part("beside", behind)
-                    self.assertEqual(self.run_words([*CORE, "compare", "--beside"], data), (0, "same\n", ""))
-
-
 class OneWord(Case):
     """Filters of one word, which differ for some of its values, or for none."""
 
@@ -103,34 +59,25 @@ class OneWord(Case):
         return out.split("\n", maxsplit=1)[0]
 
     def test_terms_that_are_equal(self):
-        """Each pair computes the same number of a word, or the same bits under a mask, and needs no split."""
+        """Each pair computes the same number of a word, or the same bits under a mask. Those of the first list need no
+        split."""
         def shifted(count):
             return insn(ST, 1) + load(16) + insn(LSH, count) + insn(TAX, 0) + insn(LD_M, 1) + insn(ADD | X, 0)
 
         word, negated = load(16), load(16) + insn(NEG, 0)
-        for first, second, test in (
-                (word + insn(LSH, 4) + shifted(2) + shifted(3), word + insn(MUL, 28), insn(JGE, 0x1234, 0, 1)),
-                (word + insn(MUL, -20 & WORD) + insn(NEG, 0), word + insn(MUL, 20), insn(JGT, 0x1234, 0, 1)),
-                (negated + insn(MUL, 6), word + insn(MUL, -6 & WORD), insn(JGE, 0x1234, 0, 1)),
-                (word + insn(TAX, 0) + insn(SUB | X, 0), insn(LD_K, 0), insn(JEQ, 0, 0, 1)),
-                (word + insn(AND, 0xffff) + insn(TAX, 0) + insn(MUL, -3 & WORD) + insn(ADD | X, 0),
-                 word + insn(AND, 0xffff) + insn(MUL, -2 & WORD), insn(JGE, 0xffff1234, 0, 1)),
-                (negated + insn(ADD, 9) + insn(MUL, 0xffbfffff) + insn(AND, 0x7000),
-                 word + insn(SUB, 9) + insn(AND, 0x7000), insn(JEQ, 0x5000, 0, 1)),
-                (word + insn(MUL, 0x10001) + insn(AND, 0xffff), word + insn(AND, 0xffff), insn(JEQ, 0x1234, 0, 1))):
-            ends = test + ret(ALLOW) + ret(EPERM)
-            with self.subTest(first=first.hex(), second=second.hex()):
-                self.assertEqual(self.verdict(first + ends, second + ends, "--splits=0"), "same")
-
-    def test_two_terms_that_seldom_differ(self):
-        """Of a difference and of twice its negation the same bits are tested: one has them, and the other one doesn't,
-        for one word in sixteen."""
-        by, mask = 0xd020494f, 0x1e00000
-        ends = ret(EPERM) + ret(ALLOW)
-        first = load(32) + insn(SUB, by) + insn(JSET, mask, 1, 0) + ends
-        second = (load(32) + insn(NEG, 0) + insn(ADD, by) + insn(MUL, 0xfffffffe) + insn(AND, mask) + insn(JEQ, 0, 0, 1)
-                  + ends)
-        self.assertEqual(self.verdict(first, second), "differs")
+        without_splits = (
+            (word + insn(TAX, 0) + insn(SUB | X, 0), insn(LD_K, 0), insn(JEQ, 0, 0, 1)),
+            (word + insn(MUL, 0x10001) + insn(AND, 0xffff), word + insn(AND, 0xffff), insn(JEQ, 0x1234, 0, 1)))
+        by_splits = (
+            (word + insn(LSH, 4) + shifted(2) + shifted(3), word + insn(MUL, 28), insn(JGE, 0x1234, 0, 1)),
+            (negated + insn(MUL, 6), word + insn(MUL, -6 & WORD), insn(JGE, 0x1234, 0, 1)),
+            (word + insn(AND, 0xffff) + insn(TAX, 0) + insn(MUL, -3 & WORD) + insn(ADD | X, 0),
+             word + insn(AND, 0xffff) + insn(MUL, -2 & WORD), insn(JGE, 0xffff1234, 0, 1)))
+        for pairs, words in ((without_splits, ["--splits=0"]), (by_splits, [])):
+            for first, second, test in pairs:
+                ends = test + ret(ALLOW) + ret(EPERM)
+                with self.subTest(first=first.hex(), second=second.hex()):
+                    self.assertEqual(self.verdict(first + ends, second + ends, *words), "same")
 
     def test_wide_masks(self):
         """Each of the 512 values under a mask of nine bits is tested, so how both filters end doesn't matter. They are

@@ -14,7 +14,7 @@ use Rattle.scf_compare.specs.declared.registers.KnownRegisters.{KnownRegisters}
 use Rattle.scf_compare.specs.declared.step.Step.{Step}
 use Rattle.scf_compare.specs.declared.step.Step.TheVariants.{Next, Branch}
 use Rattle.scf_compare.specs.declared.value.Decision.{Decision}
-use Rattle.scf_compare.specs.declared.value.Decision.TheVariants.{Known as Decided, Asks, AsksTerm, Open}
+use Rattle.scf_compare.specs.declared.value.Decision.TheVariants.{Known as Decided, Asks, Open}
 use Rattle.scf_compare.specs.Masked.{IsMaskedProgram}
 use Rattle.scf_compare.specs.Paths.{tree_size}
 use Rattle.scf_compare.specs.internal.ControlFlow.{control_flow_at}
@@ -83,7 +83,5 @@ leaves_of_filter insns = record {
 abbrev pub IsStepOf : Decision → FilterNode → FilterNode → Step FilterNode FilterLeaf → Type 0
 IsStepOf (Decided outcome) if_true if_false step = step ≡ Next (if outcome then if_true else if_false)
 IsStepOf (Asks atom holds) if_true if_false step =
-    step ≡ (if holds then Branch (Some atom) if_true if_false else Branch (Some atom) if_false if_true)
-IsStepOf (AsksTerm atom holds open_test) if_true if_false step =
     step ≡ (if holds then Branch (Some atom) if_true if_false else Branch (Some atom) if_false if_true)
 IsStepOf (Open open_test) if_true if_false step = step ≡ Branch None if_true if_false

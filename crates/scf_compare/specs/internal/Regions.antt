@@ -20,7 +20,7 @@ pub record IsRegionOf (allowed : List ℕ → Type 0) (leaf : PairLeaf) (is_whol
   pub words : (words : List ℕ) → AllowsWords region.words words ↔ allowed words
   pub same_leaf : region.leaf ≡ leaf
   pub shown : IfSome region.example (λ call. IsRecord call × allowed (words_of call))
-  pub exact : IsTrue region.is_exact → IsTrue is_whole × IsSome region.example × (region.words.terms ≡ [])
+  pub exact : IsTrue region.is_exact → IsTrue is_whole × IsSome region.example
 
 -- the region of a leaf was added to others, unless no words are allowed there
 abbrev pub IsAdded : (List ℕ → Type 0) → PairLeaf → Bool → List Region → List Region → Type 0

@@ -1,7 +1,7 @@
 -- What the facts of a word say of all its numbers, and when facts are exact.
-use Rattle.std.specs.Prelude.{◌==◌, ◌&&◌, ◌<◌, ◌^◌, ℕ, [], Bool, length}
+use Rattle.std.specs.Prelude.{◌==◌, ◌<◌, ◌^◌, ℕ, List, [], Bool, length}
 use Rattle.std.specs.List.{list_all}
-use Rattle.scf_facts.specs.WordSets.{AllowsNumber, NumberFacts, RecordFacts}
+use Rattle.scf_facts.specs.WordSets.{AllowsNumber, NumberFacts}
 use Rattle.scf_facts.specs.internal.Intervals.{all_intervals}
 
 -- nothing is known
@@ -20,6 +20,6 @@ SomeNumber facts P = (x : ℕ) × (x < 2 ^ 32) × AllowsNumber facts x × P x
 abbrev pub is_exact_set : NumberFacts → Bool
 is_exact_set facts = length facts.refuted == 0
 
--- so is what is known of each word, and nothing is known of terms
-abbrev pub are_exact_facts : RecordFacts → Bool
-are_exact_facts facts = list_all is_exact_set facts.sets && length facts.terms == 0
+-- so is what is known of each word
+abbrev pub are_exact_sets : List NumberFacts → Bool
+are_exact_sets sets = list_all is_exact_set sets

@@ -78,7 +78,7 @@ returns-else-asks_of_zero c =
         leads = λ words w r.
             let there =
             answer_there (bits shared) c.args.part question.result.atom words (condition shared).index w
-            (asked shared false c.if-asks_of_zero.false) question.ensures.of_word question.ensures.word in
+            (asked shared false c.if-asks_of_zero.false) question.ensures.word in
             let ways = ways shared words w r in (
               λ e. if_true.reached words (condition shared) w (here shared) r.at_condition (ways.0 (sym there ∙ e)),
               λ e. if_false.reached words (condition shared) w (here shared) r.at_condition (ways.1 (sym there ∙ e)),

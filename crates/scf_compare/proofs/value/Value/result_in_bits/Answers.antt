@@ -6,15 +6,7 @@ returns-in-Some-clause-stands g c = λ words a v allowed first second.
     (c.folded.ensures.stands words a (c.in_bits-first.ensures words a allowed first) first)
     (c.folded-2.ensures.stands words v (c.in_bits-second.ensures words v allowed second) second)
 
-pub returns-in-Some-masked_result-clause-stands : goal.returns-in-Some-masked_result-clause-stands
-returns-in-Some-masked_result-clause-stands g c = λ words a v allowed first second.
-    c.in-Some-masked_result.ensures.stands words a v first second
-
-pub returns-in-Some-binary_result-clause-stands : goal.returns-in-Some-binary_result-clause-stands
-returns-in-Some-binary_result-clause-stands g c = λ words a v allowed first second.
-    c.in-Some-binary_result.ensures.number words a v first second
-
-pub returns-in_default-binary_result-clause-stands : goal.returns-in_default-binary_result-clause-stands
-returns-in_default-binary_result-clause-stands g c = λ words a v allowed first second.
-    c.value-computed.ensures.stands words _
+pub returns-in-None-clause-stands : goal.returns-in-None-clause-stands
+returns-in-None-clause-stands g c = λ words a v allowed first second.
+    c.value.ensures.stands words _
     (c.combined.ensures a v (c.in_bits-first.ensures words a allowed first) (c.in_bits-second.ensures words v allowed second))

@@ -1,15 +1,15 @@
-use Rattle.scf_facts.proofs.StoreLaws.{allows_all, allows_beside, nothing_refuted}
+use Rattle.scf_facts.proofs.StoreLaws.{allows_all, nothing_refuted}
 use Rattle.scf_facts.proofs.snapshot.Snapshot.new.Goals as goal
 
 pub returns-clause-all : goal.returns-clause-all
 returns-clause-all c = λ words.
     let items = c.in_ok-from_elem.ensures.items_if_clones_equal (λ set same. same) in
     let all = allows_all 16 words in (
-      λ allowed. all.0 (rw (items, c.in_ok-set.ensures, c.in_ok-new.ensures) at allowed.each),
-      λ is. allows_beside _ words c.new-3.ensures.items (rw (items, c.in_ok-set.ensures, c.in_ok-new.ensures) (all.1 is)),
+      λ allowed. all.0 (rw (items, c.in_ok-set.ensures, c.in_ok-new.ensures) at allowed),
+      λ is. rw (items, c.in_ok-set.ensures, c.in_ok-new.ensures) (all.1 is),
     )
 
 pub returns-clause-among : goal.returns-clause-among
 returns-clause-among c = λ masks.
     let items = c.in_ok-from_elem.ensures.items_if_clones_equal (λ set same. same) in
-    (rw (items, c.in_ok-set.ensures, c.in_ok-new.ensures) (nothing_refuted 16 masks), c.new-3.ensures.items)
+    rw (items, c.in_ok-set.ensures, c.in_ok-new.ensures) (nothing_refuted 16 masks)

@@ -1,13 +1,34 @@
-use Rattle.scf_facts.proofs.Common.{◌≡◌, arith, atom_answer, true, false}
-use Rattle.scf_facts.proofs.StoreLaws.{both_beside, exact_parts}
+use Rattle.scf_facts.proofs.Common.{◌≡◌, ◌<◌, answer_at, arith, common_steps, get_or, length, true, false}
+use Rattle.scf_facts.proofs.StoreLaws.{each_word, exact_word, other_answer}
 use Rattle.scf_facts.proofs.snapshot.Snapshot.tell.Goals as goal
 
 pub returns-clause-both : goal.returns-clause-both
-returns-clause-both c = λ own maybe exact some allowed.
-    let facts = c.args.self.now in
-    let parts = exact_parts facts exact in
-    let same : c.deref.result.now ≡ facts.sets = grind arith in
-    let both = c.tell_by_word.ensures.both maybe (rw same parts.0) some (rw same allowed.each) in (
-      both_beside facts _ (λ words. atom_answer c.args.atom words ≡ true) same parts.1 both.0,
-      both_beside facts _ (λ words. atom_answer c.args.atom words ≡ false) same parts.1 both.1,
+returns-clause-both c = λ maybe exact some h.
+    let sets = c.args.self.now in
+    let word = c.word.result in
+    let asked = c.word.ensures in
+    let within : word < length sets = grind arith in
+    let below : word < 16 = omega (arith, asked, c.requires.word) in
+    let read : c.as_set.result.now ≡ get_or sets word c.as_set.result.now = grind (arith, common_steps) in
+    let some_of = c.tell.ensures.both maybe (exact_word sets word _ within read exact) in (
+      other_answer sets word _ within read c.args.atom true asked below some h some_of.0,
+      other_answer sets word _ within read c.args.atom false asked below some h some_of.1,
     )
+
+pub returns-clause-always : goal.returns-clause-always
+returns-clause-always c = λ told words h.
+    let sets = c.args.self.now in
+    let word = c.word.result in
+    let within : word < length sets = grind arith in
+    let read : c.as_set.result.now ≡ get_or sets word c.as_set.result.now = grind (arith, common_steps) in
+    rw (← c.word.ensures)
+    (each_word sets word _ within read (λ x. answer_at c.args.atom x ≡ true) (c.tell.ensures.always told) words h)
+
+pub returns-clause-never : goal.returns-clause-never
+returns-clause-never c = λ told words h.
+    let sets = c.args.self.now in
+    let word = c.word.result in
+    let within : word < length sets = grind arith in
+    let read : c.as_set.result.now ≡ get_or sets word c.as_set.result.now = grind (arith, common_steps) in
+    rw (← c.word.ensures)
+    (each_word sets word _ within read (λ x. answer_at c.args.atom x ≡ false) (c.tell.ensures.never told) words h)

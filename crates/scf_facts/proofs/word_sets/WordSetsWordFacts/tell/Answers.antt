@@ -37,12 +37,12 @@ returns-clause-law_never c = simp now c.tell.ensures.never
 
 pub returns-clause-told_always : goal.returns-clause-told_always
 returns-clause-told_always c =
-    simp now (λ of_word exact some allowed all.
+    simp now (λ exact some allowed all.
     told_always c.tell.result c.args.atom _ c.tell.ensures.always c.tell.ensures.never
-    (λ maybe. c.tell.ensures.both of_word maybe exact some allowed) some allowed all)
+    (λ maybe. c.tell.ensures.both maybe exact some allowed) some allowed all)
 
 pub returns-clause-told_never : goal.returns-clause-told_never
 returns-clause-told_never c =
-    simp now (λ of_word exact some allowed all.
+    simp now (λ exact some allowed all.
     told_never c.tell.result c.args.atom _ c.tell.ensures.always c.tell.ensures.never
-    (λ maybe. c.tell.ensures.both of_word maybe exact some allowed) some allowed all)
+    (λ maybe. c.tell.ensures.both maybe exact some allowed) some allowed all)

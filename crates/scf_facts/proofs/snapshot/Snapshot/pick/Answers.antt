@@ -1,7 +1,7 @@
 use Rattle.scf_insn.proofs.CallWords.{word_below}
 use Rattle.scf_facts.proofs.Common.{◌≡◌, ◌<◌, AllowsNumber, arith, common_steps, get_or, length, recursion_from_All, slice_index, subst, sym}
 use Rattle.scf_facts.proofs.StoreLaws.{among_word}
-use Rattle.scf_facts.proofs.snapshot.Snapshot.guess.Goals as goal
+use Rattle.scf_facts.proofs.snapshot.Snapshot.pick.Goals as goal
 
 pub returns-clause-allowed : goal.returns-clause-allowed
 returns-clause-allowed c =
@@ -13,7 +13,7 @@ returns-clause-allowed c =
 
 pub returns-in_err-words-clause-found_among : goal.returns-in_err-words-clause-found_among
 returns-in_err-words-clause-found_among c = λ masks few among words allowed.
-    let sets = c.args.self.now.sets in
+    let sets = c.args.self.now in
     let here = c.loop-index.index in
     let within : here < length sets = grind arith in
     let read : c.as_set.result.now ≡ get_or sets here c.as_set.result.now = grind (arith, common_steps) in
