@@ -31,9 +31,3 @@ IsReading view bytes (Err (Truncated offset)) = (length bytes ≤ max_filter_len
 IsReading view bytes (Err TooLong) = max_filter_len < length bytes
 IsReading view bytes (Err Read) = Unit {0}
 IsReading view bytes (Err Memory) = Unit {0}
-
--- one fault for the other
-abbrev pub read_fault : InputFault → ReadFault
-read_fault CantRead = Read
-read_fault PastLimit = TooLong
-read_fault NoMemory = Memory

@@ -12,7 +12,7 @@ use crate::input::{InputFault, read_input};
 use crate::insn::Insn;
 use crate::kernel::{MAX_FILTER_LEN, SOCK_FILTER_LEN};
 use crate::stream::{Sink, Source, WriteFault, write_whole};
-use std::alloc::{AllocFailed, Global};
+use std::alloc::Global;
 use std::fmt;
 use thiserror::Error;
 
@@ -45,32 +45,6 @@ impl fmt::Debug for ReadFault {
     }
 }
 
-impl<T: Drop> From<AllocFailed<T>> for ReadFault {
-    ghost use Rattle.std.specs.Prelude.{◌≡◌};
-    ghost use Rattle.scf_insn.specs.declared.encoding.ReadFault.TheVariants.{Memory};
-
-    ghost from_gives = { λ _ e. e ≡ Memory };
-
-    fn from(_: AllocFailed<T>) -> ReadFault {
-        ReadFault::Memory
-    }
-}
-
-impl From<InputFault> for ReadFault {
-    ghost use Rattle.scf_insn.specs.Readings.{read_fault};
-    ghost use Rattle.std.specs.Prelude.{◌≡◌};
-
-    ghost from_gives = { λ fault e. e ≡ read_fault fault };
-
-    fn from(fault: InputFault) -> ReadFault {
-        match fault {
-            InputFault::Read => ReadFault::Read,
-            InputFault::TooLong => ReadFault::TooLong,
-            InputFault::Memory => ReadFault::Memory,
-        }
-    }
-}
-
 /// The instructions with these bytes.
 fn decode(alloc: Global, bytes: &[u8]) -> Result<Vec<Insn>, ReadFault>
     requires { length bytes.now % sock_filter_len ≡ 0 }
@@ -84,7 +58,9 @@ fn decode(alloc: Global, bytes: &[u8]) -> Result<Vec<Insn>, ReadFault>
     while let Some((first, behind)) = remaining.split_first_chunk() {
         let insn = Insn::from_bytes(*first);
         insn.within_widths();
-        insns.push(insn)?;
+        if insns.push(insn).is_err() {
+            return Err(ReadFault::Memory);
+        }
         remaining = behind;
     }
     Ok(insns)
@@ -111,7 +87,12 @@ pub fn read_program<S: Source>(alloc: Global, source: &mut S) -> Result<Vec<Insn
     ensures no_failure { result ≢ Err ReadFault.Read → S.failures source.new ≡ S.failures source.old }
     ensures failure { result ≡ Err ReadFault.Read → HasFailed (S.failures source.old) (S.failures source.new) }
 {
-    let bytes = read_input(alloc, source, MAX_FILTER_LEN)?;
+    let bytes = match read_input(alloc, source, MAX_FILTER_LEN) {
+        Ok(bytes) => bytes,
+        Err(InputFault::Read) => return Err(ReadFault::Read),
+        Err(InputFault::TooLong) => return Err(ReadFault::TooLong),
+        Err(InputFault::Memory) => return Err(ReadFault::Memory),
+    };
     let cut = bytes.len() % SOCK_FILTER_LEN;
     if cut != 0 {
         let offset = bytes.len() - cut;

@@ -5,13 +5,13 @@ ghost use Rattle.std.specs.Io.KnownBytes.{IsAtEnd};
 ghost use Rattle.scf_insn.specs.Streams.{GivesAtMost, GivesSome, HasFailed};
 ghost use Rattle.scf_insn.specs.Readings.{IsInput, read_len};
 
-use crate::stream::{Failed, Source};
-use std::alloc::{AllocError, Global};
+use crate::stream::Source;
+use std::alloc::Global;
 use std::fmt;
 use thiserror::Error;
 
 /// Why an input wasn't read.
-#[derive(Clone, Copy, Error)]
+#[derive(Clone, Copy, Debug, Error)]
 pub enum InputFault {
     Read,
     TooLong,
@@ -25,34 +25,6 @@ impl fmt::Display for InputFault {
             InputFault::TooLong => "the input is too long",
             InputFault::Memory => "out of memory",
         })
-    }
-}
-
-impl fmt::Debug for InputFault {
-    fn fmt<W: fmt::Write>(&self, f: &mut fmt::Formatter<W>) -> fmt::Result {
-        fmt::Display::fmt(self, f)
-    }
-}
-
-impl From<AllocError> for InputFault {
-    ghost use Rattle.std.specs.Prelude.{◌≡◌};
-    ghost use Rattle.scf_insn.specs.declared.input.InputFault.TheVariants.{Memory};
-
-    ghost from_gives = { λ _ e. e ≡ Memory };
-
-    fn from(_: AllocError) -> InputFault {
-        InputFault::Memory
-    }
-}
-
-impl From<Failed> for InputFault {
-    ghost use Rattle.std.specs.Prelude.{◌≡◌};
-    ghost use Rattle.scf_insn.specs.declared.input.InputFault.TheVariants.{Read};
-
-    ghost from_gives = { λ _ e. e ≡ Read };
-
-    fn from(_: Failed) -> InputFault {
-        InputFault::Read
     }
 }
 
@@ -84,13 +56,17 @@ pub fn read_input<S: Source>(
     let mut bytes = Vec::new(alloc);
     let mut chunk = [0; CHUNK];
     'chunks: loop {
-        let count = source.read(&mut chunk)?;
+        let Ok(count) = source.read(&mut chunk) else {
+            return Err(InputFault::Read);
+        };
         if count == 0 {
             return Ok(bytes);
         }
         if count > limit - bytes.len() {
             return Err(InputFault::TooLong);
         }
-        bytes.extend_from_slice(&chunk[..count])?;
+        if bytes.extend_from_slice(&chunk[..count]).is_err() {
+            return Err(InputFault::Memory);
+        }
     }
 }

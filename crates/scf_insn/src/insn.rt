@@ -16,19 +16,12 @@ pub struct Insn {
     pub k: u32,
 }
 
-fn recall_widths(_code: u16, _jt: u8, _jf: u8, _k: u32)
-    ensures code { _code < 2 ^ 16 }
-    ensures jt { _jt < 2 ^ 8 }
-    ensures jf { _jf < 2 ^ 8 }
-    ensures k { _k < 2 ^ 32 }
-{}
-
 impl Insn {
     /// A law for proofs: each field is within its width. Does nothing.
     pub fn within_widths(&self)
         ensures { IsInsn self.now }
     {
-        recall_widths(self.code, self.jt, self.jf, self.k);
+        let (_code, _jt, _jf, _k) = (self.code, self.jt, self.jf, self.k);
     }
 
     /// Decodes 8 bytes, numbers little-endian.

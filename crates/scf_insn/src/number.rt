@@ -8,7 +8,7 @@ use std::fmt;
 use thiserror::Error;
 
 /// Why a text isn't a number.
-#[derive(Clone, Copy, Error)]
+#[derive(Clone, Copy, Debug, Error)]
 pub enum NumeralFault {
     Malformed,
     TooLarge,
@@ -20,12 +20,6 @@ impl fmt::Display for NumeralFault {
             NumeralFault::Malformed => "not a number",
             NumeralFault::TooLarge => "a number past 2^64-1",
         })
-    }
-}
-
-impl fmt::Debug for NumeralFault {
-    fn fmt<W: fmt::Write>(&self, f: &mut fmt::Formatter<W>) -> fmt::Result {
-        fmt::Display::fmt(self, f)
     }
 }
 

@@ -54,12 +54,6 @@ fn number_at(bytes: &[u8], at: usize) -> u64
     joined(word_at(bytes, at), word_at(bytes, at + 4))
 }
 
-fn recall_widths(_nr: u32, _arch: u32, _ip: u64)
-    ensures nr { _nr < 2 ^ 32 }
-    ensures arch { _arch < 2 ^ 32 }
-    ensures ip { _ip < 2 ^ 64 }
-{}
-
 fn recall_arguments(args: &[u64])
     ensures { (i : ℕ) → slice_index args.now i < 2 ^ 64 }
 {}
@@ -73,7 +67,7 @@ impl CallRecord {
     pub fn within_widths(&self)
         ensures { IsRecord self.now }
     {
-        recall_widths(self.nr, self.arch, self.ip);
+        let (_nr, _arch, _ip) = (self.nr, self.arch, self.ip);
         recall_arguments(&self.args);
     }
 

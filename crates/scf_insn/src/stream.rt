@@ -4,25 +4,13 @@ ghost use Rattle.std.specs.Prelude.{◌≡◌, ◌<◌, ◌≤◌, ℕ, List, Op
 ghost use Rattle.std.specs.Io.KnownBytes.{ReadConsumes, WriteAppends};
 ghost use Rattle.scf_insn.specs.Streams.{count_after, Writes};
 
-use std::fmt;
 use std::io::{Read, Write};
 use thiserror::Error;
 
 /// A read or a write failed: the failure count of its reader or writer went up.
-#[derive(Clone, Copy, Error)]
+#[derive(Clone, Copy, Debug, Error)]
+#[error("a read or a write failed")]
 pub struct Failed;
-
-impl fmt::Display for Failed {
-    fn fmt<W: fmt::Write>(&self, f: &mut fmt::Formatter<W>) -> fmt::Result {
-        f.write_str("a read or a write failed")
-    }
-}
-
-impl fmt::Debug for Failed {
-    fn fmt<W: fmt::Write>(&self, f: &mut fmt::Formatter<W>) -> fmt::Result {
-        fmt::Display::fmt(self, f)
-    }
-}
 
 /// A reader.
 pub trait Source {
@@ -58,21 +46,10 @@ pub trait Sink {
 }
 
 /// Why bytes weren't written.
-#[derive(Clone, Copy, Error)]
+#[derive(Clone, Copy, Debug, Error)]
 pub enum WriteFault {
+    #[error("the output can't be written")]
     Write,
-}
-
-impl fmt::Display for WriteFault {
-    fn fmt<W: fmt::Write>(&self, f: &mut fmt::Formatter<W>) -> fmt::Result {
-        f.write_str("the output can't be written")
-    }
-}
-
-impl fmt::Debug for WriteFault {
-    fn fmt<W: fmt::Write>(&self, f: &mut fmt::Formatter<W>) -> fmt::Result {
-        fmt::Display::fmt(self, f)
-    }
 }
 
 /// Writes all bytes; or a prefix of them, if writing fails.
