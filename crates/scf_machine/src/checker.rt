@@ -16,7 +16,7 @@ ghost use Rattle.scf_machine.specs.Rules.{GoesTo, Stands, stores_word};
 use crate::program::Program;
 use scf_insn::kernel::{BPF_MAXINSNS, BPF_MEMWORDS, SECCOMP_DATA_LEN};
 use scf_insn::{Arithmetic, Insn, Operand, Operation};
-use std::alloc::{AllocError, Global};
+use std::alloc::Global;
 use std::fmt;
 use thiserror::Error;
 
@@ -66,28 +66,6 @@ impl fmt::Debug for CheckFault {
     }
 }
 
-impl From<AllocError> for CheckFault {
-    ghost use Rattle.std.specs.Prelude.{◌≡◌};
-    ghost use Rattle.scf_machine.specs.declared.checker.CheckFault.TheVariants.{Memory};
-
-    ghost from_gives = { λ _ e. e ≡ Memory };
-
-    fn from(_: AllocError) -> CheckFault {
-        CheckFault::Memory
-    }
-}
-
-/// Whether the computation may have this constant: no division by 0, no shift past 31.
-fn is_fine_constant(arithmetic: Arithmetic, len: usize, at: usize, insn: Insn) -> bool
-    ensures { IsTrue result ↔ IsFine len at insn (Operation.Compute arithmetic Operand.Constant) }
-{
-    match arithmetic {
-        Arithmetic::Div => insn.k != 0,
-        Arithmetic::Lsh | Arithmetic::Rsh => insn.k < 32,
-        _ => true,
-    }
-}
-
 /// Whether an instruction keeps its operation's rule.
 fn is_fine(len: usize, at: usize, insn: Insn, operation: Operation) -> bool
     requires { at < bpf_maxinsns }
@@ -96,9 +74,8 @@ fn is_fine(len: usize, at: usize, insn: Insn, operation: Operation) -> bool
     match operation {
         Operation::LoadWord => (insn.k as usize) < SECCOMP_DATA_LEN && insn.k % 4 == 0,
         Operation::LoadScratch(_) | Operation::StoreScratch(_) => (insn.k as usize) < BPF_MEMWORDS,
-        Operation::Compute(arithmetic, Operand::Constant) => {
-            is_fine_constant(arithmetic, len, at, insn)
-        }
+        Operation::Compute(Arithmetic::Div, Operand::Constant) => insn.k != 0,
+        Operation::Compute(Arithmetic::Lsh | Arithmetic::Rsh, Operand::Constant) => insn.k < 32,
         Operation::Jump => at + 1 + (insn.k as usize) < len,
         Operation::JumpIf(_, _) => {
             at + 1 + (insn.jt as usize) < len && at + 1 + (insn.jf as usize) < len
@@ -261,7 +238,9 @@ fn check_scratch(alloc: Global, insns: &[Insn]) -> Result<(), CheckFault>
     ensures ok { OnOk result (KeepsScratchRule insns.now) }
     ensures err { IfErr result (IsFirstFault insns.now) }
 {
-    let mut masks = vec![in alloc; u16::MAX; insns.len()]?;
+    let Ok(mut masks) = vec![in alloc; u16::MAX; insns.len()] else {
+        return Err(CheckFault::Memory);
+    };
     masks[0] = 0;
     find_unset(insns, &mut masks)
 }

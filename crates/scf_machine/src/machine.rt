@@ -113,15 +113,6 @@ impl Registers {
         self.pc += 1;
     }
 
-    /// Skips `count` instructions behind the next.
-    #[inline(always)]
-    fn jump(&mut self, offset: u8)
-        requires { self.old.pc < bpf_maxinsns }
-        ensures { (s : State) → StandFor self.old s → StandFor self.new (jumps_to s (s.pc + 1 + offset)) }
-    {
-        self.pc += 1 + offset as usize;
-    }
-
     /// Computes on the accumulator and goes to the next instruction.
     #[inline(always)]
     fn compute(&mut self, arithmetic: Arithmetic, value: u32)
@@ -165,9 +156,9 @@ impl Registers {
             (jumps_to s (s.pc + 1 + (if holds test s.a v then insn.now.jt else insn.now.jf))) }
     {
         if holds_of(test, self.a, value) {
-            self.jump(insn.jt);
+            self.pc += 1 + insn.jt as usize;
         } else {
-            self.jump(insn.jf);
+            self.pc += 1 + insn.jf as usize;
         }
     }
 
