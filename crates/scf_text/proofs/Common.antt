@@ -59,7 +59,6 @@ pub use Rattle.scf_text.specs.declared.encoding.Style.{Style}
 pub use Rattle.scf_text.specs.declared.encoding.Style.TheVariants.{Decimal, FourDigits, Hexadecimal}
 pub use Rattle.scf_text.specs.declared.numbered_insn.NumberedInsn.{NumberedInsn}
 pub use Rattle.scf_text.specs.declared.token.Token.{Token}
-pub use Rattle.scf_text.specs.internal.Mnemonics.{encoding_view}
 pub use Rattle.scf_text.specs.internal.Parts.{begins_comment, begins_in_word, first_statement, is_semicolon, lines_after, statements_in, words_of_part}
 unfoldable pub use Rattle.scf_text.specs.internal.Parts.{others_in, words_in}
 pub use Rattle.scf_text.specs.internal.Labels.{IsFirstRepeat, IsRepeat, Labels, TellsRepeat, compared, is_before, labels_at, least, repeat_fault}
@@ -67,4 +66,4 @@ pub use Rattle.scf_text.specs.internal.Symbols.{FollowsBehind, count_ends, IsBeh
 pub use Rattle.scf_text.specs.internal.Reading.{AreKept, AreNew, HaveTokens, IsEnded, IsLeft, IsRead, Leaves, begins_of, parsed_insns_view, label_at, part_statements, statements_from}
 pub use Rattle.scf_text.specs.internal.Results.{AddsInstruction, AddsLabel, TellsInsns, TellsText, insn_fault, indices_view}
 unfoldable pub use Rattle.scf_text.specs.internal.Results.{fault_in}
-pub use Rattle.scf_text.specs.internal.Views.{parsed_view}
+pub use Rattle.scf_text.specs.internal.Views.{encoding_view, parsed_view}

@@ -1,4 +1,3 @@
-pub mod Mnemonics
 pub mod Parts
 pub mod Symbols
 pub mod Labels

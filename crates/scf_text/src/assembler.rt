@@ -193,24 +193,13 @@ fn read_all(alloc: Global, text: &[u8]) -> Result<Vec<Insn>, TextFault>
     )
 }
 
-/// Assembles a text.
-#[tactic(auto, using(crate::proofs::TextLemmas::ascii_fails, crate::proofs::TextLemmas::ascii_tells))]
-fn read_ascii(alloc: Global, text: &[u8]) -> Result<Vec<Insn>, TextFault>
-    ensures tells { TellsText (fault_of text.now) text.now result }
-    ensures ascii { (e : TextFault) → ascii_fault 1 text.now ≡ Some e → result ≡ Err e }
-    ensures wanted { result ≡ Err TextFault.Memory → HaveTokens (statements_of text.now) }
-{
-    check_ascii(text)?;
-    read_all(alloc, text)
-}
-
 /// Assembles a text: the instructions that it spells, at most 4096.
 ///
 /// An error is the text's first fault: a byte that isn't ASCII; then the first statement with a repeated label, no
 /// mnemonic, operands that its mnemonic doesn't take, a number that doesn't fit, or the 4097th instruction; then the
 /// first jump to a label that is undefined or out of reach. `Memory` comes if an allocation failed; never for a text
 /// that isn't ASCII or has no token.
-#[tactic(auto, using(crate::proofs::TextLemmas::is_spelled, crate::proofs::TextLemmas::is_not_spelled, crate::proofs::WantedLemmas::words_tokens))]
+#[tactic(auto, using(crate::proofs::TextLemmas::ascii_fails, crate::proofs::TextLemmas::ascii_tells, crate::proofs::TextLemmas::is_spelled, crate::proofs::TextLemmas::is_not_spelled, crate::proofs::WantedLemmas::words_tokens))]
 pub fn assemble(alloc: Global, text: &[u8]) -> Result<Vec<Insn>, TextFault>
     ensures spelled { IfOk result (λ insns. Spells text.now insns.items) }
     // An error is out of memory, or the first fault of the text.
@@ -222,5 +211,6 @@ pub fn assemble(alloc: Global, text: &[u8]) -> Result<Vec<Insn>, TextFault>
     // A text with a fault spells no instructions.
     ensures none { IfErr result (λ e. e ≢ TextFault.Memory → (insns : List Insn) → Spells text.now insns → ⊥) }
 {
-    read_ascii(alloc, text)
+    check_ascii(text)?;
+    read_all(alloc, text)
 }

@@ -10,21 +10,6 @@ ghost use Rattle.scf_text.specs.declared.encoding.Style.TheVariants.{FourDigits}
 use crate::encoding::{Encoding, Field, Piece, Style};
 use scf_insn::{Insn, Sink, WriteFault, digit_byte, write_numeral, write_whole};
 
-/// Writes `0x` and the last four hexadecimal digits.
-fn write_code<S: Sink>(sink: &mut S, code: u32) -> Result<(), WriteFault>
-    ensures { Writes S.contents S.failures sink.old (number_text FourDigits code) result sink.new }
-{
-    let digits = [
-        b'0',
-        b'x',
-        digit_byte(code / 4096 % 16),
-        digit_byte(code / 256 % 16),
-        digit_byte(code / 16 % 16),
-        digit_byte(code % 16),
-    ];
-    write_whole(sink, &digits)
-}
-
 /// Writes `0x` and the hexadecimal digits, without leading zeros.
 fn write_hexadecimal<S: Sink>(sink: &mut S, number: u32) -> Result<(), WriteFault>
     ensures { Writes S.contents S.failures sink.old (codes "0x" ++ digits 16 false number) result sink.new }
@@ -40,7 +25,17 @@ fn write_number<S: Sink>(sink: &mut S, style: Style, number: u32) -> Result<(), 
     match style {
         Style::Decimal => write_numeral(sink, u64::from(number), 10),
         Style::Hexadecimal => write_hexadecimal(sink, number),
-        Style::FourDigits => write_code(sink, number),
+        Style::FourDigits => {
+            let digits = [
+                b'0',
+                b'x',
+                digit_byte(number / 4096 % 16),
+                digit_byte(number / 256 % 16),
+                digit_byte(number / 16 % 16),
+                digit_byte(number % 16),
+            ];
+            write_whole(sink, &digits)
+        }
     }
 }
 
@@ -95,23 +90,15 @@ fn write_operands<S: Sink>(sink: &mut S, insn: &Insn, pieces: &[Piece]) -> Resul
     write_pieces(sink, insn, pieces)
 }
 
-/// Writes the operands, and the end of the line.
-#[tactic(auto, using(scf_insn::proofs::Written::fails_first, scf_insn::proofs::Written::writes_then))]
-fn write_rest<S: Sink>(sink: &mut S, insn: &Insn, pieces: &[Piece]) -> Result<(), WriteFault>
-    ensures { Writes S.contents S.failures sink.old (operands_text insn.now pieces.now ++ 10 ∷ []) result sink.new }
-{
-    write_operands(sink, insn, pieces)?;
-    write_whole(sink, &[b'\n'])
-}
-
 /// Writes the line of an instruction, with its LF.
 #[tactic(auto, using(scf_insn::proofs::Written::fails_first, scf_insn::proofs::Written::writes_then))]
 fn write_line<S: Sink>(sink: &mut S, insn: &Insn) -> Result<(), WriteFault>
     ensures { Writes S.contents S.failures sink.old (line_of insn.now) result sink.new }
 {
     let encoding = Encoding::of(insn);
-    write_whole(sink, encoding.mnemonic.text().as_bytes())?;
-    write_rest(sink, insn, encoding.operand_format.pieces())
+    write_whole(sink, encoding.mnemonic.as_bytes())?;
+    write_operands(sink, insn, encoding.pieces)?;
+    write_whole(sink, &[b'\n'])
 }
 
 /// Writes the canonical text of any instructions, a line each; or a prefix of it, if writing fails. An instruction with

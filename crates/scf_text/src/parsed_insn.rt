@@ -6,13 +6,12 @@ ghost use Rattle.std.specs.Str.{bytes_eq};
 ghost use Rattle.scf_insn.specs.Numbers.{number_of};
 ghost use Rattle.scf_text.specs.Encodings.{encodings};
 ghost use Rattle.scf_text.specs.ParsedInsns.{is_name, with_field, spellings, put_by, fill_by, has_mnemonic};
-ghost use Rattle.scf_text.specs.ParsedInsns.{read_by, is_below, is_in_range};
+ghost use Rattle.scf_text.specs.ParsedInsns.{read_by, is_in_range};
 ghost use Rattle.scf_text.specs.ParsedInsns as written;
-ghost use Rattle.scf_text.specs.internal.Mnemonics.{encoding_view};
 ghost use Rattle.scf_text.specs.internal.Parts.{words_in, others_in, statements_after};
 ghost use Rattle.scf_text.specs.internal.Symbols.{FollowsBehind};
 ghost use Rattle.scf_text.specs.internal.Results.{Reads};
-ghost use Rattle.scf_text.specs.internal.Views.{blank, number_view, field_value_view, parsed_view};
+ghost use Rattle.scf_text.specs.internal.Views.{blank, encoding_view, number_view, field_value_view, parsed_view};
 
 use crate::encoding::{Encoding, Field, Piece};
 use crate::part::{Next, front};
@@ -37,17 +36,6 @@ pub(crate) struct ParsedInsn<'a> {
 }
 
 impl<'a> FieldValue<'a> {
-    /// The number that a token spells.
-    fn of_number(token: &'a [u8]) -> Option<FieldValue<'a>>
-        ensures { option_map field_value_view result ≡ option_map (λ n. written.Number n) (number_of token.now) }
-    {
-        match parse_number(token) {
-            Ok(number) => Some(FieldValue::Number(number)),
-            Err(NumeralFault::TooLarge) => Some(FieldValue::Large(token)),
-            Err(NumeralFault::Malformed) => None,
-        }
-    }
-
     /// The number, if it is below the limit; 0 for a label.
     pub(crate) fn below(self, limit: u64) -> Option<u64>
         ensures { result ≡ (if nat_lt (number_view self.entry) limit then Some (number_view self.entry) else None) }
@@ -120,8 +108,10 @@ fn put_number<'a>(parsed: &mut ParsedInsn<'a>, field: Field, token: &'a [u8]) ->
     ensures { option_map (λ n. with_field field (written.Number n) (parsed_view parsed.old)) (number_of token.now)
         ≡ (if result then Some (parsed_view parsed.new) else None) }
 {
-    let Some(number) = FieldValue::of_number(token) else {
-        return false;
+    let number = match parse_number(token) {
+        Ok(number) => FieldValue::Number(number),
+        Err(NumeralFault::TooLarge) => FieldValue::Large(token),
+        Err(NumeralFault::Malformed) => return false,
     };
     parsed.set_field(field, number);
     true
@@ -198,7 +188,7 @@ pub(crate) fn read<'a>(parsed: &mut ParsedInsn<'a>, mnemonic: &[u8], part: &'a [
             continue;
         }
         *parsed = ParsedInsn::blank(*encoding);
-        if let Some(after) = fill(parsed, encoding.operand_format.pieces(), part) {
+        if let Some(after) = fill(parsed, encoding.pieces, part) {
             return Reading::Said(after);
         }
         is_known = true;
@@ -210,24 +200,14 @@ pub(crate) fn read<'a>(parsed: &mut ParsedInsn<'a>, mnemonic: &[u8], part: &'a [
     }
 }
 
-/// Whether the number is below the field's limit.
-fn is_below(operand: FieldValue<'_>, limit: u64) -> bool
-    ensures { result ≡ is_below limit (field_value_view operand.entry) }
-{
-    match operand {
-        FieldValue::Number(_) | FieldValue::Large(_) => operand.below(limit).is_some(),
-        FieldValue::Label(_) => true,
-    }
-}
-
 impl<'a> ParsedInsn<'a> {
     /// Whether each number fits its field.
     pub(crate) fn is_in_range(self) -> bool
         ensures { result ≡ is_in_range (parsed_view self.entry) }
     {
         self.code.below(1 << 16).is_some()
-            && is_below(self.jt, 1 << 8)
-            && is_below(self.jf, 1 << 8)
-            && is_below(self.k, 1 << 32)
+            && self.jt.below(1 << 8).is_some()
+            && self.jf.below(1 << 8).is_some()
+            && self.k.below(1 << 32).is_some()
     }
 }

@@ -6,7 +6,7 @@ ghost use Rattle.scf_text.specs.Characters.{is_line_end, is_blank, is_word_byte}
 ghost use Rattle.scf_text.specs.ParsedInsns.{is_name};
 ghost use Rattle.scf_text.specs.Tokens.{before_comment, lexemes_from, lines_of, tokens_of};
 ghost use Rattle.scf_text.specs.Tokens.{IsSliceOf, lexemes};
-ghost use Rattle.scf_text.specs.internal.Parts.{begins_comment, lines_after};
+ghost use Rattle.scf_text.specs.internal.Parts.{lines_after};
 ghost use Rattle.scf_text.specs.internal.Symbols.{count_ends, name_at};
 
 use scf_insn::Memory;
@@ -17,12 +17,6 @@ use std::alloc::{AllocError, Global};
 pub struct Token<'a> {
     pub start: usize,
     pub text: &'a [u8],
-}
-
-fn is_blank_byte(byte: u8) -> bool
-    ensures { result ≡ is_blank byte }
-{
-    matches!(byte, b' ' | b'\t' | b'\r')
 }
 
 pub(crate) fn is_of_word(byte: u8) -> bool
@@ -61,16 +55,6 @@ pub(crate) fn first_line(text: &[u8]) -> (&[u8], Option<&[u8]>)
     }
 }
 
-/// Whether the text begins with a comment.
-fn is_comment(bytes: &[u8]) -> bool
-    ensures { result ≡ begins_comment bytes.now }
-{
-    match bytes {
-        [b'/', b'/', ..] => true,
-        _ => false,
-    }
-}
-
 /// The line without its comment.
 #[tactic(auto, using(crate::proofs::TokenLemmas::comment_step))]
 pub(crate) fn without_comment(line: &[u8]) -> &[u8]
@@ -78,7 +62,7 @@ pub(crate) fn without_comment(line: &[u8]) -> &[u8]
     ensures len { length result.now ≤ length line.now }
 {
     for end in 0..line.len() {
-        if is_comment(&line[end..]) {
+        if let [b'/', b'/', ..] = &line[end..] {
             return &line[..end];
         }
     }
@@ -91,7 +75,7 @@ fn blanks_len(bytes: &[u8]) -> usize
     ensures within { result ≤ length bytes.now }
 {
     for at in 0..bytes.len() {
-        if !is_blank_byte(bytes[at]) {
+        if !matches!(bytes[at], b' ' | b'\t' | b'\r') {
             return at;
         }
     }

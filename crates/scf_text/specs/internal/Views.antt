@@ -1,12 +1,16 @@
--- What the drafts of the code stand for.
+-- What the encodings and the drafts of the code stand for.
 use Rattle.std.specs.Prelude.{ℕ, ◌^◌}
 use Rattle.std.specs.Option.{unwrap_or}
 use Rattle.scf_insn.specs.Numbers.{number_of}
 use Rattle.scf_text.specs.declared.parsed_insn.FieldValue.{FieldValue}
 use Rattle.scf_text.specs.declared.parsed_insn.FieldValue.TheVariants as code
 use Rattle.scf_text.specs.declared.parsed_insn.ParsedInsn.{ParsedInsn}
+use Rattle.scf_text.specs.declared.encoding.Encoding as rows
 use Rattle.scf_text.specs.ParsedInsns as parsed_insns
 use Rattle.scf_text.specs.Encodings.{Encoding}
+
+abbrev pub encoding_view : rows.Encoding → Encoding
+encoding_view row = record { code = row.code; mnemonic = row.mnemonic.now; pieces = row.pieces.now }
 
 -- before any field is named
 abbrev pub blank : Encoding → parsed_insns.ParsedInsn

@@ -1,5 +1,5 @@
 use Rattle.scf_text.proofs.Common.{◌≡◌, drop, list_any, names}
-use Rattle.scf_text.proofs.encoding.OperandFormat.names.Given as goal
+use Rattle.scf_text.proofs.encoding.Encoding.names.Given as goal
 
 -- no piece so far names the field
 abbrev pub invariant-loop-piece : goal.invariant-loop-piece
