@@ -1,6 +1,6 @@
 //! One instruction (Linux uapi filter.h, struct sock_filter).
 
-ghost use Rattle.std.specs.Prelude.{◌≡◌, ◌<◌, ◌^◌};
+ghost use Rattle.std.specs.Prelude.{◌≡◌};
 ghost use Rattle.scf_insn.specs.Insn.{IsInsn, insn_bytes};
 ghost use Rattle.scf_insn.specs.Codes.{operation_of};
 

@@ -55,7 +55,7 @@ pub use Rattle.scf_insn.specs.declared.record.CallRecord.{CallRecord}
 pub use Rattle.scf_profile.specs.Condition.{compares, condition_holds}
 unfoldable pub use Rattle.scf_profile.specs.JsonMembers.{each}
 pub use Rattle.scf_profile.specs.Limits.{max_rules}
-pub use Rattle.scf_profile.specs.Loading.{EntriesConflict, IsFirstConflict, IsLeastConflict, RefusesBy, IsText, Loads, LoadsEach, Refuses, RefusesAs, RefusesEach, RefusesEachAs, TestsGive}
+pub use Rattle.scf_profile.specs.Loading.{EntriesConflict, IsFirstConflict, IsLeastConflict, RefusesBy, IsText, Loads, Refuses, RefusesAs, RefusesEachAs, TestsGive}
 pub use Rattle.scf_profile.specs.NamedCalls.{AreCallsOf, HasItsNames}
 pub use Rattle.scf_profile.specs.Names.{AreSorted, names_of}
 pub use Rattle.scf_profile.specs.NumberRules.{AreNumbersOf}

@@ -70,10 +70,6 @@ LoadsEachAs reading text tables loaded =
     TestsGive (profiles_of reading tables) text (Ok loaded)
     × All (λ p. HaveNoConflict p.architecture p.rules) loaded.profiles
 
--- by the words of the text
-abbrev pub LoadsEach : List ℕ → Tables → LoadedProfiles → Type 0
-LoadsEach = LoadsEachAs Strict
-
 -- When a text is refused with a fault, the first test that fails, the last of which is that what is stated has no
 -- conflict. Want of memory may come in place of anything.
 abbrev pub RefusesBy : {A : Type 0} → (Data → Result A LoadFault) → (A → ℕ → ℕ → ℕ → Type 0) → List ℕ → LoadFault
@@ -96,6 +92,3 @@ Refuses = RefusesAs Strict
 abbrev pub RefusesEachAs : Reading → List ℕ → Tables → LoadFault → Type 0
 RefusesEachAs reading text tables fault =
     RefusesBy (profiles_of reading tables) (λ loaded. IsFirstConflict loaded.profiles) text fault
-
-abbrev pub RefusesEach : List ℕ → Tables → LoadFault → Type 0
-RefusesEach = RefusesEachAs Strict

@@ -1,14 +1,11 @@
 //! Actions by name, and the answers that they make.
 
-ghost use Rattle.std.specs.Prelude.{◌≡◌, ◌<◌, ◌^◌, ok_or, IfOk};
-ghost use Rattle.serde_json.specs.Find.{as_str};
+ghost use Rattle.std.specs.Prelude.{◌≡◌, ◌<◌, ◌^◌, IfOk};
 ghost use Rattle.serde_json.specs.View.{view};
-ghost use Rattle.scf_profile.specs.declared.load_fault.LoadFault.TheVariants as faults;
-ghost use Rattle.scf_profile.specs.StatedProfile.{required, action_named, takes_errno as errno_taken, takes_data as data_taken};
+ghost use Rattle.scf_profile.specs.StatedProfile.{action_named, takes_errno as errno_taken, takes_data as data_taken};
 ghost use Rattle.scf_profile.specs.StatedProfile.{errno_of as errno_stated, answer_in};
-ghost use Rattle.scf_profile.specs.Steps.{◌>>=◌ as and_then};
 
-use crate::json_members::member_of;
+use crate::json_members::{member_of, required_text};
 use crate::limits::MAX_ERRNO;
 use crate::load_fault::LoadFault;
 use crate::reading::Reading;
@@ -44,20 +41,6 @@ fn takes_data(reading: Reading, action: Action) -> bool
     ensures { result ≡ data_taken reading action }
 {
     takes_errno(action) || matches!((reading, action), (Reading::Sandbox, Action::Trap))
-}
-
-/// The action that a member of the object names.
-fn find_action(entry: Option<u32>, name: &str, object: &Value) -> Result<Action, LoadFault>
-    ensures { result ≡ and_then (required entry name.now as_str (view object.now))
-        (λ text. ok_or (action_named text) (faults.Action entry)) }
-{
-    let Some(member) = member_of(object, name) else {
-        return Err(LoadFault::Missing { entry });
-    };
-    let Some(text) = member.as_str() else {
-        return Err(LoadFault::Kind { entry });
-    };
-    action_of(text).ok_or(LoadFault::Action { entry })
 }
 
 /// The errno that a JSON value gives for an action, 0 to 65535; 0 if it is ignored.
@@ -96,7 +79,9 @@ pub(crate) fn find_answer(
     ensures value { result ≡ answer_in reading entry name.now errno_name.now (view object.now) }
     ensures range { IfOk result (λ answer. answer.0 < 2 ^ 32) }
 {
-    let action = find_action(entry, name, object)?;
+    let Some(action) = action_of(required_text(entry, name, object)?) else {
+        return Err(LoadFault::Action { entry });
+    };
     let errno = match member_of(object, errno_name) {
         None => u16::from(takes_errno(action)),
         Some(member) => errno_of(reading, entry, action, member)?,

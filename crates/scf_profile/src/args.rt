@@ -3,11 +3,11 @@
 ghost use Rattle.std.specs.Prelude.{◌≡◌, ◌<◌, ◌==◌, [], All, ok_or, IfOk, Ok, codes};
 ghost use Rattle.std.specs.List.{list_any};
 ghost use Rattle.serde_json.specs.Data.{no_items};
-ghost use Rattle.serde_json.specs.Find.{as_array, as_str};
+ghost use Rattle.serde_json.specs.Find.{as_array};
 ghost use Rattle.serde_json.specs.View.{view, items_view};
 ghost use Rattle.scf_insn.specs.Kernel.{seccomp_data_args};
 ghost use Rattle.scf_profile.specs.declared.load_fault.LoadFault.TheVariants as faults;
-ghost use Rattle.scf_profile.specs.JsonMembers.{each, whole_number, unsigned_number};
+ghost use Rattle.scf_profile.specs.JsonMembers.{each, whole_number};
 ghost use Rattle.scf_profile.specs.Limits.{number_below};
 ghost use Rattle.scf_profile.specs.Readings.{conditions_read, has_repeated_index as has_repeated};
 ghost use Rattle.scf_profile.specs.Rule.{IsCondition};
@@ -18,7 +18,7 @@ ghost use Rattle.scf_profile.specs.internal.Results.{result_map};
 
 use crate::condition::{Condition, Conditions, Operator};
 use crate::forms::find_items;
-use crate::json_members::member_of;
+use crate::json_members::{member_of, required, required_text};
 use crate::limits::ARGUMENTS;
 use crate::load_fault::LoadFault;
 use crate::overlap::condition_on;
@@ -46,9 +46,7 @@ fn find_index(entry: Option<u32>, object: &Value) -> Result<u8, LoadFault>
         (λ number. ok_or (number_below seccomp_data_args number) (faults.Index entry)) }
     ensures range { IfOk result (λ index. index < seccomp_data_args) }
 {
-    let Some(member) = member_of(object, "index") else {
-        return Err(LoadFault::Missing { entry });
-    };
+    let member = required(entry, "index", object)?;
     if let Some(index) = member.as_u64() {
         return if index < u64::from(ARGUMENTS) {
             Ok(index as u8)
@@ -60,37 +58,6 @@ fn find_index(entry: Option<u32>, object: &Value) -> Result<u8, LoadFault>
         return Err(LoadFault::Index { entry });
     }
     Err(LoadFault::Kind { entry })
-}
-
-fn find_operator(entry: Option<u32>, object: &Value) -> Result<Operator, LoadFault>
-    ensures { result ≡ and_then (required entry (codes "op") as_str (view object.now))
-        (λ text. ok_or (operator_named text) (faults.Operator entry)) }
-{
-    let Some(member) = member_of(object, "op") else {
-        return Err(LoadFault::Missing { entry });
-    };
-    let Some(name) = member.as_str() else {
-        return Err(LoadFault::Kind { entry });
-    };
-    operator_of(name).ok_or(LoadFault::Operator { entry })
-}
-
-fn find_value(entry: Option<u32>, object: &Value) -> Result<u64, LoadFault>
-    ensures { result ≡ required entry (codes "value") unsigned_number (view object.now) }
-{
-    let Some(member) = member_of(object, "value") else {
-        return Err(LoadFault::Missing { entry });
-    };
-    member.as_u64().ok_or(LoadFault::Kind { entry })
-}
-
-fn find_value_two(entry: Option<u32>, object: &Value) -> Result<u64, LoadFault>
-    ensures { result ≡ optional 0 entry (codes "valueTwo") unsigned_number (view object.now) }
-{
-    match member_of(object, "valueTwo") {
-        None => Ok(0),
-        Some(member) => member.as_u64().ok_or(LoadFault::Kind { entry }),
-    }
 }
 
 /// Whether two conditions are on one argument.
@@ -127,9 +94,19 @@ fn condition_of(
         return Err(LoadFault::Kind { entry });
     }
     let index = find_index(entry, object)?;
-    let op = find_operator(entry, object)?;
-    let value = find_value(entry, object)?;
-    let value_two = find_value_two(entry, object)?;
+    let Some(op) = operator_of(required_text(entry, "op", object)?) else {
+        return Err(LoadFault::Operator { entry });
+    };
+    let Some(value) = required(entry, "value", object)?.as_u64() else {
+        return Err(LoadFault::Kind { entry });
+    };
+    let value_two = match member_of(object, "valueTwo") {
+        None => Some(0),
+        Some(member) => member.as_u64(),
+    };
+    let Some(value_two) = value_two else {
+        return Err(LoadFault::Kind { entry });
+    };
     if !reading.is_runtime() && has_index(index, earlier) {
         return Err(LoadFault::RepeatedIndex { entry });
     }
@@ -160,24 +137,8 @@ fn conditions_of(
     Ok(conditions)
 }
 
-/// All conditions of an entry; none without `args`.
+/// The conditions of an entry that are read; none without `args`.
 #[tactic(auto, unfolding(crate::specs::JsonMembers::each))]
-fn all_conditions(
-    alloc: Global,
-    reading: Reading,
-    entry: Option<u32>,
-    object: &Value,
-) -> Result<Vec<Condition>, LoadFault>
-    ensures value { Gives faults.Memory (result_map (λ v. v.items) result)
-        (and_then (optional no_items entry (codes "args") as_array (view object.now))
-        (each (condition_stated reading entry) [])) }
-    ensures range { IfOk result (λ v. All IsCondition v.items) }
-{
-    let members = find_items(entry, "args", object)?;
-    conditions_of(alloc, reading, entry, members)
-}
-
-/// The conditions of an entry that are read.
 pub(crate) fn find_conditions(
     alloc: Global,
     reading: Reading,
@@ -189,7 +150,8 @@ pub(crate) fn find_conditions(
         (each (condition_stated reading entry) [])) (λ conditions. Ok (conditions_read reading conditions))) }
     ensures range { IfOk result (λ conditions. All IsCondition conditions) }
 {
-    let mut conditions = all_conditions(alloc, reading, entry, object)?;
+    let members = find_items(entry, "args", object)?;
+    let mut conditions = conditions_of(alloc, reading, entry, members)?;
     if matches!(reading, Reading::Crun) {
         conditions.truncate(usize::from(ARGUMENTS));
     }

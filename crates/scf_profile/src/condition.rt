@@ -6,8 +6,6 @@ ghost use Rattle.scf_profile.specs.Condition.{condition_holds};
 ghost use Rattle.scf_profile.specs.NumberTests.{test_of};
 ghost use Rattle.scf_profile.specs.internal.NumberSets.{IsNumberSet, is_in_some};
 ghost use Rattle.scf_insn.specs.Architectures.{greatest_argument};
-ghost use Rattle.scf_insn.specs.SimpleMask.{IsSimpleMask};
-ghost use Rattle.scf_insn.specs.Words.{low, high};
 ghost use Rattle.scf_profile.specs.PlainProfile.{IsPlainCondition};
 ghost use Rattle.scf_profile.specs.Readings.{compares_nothing as nothing_compared};
 
@@ -42,19 +40,12 @@ pub struct Condition {
 }
 
 impl Condition {
-    /// Whether both 32-bit halves of the mask are simple.
-    fn has_simple_mask(&self) -> bool
-        ensures { IsTrue result
-            ↔ (IsSimpleMask (low self.now.value) × IsSimpleMask (high self.now.value)) }
-    {
-        is_simple_mask(low_half(self.value)) && is_simple_mask(high_half(self.value))
-    }
-
-    /// Whether its mask is simple, if its operator has one.
+    /// Whether both 32-bit halves of its mask are simple, if its operator has one.
     fn is_plain(&self) -> bool
         ensures { IsTrue result ↔ IsPlainCondition self.now }
     {
-        self.op != Operator::MaskedEqual || self.has_simple_mask()
+        self.op != Operator::MaskedEqual
+            || (is_simple_mask(low_half(self.value)) && is_simple_mask(high_half(self.value)))
     }
 
     /// The test of the argument that decides the condition, and the test's result if the condition holds.

@@ -1,17 +1,17 @@
 //! Arrays of texts, and members whose meaning depends on a container engine.
 
-ghost use Rattle.std.specs.Prelude.{◌≡◌, ◌==◌, ok_or, codes};
+ghost use Rattle.std.specs.Prelude.{◌≡◌, ◌==◌, codes};
 ghost use Rattle.serde_json.specs.Data.{no_items};
 ghost use Rattle.serde_json.specs.Events.{items_len};
 ghost use Rattle.serde_json.specs.Find.{as_array, as_str};
 ghost use Rattle.serde_json.specs.View.{view, items_view};
 ghost use Rattle.scf_profile.specs.declared.load_fault.LoadFault.TheVariants.{Memory, Kind, EmptyNames};
-ghost use Rattle.scf_profile.specs.StatedProfile.{required, optional, is_empty as empty_value, no_engine_form};
+ghost use Rattle.scf_profile.specs.StatedProfile.{required as required_stated, optional, is_empty as empty_value, no_engine_form};
 ghost use Rattle.scf_profile.specs.StatedProfile.{strings_of as strings_stated};
 ghost use Rattle.scf_profile.specs.Steps.{◌>>=◌ as and_then, Gives, refused_if};
 ghost use Rattle.scf_profile.specs.internal.Results.{result_map};
 
-use crate::json_members::member_of;
+use crate::json_members::{member_of, required};
 use crate::load_fault::LoadFault;
 use crate::texts::BorrowedTexts;
 use serde_json::Value;
@@ -90,13 +90,10 @@ pub(crate) fn find_names<'v>(
     entry: Option<u32>,
     object: &'v Value,
 ) -> Result<BorrowedTexts<'v>, LoadFault>
-    ensures { Gives Memory result (and_then (required entry (codes "names") as_array (view object.now)) (λ items.
+    ensures { Gives Memory result (and_then (required_stated entry (codes "names") as_array (view object.now)) (λ items.
         and_then (refused_if (items_len items == 0) (EmptyNames entry)) (λ _. strings_stated entry items))) }
 {
-    let Some(member) = member_of(object, "names") else {
-        return Err(LoadFault::Missing { entry });
-    };
-    let Some(names) = member.as_array() else {
+    let Some(names) = required(entry, "names", object)?.as_array() else {
         return Err(LoadFault::Kind { entry });
     };
     if names.is_empty() {

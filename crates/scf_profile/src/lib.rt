@@ -48,7 +48,7 @@ pub use named_call::NamedCall;
 pub use number_rules::NumberRules;
 pub use number_test::NumberTest;
 pub use profile::{FOREIGN_ANSWER, Profile, STUB_ANSWER};
-pub use profile_text::{load, load_as, load_profiles, load_profiles_as};
+pub use profile_text::{load, load_as, load_profiles_as};
 pub use profiles::Profiles;
 pub use reading::Reading;
 pub use reason::Reason;

@@ -3,7 +3,6 @@
 ghost use Rattle.std.specs.Prelude.{◌≡◌};
 ghost use Rattle.scf_profile.specs.declared.load_fault.LoadFault.TheVariants as faults;
 
-use scf_insn::Memory;
 use std::alloc::{AllocError, AllocFailed};
 use std::fmt;
 use thiserror::Error;
@@ -63,62 +62,40 @@ pub enum LoadFault {
     Memory,
 }
 
-impl LoadFault {
-    /// What is wrong, without the entry, the table or the numbers.
-    fn text(&self) -> &'static str {
-        match self {
-            LoadFault::Json => "no JSON, or nested more than 127 deep",
-            LoadFault::Missing { .. } => "a member is missing",
-            LoadFault::Kind { .. } => "a value of the wrong kind",
-            LoadFault::Action { .. } => "no name of an action",
-            LoadFault::Operator { .. } => "no name of an operator",
-            LoadFault::EmptyNames { .. } => "no names",
-            LoadFault::Index { .. } => "no index of an argument: they are 0 to 5",
-            LoadFault::RepeatedIndex { .. } => "two conditions on one argument",
-            LoadFault::Errno { .. } => "an errno beside an action that takes none",
-            LoadFault::ErrnoRange { .. } => "an errno outside 0 to 65535",
-            LoadFault::NoX8664 { .. } => "x86-64 is not among the architectures",
-            LoadFault::NotListed { .. } => "its architecture is not among the architectures",
-            LoadFault::EngineForm { .. } => "a form of container engines",
-            LoadFault::TooMany => "more than 4194304 bytes, or more than 4096 rules",
-            LoadFault::Conflict { .. } => "entries conflict on a call",
-            LoadFault::Memory => "out of memory",
-        }
-    }
-
-    /// The entry in which the fault is.
-    fn entry(&self) -> Option<u32> {
-        match *self {
-            LoadFault::Missing { entry }
-            | LoadFault::Kind { entry }
-            | LoadFault::Action { entry }
-            | LoadFault::Operator { entry }
-            | LoadFault::EmptyNames { entry }
-            | LoadFault::Index { entry }
-            | LoadFault::RepeatedIndex { entry }
-            | LoadFault::Errno { entry }
-            | LoadFault::ErrnoRange { entry }
-            | LoadFault::NoX8664 { entry }
-            | LoadFault::EngineForm { entry } => entry,
-            _ => None,
-        }
-    }
-}
-
 impl fmt::Display for LoadFault {
     fn fmt<W: fmt::Write>(&self, f: &mut fmt::Formatter<W>) -> fmt::Result {
-        let text = self.text();
-        match *self {
-            LoadFault::NotListed { table } => write!(f, "table {table}: {text}"),
+        let (entry, text) = match *self {
+            LoadFault::Json => (None, "no JSON, or nested more than 127 deep"),
+            LoadFault::Missing { entry } => (entry, "a member is missing"),
+            LoadFault::Kind { entry } => (entry, "a value of the wrong kind"),
+            LoadFault::Action { entry } => (entry, "no name of an action"),
+            LoadFault::Operator { entry } => (entry, "no name of an operator"),
+            LoadFault::EmptyNames { entry } => (entry, "no names"),
+            LoadFault::Index { entry } => (entry, "no index of an argument: they are 0 to 5"),
+            LoadFault::RepeatedIndex { entry } => (entry, "two conditions on one argument"),
+            LoadFault::Errno { entry } => (entry, "an errno beside an action that takes none"),
+            LoadFault::ErrnoRange { entry } => (entry, "an errno outside 0 to 65535"),
+            LoadFault::NoX8664 { entry } => (entry, "x86-64 is not among the architectures"),
+            LoadFault::NotListed { table } => {
+                return write!(
+                    f,
+                    "table {table}: its architecture is not among the architectures"
+                );
+            }
+            LoadFault::EngineForm { entry } => (entry, "a form of container engines"),
+            LoadFault::TooMany => (None, "more than 4194304 bytes, or more than 4096 rules"),
             LoadFault::Conflict {
                 number,
                 first,
                 second,
-            } => { write!(f, "entries {first} and {second} conflict on call {number}") }
-            _ => match self.entry() {
-                Some(entry) => write!(f, "entry {entry}: {text}"),
-                None => f.write_str(text),
-            },
+            } => {
+                return write!(f, "entries {first} and {second} conflict on call {number}");
+            }
+            LoadFault::Memory => (None, "out of memory"),
+        };
+        match entry {
+            Some(entry) => write!(f, "entry {entry}: {text}"),
+            None => f.write_str(text),
         }
     }
 }
@@ -141,14 +118,6 @@ impl<T: Drop> From<AllocFailed<T>> for LoadFault {
     ghost from_gives = { λ _ e. e ≡ faults.Memory };
 
     fn from(_: AllocFailed<T>) -> LoadFault {
-        LoadFault::Memory
-    }
-}
-
-impl From<Memory> for LoadFault {
-    ghost from_gives = { λ _ e. e ≡ faults.Memory };
-
-    fn from(_: Memory) -> LoadFault {
         LoadFault::Memory
     }
 }

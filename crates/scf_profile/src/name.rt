@@ -149,17 +149,13 @@ impl TableEntry {
     }
 
     /// Compares a name with this one.
-    #[tactic(auto, using(crate::proofs::Prefixes::ordered_by_prefix, crate::proofs::Prefixes::ordered_after))]
     pub(crate) fn order_of(&self, name: &Name) -> Ordering
         ensures { result ≡ slice_cmp nat_cmp name.now self.now.0 }
     {
-        if name.prefix < self.prefix {
-            Ordering::Less
-        } else if name.prefix > self.prefix {
-            Ordering::Greater
-        } else {
-            name.text.cmp(&self.text.as_slice())
-        }
+        name.cmp(&Name {
+            prefix: self.prefix,
+            text: self.text.as_slice(),
+        })
     }
 
     /// The name as text.

@@ -1,28 +1,25 @@
 //! Parses the seccomp object.
 
 ghost use Rattle.std.specs.Prelude.{◌≡◌, ◌≤◌, ◌^◌, ◌&&◌, not, nat_lt, [], IfOk, All, length, vec_len};
-ghost use Rattle.std.specs.Prelude.{Some, None, ok_or, codes};
+ghost use Rattle.std.specs.Prelude.{Some, None, ok_or};
 ghost use Rattle.std.specs.List.{list_any};
 ghost use Rattle.scf_insn.specs.declared.architecture.Architecture.TheVariants.{X8664};
-ghost use Rattle.serde_json.specs.Data.{no_items};
-ghost use Rattle.serde_json.specs.Find.{as_array};
 ghost use Rattle.serde_json.specs.View.{view, items_view};
 ghost use Rattle.scf_profile.specs.declared.load_fault.LoadFault.TheVariants as faults;
 ghost use Rattle.scf_profile.specs.internal.EntryRanges.{IsEntry};
 ghost use Rattle.scf_profile.specs.JsonMembers.{each};
 ghost use Rattle.scf_profile.specs.Readings.{is_runtime};
 ghost use Rattle.scf_profile.specs.References.{texts_at};
-ghost use Rattle.scf_profile.specs.StatedProfile.{required, optional, strings_of as strings_stated, entry_of};
+ghost use Rattle.scf_profile.specs.StatedProfile.{entry_of};
 ghost use Rattle.scf_profile.specs.StatedProfile.{object as object_stated, seccomp_of, is_named as named};
 ghost use Rattle.scf_profile.specs.StatedProfile.{all_listed as all_are_listed, listed_names, own_architecture as own_stated, tables_of};
 ghost use Rattle.scf_profile.specs.internal.Stated.{with_machine};
-ghost use Rattle.scf_profile.specs.Steps.{◌>>=◌ as and_then, refused_if, Gives};
+ghost use Rattle.scf_profile.specs.Steps.{refused_if, Gives};
 ghost use Rattle.scf_profile.specs.internal.Results.{result_map};
 
 use crate::architecture_table::{ArchitectureTable, table_for};
 use crate::entry::Entry;
-use crate::forms::{find_items, strings_of};
-use crate::json_members::member_of;
+use crate::json_members::{member_of, required};
 use crate::load_fault::LoadFault;
 use crate::reading::Reading;
 use crate::texts::BorrowedTexts;
@@ -41,17 +38,6 @@ fn object_of(value: &Value) -> Result<&Value, LoadFault>
     }
 }
 
-/// A member that must be present, and an object.
-fn find_object<'v>(object: &'v Value, name: &str) -> Result<&'v Value, LoadFault>
-    ensures { result_map (λ v. view v.now) result
-        ≡ required None name.now object_stated (view object.now) }
-{
-    match member_of(object, name) {
-        Some(member) => object_of(member),
-        None => Err(LoadFault::Missing { entry: None }),
-    }
-}
-
 /// The seccomp object: the root itself, or its `linux.seccomp`.
 #[tactic(auto, unfolding(crate::specs::StatedProfile::seccomp_of))]
 pub(crate) fn find_seccomp(root: &Value) -> Result<&Value, LoadFault>
@@ -60,7 +46,8 @@ pub(crate) fn find_seccomp(root: &Value) -> Result<&Value, LoadFault>
     if member_of(root, "defaultAction").is_some() || member_of(root, "linux").is_none() {
         return object_of(root);
     }
-    find_object(find_object(root, "linux")?, "seccomp")
+    let linux = object_of(required(None, "linux", root)?)?;
+    object_of(required(None, "seccomp", linux)?)
 }
 
 /// Whether an architecture has this name.
@@ -156,20 +143,8 @@ pub(crate) fn check_listed(
     all_listed(Some(own_architecture(tables)), names, tables)
 }
 
-/// The architectures of the object; none if they are absent.
-#[tactic(auto, unfolding(crate::specs::JsonMembers::each))]
-pub(crate) fn find_architectures(
-    alloc: Global,
-    object: &Value,
-) -> Result<BorrowedTexts<'_>, LoadFault>
-    ensures { Gives faults.Memory result
-        (and_then (optional no_items None (codes "architectures") as_array (view object.now)) (strings_stated None)) }
-{
-    strings_of(alloc, None, find_items(None, "architectures", object)?)
-}
-
 /// Parses the entries of an array, each with its index.
-fn entries_of<'v>(
+pub(crate) fn entries_of<'v>(
     alloc: Global,
     reading: Reading,
     items: &'v [Value],
@@ -189,20 +164,4 @@ fn entries_of<'v>(
         entries.push(entry)?;
     }
     Ok(entries)
-}
-
-/// The entries of the object's `syscalls`; none if it is absent.
-#[tactic(auto, unfolding(crate::specs::JsonMembers::each))]
-pub(crate) fn find_entries(
-    alloc: Global,
-    reading: Reading,
-    object: &Value,
-) -> Result<Vec<Entry<'_>>, LoadFault>
-    ensures value { Gives faults.Memory (result_map (λ v. v.items) result)
-        (and_then (optional no_items None (codes "syscalls") as_array (view object.now))
-        (each (λ before. entry_of reading (Some (length before))) [])) }
-    ensures range { IfOk result (λ v. All IsEntry v.items) }
-    ensures count { IfOk result (λ v. vec_len v ≤ 2 ^ 32) }
-{
-    entries_of(alloc, reading, find_items(None, "syscalls", object)?)
 }

@@ -7,14 +7,14 @@ ghost use Rattle.scf_insn.specs.declared.architecture.Architecture.TheVariants.{
 ghost use Rattle.scf_profile.specs.declared.load_fault.LoadFault.TheVariants.{Memory, TooMany};
 ghost use Rattle.scf_profile.specs.internal.EntryRanges.{AreStatedRules, IsEntry, TellsOneTooMany, TellsTooMany};
 ghost use Rattle.scf_profile.specs.Limits.{max_text_len};
-ghost use Rattle.scf_profile.specs.Loading.{IsText, Loads, LoadsAs, LoadsEach, LoadsEachAs, Refuses, RefusesAs, RefusesEach, RefusesEachAs};
+ghost use Rattle.scf_profile.specs.Loading.{IsText, Loads, LoadsAs, LoadsEachAs, Refuses, RefusesAs, RefusesEachAs};
 ghost use Rattle.scf_profile.specs.internal.Refusals.{NamesFirstConflict, NamesLeastConflict, ParseRefuses};
 ghost use Rattle.scf_profile.specs.internal.Results.{result_map};
 ghost use Rattle.scf_profile.specs.internal.Stated.{effective_of, head_stated, loaded_of, loaded_profiles_of, stated_profile};
 ghost use Rattle.scf_profile.specs.Profile.{AreOfApart, HaveNoConflict};
 ghost use Rattle.scf_profile.specs.Readings.{effective_rules as effective_by};
 ghost use Rattle.scf_profile.specs.Steps.{Gives};
-ghost use Rattle.scf_profile.specs.StatedProfile.{entries_of, head_of, profile_for, profile_of, profiles_from, profiles_of, rules_from, tables_of};
+ghost use Rattle.scf_profile.specs.StatedProfile.{entries_of as entries_stated, head_of, profile_for, profile_of, profiles_from, profiles_of, rules_from, tables_of};
 
 use crate::action::find_answer;
 use crate::architecture_table::{ArchitectureTable, table_for};
@@ -22,14 +22,12 @@ use crate::conflict::least_conflict;
 use crate::effective::effective_rules;
 use crate::entry::Entry;
 use crate::expand::{other_architectures, rules_under, skipped_under};
-use crate::forms::check_no_engine_form;
+use crate::forms::{check_no_engine_form, find_items, strings_of};
 use crate::limits::MAX_TEXT_LEN;
 use crate::load_fault::LoadFault;
 use crate::loaded::{Loaded, LoadedProfiles};
 use crate::number_rules::by_number;
-use crate::object::{
-    check_architectures, check_listed, find_architectures, find_entries, find_seccomp,
-};
+use crate::object::{check_architectures, check_listed, entries_of, find_seccomp};
 use crate::profile::Profile;
 use crate::profiles::Profiles;
 use crate::reading::Reading;
@@ -65,14 +63,14 @@ struct Head<'v> {
 }
 
 /// Parses the root up to its architectures.
-#[tactic(auto, unfolding(crate::specs::StatedProfile::head_of))]
+#[tactic(auto, unfolding(crate::specs::JsonMembers::each, crate::specs::StatedProfile::head_of))]
 fn read_head(alloc: Global, reading: Reading, root: &Value) -> Result<Head<'_>, LoadFault>
     ensures value { Gives Memory (result_map head_stated result) (head_of reading (view root.now)) }
     ensures range { IfOk result (λ head. head.default_answer.0 < 2 ^ 32) }
 {
     let object = find_seccomp(root)?;
     let default_answer = find_answer(reading, None, "defaultAction", "defaultErrnoRet", object)?;
-    let architectures = find_architectures(alloc, object)?;
+    let architectures = strings_of(alloc, None, find_items(None, "architectures", object)?)?;
     Ok(Head {
         object,
         default_answer,
@@ -81,18 +79,18 @@ fn read_head(alloc: Global, reading: Reading, root: &Value) -> Result<Head<'_>, 
 }
 
 /// Parses the entries.
-#[tactic(auto, unfolding(crate::specs::StatedProfile::entries_of))]
+#[tactic(auto, unfolding(crate::specs::JsonMembers::each, crate::specs::StatedProfile::entries_of))]
 fn read_entries(
     alloc: Global,
     reading: Reading,
     object: &Value,
 ) -> Result<Vec<Entry<'_>>, LoadFault>
-    ensures value { Gives Memory (result_map (λ v. v.items) result) (entries_of reading (view object.now)) }
+    ensures value { Gives Memory (result_map (λ v. v.items) result) (entries_stated reading (view object.now)) }
     ensures range { IfOk result (λ v. All IsEntry v.items) }
     ensures count { IfOk result (λ v. vec_len v ≤ 2 ^ 32) }
 {
     check_no_engine_form(None, "archMap", object)?;
-    find_entries(alloc, reading, object)
+    entries_of(alloc, reading, find_items(None, "syscalls", object)?)
 }
 
 /// Rules of an architecture before the test for conflicts.
@@ -358,24 +356,10 @@ fn all_without_conflict(
     Ok(Profiles::from_vec(profiles))
 }
 
-/// Loads the profile of each architecture that has a table, from JSON text (at most 4194304 bytes). The architecture of
-/// each table has to be listed. An error is the first test that fails, the last being that no two rules of one
-/// architecture conflict, or `Memory` if an allocation failed.
-pub fn load_profiles(
-    alloc: Global,
-    text: &[u8],
-    tables: &[ArchitectureTable],
-) -> Result<LoadedProfiles, LoadFault>
-    ensures ok { IfOk result (λ loaded. LoadsEach text.now (tables_of tables.now) loaded) }
-    ensures err { IfErr result (λ fault. RefusesEach text.now (tables_of tables.now) fault) }
-    // A text that is too long is refused before anything is allocated.
-    ensures long { max_text_len < length text.now → result ≡ Err TooMany }
-{
-    load_profiles_as(alloc, Reading::Strict, text, tables)
-}
-
-/// Loads profiles as `load_profiles` does, but reads them as a container runtime does, which adds the machine's own
-/// architecture to those that are listed: x86-64 if it has a table, else aarch64.
+/// Loads the profile of each architecture that has a table, from JSON text (at most 4194304 bytes), by a reading. The
+/// architecture of each table has to be listed; a container runtime adds the machine's own to those that are listed:
+/// x86-64 if it has a table, else aarch64. An error is the first test that fails, the last being that no two rules of
+/// one architecture conflict, or `Memory` if an allocation failed.
 pub fn load_profiles_as(
     alloc: Global,
     reading: Reading,

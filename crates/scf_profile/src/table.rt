@@ -62,9 +62,10 @@ impl CallTable {
             add_line(&mut numbers, number, line)?;
             remaining = behind;
         }
-        Ok(CallTable {
-            entries: entries_of(alloc, numbers)?,
-        })
+        let Ok(entries) = entries_of(alloc, numbers) else {
+            return Err(TableFault::Memory);
+        };
+        Ok(CallTable { entries })
     }
 
     /// The number of the syscall with this name, if the table has it.

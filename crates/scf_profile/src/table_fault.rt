@@ -3,7 +3,7 @@
 ghost use Rattle.std.specs.Prelude.{◌≡◌};
 ghost use Rattle.scf_profile.specs.declared.table_fault.TableFault.TheVariants.{Memory};
 
-use std::alloc::{AllocError, AllocFailed};
+use std::alloc::AllocFailed;
 use std::fmt;
 use thiserror::Error;
 
@@ -20,51 +20,22 @@ pub enum TableFault {
     Memory,
 }
 
-impl TableFault {
-    /// The message, without the line.
-    fn text(&self) -> &'static str {
-        match self {
-            TableFault::Form { .. } => "not a name and a number",
-            TableFault::Name { .. } => "no name of a call",
-            TableFault::Number { .. } => "no number of a call",
-            TableFault::Repeated { .. } => "the name stands on an earlier line",
-            TableFault::Memory => "out of memory",
-        }
-    }
-
-    /// The faulty line, if there is one.
-    fn line(&self) -> Option<usize> {
-        match *self {
-            TableFault::Form { line }
-            | TableFault::Name { line }
-            | TableFault::Number { line }
-            | TableFault::Repeated { line } => Some(line),
-            TableFault::Memory => None,
-        }
-    }
-}
-
 impl fmt::Display for TableFault {
     fn fmt<W: fmt::Write>(&self, f: &mut fmt::Formatter<W>) -> fmt::Result {
-        let text = self.text();
-        match self.line() {
-            Some(line) => write!(f, "line {line}: {text}"),
-            None => f.write_str(text),
-        }
+        let (line, text) = match *self {
+            TableFault::Form { line } => (line, "not a name and a number"),
+            TableFault::Name { line } => (line, "no name of a call"),
+            TableFault::Number { line } => (line, "no number of a call"),
+            TableFault::Repeated { line } => (line, "the name stands on an earlier line"),
+            TableFault::Memory => return f.write_str("out of memory"),
+        };
+        write!(f, "line {line}: {text}")
     }
 }
 
 impl fmt::Debug for TableFault {
     fn fmt<W: fmt::Write>(&self, f: &mut fmt::Formatter<W>) -> fmt::Result {
         fmt::Display::fmt(self, f)
-    }
-}
-
-impl From<AllocError> for TableFault {
-    ghost from_gives = { λ _ e. e ≡ Memory };
-
-    fn from(_: AllocError) -> TableFault {
-        TableFault::Memory
     }
 }
 

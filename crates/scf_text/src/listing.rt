@@ -1,5 +1,5 @@
 //! The disassembler.
-ghost use Rattle.std.specs.Prelude.{◌≡◌, ◌++◌, ◌∷◌, [], false, codes};
+ghost use Rattle.std.specs.Prelude.{◌≡◌, ◌++◌, false, codes};
 ghost use Rattle.std.specs.List.{flat_map};
 ghost use Rattle.std.specs.Fmt.{digits};
 ghost use Rattle.scf_insn.specs.Streams.{Writes};
