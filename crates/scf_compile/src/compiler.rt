@@ -25,7 +25,7 @@ use crate::weights::{CallCount, range_weights};
 use scf_insn::kernel::BPF_MAXINSNS;
 use scf_insn::{Insn, Memory};
 use scf_machine::{CheckFault, Program, check};
-use scf_profile::{FOREIGN_ANSWER, Profile, Profiles, Rule, STUB_ANSWER};
+use scf_profile::{FOREIGN_ANSWER, Profile, Rule, STUB_ANSWER};
 use std::alloc::{AllocError, Global};
 use std::collections::VecDeque;
 
@@ -220,8 +220,13 @@ fn filter_of(alloc: Global, profiles: &[Profile], counts: &[CallCount]) -> Resul
     filter_of_several(alloc, profiles, counts)
 }
 
-/// Compiles profiles, of which no two are for one record, as `compile_profiles` does. Searches are cut by how often
-/// each syscall is called, so that frequent ones take few steps; what is promised doesn't depend on the counts.
+/// Compiles profiles, of which no two are for one record, to a filter that answers every call record as the profile of
+/// its architecture does, in all 32 bits, and with KILL_PROCESS if there is none: also if the text of the profiles lists
+/// its architecture, but no table of it was handed in. Each run takes at most as many steps as `compile` states for the
+/// profile that takes the most, plus 2 for each other profile. Plain profiles give a plain program. It has at most as
+/// many instructions as the sum of their size bounds, or 2 if there is no profile. `TooLarge` comes only if that sum
+/// exceeds `BPF_MAXINSNS`, and `Memory` only if an allocation failed. Searches are cut by how often each syscall is
+/// called, so that frequent ones take few steps; what is promised doesn't depend on the counts.
 #[tactic(auto, using(crate::proofs::Valid::answers_same, crate::proofs::Valid::is_plain))]
 pub fn compile_by_counts(
     alloc: Global,
@@ -266,21 +271,4 @@ pub fn compile(alloc: Global, profile: &Profile) -> Result<Program, CompileFault
     ensures large { IfErr result (λ fault. fault ≡ CompileFault.TooLarge → bpf_maxinsns < size_bound_of profile.now) }
 {
     compile_by_counts(alloc, std::slice::from_ref(profile), &[])
-}
-
-/// Compiles the profiles of several architectures to a filter that answers every call record as the profile of its
-/// architecture does, in all 32 bits, and with KILL_PROCESS if there is none: also if the text of the profiles lists
-/// its architecture, but no table of it was handed in. Each run takes at most as many steps as `compile` states for the
-/// profile that takes the most, plus 2 for each other profile. Plain profiles give a plain program. It has at most as
-/// many instructions as the sum of their size bounds, or 2 if there is no profile. `TooLarge` comes only if that sum
-/// exceeds `BPF_MAXINSNS`, and `Memory` only if an allocation failed.
-pub fn compile_profiles(alloc: Global, profiles: &Profiles) -> Result<Program, CompileFault>
-    ensures same { IfOk result (λ program. SameAnswersAsEach (RunAnswers program) profiles.now) }
-    ensures searched { IfOk result (λ program. AnswersWithin program (search_bound_of_each profiles.now)) }
-    ensures plain { All IsPlainProfile profiles.now → IfOk result IsPlainProgram }
-    ensures sized { IfOk result (λ program. length program ≤ max 2 (size_bound_of_each profiles.now)) }
-    ensures large { IfErr result
-        (λ fault. fault ≡ CompileFault.TooLarge → bpf_maxinsns < size_bound_of_each profiles.now) }
-{
-    compile_by_counts(alloc, profiles.as_slice(), &[])
 }

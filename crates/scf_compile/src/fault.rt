@@ -5,7 +5,7 @@ use std::fmt;
 use thiserror::Error;
 
 /// Why a profile isn't compiled.
-#[derive(Clone, Copy, Error)]
+#[derive(Clone, Copy, Debug, Error)]
 pub enum CompileFault {
     /// The filter would have more than `BPF_MAXINSNS` (4096) instructions. This can happen only if `size_bound` exceeds
     /// that.
@@ -19,12 +19,6 @@ impl fmt::Display for CompileFault {
             CompileFault::TooLarge => "the filter would have more than 4096 instructions",
             CompileFault::Memory => "out of memory",
         })
-    }
-}
-
-impl fmt::Debug for CompileFault {
-    fn fmt<W: fmt::Write>(&self, f: &mut fmt::Formatter<W>) -> fmt::Result {
-        fmt::Display::fmt(self, f)
     }
 }
 

@@ -14,7 +14,7 @@ mod size;
 mod values;
 mod weights;
 
-pub use compiler::{compile, compile_by_counts, compile_profiles};
+pub use compiler::{compile, compile_by_counts};
 pub use fault::CompileFault;
-pub use size::{size_bound, size_bound_of_profiles};
+pub use size::size_bound;
 pub use weights::CallCount;

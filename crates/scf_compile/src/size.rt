@@ -1,9 +1,9 @@
 //! The size bounds of compiled filters.
 
-ghost use Rattle.std.specs.Prelude.{◌≡◌, ◌<◌, ◌^◌, min, sum_by};
-ghost use Rattle.scf_compile.specs.SizeBound.{number_count, rule_bound, size_bound_of, size_bound_of_each, stub_count};
+ghost use Rattle.std.specs.Prelude.{◌≡◌, ◌<◌, ◌^◌, sum_by};
+ghost use Rattle.scf_compile.specs.SizeBound.{number_count, rule_bound, size_bound_of, stub_count};
 
-use scf_profile::{Profile, Profiles, Rule};
+use scf_profile::{Profile, Rule};
 
 /// 1 for a profile with a stub, else 0.
 fn stub_count(profile: &Profile) -> usize
@@ -45,16 +45,4 @@ pub fn size_bound(profile: &Profile) -> u64
 {
     let rules = bound_of_rules(profile.rules()) + 2 * stub_count(profile) as u64;
     8 + 4 * number_count(profile) as u64 + rules
-}
-
-/// The size bound of the filter of several profiles, in instructions: the sum of their size bounds, or `u64::MAX` if
-/// that is less. `compile_profiles` answers `TooLarge` only if the sum exceeds `BPF_MAXINSNS` (4096). Never allocates.
-pub fn size_bound_of_profiles(profiles: &Profiles) -> u64
-    ensures { result ≡ min (size_bound_of_each profiles.now) u64.MAX }
-{
-    let mut sum = 0u64;
-    for profile in profiles.as_slice() {
-        sum = sum.saturating_add(size_bound(profile));
-    }
-    sum
 }

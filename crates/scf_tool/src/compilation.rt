@@ -27,7 +27,7 @@ pub fn filter_of(
 }
 
 /// The bytes of the filter that answers as the profiles of several architectures do. The errors are those of
-/// `compile_profiles`.
+/// `compile_by_counts`.
 pub fn filter_of_each(
     alloc: Global,
     profiles: &Profiles,
