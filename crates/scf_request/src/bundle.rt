@@ -20,7 +20,7 @@ ghost use Rattle.scf_request.specs.Bundle.{
 
 use crate::request::Scopes;
 use scf_insn::{ARCHITECTURES, Architecture, parse_numeral};
-use std::alloc::{AllocError, AllocFailed, Global};
+use std::alloc::Global;
 use std::fmt;
 use thiserror::Error;
 
@@ -75,28 +75,6 @@ pub enum BundleFault {
 impl fmt::Debug for BundleFault {
     fn fmt<W: fmt::Write>(&self, f: &mut fmt::Formatter<W>) -> fmt::Result {
         fmt::Display::fmt(self, f)
-    }
-}
-
-impl From<AllocError> for BundleFault {
-    ghost use Rattle.std.specs.Prelude.{◌≡◌};
-    ghost use Rattle.scf_request.specs.declared.bundle.BundleFault.TheVariants.{Memory};
-
-    ghost from_gives = { λ _ e. e ≡ Memory };
-
-    fn from(_e: AllocError) -> BundleFault {
-        BundleFault::Memory
-    }
-}
-
-impl<T: Drop> From<AllocFailed<T>> for BundleFault {
-    ghost use Rattle.std.specs.Prelude.{◌≡◌};
-    ghost use Rattle.scf_request.specs.declared.bundle.BundleFault.TheVariants.{Memory};
-
-    ghost from_gives = { λ _ e. e ≡ Memory };
-
-    fn from(_e: AllocFailed<T>) -> BundleFault {
-        BundleFault::Memory
     }
 }
 
@@ -172,20 +150,6 @@ fn count_in(kind: PartKind, line: &[u8]) -> Option<usize>
     count_of(digits)
 }
 
-/// The kind, one of these, and the length in a header, without its line end.
-fn kind_and_count(kinds: &[PartKind], line: &[u8]) -> Option<(PartKind, usize)>
-    ensures { MatchOption result
-        ((kind : PartKind) (n : ℕ) → Contains kinds.now kind → IsHeader (line.now ++ codes "\n") kind n → ⊥)
-        (λ header. Contains kinds.now header.0 × IsHeader (line.now ++ codes "\n") header.0 header.1) }
-{
-    for kind in kinds {
-        if let Some(count) = count_in(*kind, line) {
-            return Some((*kind, count));
-        }
-    }
-    None
-}
-
 /// The index of the first line end.
 fn line_len(bytes: &[u8]) -> Option<usize>
     ensures line_end { IfSome result (λ n. n < length bytes.now × (slice_index bytes.now n ≡ 10)) }
@@ -209,12 +173,16 @@ fn header_of(kinds: &[PartKind], bytes: &[u8]) -> Option<Header>
         → Contains kinds.now kind → HasHeader bytes.now kind count → ⊥) }
 {
     let end = line_len(bytes)?;
-    let (kind, count) = kind_and_count(kinds, &bytes[..end])?;
-    Some(Header {
-        kind,
-        count,
-        length: end + 1,
-    })
+    for kind in kinds {
+        if let Some(count) = count_in(*kind, &bytes[..end]) {
+            return Some(Header {
+                kind: *kind,
+                count,
+                length: end + 1,
+            });
+        }
+    }
+    None
 }
 
 /// The part at an offset, of one of these kinds.
@@ -340,7 +308,9 @@ pub(crate) fn split_by(
     let mut offset = 0;
     while offset < bytes.len() {
         let part = part_at(kinds, bytes, offset)?;
-        parts.push(part)?;
+        if parts.push(part).is_err() {
+            return Err(BundleFault::Memory);
+        }
         offset = part.start + part.length;
     }
     Ok(parts)

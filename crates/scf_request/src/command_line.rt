@@ -268,25 +268,13 @@ fn program_alone<'a>(alloc: Global) -> Command<'a>
         .subcommand_required(true)
 }
 
-/// The program with one more command.
-fn with_command<'a>(
-    alloc: Global,
-    program: Command<'a>,
-    definition: &Definition,
-) -> Result<Command<'a>, AllocError>
-    ensures { IfOk result (λ whole. app_of whole ≡ with_subcommand (app_of program.entry) (shape_of definition.now)) }
-{
-    let command = define(alloc, definition)?;
-    program.subcommand(command)
-}
-
 /// The program with these commands.
 fn program<'a>(alloc: Global, definitions: &[Definition]) -> Result<Command<'a>, AllocError>
     ensures { IfOk result (λ program. app_of program ≡ program_of definitions.now) }
 {
     let mut program = program_alone(alloc);
     for definition in definitions {
-        program = with_command(alloc, program, definition)?;
+        program = program.subcommand(define(alloc, definition)?)?;
     }
     Ok(program)
 }

@@ -32,7 +32,7 @@ impl<'a> Contents<'a> {
     fn add(&mut self, kind: PartKind, bytes: &'a [u8]) -> Result<(), BundleFault>
         ensures { AddsPart kind bytes.now self.old result self.new }
     {
-        let reader = PartReader::new(bytes);
+        let reader = PartReader { rest: bytes };
         match kind {
             PartKind::Filter => push(&mut self.filters, reader),
             PartKind::Profile => push(&mut self.profiles, reader),
@@ -88,7 +88,9 @@ fn push<R: Drop>(readers: &mut Vec<R>, reader: R) -> Result<(), BundleFault>
     ensures ok { OnOk result (readers.new.items ≡ readers.old.items ++ reader ∷ []) }
     ensures fault { IfErr result (λ fault. fault ≡ BundleFault.Memory) }
 {
-    readers.push(reader)?;
+    if readers.push(reader).is_err() {
+        return Err(BundleFault::Memory);
+    }
     Ok(())
 }
 
@@ -118,12 +120,6 @@ pub struct PartReader<'a> {
 }
 
 impl<'a> PartReader<'a> {
-    fn new(bytes: &'a [u8]) -> PartReader<'a>
-        ensures { rest_of result ≡ bytes.now }
-    {
-        PartReader { rest: bytes }
-    }
-
     /// The bytes that aren't read yet.
     pub fn rest(&self) -> &'a [u8]
         ensures { result.now ≡ rest_of self.now }

@@ -3,7 +3,7 @@
 ghost use Rattle.std.specs.Prelude.{◌≡◌, Some, length, map, IfErr, IfOk};
 ghost use Rattle.scf_profile.specs.Loading.{RefusesAs, RefusesEachAs};
 ghost use Rattle.scf_profile.specs.StatedProfile.{tables_of, with_stub};
-ghost use Rattle.scf_request.specs.Interpretations.{LoadsBy, LoadsEachBy, each_with_stub, stubbed, stub_number as number_of_stub, stub_of as stub_stated, stubs_of as stubs_stated, by_words as words_alone};
+ghost use Rattle.scf_request.specs.Interpretations.{LoadsBy, LoadsEachBy, each_with_stub, stubbed, stub_of as stub_stated, stubs_of as stubs_stated, by_words as words_alone};
 ghost use Rattle.scf_request.specs.Contents.{rest_of_table};
 
 use crate::bundle::BundleFault;
@@ -63,7 +63,9 @@ impl Interpretation {
             ≡ record { reading = reading; stubs = stubs_stated (map rest_of_table stubs.now) }) }
         ensures fault { IfErr result (λ fault. fault ≡ BundleFault.Memory) }
     {
-        let stubs = stubs_of(alloc, stubs)?;
+        let Ok(stubs) = stubs_of(alloc, stubs) else {
+            return Err(BundleFault::Memory);
+        };
         Ok(Interpretation { reading, stubs })
     }
 
@@ -147,24 +149,17 @@ impl Stub {
     }
 }
 
-/// The number of a stub, in decimal digits.
-fn stub_number(text: &[u8]) -> Option<u32>
-    ensures { result ≡ number_of_stub text.now }
-{
-    match parse_numeral(text, 10) {
-        Ok(number) if number <= u64::from(u32::MAX) => Some(number as u32),
-        _ => None,
-    }
-}
-
-/// The stub of a part, if it has the number of one.
+/// The stub of a part, if it has the number of one in decimal digits.
 fn stub_of(part: &TableReader<PartReader<'_>>) -> Option<Stub>
     ensures { result ≡ stub_stated (rest_of_table part.now) }
 {
-    Some(Stub {
-        architecture: part.architecture,
-        first: stub_number(part.reader.rest())?,
-    })
+    match parse_numeral(part.reader.rest(), 10) {
+        Ok(number) if number <= u64::from(u32::MAX) => Some(Stub {
+            architecture: part.architecture,
+            first: number as u32,
+        }),
+        _ => None,
+    }
 }
 
 /// The stubs of the parts that have the number of one, in order.

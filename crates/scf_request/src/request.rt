@@ -321,23 +321,16 @@ fn request_named(name: &str, options: &ArgMatches<'_>) -> Result<Request, Reques
     }
 }
 
-/// The request, if it goes over a record at least, where it goes over records.
-fn over_record(request: Request) -> Result<Request, RequestFault>
-    ensures same { IfOk result (λ same. (same ≡ request) × GoesOverRecord request) }
-    ensures range { IfErr result (λ fault. (fault ≡ RequestFault.Range) × (GoesOverRecord request → ⊥)) }
+/// The request of the command with this name and these options, if it goes over a record at least.
+fn request_asked(name: &str, options: &ArgMatches<'_>) -> Result<Request, RequestFault>
+    ensures { AsksFor (Some (name.now, rows_of (found_of options.now))) result }
 {
+    let request = request_named(name, options)?;
     if goes_over_record(&request) {
         Ok(request)
     } else {
         Err(RequestFault::Range)
     }
-}
-
-/// The request of the command with this name and these options, if it goes over a record at least.
-fn request_asked(name: &str, options: &ArgMatches<'_>) -> Result<Request, RequestFault>
-    ensures { AsksFor (Some (name.now, rows_of (found_of options.now))) result }
-{
-    over_record(request_named(name, options)?)
 }
 
 /// The request of parsed arguments. The error: no command, the first option whose text isn't a number in its range,

@@ -9,8 +9,8 @@ returns-in_err-part-clause-none c =
     c.loop-offset.invariant.spelled c.in_err-part.ensures.fault in
     rw (stopped.1, stopped.2) (fault_no_parts c.args.kinds.now c.args.bytes.now c.in_err-part.field-0.0 here)
 
-pub returns-in_err-push-clause-first : goal.returns-in_err-push-clause-first
-returns-in_err-push-clause-first c =
+pub returns-then-is_err-clause-first : goal.returns-then-is_err-clause-first
+returns-then-is_err-clause-first c =
     let part = c.in_ok-part.part in
     let inside = c.in_ok-part.ensures.inside in
     λ first bad.
