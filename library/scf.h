@@ -352,7 +352,7 @@ enum scf_verdict {
     SCF_NO_VERDICT = 0, /* nothing was compared: the call didn't end with SCF_OK */
     SCF_HOLDS = 1,      /* proved for every call of the scope */
     SCF_FAILS = 2,      /* `call` shows it, with both answers */
-    SCF_UNDECIDED = 3,  /* more splits (10,000) or steps below them are wanted than a comparison makes */
+    SCF_UNDECIDED = 3,  /* not known: runs of a filter end at `at`, and their answers aren't decided */
     SCF_UNFINISHED = 4  /* a limit was reached */
 };
 

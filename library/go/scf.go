@@ -139,7 +139,7 @@ type Verdict uint32
 const (
 	Holds Verdict = iota + 1
 	Fails
-	Undecided  // more splits (10,000) or steps below them are wanted than a comparison makes
+	Undecided  // not known: runs of a filter end at an instruction, and their answers aren't decided
 	Unfinished // a limit was reached
 )
 

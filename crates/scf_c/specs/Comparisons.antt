@@ -8,7 +8,7 @@ use Rattle.scf_compare.specs.declared.finding.Finding.TheVariants.{Holds, Fails,
 use Rattle.scf_compare.specs.declared.finding.Which.{Which}
 use Rattle.scf_compare.specs.declared.finding.Which.TheVariants.{Left, Right}
 use Rattle.scf_compare.specs.Sides.{Behavior}
-use Rattle.scf_tool.specs.Comparisons.{AreFound, IsFoundInTurn, Remaining, all_of}
+use Rattle.scf_tool.specs.Comparisons.{AreFound, IsFoundInTurn}
 use Rattle.scf_tool.specs.JointFindings.{is_holding, worst_of}
 use Rattle.scf_tool.specs.Reports.{report_text}
 use Rattle.scf_tool.specs.declared.findings.Findings.TheVariants.{AtOnce}
@@ -37,8 +37,7 @@ use Rattle.scf_c.specs.Sides.{refusal_of_right, tables_in_scope}
 -- ---- findings
 
 -- each of several sets of records has its finding, in no more steps than remain
-abbrev pub AreFoundOver : Relation → Behavior → Behavior → Limit → Remaining → List Records → List Finding → Remaining
-    → Type 0
+abbrev pub AreFoundOver : Relation → Behavior → Behavior → Limit → ℕ → List Records → List Finding → ℕ → Type 0
 AreFoundOver relation left right limit =
     AreFound (λ remaining records. IsFoundInTurn relation left right records.scope limit remaining)
 
@@ -110,12 +109,12 @@ pub record IsCompared (question : Question) (left right : SideInput) (tables : L
   pub right_side : ReadSide
   pub records : List Records
   pub findings : List Finding
-  pub remaining : Remaining
+  pub remaining : ℕ
   pub is_left : IsRead left asked.left tables left_side
   pub is_right : IsRead right asked.right tables right_side
   pub are_records : AreSomeRecords asked.over (tables_in_scope left_side right_side tables) records
   pub are_found : AreFoundOver asked.relation (behavior_of_read left_side) (behavior_of_read right_side)
-      (limit_of question) (all_of question.total_limit) records findings remaining
+      (limit_of question) question.total_limit records findings remaining
   pub comparison_is : compared.comparison ≡ comparison_of findings left_side right_side
   pub each_is : compared.each.items ≡ of_each records findings
   pub text_is : compared.text.items ≡ text_of asked.relation right_side (joint_finding findings)

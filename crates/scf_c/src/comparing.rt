@@ -1,8 +1,8 @@
 //! Comparisons of two sides over several sets of records.
 
-ghost use Rattle.std.specs.Prelude.{◌≡◌, ◌++◌, find, IfErr, IfOk, MatchOption, OnOk};
+ghost use Rattle.std.specs.Prelude.{◌≡◌, ◌++◌, ℕ, find, IfErr, IfOk, MatchOption, OnOk};
 ghost use Rattle.scf_compare.specs.Sides.{behavior_of};
-ghost use Rattle.scf_tool.specs.Comparisons.{IsFoundInTurn, Remaining, all_of};
+ghost use Rattle.scf_tool.specs.Comparisons.{IsFoundInTurn};
 ghost use Rattle.scf_tool.specs.JointFindings.{is_holding};
 ghost use Rattle.scf_c.specs.Sides.{behavior_of_read};
 ghost use Rattle.scf_c.specs.Comparisons.{
@@ -55,8 +55,7 @@ fn compare_over(
     remaining_below: &mut u64,
 ) -> Result<Finding, Memory>
     ensures { IfOk result (λ finding. IsFoundInTurn relation (behavior_of left.now) (behavior_of right.now)
-        records.scope limit (record { steps = remaining.old; search_steps = remaining_below.old }) finding
-        (record { steps = remaining.new; search_steps = remaining_below.new })) }
+        records.scope limit remaining.old finding remaining.new) }
 {
     word_sets_start_exact();
     compare_sides_within::<WordSets>(
@@ -81,8 +80,8 @@ fn compare_each(
     limit: Limit,
     total: u64,
 ) -> Result<Vec<Finding>, Memory>
-    ensures { IfOk result (λ findings. (remaining : Remaining)
-        × AreFoundOver relation (behavior_of left.now) (behavior_of right.now) limit (all_of total) several.now
+    ensures { IfOk result (λ findings. (remaining : ℕ)
+        × AreFoundOver relation (behavior_of left.now) (behavior_of right.now) limit total several.now
         findings.items remaining) }
 {
     let mut findings = Vec::new(alloc);
@@ -114,8 +113,8 @@ fn compare_read(
     limit: Limit,
     total: u64,
 ) -> Result<Vec<Finding>, Memory>
-    ensures { IfOk result (λ findings. (remaining : Remaining)
-        × AreFoundOver relation (behavior_of_read left.now) (behavior_of_read right.now) limit (all_of total)
+    ensures { IfOk result (λ findings. (remaining : ℕ)
+        × AreFoundOver relation (behavior_of_read left.now) (behavior_of_read right.now) limit total
         several.now findings.items remaining) }
 {
     let left = left.as_side();

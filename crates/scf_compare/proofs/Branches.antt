@@ -356,7 +356,6 @@ known_test {K = K} {N = N} store compared tree frontier known atom if_true if_fa
     let leads = λ (before : K) (from : N).
     known_step (pair_leaves compared) given (tree before) from (tree known) atom if_true if_false answer known_answer in
     record {
-      opened = inl (refl, grind (arith, cases_Bool answer));
       goes = λ before from step.
           let (later, costs) = leads before from step in
           went_on store tree frontier (tree before) from (tree known) _ later f costs;

@@ -3,7 +3,6 @@ pub mod AffineTerms
 pub mod Bits
 pub mod BitSets
 pub mod Branches
-pub mod Budgets
 pub mod Common
 pub mod ControlFlows
 pub mod Halves
@@ -14,7 +13,6 @@ pub mod Numbered
 pub mod Relations
 pub mod Rules
 pub mod Saturated
-pub mod Searches
 pub mod SeveralProfiles
 pub mod Weights
 pub mod SplitLaws

@@ -6,7 +6,6 @@ pub mod Limits
 pub mod Masked
 pub mod Paths
 pub mod Regions
-pub mod Searches
 pub mod SideLaws
 pub mod Sides
 pub mod Splits

@@ -9,7 +9,6 @@ use Rattle.scf_profile.specs.Profile.{Profile}
 use Rattle.scf_profile.specs.ProfileAnswers.{ProfileAnswers}
 use Rattle.scf_profile.specs.SameAnswers.{AreSame}
 use Rattle.scf_profile.specs.declared.relation.Relation.{Relation}
-use Rattle.scf_profile.specs.declared.relation.Relation.TheVariants as relations
 use Rattle.scf_profile.specs.declared.scope.Scope.{Scope}
 use Rattle.scf_compare.specs.declared.finding.Finding.{Finding}
 use Rattle.scf_compare.specs.declared.finding.Finding.TheVariants as findings
@@ -18,11 +17,8 @@ use Rattle.scf_compare.specs.declared.verdict.Verdict.{Verdict}
 use Rattle.scf_compare.specs.declared.verdict.Verdict.TheVariants.{Same, Differs, Undecided, Unfinished}
 use Rattle.scf_profile.specs.Relation.{IsRelated}
 use Rattle.scf_profile.specs.Scope.{AllAreRelated, IsInScope}
-use Rattle.scf_compare.specs.Effort.{effort_of_stack}
-use Rattle.scf_compare.specs.Findings.{IsFindingDecided, IsFindingWithin, compared_in}
-use Rattle.scf_compare.specs.Limits.{default_splits}
-use Rattle.scf_compare.specs.Searches.{IfUndecided, IsGivenUp}
-use Rattle.scf_compare.specs.Sides.{CanEndAt, StackCanEndAt, profile_behavior, stack_behavior}
+use Rattle.scf_compare.specs.Findings.{IsFindingDecided, IsFindingWithin}
+use Rattle.scf_compare.specs.Sides.{CanEndAt, StackCanEndAt}
 
 -- What a verdict on a filter and a profile claims: that the relation holds of the answers to every call record of the
 -- scope; that this record is of the scope, and that they answer it so and so, of which the relation doesn't hold; and
@@ -65,9 +61,3 @@ IsWithin limit effort verdict = IsFindingWithin limit effort (finding_of verdict
 -- A verdict decides whether a claim holds, which is that of Same, unless the limit is below the effort.
 abbrev pub IsDecided : Type 0 → ℕ → ℕ → Verdict → Type 0
 IsDecided claim limit effort verdict = IsFindingDecided claim limit effort (finding_of verdict)
-
--- An undecided verdict, within a limit of steps, comes of a search that was given up.
-abbrev pub WasGivenUp : List (List Insn) → Profile → Scope → ℕ → Verdict → Type 0
-WasGivenUp filters p scope limit verdict = IfUndecided (finding_of verdict)
-    (IsGivenUp (compared_in relations.Same scope (stack_behavior filters) (profile_behavior p))
-    (effort_of_stack filters p) default_splits limit)

@@ -21,4 +21,3 @@ pub mod Stacks
 pub mod Stages
 pub mod Trees
 pub mod Values
-pub mod Walks

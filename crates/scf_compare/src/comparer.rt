@@ -1,6 +1,6 @@
 //! Comparisons: of two sides, and of a filter with a profile.
 
-ghost use Rattle.std.specs.Prelude.{◌≡◌, ◌∷◌, [], ℕ, All, IsTrue, IfOk, OnErr, min};
+ghost use Rattle.std.specs.Prelude.{◌≡◌, ℕ, All, IsTrue, IfOk, OnErr, min};
 ghost use Rattle.scf_machine.specs.Machine.{RunAnswers};
 ghost use Rattle.scf_machine.specs.Plain.{IsPlainProgram};
 ghost use Rattle.scf_machine.specs.Precedence.{StackAnswers};
@@ -18,11 +18,9 @@ ghost use Rattle.scf_compare.specs.Findings.{
   compared_in,
   compared_sides,
 };
-ghost use Rattle.scf_compare.specs.Limits.{LeavesStepsBelow};
 ghost use Rattle.scf_facts.specs.Masks.{AreFew};
-ghost use Rattle.scf_compare.specs.Searches.{IfUndecided, IsGivenUp};
 ghost use Rattle.scf_compare.specs.Sides.{AreOneStack, IsMaskedSide, IsPlainSide, behavior_of, effort_of_sides};
-ghost use Rattle.scf_compare.specs.Verdicts.{IsDecided, IsTrueOf, IsTrueOfStack, IsWithin, WasGivenUp};
+ghost use Rattle.scf_compare.specs.Verdicts.{IsDecided, IsTrueOf, IsTrueOfStack, IsWithin};
 ghost use Rattle.scf_compare.specs.internal.Comparers.{IsComparison};
 
 use crate::budget::{Limit, Splits};
@@ -48,8 +46,7 @@ use std::slice;
 ///
 /// `Holds` says that the relation holds of the answers to every record of the scope; `Fails` shows one, with both
 /// answers, of which it doesn't hold. `Undecided` gives the index of an instruction where runs of one side end and the
-/// store `F` doesn't decide the answers; it comes only after everything else was explored, and after as many splits or
-/// steps below them as the limit allows. `Unfinished` comes only if the limit is below the exact effort; the steps of
+/// store `F` doesn't decide the answers. `Unfinished` comes only if the limit is below the exact effort; the steps of
 /// `Holds` are within both.
 ///
 /// A store that starts exact decides plain sides: with a limit of at least the effort the finding is `Holds` exactly if
@@ -79,9 +76,6 @@ pub fn compare_sides<F: WordFacts>(
     ensures of_one { AreOneStack left.now right.now
         → IfOk result (IsFindingDecided (AllRelated (compared_sides by over left.now right.now))
         limit.steps (effort_of_sides left.now right.now)) }
-    ensures undecided { IfOk result (λ finding. IfUndecided finding
-        (IsGivenUp (compared_sides by over left.now right.now) (effort_of_sides left.now right.now)
-        limit.splits limit.steps)) }
 {
     let mut left_over = limit.steps;
     let mut left_below = limit.steps;
@@ -98,10 +92,8 @@ pub fn compare_sides<F: WordFacts>(
 }
 
 /// Compares as `compare_sides` does, in at most the `left_over` steps that several comparisons share, and below splits
-/// in at most `left_below` of them. What is taken is subtracted; if an allocation fails, neither changes.
-///
-/// With no steps left the finding is `Unfinished`. `Undecided` counts more steps below splits than it may make splits,
-/// or as many as the limit and `left_below` allow.
+/// in at most `left_below` of them. What is taken is subtracted; if an allocation fails, neither changes. With no steps
+/// left the finding is `Unfinished`.
 pub fn compare_sides_within<F: WordFacts>(
     alloc: Global,
     left: &Side<'_>,
@@ -128,13 +120,8 @@ pub fn compare_sides_within<F: WordFacts>(
     ensures of_one { AreOneStack left.now right.now
         → IfOk result (IsFindingDecided (AllRelated (compared_sides by over left.now right.now))
         (min limit.steps left_over.old) (effort_of_sides left.now right.now)) }
-    ensures undecided { IfOk result (λ finding. IfUndecided finding
-        (IsGivenUp (compared_sides by over left.now right.now) (effort_of_sides left.now right.now)
-        limit.splits (min limit.steps left_below.old))) }
     ensures left { IfOk result (λ finding. LeavesFindingSteps
         (min limit.steps left_over.old) (effort_of_sides left.now right.now) left_over.old finding left_over.new) }
-    ensures left_below { IfOk result (λ finding. LeavesStepsBelow
-        limit.splits (min limit.steps left_below.old) left_below.old finding left_below.new) }
     ensures err { OnErr result (left_over.new ≡ left_over.old) }
     ensures err_below { OnErr result (left_below.new ≡ left_below.old) }
 {
@@ -310,8 +297,8 @@ fn compare_pair<F: WordFacts, L: SideTree, R: SideTree>(
 ///
 /// `Same` is true of every call record. `Differs` shows a record that is answered differently, with both answers.
 /// `Undecided` gives the index of an instruction where runs of the program end (a return, or a division by the index
-/// register) and where the store `F` doesn't decide the answer; it comes only after everything else was explored.
-/// `Unfinished` comes only if the limit is below the exact effort; the steps of `Same` are within both.
+/// register) and where the store `F` doesn't decide the answer. `Unfinished` comes only if the limit is below the exact
+/// effort; the steps of `Same` are within both.
 ///
 /// A store that starts exact decides plain programs and profiles: with a limit of at least the effort the verdict is
 /// `Same` exactly if both answer every call record alike, else `Differs`.
@@ -328,7 +315,6 @@ pub fn compare<F: WordFacts>(
         → IfOk result (IsDecided
         (SameAnswers (RunAnswers program.now) profile.now)
         limit (effort_of program.now profile.now)) }
-    ensures undecided { IfOk result (WasGivenUp (program.now ∷ []) profile.now Scope.All limit) }
 {
     let limit = Limit::of_steps(limit);
     let filter = Side::Stack(slice::from_ref(program));
@@ -357,7 +343,6 @@ pub fn compare_stack<F: WordFacts>(
         → IfOk result (IsDecided
         (SameAnswersIn scope (StackAnswers stack.now) profile.now)
         limit (effort_of_stack stack.now profile.now)) }
-    ensures undecided { IfOk result (WasGivenUp stack.now profile.now scope limit) }
 {
     let limit = Limit::of_steps(limit);
     let filters = Side::Stack(stack.filters());

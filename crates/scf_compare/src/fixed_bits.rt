@@ -55,8 +55,7 @@ impl WordBit {
 impl FixedBits {
     /// No bit is fixed.
     pub(crate) fn none() -> FixedBits
-        ensures have { (words : List ℕ) → HaveBits result.words words }
-        ensures count { length result.words ≡ 16 }
+        ensures { (words : List ℕ) → HaveBits result.words words }
     {
         FixedBits {
             words: [Bits::NONE; 16],

@@ -1,14 +1,13 @@
 //! The second walk of a comparison, which splits the records by bits of their words until every test is decided.
 
-ghost use Rattle.std.specs.Prelude.{◌≡◌, ◌≤◌, ◌↔◌, ℕ, List, None, IfNone, IfOk, IfSome};
+ghost use Rattle.std.specs.Prelude.{◌≡◌, ◌≤◌, ◌↔◌, ℕ, List, IfNone, IfOk, IfSome};
 ghost use Rattle.scf_compare.specs.Findings.{WordsRelated};
 ghost use Rattle.scf_compare.specs.Splits.{HaveBits, open_bits};
 ghost use Rattle.scf_compare.specs.internal.FixedBits.{AreWhole, IsOpenBit};
 ghost use Rattle.scf_compare.specs.internal.Frontier.{IsFrontier};
 ghost use Rattle.scf_compare.specs.internal.Leaves.{AreWordsIn};
-ghost use Rattle.scf_compare.specs.internal.Settling.{IsSecondWalk, StartsAt, settling_trees};
+ghost use Rattle.scf_compare.specs.internal.Settling.{IsSecondWalk, IsWalkedOn, StartsAt, settling_trees};
 ghost use Rattle.scf_compare.specs.internal.Stages.{IsFound};
-ghost use Rattle.scf_compare.specs.internal.Walks.{IsWalkedOn};
 
 use crate::budget::Limit;
 use crate::comparison::Comparison;
@@ -149,8 +148,7 @@ pub(crate) fn settle<C: Comparison, F: WordFacts>(
     requires unmarked { F.level facts ≡ 0 }
     requires scope { (words : List ℕ) → F.allows facts 0 words ↔ AreWordsIn (C.compared comparison.now) words }
     requires root { StartsAt (AreWordsIn (C.compared comparison.now)) (C.tree comparison.now start) root }
-    ensures { IfOk result (IsSecondWalk (C.compared comparison.now) ((C.tree comparison.now start).size root) steps
-        budget.old budget.new.steps) }
+    ensures { IfOk result (IsSecondWalk (C.compared comparison.now) steps budget.old budget.new.steps) }
 {
     let settling = Settling {
         comparison,

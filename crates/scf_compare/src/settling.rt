@@ -1,9 +1,7 @@
 //! A comparison's tree with the bits of the words that splits have fixed.
 
 ghost use Rattle.std.specs.Prelude.{◌≡◌};
-ghost use Rattle.scf_compare.specs.internal.Leaves.{pair_leaves};
-ghost use Rattle.scf_compare.specs.internal.Settling.{KeepsFixed, settling_trees};
-ghost use Rattle.scf_compare.specs.internal.Trees.{IsStep};
+ghost use Rattle.scf_compare.specs.internal.Settling.{settling_trees};
 
 use crate::comparison::{Comparison, PairLeaf};
 use crate::fixed_bits::FixedBits;
@@ -53,15 +51,7 @@ impl<C: Comparison> Comparison for Settling<'_, C> {
         facts: &F,
         known: &mut C::Known,
         node: &SettlingNode<C::Node>,
-    ) -> Step<SettlingNode<C::Node>, PairLeaf>
-        requires { (C.tree self.now.comparison.now known.old).is_node node.now.node }
-        ensures step { let walk = self.now in
-            let trees = settling_trees (C.tree walk.comparison.now) walk.start walk.root in
-            IsStep (pair_leaves (C.compared walk.comparison.now)) (F.allows facts.now (F.level facts.now))
-            (trees known.old) node.now (trees known.new) result }
-        ensures keeps { let tree = C.tree self.now.comparison.now in
-            KeepsFixed (tree known.new) node.now.fixed ((tree known.old).size node.now.node) result }
-    {
+    ) -> Step<SettlingNode<C::Node>, PairLeaf> {
         let fixed = node.fixed;
         match self.comparison.step(facts, known, &node.node) {
             Step::Next(node) => Step::Next(SettlingNode { node, fixed }),

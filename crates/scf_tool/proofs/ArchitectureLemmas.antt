@@ -113,7 +113,7 @@ module _ (relation : Relation) (over : Architecture → Scope)
 
   module _ (limit : Limit) where
     abbrev Found : Profile → Finding → Type 0
-    Found p finding = IsFound relation side (profile_behavior p) (over p.architecture) limit limit.steps finding
+    Found p finding = IsFound relation side (profile_behavior p) (over p.architecture) limit finding
 
     abbrev is_other : Finding → Bool
     is_other finding = not (is_holding finding)

@@ -7,15 +7,15 @@ use Rattle.scf_compile.proofs.Common.{take_more}
 use Rattle.scf_profile.specs.NamedCalls.{AreCallsOf, HasItsNames}
 use Rattle.scf_profile.specs.Table.{Names}
 use Rattle.scf_profile.specs.declared.named_call.NamedCall.{NamedCall}
-use Rattle.scf_tool.specs.Comparisons.{AreFound, Remaining}
+use Rattle.scf_tool.specs.Comparisons.{AreFound}
 
 -- one finding more
-one_finding_more : {A F : Type 0} (IsNext : Remaining → A → F → Remaining → Type 0) (remaining : Remaining)
-    (several : List A) (findings : List F) (between : Remaining) (last : A) (finding : F) (after : Remaining)
+one_finding_more : {A F : Type 0} (IsNext : ℕ → A → F → ℕ → Type 0) (remaining : ℕ)
+    (several : List A) (findings : List F) (between : ℕ) (last : A) (finding : F) (after : ℕ)
     → AreFound IsNext remaining several findings between → IsNext between last finding after
     → AreFound IsNext remaining (several ++ last ∷ []) (findings ++ finding ∷ []) after
 one_finding_more IsNext remaining [] [] between last finding after before here =
-    (after, subst (λ (m : Remaining). IsNext m last finding after) before here, refl)
+    (after, subst (λ (m : ℕ). IsNext m last finding after) before here, refl)
 one_finding_more IsNext remaining [] (f ∷ findings) between last finding after before here = absurd before
 one_finding_more IsNext remaining (first ∷ several) [] between last finding after before here = absurd before
 one_finding_more IsNext remaining (first ∷ several) (f ∷ findings) between last finding after before here = (
@@ -25,8 +25,8 @@ one_finding_more IsNext remaining (first ∷ several) (f ∷ findings) between l
 )
 
 -- the finding of the next of several
-pub next_found : {A F : Type 0} (IsNext : Remaining → A → F → Remaining → Type 0) (remaining : Remaining)
-    (several : List A) (i : ℕ) (d : A) (findings : List F) (between : Remaining) (finding : F) (after : Remaining)
+pub next_found : {A F : Type 0} (IsNext : ℕ → A → F → ℕ → Type 0) (remaining : ℕ)
+    (several : List A) (i : ℕ) (d : A) (findings : List F) (between : ℕ) (finding : F) (after : ℕ)
     (findings_after : List F) → i < length several → AreFound IsNext remaining (take i several) findings between
     → IsNext between (get_or several i d) finding after → findings_after ≡ findings ++ finding ∷ []
     → AreFound IsNext remaining (take (i + 1) several) findings_after after

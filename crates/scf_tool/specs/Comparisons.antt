@@ -7,8 +7,6 @@ use Rattle.scf_compare.specs.declared.budget.Splits.{Splits}
 use Rattle.scf_compare.specs.declared.budget.Splits.TheVariants.{AtMost, NoLimit}
 use Rattle.scf_compare.specs.declared.finding.Finding.{Finding}
 use Rattle.scf_compare.specs.Findings.{AllRelated, IsFindingDecided, IsFindingWithin, IsTrueFinding, LeavesFindingSteps, compared_in}
-use Rattle.scf_compare.specs.Limits.{LeavesStepsBelow}
-use Rattle.scf_compare.specs.Searches.{IfUndecided, IsGivenUp}
 use Rattle.scf_compare.specs.Sides.{Behavior}
 use Rattle.scf_profile.specs.NamedCalls.{AreCallsOf}
 use Rattle.scf_profile.specs.References.{texts_at}
@@ -34,9 +32,9 @@ limit_of limits = record { steps = limits.each; splits = splits_of limits.splits
 
 -- A finding on a relation is true of two sides over the calls of a scope, and within the limit and the effort. It
 -- decides between sides whose masks have few bits together, as of plain ones, and between any two if there is no limit
--- of splits. It is undecided only if a search within so many steps was given up.
-pub record IsFound (relation : Relation) (left right : Behavior) (scope : Scope) (limit : Limit) (search_steps : ℕ)
-    (finding : Finding) : Type 0 where
+-- of splits.
+pub record IsFound (relation : Relation) (left right : Behavior) (scope : Scope) (limit : Limit) (finding : Finding)
+    : Type 0 where
   pub holds : IsTrueFinding (compared_in relation scope left right) finding
   pub within : IsFindingWithin limit.steps (left.size * right.size) finding
   pub decided : (masks : ℕ) → AreFew masks → left.is_masked masks → right.is_masked masks
@@ -45,57 +43,41 @@ pub record IsFound (relation : Relation) (left right : Behavior) (scope : Scope)
   pub settled : limit.splits ≡ NoLimit
       → IsFindingDecided (AllRelated (compared_in relation scope left right)) limit.steps (left.size * right.size)
       finding
-  pub undecided : IfUndecided finding
-      (IsGivenUp (compared_in relation scope left right) (left.size * right.size) limit.splits search_steps)
 
 -- ---- several comparisons
-
--- the steps that remain for several comparisons, and those that remain for their searches, below splits
-pub record Remaining : Type 0 where
-  pub steps : ℕ
-  pub search_steps : ℕ
-
--- before the first of them
-abbrev pub all_of : ℕ → Remaining
-all_of total = record { steps = total; search_steps = total }
 
 -- The finding on two sides over the records of a scope, within a limit and in no more steps than remain. Those that it
 -- takes are subtracted.
 pub record IsFoundInTurn (relation : Relation) (left right : Behavior) (scope : Scope) (limit : Limit)
-    (remaining : Remaining) (finding : Finding) (after : Remaining) : Type 0 where
-  pub is_found : IsFound relation left right scope (record limit { steps = min limit.steps remaining.steps })
-      (min limit.steps remaining.search_steps) finding
-  pub spent : LeavesFindingSteps (min limit.steps remaining.steps) (left.size * right.size) remaining.steps finding
-      after.steps
-  pub searched : LeavesStepsBelow limit.splits (min limit.steps remaining.search_steps) remaining.search_steps finding
-      after.search_steps
+    (remaining : ℕ) (finding : Finding) (after : ℕ) : Type 0 where
+  pub is_found : IsFound relation left right scope (record limit { steps = min limit.steps remaining }) finding
+  pub spent : LeavesFindingSteps (min limit.steps remaining) (left.size * right.size) remaining finding after
 
--- Each of several has its finding, one after another, where this remains before them and that after.
-abbrev pub AreFound : {A F : Type 0} → (Remaining → A → F → Remaining → Type 0) → Remaining → List A → List F
-    → Remaining → Type 0
+-- Each of several has its finding, one after another, where so many steps remain before them and after.
+abbrev pub AreFound : {A F : Type 0} → (ℕ → A → F → ℕ → Type 0) → ℕ → List A → List F → ℕ → Type 0
 AreFound IsNext remaining [] [] after = after ≡ remaining
-AreFound IsNext remaining (first ∷ several) (finding ∷ findings) after = (between : Remaining)
+AreFound IsNext remaining (first ∷ several) (finding ∷ findings) after = (between : ℕ)
     × IsNext remaining first finding between × AreFound IsNext between several findings after
 AreFound IsNext remaining several findings after = ⊥
 
 -- A call of a table is named by its number and its names, and this is the finding over its records.
 pub record IsFoundOfCall (relation : Relation) (scope : Scope) (left right : Behavior) (limit : Limit)
-    (remaining : Remaining) (of_table : NamedCall) (call : CallFinding) (after : Remaining) : Type 0 where
+    (remaining : ℕ) (of_table : NamedCall) (call : CallFinding) (after : ℕ) : Type 0 where
   pub number : call.number ≡ of_table.number
   pub names : call.names ≡ texts_at of_table.names.items
   pub is_found : IsFoundInTurn relation left right scope limit remaining call.finding after
 
 -- each call of an architecture's table has its finding over its records
-abbrev pub AreCallsFound : Relation → Architecture → Behavior → Behavior → Limit → Remaining → List NamedCall
-    → List CallFinding → Remaining → Type 0
+abbrev pub AreCallsFound : Relation → Architecture → Behavior → Behavior → Limit → ℕ → List NamedCall
+    → List CallFinding → ℕ → Type 0
 AreCallsFound relation architecture left right limit = AreFound (λ remaining of_table.
     IsFoundOfCall relation (scope_of_call architecture of_table.number) left right limit remaining of_table)
 
 -- the calls of the table have these findings, in that many steps
 abbrev pub AreFoundOfTable : Relation → Architecture → Behavior → Behavior → Names → Limits → List CallFinding → Type 0
 AreFoundOfTable relation architecture left right names limits calls =
-    (of_table : List NamedCall) × AreCallsOf names of_table × (after : Remaining)
-    × AreCallsFound relation architecture left right (limit_of limits) (all_of limits.total) of_table calls after
+    (of_table : List NamedCall) × AreCallsOf names of_table × (after : ℕ)
+    × AreCallsFound relation architecture left right (limit_of limits) limits.total of_table calls after
 
 -- The findings are those that are asked for: one over a scope, or one for each call.
 abbrev pub AreAsked : (Scope → Finding → Type 0) → (List CallFinding → Type 0) → Scopes → Findings → Type 0

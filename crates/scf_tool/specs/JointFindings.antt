@@ -69,7 +69,7 @@ pub record IsJointlyFound (relation : Relation) (over : Architecture → Scope) 
     (profiles : List Profile) (limit : Limit) (finding : Finding) : Type 0 where
   pub findings : List Finding
   pub each : AllZip
-      (λ p finding. IsFound relation side (profile_behavior p) (over p.architecture) limit limit.steps finding)
+      (λ p finding. IsFound relation side (profile_behavior p) (over p.architecture) limit finding)
       profiles findings
   pub joint : finding ≡ joint_finding findings
   pub holds : IsTrueOfEach relation over side profiles finding

@@ -121,7 +121,7 @@ abbrev pub IsFoundOver : Relation → Limit → SideInput → SideInput → Scop
 IsFoundOver relation limit left (Profiles loaded) scope finding =
     IsJointlyFound relation (scope_of scope) (behavior_of_input left) loaded.profiles limit finding
 IsFoundOver relation limit left right scope finding =
-    IsFound relation (behavior_of_input left) (behavior_of_input right) scope limit limit.steps finding
+    IsFound relation (behavior_of_input left) (behavior_of_input right) scope limit finding
 
 -- these calls are found of two sides and the only table
 abbrev pub AreFoundOfOnlyTable : Comparison → Tables → Behavior → Behavior → List CallFinding → Type 0

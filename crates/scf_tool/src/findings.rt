@@ -92,7 +92,7 @@ pub(crate) fn compare_at_once(
     limits: Limits,
 ) -> Result<Finding, Memory>
     ensures { IfOk result (IsFound relation (behavior_of left.now) (behavior_of right.now) over
-        (comparisons.limit_of limits) limits.each) }
+        (comparisons.limit_of limits)) }
 {
     compare_sides::<WordSets>(alloc, left, right, over, relation, limit_of(limits))
 }
@@ -111,8 +111,7 @@ fn compare_call(
     remaining_below: &mut u64,
 ) -> Result<CallFinding, Memory>
     ensures { IfOk result (λ finding. IsFoundOfCall relation over (behavior_of left.now) (behavior_of right.now) limit
-        (record { steps = remaining.old; search_steps = remaining_below.old }) call.now finding
-        (record { steps = remaining.new; search_steps = remaining_below.new })) }
+        remaining.old call.now finding remaining.new) }
 {
     let finding = compare_sides_within::<WordSets>(
         alloc,

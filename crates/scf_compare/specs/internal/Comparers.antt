@@ -1,12 +1,10 @@
 -- What a comparison of two sides promises.
-use Rattle.std.specs.Prelude.{◌≡◌, ◌*◌, ℕ}
+use Rattle.std.specs.Prelude.{◌≡◌, ◌*◌, ◌≤◌, ℕ}
 use Rattle.scf_facts.specs.Masks.{AreFew}
 use Rattle.scf_compare.specs.declared.budget.Limit.{Limit}
 use Rattle.scf_compare.specs.declared.budget.Splits.TheVariants.{NoLimit}
 use Rattle.scf_compare.specs.declared.finding.Finding.{Finding}
 use Rattle.scf_compare.specs.Findings.{AllRelated, Compared, IsFindingDecided}
-use Rattle.scf_compare.specs.Limits.{LeavesStepsBelow}
-use Rattle.scf_compare.specs.Searches.{IfUndecided, IsGivenUp}
 use Rattle.scf_compare.specs.internal.Stages.{IsExplored}
 
 abbrev pub effort_between : Compared → ℕ
@@ -21,5 +19,4 @@ pub record IsComparison (compared : Compared) (is_complete are_one : Type 0) (li
   pub settled : budget.splits ≡ NoLimit
       → IsFindingDecided (AllRelated compared) limit (effort_between compared) finding
   pub of_one : are_one → IsFindingDecided (AllRelated compared) limit (effort_between compared) finding
-  pub below : LeavesStepsBelow budget.splits budget.steps budget.steps finding left_below
-  pub undecided : IfUndecided finding (IsGivenUp compared (effort_between compared) budget.splits budget.steps)
+  pub below : left_below ≤ budget.steps

@@ -1,18 +1,18 @@
 -- The second walk of a comparison's tree, which begins at the root again with each split.
-use Rattle.std.specs.Prelude.{◌≡◌, ◌+◌, ◌*◌, ◌<◌, ◌^◌, ◌⊎◌, ℕ, List, Option, IfNone, IfSome}
+use Rattle.std.specs.Prelude.{◌≡◌, ◌+◌, ◌*◌, ◌≤◌, ◌^◌, ◌⊎◌, ℕ, List, Option, None, IfSome, IsSome}
 use Rattle.scf_facts.specs.declared.bits.Bits.{Bits}
+use Rattle.scf_facts.specs.declared.word_facts.WordFacts.{Ghosts as Store}
 use Rattle.scf_compare.specs.declared.budget.Limit.{Limit}
+use Rattle.scf_compare.specs.declared.budget.Splits.TheVariants.{NoLimit}
 use Rattle.scf_compare.specs.declared.finding.Finding.{Finding}
 use Rattle.scf_compare.specs.declared.finding.Finding.TheVariants.{Holds}
-use Rattle.scf_compare.specs.declared.fixed_bits.FixedBits.{FixedBits}
+use Rattle.scf_compare.specs.declared.frontier.Frontier.{Frontier}
+use Rattle.scf_compare.specs.declared.frontier.Stage.{Stage}
 use Rattle.scf_compare.specs.declared.settling.SettlingNode.{SettlingNode}
-use Rattle.scf_compare.specs.declared.step.Step.{Step}
-use Rattle.scf_compare.specs.declared.step.Step.TheVariants.{Next, Branch, Leaf}
 use Rattle.scf_compare.specs.Findings.{AllRelated, Compared}
-use Rattle.scf_compare.specs.Searches.{IsGivenUp}
 use Rattle.scf_compare.specs.Splits.{HaveBits, open_bits}
-use Rattle.scf_compare.specs.internal.Budgets.{LeavesSteps}
-use Rattle.scf_compare.specs.internal.Stages.{IsFound}
+use Rattle.scf_compare.specs.internal.Leaves.{WereSeen}
+use Rattle.scf_compare.specs.internal.Stages.{IsFound, IsStageAfter}
 use Rattle.scf_compare.specs.internal.Trees.{Tree}
 
 -- How much a step counts where these bits are fixed: more than two walks of the whole tree with one bit more.
@@ -37,20 +37,23 @@ pub record StartsAt {N : Type 0} (scope : List ℕ → Type 0) (tree : Tree N) (
   pub node : tree.is_node root
   pub reached : (words : List ℕ) → scope words → tree.reaches root words
 
--- A step leads to nodes with the same bits fixed, and costs what it does in the comparison's own tree.
-abbrev pub KeepsFixed : {N E : Type 0} → Tree N → FixedBits → ℕ → Step (SettlingNode N) E → Type 0
-KeepsFixed tree fixed size (Next next) = (next.fixed ≡ fixed) × (tree.size next.node < size)
-KeepsFixed tree fixed size (Branch atom if_true if_false) =
-    (if_true.fixed ≡ fixed) × (if_false.fixed ≡ fixed) × (tree.size if_true.node + tree.size if_false.node < size)
-KeepsFixed tree fixed size (Leaf leaf) = Unit {0}
-
 -- the second walk decides: it finds, after so many steps of the first one, that the relation holds, or a difference
 abbrev pub IsSettled : Compared → ℕ → Finding → Type 0
 IsSettled compared steps finding = ((finding ≡ Holds steps) × AllRelated compared) ⊎ IsFound compared finding
 
--- What a second walk leaves of a budget, and its finding: there is none only if the budget was used up.
-pub record IsSecondWalk (compared : Compared) (effort steps : ℕ) (budget : Limit) (left : ℕ) (finding : Option Finding)
+-- What a second walk leaves of a budget, and its finding, which it has where splits have no limit.
+pub record IsSecondWalk (compared : Compared) (steps : ℕ) (budget : Limit) (left : ℕ) (finding : Option Finding)
     : Type 0 where
   pub settled : IfSome finding (IsSettled compared steps)
-  pub leaves : LeavesSteps budget.splits finding budget.steps left
-  pub given_up : IfNone finding (IsGivenUp compared effort budget.splits budget.steps)
+  pub unlimited : budget.splits ≡ NoLimit → IsSome finding
+  pub leaves : left ≤ budget.steps
+
+-- A step of the second walk comes to a stage of the exploration, if it has the splits. Steps are counted elsewhere.
+pub record IsWalkedOn {F K N : Type 0} (store : Store F) (compared : Compared) (tree : K → Tree N) (start : K) (root : N)
+    (old new : Frontier F K (SettlingNode N)) (before : K) (from : SettlingNode N) (known : K) (budget left : Limit)
+    (stage : Option (Stage (SettlingNode N))) : Type 0 where
+  pub explores : let trees = settling_trees tree start root in
+      IfSome stage (IsStageAfter store compared trees old new (trees before) from (trees known)
+      (WereSeen compared None))
+  pub unlimited : budget.splits ≡ NoLimit → (left.splits ≡ NoLimit) × IsSome stage
+  pub steps : left.steps ≡ budget.steps

@@ -14,7 +14,7 @@ use Rattle.scf_compare.specs.declared.finding.Which.{Which}
 use Rattle.scf_compare.specs.Findings.{AllRelated, AreSteps, Compared, IsFindingDecided, IsFindingWithin, IsTrueFinding, WordsRelated}
 use Rattle.scf_compare.specs.declared.step.Step.TheVariants.{Branch}
 use Rattle.scf_compare.specs.internal.Leaves.{AreWordsIn, IsFirstUndecided, WereSeen, pair_leaves}
-use Rattle.scf_compare.specs.internal.Frontier.{HasOpened, HasTaken, IsAhead, IsFrontier, IsExact, IsWhole, IsWhollyAhead}
+use Rattle.scf_compare.specs.internal.Frontier.{IsAhead, IsFrontier, IsExact, IsWhole, IsWhollyAhead}
 use Rattle.scf_compare.specs.internal.Frontier.{StaysWhole, first_open_after, first_open_left, open_size}
 use Rattle.scf_compare.specs.internal.Trees.{IsStep, Tree}
 
@@ -88,13 +88,6 @@ FindsNothing (At next) = Unit {0}
 FindsNothing AllSeen = Unit {0}
 FindsNothing (Found finding) = ⊥
 
--- the newest branch was taken, unless none was open
-abbrev pub IsTaken : {F K N : Type 0} → Store F → Frontier F K N → Frontier F K N → K → Stage N → Type 0
-IsTaken store old new known (At next) =
-    (asked : Option Atom) × HasTaken store old new (record { known = known; node = next; asked = asked })
-IsTaken store old new known AllSeen = Unit {0}
-IsTaken store old new known (Found finding) = Unit {0}
-
 -- What is so after the words at a leaf were seen: the newest branch was taken, unless none was open.
 pub record IsAfterLeaf {F K N : Type 0} (store : Store F) (compared : Compared) (tree : K → Tree N)
     (old new : Frontier F K N) (known : K) (stage : Stage N) : Type 0 where
@@ -104,14 +97,11 @@ pub record IsAfterLeaf {F K N : Type 0} (store : Store F) (compared : Compared) 
       → IsWhole store tree old first_open ((tree before).reaches from)
       → IsWholeStage store tree old new first_open (tree known) stage
   pub nothing : FindsNothing stage
-  pub taken : IsTaken store old new known stage
 
 -- What is so after a test whose step leads to two nodes: it goes on to one of them, where the store knows the answer,
 -- or to the first, with a branch opened for the other.
 pub record IsAfterTest {F K N : Type 0} (store : Store F) (compared : Compared) (tree : K → Tree N)
     (old new : Frontier F K N) (known : K) (atom : Option Atom) (if_true if_false next : N) : Type 0 where
-  pub opened : ((new ≡ old) × ((next ≡ if_true) ⊎ (next ≡ if_false))) ⊎ ((next ≡ if_true)
-      × HasOpened store old new (record { known = known; node = if_false; asked = atom }))
   pub goes : (before : K) (from : N)
       → IsStep (pair_leaves compared) (store.allows old.facts (store.level old.facts)) (tree before) from (tree known)
       (Branch atom if_true if_false)

@@ -13,6 +13,6 @@ loop-records-preserved c =
 
 pub returns : goal.returns
 returns c = (
-  record { steps = c.loop-records.remaining; search_steps = c.loop-records.remaining_below },
+  c.loop-records.remaining,
   rw (take_all c.loop-records.records-index _ c.loop-records-test.false) at c.loop-records.invariant,
 )

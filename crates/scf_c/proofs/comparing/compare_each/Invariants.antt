@@ -1,9 +1,8 @@
 use Rattle.std.proofs.Common.{take}
 use Rattle.scf_compare.specs.Sides.{behavior_of}
-use Rattle.scf_tool.specs.Comparisons.{all_of}
 use Rattle.scf_c.specs.Comparisons.{AreFoundOver}
 use Rattle.scf_c.proofs.comparing.compare_each.Given as goal
 
 abbrev pub invariant-loop-records : goal.invariant-loop-records
-invariant-loop-records l = AreFoundOver l.relation (behavior_of l.left) (behavior_of l.right) l.limit (all_of l.fn.total)
-    (take l.records-index l.several) l.findings.items (record { steps = l.remaining; search_steps = l.remaining_below })
+invariant-loop-records l = AreFoundOver l.relation (behavior_of l.left) (behavior_of l.right) l.limit l.fn.total
+    (take l.records-index l.several) l.findings.items l.remaining

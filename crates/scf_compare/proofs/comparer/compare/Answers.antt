@@ -24,8 +24,3 @@ returns-clause-decided g c = λ exact plain plain_profile.
     rw mul-one at (decided_same _ _ c.args.limit _ c.verdict.result (same_alone program profile) (alone_same program profile)
     (decided_in Same All (program ∷ []) profile c.args.limit _ c.verdict.result
     (decided exact (All-cons IsPlainProgram program [] plain (All-nil IsPlainProgram)) plain_profile)))
-
-pub returns-clause-undecided : goal.returns-clause-undecided
-returns-clause-undecided g c =
-    rw c.verdict.ensures
-    (rw (c.from_ref.ensures.value, c.of_steps-limit.ensures) at c.in_ok-finding.ensures.undecided)

@@ -14,7 +14,6 @@ of_one same finding is = record {
   settled = is.settled;
   of_one = λ own. is.of_one (same own);
   below = is.below;
-  undecided = is.undecided;
 }
 
 pub returns-in-Profile : goal.returns-in-Profile

@@ -1,7 +1,6 @@
 use Rattle.std.specs.Prelude.{unwrap_or}
 use Rattle.scf_compare.proofs.Common.{◌≡◌, ℕ, AllRelated, Compared, Finding, None, Option, Some, Which, arith, inl, refl, rules}
 use Rattle.scf_facts.specs.Masks.{AreFew}
-use Rattle.scf_compare.proofs.Budgets.{not_undecided, settled_below, undecided_below, unsplit_below}
 use Rattle.scf_compare.specs.Findings.{IsFindingDecided}
 use Rattle.scf_compare.specs.declared.budget.Limit.{Limit}
 use Rattle.scf_compare.specs.declared.finding.Finding.TheVariants.{Fails, Holds, Undecided, Unfinished}
@@ -44,20 +43,18 @@ module _ (compared : Compared) (given : ℕ → Type 0) (is_complete are_one : T
         explored = explored;
         settled = λ unlimited. known;
         of_one = λ own. known;
-        below = unsplit_below budget.splits budget.steps finding is;
-        undecided = not_undecided finding _ is;
+        below = omega arith;
       }
 
   -- what a second walk makes of it, if it is undecided
   settled_comparison : (left_below at : ℕ) (side : Which) (settled : Option Finding) → finding ≡ Undecided side at
-      → (are_one → (settled ≡ None → ⊥)) → IsSecondWalk compared effort taken budget left_below settled
+      → (are_one → (settled ≡ None → ⊥)) → IsSecondWalk compared taken budget left_below settled
       → IsComparison compared is_complete are_one limit budget (unwrap_or settled finding) taken left_below
   settled_comparison left_below at side None is one second = record {
     explored = explored;
     of_one = λ own. absurd (one own refl);
-    settled = λ unlimited. absurd (rw unlimited at second.leaves);
-    below = rw is (undecided_below budget.splits budget.steps left_below side at second.leaves);
-    undecided = rw (is, ← size) second.given_up;
+    settled = λ none. absurd (let some = second.unlimited none in cc);
+    below = second.leaves;
   }
   settled_comparison left_below at side (Some found) is one second =
       let first_found = rw is at explored in
@@ -65,8 +62,7 @@ module _ (compared : Compared) (given : ℕ → Type 0) (is_complete are_one : T
         explored = grind (arith, first_found, second.settled);
         of_one = λ _. grind (arith, first_found, second.settled);
         settled = λ _. grind (arith, first_found, second.settled);
-        below = settled_below compared budget.splits budget.steps left_below taken found second.settled second.leaves;
-        undecided = grind (arith, second.settled);
+        below = second.leaves;
       }
 
 pub explore-requires : goal.explore-requires
@@ -104,7 +100,7 @@ returns-in-Undecided g c =
     (λ masks all. (all.0, c.in_ok-facts.ensures.among all.1 masks, c.start.ensures.plain masks all.2 all.3))
     c.args.budget.now.steps undecided.at undecided.side (Some (Holds c.explore.new.taken)) undecided.is
     (λ own none. grind arith)
-    (record { settled = inl (refl, c.requires c.if-is_same.true); leaves = grind arith; given_up = tt })
+    (record { settled = inl (refl, c.requires c.if-is_same.true); unlimited = λ none. refl; leaves = omega arith })
 
 pub returns-in_default : goal.returns-in_default
 returns-in_default g c =

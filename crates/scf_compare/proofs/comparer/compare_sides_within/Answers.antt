@@ -11,6 +11,3 @@ returns-clause-decided g c = λ exact left right.
     let decided =
     c.in_ok-finding.ensures.explored.decided 0 (few, exact, plain_side 0 _ left, plain_side 0 _ right) in
     rw c.min-most.ensures at decided
-
-pub returns-clause-undecided : goal.returns-clause-undecided
-returns-clause-undecided g c = rw c.min-most_below.ensures at c.in_ok-finding.ensures.undecided

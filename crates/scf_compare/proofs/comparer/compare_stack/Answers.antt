@@ -12,8 +12,3 @@ returns-clause-decided g c = λ exact plain plain_profile.
     let decided = rw (c.filters.ensures.same, c.of_steps-limit.ensures) at c.in_ok-finding.ensures.decided in
     decided_in Same c.args.scope c.args.stack.now c.args.profile.now c.args.limit _ c.verdict.result
     (rw c.verdict.ensures (decided exact plain plain_profile))
-
-pub returns-clause-undecided : goal.returns-clause-undecided
-returns-clause-undecided g c =
-    rw c.verdict.ensures
-    (rw (c.filters.ensures.same, c.of_steps-limit.ensures) at c.in_ok-finding.ensures.undecided)

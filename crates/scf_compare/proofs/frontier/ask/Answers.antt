@@ -1,4 +1,4 @@
-use Rattle.scf_compare.proofs.Common.{false, inr, refl, true}
+use Rattle.scf_compare.proofs.Common.{false, refl, true}
 use Rattle.scf_compare.proofs.Branches.{known_test, opened, opened_whole}
 use Rattle.scf_compare.proofs.frontier.ask.Goals as goal
 
@@ -18,7 +18,6 @@ returns g c =
     let tree = g.C.Comparison.tree c.args.comparison.now in
     let opens = c.in_ok-open_branch.ensures in
     record {
-      opened = inr (refl, opens);
       goes = λ before from.
           opened g.F.WordFacts compared tree c.args.frontier.now c.open_branch.new.frontier c.args.known.now c.args.atom
           c.args.if_true c.args.if_false c.requires.frontier opens (tree before) from;

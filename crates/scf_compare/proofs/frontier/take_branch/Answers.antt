@@ -35,5 +35,4 @@ returns g c =
           taken_whole g.F.WordFacts compared tree c.args.frontier.now after c.in-Some.branch c.requires is
           (tree before) from;
       nothing = tt;
-      taken = (c.in-Some.branch.asked, is);
     }

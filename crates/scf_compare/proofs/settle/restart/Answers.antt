@@ -1,6 +1,5 @@
-use Rattle.scf_compare.proofs.Common.{None, arith, inr, refl}
-use Rattle.scf_compare.proofs.Branches.{opened, opened_whole, weaken}
-use Rattle.scf_compare.proofs.Searches.{split_on}
+use Rattle.scf_compare.proofs.Common.{arith, refl}
+use Rattle.scf_compare.proofs.Branches.{opened, weaken}
 use Rattle.scf_compare.proofs.Weights.{splits_in_two}
 use Rattle.scf_compare.specs.internal.Settling.{settling_trees}
 use Rattle.scf_compare.proofs.settle.restart.Goals as goal
@@ -24,17 +23,6 @@ returns g c = λ before.
       explores = weaken (λ words none. absurd none) (opened g.F.WordFacts compared
           (settling_trees tree walk.start walk.root) c.args.frontier.now c.open_branch.new.frontier walk.start _ _ _
           c.requires.frontier opens _ c.args.from step);
-      searches = λ steps splits come.
-          let whole = opened_whole g.F.WordFacts compared (settling_trees tree walk.start walk.root)
-          c.args.frontier.now c.open_branch.new.frontier walk.start _ _ _ c.requires.frontier opens _
-          c.args.from None step come.whole in
-          inr (
-            grind arith,
-            split_on come c.args.fixed.words c.args.bit.word c.args.bit.mask _ _
-                c.requires.frontier.marks opens c.requires.have c.requires.less c.requires.open.word c.requires.open.one
-                (record { node = refl; have = c.fix.ensures.have; fewer = c.fix.ensures.less })
-                (record { node = refl; have = c.fix-2.ensures.have; fewer = c.fix-2.ensures.less }) whole.0,
-          );
-      given_up = tt;
+      unlimited = λ none. grind (arith, c.take_split.ensures.splits, none);
       steps = c.take_split.ensures.steps;
     }

@@ -1,6 +1,6 @@
-use Rattle.scf_compare.proofs.Common.{◌+◌, ◌⊎◌, ℕ, List, AreWordsIn, IsAhead, IsFrontier, None, WereSeen, open_size}
+use Rattle.scf_compare.proofs.Common.{◌≡◌, ◌+◌, ◌≤◌, ◌⊎◌, ℕ, List, AreWordsIn, IsAhead, IsFrontier, None, WereSeen, open_size}
+use Rattle.scf_compare.specs.declared.budget.Splits.TheVariants.{NoLimit}
 use Rattle.scf_compare.specs.internal.Settling.{settling_trees}
-use Rattle.scf_compare.specs.internal.Walks.{HasSearched}
 use Rattle.scf_compare.proofs.settle.settle.Given as goal
 
 abbrev pub invariant-loop-settling : goal.invariant-loop-settling
@@ -14,7 +14,8 @@ invariant-loop-settling g l =
       node : (trees l.known).is_node l.node;
       words : (words : List ℕ) → AreWordsIn compared words
           → WereSeen compared None words ⊎ IsAhead store trees l.frontier ((trees l.known).reaches l.node) words;
-      searched : HasSearched store compared tree l.fn.start l.fn.root l.fn.budget l.budget l.frontier l.known l.node;
+      unlimited : l.fn.budget.splits ≡ NoLimit → l.budget.splits ≡ NoLimit;
+      leaves : l.budget.steps ≤ l.fn.budget.steps;
     }
 
 abbrev pub decreases-loop-settling : goal.decreases-loop-settling

@@ -34,6 +34,6 @@ pub returns : goal.returns
 returns c = (
   c.deref-call-items.result.now,
   rw c.deref-call-items.ensures.value c.in_ok-calls.ensures,
-  record { steps = c.loop-call.remaining; search_steps = c.loop-call.remaining_below },
+  c.loop-call.remaining,
   rw (take_all c.loop-call.call-index _ c.loop-call-test.false) at c.loop-call.invariant,
 )

@@ -10,7 +10,7 @@ pub returns-in-Stack : goal.returns-in-Stack
 returns-in-Stack c = rw c.in-Stack.is (
     IfOk-weaker c.compare_at_once.result _ _
     (λ finding holds. of_side
-    (λ (left : Behavior). IsFound c.args.relation left (stack_behavior c.in-Stack.stack) c.args.scope (limit_of c.args.limits) c.args.limits.each finding)
+    (λ (left : Behavior). IsFound c.args.relation left (stack_behavior c.in-Stack.stack) c.args.scope (limit_of c.args.limits) finding)
     c.args.left.now c.side-left.result c.side-left.ensures (rw c.filters.ensures.same at holds))
     c.compare_at_once.ensures
     )
@@ -19,7 +19,7 @@ pub returns-in-Profile : goal.returns-in-Profile
 returns-in-Profile c = rw c.in-Profile.is (
     IfOk-weaker c.compare_at_once-in-Profile.result _ _
     (λ finding holds. of_side
-    (λ (left : Behavior). IsFound c.args.relation left (profile_behavior c.in-Profile.loaded.profile) c.args.scope (limit_of c.args.limits) c.args.limits.each finding)
+    (λ (left : Behavior). IsFound c.args.relation left (profile_behavior c.in-Profile.loaded.profile) c.args.scope (limit_of c.args.limits) finding)
     c.args.left.now c.side-left.result c.side-left.ensures holds)
     c.compare_at_once-in-Profile.ensures
     )

@@ -13,7 +13,7 @@ pub loop-profile-preserved : goal.loop-profile-preserved
 loop-profile-preserved c =
     let compared : Profile → Finding → Type 0 =
     λ p finding. IsFound c.args.relation (behavior_of c.args.left.now) (profile_behavior p)
-    (scope_of c.args.scope p.architecture) (limit_of c.args.limits) c.args.limits.each finding in
+    (scope_of c.args.scope p.architecture) (limit_of c.args.limits) finding in
     let finding : compared c.profile-item.result c.in_ok-compare_at_once.field-0 =
     rw (c.scope_of-over.ensures, c.architecture.ensures) at c.in_ok-compare_at_once.ensures in
     rw (take_more _ _ c.profile-item.result c.loop-profile-test.true, c.in_ok-push.ensures.items)
@@ -26,7 +26,7 @@ returns c =
     let over = scope_of c.args.scope in
     let compared : Profile → Finding → Type 0 =
     λ p finding. IsFound c.args.relation (behavior_of c.args.left.now) (profile_behavior p)
-    (over p.architecture) (limit_of c.args.limits) c.args.limits.each finding in
+    (over p.architecture) (limit_of c.args.limits) finding in
     let each : AllZip compared c.args.profiles.now findings =
     subst (λ (ps : List Profile). AllZip compared ps findings)
     (take_all c.loop-profile.profile-index _ c.loop-profile-test.false)

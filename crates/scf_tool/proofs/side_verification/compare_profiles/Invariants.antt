@@ -8,5 +8,5 @@ abbrev pub invariant-loop-profile : goal.invariant-loop-profile
 invariant-loop-profile l =
     AllZip
     (λ p finding. IsFound l.relation (behavior_of l.left) (profile_behavior p) (scope_of l.scope p.architecture)
-    (limit_of l.limits) l.limits.each finding)
+    (limit_of l.limits) finding)
     (take l.profile-index l.profiles) l.findings.items

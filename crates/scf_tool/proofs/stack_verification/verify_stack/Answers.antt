@@ -36,6 +36,5 @@ returns-clause-answer g c = record {
     holds = c.in_ok-verdict.ensures.holds;
     within = c.in_ok-verdict.ensures.within;
     decided = c.in_ok-verdict.ensures.decided refl;
-    undecided = c.in_ok-verdict.ensures.undecided;
   };
 }

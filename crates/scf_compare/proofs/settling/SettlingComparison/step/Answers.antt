@@ -2,8 +2,8 @@ use Rattle.scf_compare.proofs.SeveralProfiles.{on_either}
 use Rattle.scf_compare.proofs.Weights.{settled_cost, settled_costs, settled_end}
 use Rattle.scf_compare.proofs.settling.SettlingComparison.step.Goals as goal
 
-pub returns-in-Next-clause-step : goal.returns-in-Next-clause-step
-returns-in-Next-clause-step g c =
+pub returns-in-Next : goal.returns-in-Next
+returns-in-Next g c =
     let step = rw c.in-Next.is at c.step.ensures in
     record {
       proper = step.proper;
@@ -12,8 +12,8 @@ returns-in-Next-clause-step g c =
       plain = λ masks none. absurd none;
     }
 
-pub returns-in-Branch-clause-step : goal.returns-in-Branch-clause-step
-returns-in-Branch-clause-step g c =
+pub returns-in-Branch : goal.returns-in-Branch
+returns-in-Branch g c =
     let step = rw c.in-Branch.is at c.step.ensures in
     record {
       proper = step.proper;
@@ -24,8 +24,8 @@ returns-in-Branch-clause-step g c =
       plain = λ masks none. absurd none;
     }
 
-pub returns-in-Leaf-clause-step : goal.returns-in-Leaf-clause-step
-returns-in-Leaf-clause-step g c =
+pub returns-in-Leaf : goal.returns-in-Leaf
+returns-in-Leaf g c =
     let step = rw c.in-Leaf.is at c.step.ensures in
     record {
       proper = step.proper;
