@@ -1,5 +1,5 @@
 -- What regions say of the records in them.
-use Rattle.std.specs.Prelude.{◌*◌, ◌≤◌, ℕ, List, All, AllPairs, Contains, IfSome, IsSome, IsTrue}
+use Rattle.std.specs.Prelude.{◌≡◌, ◌*◌, ◌≤◌, ℕ, List, Some, All, AllPairs, Contains, IfSome, IsSome, IsTrue, length, slice_get}
 use Rattle.scf_insn.specs.declared.record.CallRecord.{CallRecord}
 use Rattle.scf_insn.specs.Words.{IsRecord, IsWords, call_of, words_of}
 use Rattle.scf_facts.specs.WordSets.{AllowsWords}
@@ -33,6 +33,17 @@ AreDisjoint first second = IsTrue first.is_exact → IsTrue second.is_exact → 
 abbrev pub IsDecidedRegion : Region → Type 0
 IsDecidedRegion region = IsTrue region.is_exact × KnowsBoth region.leaf
 
+-- words lie in the region at an index
+abbrev pub LieInRegion : List Region → List ℕ → ℕ → Type 0
+LieInRegion regions words index =
+    (region : Region) × (slice_get regions index ≡ Some region) × AllowsWords region.words words
+
+-- each record of a scope lies in one of the regions, and in no other
+abbrev pub IsPartition : (CallRecord → Type 0) → List Region → Type 0
+IsPartition in_scope regions = (call : CallRecord) → IsRecord call → in_scope call
+    → (index : ℕ) × LieInRegion regions (words_of call) index
+    × ((other : ℕ) → LieInRegion regions (words_of call) other → other ≡ index)
+
 -- The regions of two sides over a scope, in at most so many steps: each record of the scope lies in one, and exact ones
 -- don't overlap.
 pub record AreRegions (left right : Behavior) (in_scope : CallRecord → Type 0) (limit : ℕ) (regions : Regions)
@@ -41,5 +52,6 @@ pub record AreRegions (left right : Behavior) (in_scope : CallRecord → Type 0)
       → IsCovered left right regions.list.items (words_of call)
   pub each : All (IsRegion left right in_scope) regions.list.items
   pub disjoint : AllPairs AreDisjoint regions.list.items
+  pub counted : length regions.list.items ≤ regions.steps
   pub within_limit : regions.steps ≤ limit
   pub within_size : regions.steps ≤ left.size * right.size

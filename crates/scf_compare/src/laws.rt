@@ -1,6 +1,6 @@
 //! Laws of the relations by which filters are compared. Each function does nothing: what it ensures is the law.
 
-ghost use Rattle.std.specs.Prelude.{◌≡◌, ℕ, List};
+ghost use Rattle.std.specs.Prelude.{◌≡◌, ℕ, All, List};
 ghost use Rattle.scf_insn.specs.declared.insn.Insn.{Insn};
 ghost use Rattle.scf_insn.specs.declared.record.CallRecord.{CallRecord};
 ghost use Rattle.scf_insn.specs.Answers.{disposition_of};
@@ -10,6 +10,7 @@ ghost use Rattle.scf_profile.specs.Profile.{Profile, HaveNoConflict};
 ghost use Rattle.scf_profile.specs.ProfileAnswers.{ProfileAnswers};
 ghost use Rattle.scf_compare.specs.Findings.{IsTrueFinding, compared_in};
 ghost use Rattle.scf_compare.specs.Headline.{Headline};
+ghost use Rattle.scf_compare.specs.Regions.{AreRegions, IsDecidedRegion, IsPartition};
 ghost use Rattle.scf_compare.specs.SideLaws.{
   BothWaysIsOneDisposition,
   HoldsOverRanges,
@@ -18,11 +19,13 @@ ghost use Rattle.scf_compare.specs.SideLaws.{
   SameHoldsByAll,
   SidesHeadline,
 };
-ghost use Rattle.scf_compare.specs.Sides.{profile_behavior, stack_behavior};
+ghost use Rattle.scf_compare.specs.Sides.{behavior_of, profile_behavior, stack_behavior};
 ghost use Rattle.scf_compare.specs.Splits.{SplitsEnd};
 ghost use Rattle.scf_compare.specs.Verdicts.{IsTrueOfStackBy, finding_of};
 ghost use Rattle.scf_profile.specs.Scope.{IsInScope, RelatedAnswersIn, SameAnswersIn};
 
+use crate::regions::Regions;
+use crate::side::Side;
 use crate::verdict::Verdict;
 use scf_profile::{Relation, Scope};
 
@@ -54,6 +57,14 @@ pub fn finding_is_verdict()
     ensures { (relation : Relation) (filters : List (List Insn)) (p : Profile) (scope : Scope) (verdict : Verdict)
         → IsTrueFinding (compared_in relation scope (stack_behavior filters) (profile_behavior p)) (finding_of verdict)
         → IsTrueOfStackBy relation filters p scope verdict }
+{}
+
+/// Regions that are all decided, as those of sides whose masks have few bits together, are a partition of the scope's
+/// records.
+pub fn regions_partition()
+    ensures { (left right : Side) (scope : Scope) (limit : ℕ) (regions : Regions)
+        → AreRegions (behavior_of left) (behavior_of right) (IsInScope scope) limit regions
+        → All IsDecidedRegion regions.list.items → IsPartition (IsInScope scope) regions.list.items }
 {}
 
 /// The headline of any two sides, which follows from what `compare_sides` promises.

@@ -92,8 +92,8 @@ pub use comparison::PairLeaf;
 pub use finding::{Finding, Which};
 pub use laws::{
     both_ways_is_one_disposition, headline, holds_over_ranges, holds_through, holds_turned,
-    no_more_and_no_less_is_one_disposition, same_holds_by_all, same_is_no_more_and_no_less,
-    sides_headline, splits_end,
+    no_more_and_no_less_is_one_disposition, regions_partition, same_holds_by_all,
+    same_is_no_more_and_no_less, sides_headline, splits_end,
 };
 pub use origin::Origin;
 pub use plain::is_plain;

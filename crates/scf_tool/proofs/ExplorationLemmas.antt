@@ -15,6 +15,7 @@ widened left right scope limit most regions listed below =
         covered = are.covered;
         each = are.each;
         disjoint = are.disjoint;
+        counted = are.counted;
         within_limit = omega arith;
         within_size = are.within_size;
       };

@@ -2,15 +2,22 @@
 use Rattle.std.specs.Prelude.{◌≡◌, ◌==◌, ◌*◌, ◌<◌, ◌≤◌, ℕ, Bool, true, false, not, List, [], ◌∷◌, All, filter, sum_by, Option, Some, None}
 use Rattle.std.specs.List.{AllZip}
 use Rattle.std.specs.Option.{option_map_or}
+use Rattle.scf_insn.specs.Words.{words_of}
+use Rattle.scf_insn.specs.declared.record.CallRecord.{CallRecord}
 use Rattle.scf_insn.specs.declared.answer.Answer.{Answer}
 use Rattle.scf_insn.specs.declared.architecture.Architecture.{Architecture}
 use Rattle.scf_profile.specs.Profile.{Profile}
 use Rattle.scf_profile.specs.Scope.{IsInScope}
+use Rattle.scf_profile.specs.declared.relation.Relation.TheVariants.{Same}
 use Rattle.scf_profile.specs.declared.scope.Scope.{Scope}
 use Rattle.scf_facts.specs.Masks.{AreFew}
+use Rattle.scf_facts.specs.WordSets.{AllowsWords}
+use Rattle.scf_compare.specs.Findings.{IsTrueFinding, compared_in}
 use Rattle.scf_compare.specs.Regions.{AreRegions, IsDecidedRegion}
 use Rattle.scf_compare.specs.Sides.{Behavior, no_side, profile_behavior}
 use Rattle.scf_compare.specs.declared.comparison.PairLeaf.{PairLeaf}
+use Rattle.scf_compare.specs.declared.finding.Finding.TheVariants.{Fails}
+use Rattle.scf_compare.specs.declared.region.Region.{Region}
 use Rattle.scf_compare.specs.declared.regions.Regions.{Regions}
 use Rattle.scf_request.specs.declared.request.Exploration.{Exploration}
 use Rattle.scf_tool.specs.RegionLines.{listing_text}
@@ -43,6 +50,12 @@ is_alike leaf =
 pub record AreDiffering (all differing : Regions) : Type 0 where
   pub list : differing.list.items ≡ filter (λ region. not (is_alike region.leaf)) all.list.items
   pub steps : differing.steps ≡ all.steps
+
+-- A record of a region is one of the scope, and both sides answer it, but not alike.
+abbrev pub HasDifference : Behavior → Behavior → Scope → Region → Type 0
+HasDifference left right scope region = (call : CallRecord) × (first : Answer) × (second : Answer)
+    × AllowsWords region.words (words_of call)
+    × IsTrueFinding (compared_in Same scope left right) (Fails call first second)
 
 -- a walk over two sides comes to its regions that aren't known to be answered alike
 abbrev pub ExploresDiffering : Behavior → Behavior → Scope → ℕ → Option (List Regions) → Type 0

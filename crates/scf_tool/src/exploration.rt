@@ -1,9 +1,10 @@
 //! Walks over the records of a scope: what filters or profiles answer, by regions of records.
 
-ghost use Rattle.std.specs.Prelude.{◌≡◌, ◌⊎◌, ◌∷◌, [], ℕ, Bool, IfOk, IfNone, IfSome, MatchOption, None, Some};
+ghost use Rattle.std.specs.Prelude.{◌≡◌, ◌⊎◌, ◌∷◌, [], ℕ, All, Bool, IfOk, IfNone, IfSome, MatchOption, None, Some};
 ghost use Rattle.scf_compare.specs.Findings.{AllRelated, WordsRelated, compared_sides};
 ghost use Rattle.scf_compare.specs.Regions.{IsCovered};
-ghost use Rattle.scf_compare.specs.Sides.{behavior_of, no_side};
+ghost use Rattle.scf_facts.specs.Masks.{AreFew};
+ghost use Rattle.scf_compare.specs.Sides.{IsMaskedSide, behavior_of, no_side};
 ghost use Rattle.scf_insn.specs.Words.{IsRecord, words_of};
 ghost use Rattle.scf_insn.specs.declared.record.CallRecord.{CallRecord};
 ghost use Rattle.scf_profile.specs.Scope.{IsInScope};
@@ -13,6 +14,7 @@ ghost use Rattle.scf_tool.specs.Explorations.{
   AreListed,
   ExploresEach,
   ExploresSides,
+  HasDifference,
   IsListing,
   ListsDiffering,
   ListsWalks,
@@ -173,6 +175,15 @@ pub fn none_differ()
     ensures none { (left right : Side) (scope : Scope) (limit : ℕ) (all listed : Regions)
         → AreListed (behavior_of left) (behavior_of right) scope limit all → AreDiffering all listed
         → listed.list.items ≡ [] → AllRelated (compared_sides Relation.Same scope left right) }
+{}
+
+/// The law that of sides whose masks have few bits together each listed region has a record that they don't answer
+/// alike.
+pub fn each_differs()
+    ensures { (left right : Side) (scope : Scope) (limit masks : ℕ) (all listed : Regions)
+        → AreFew masks → IsMaskedSide masks left → IsMaskedSide masks right
+        → AreListed (behavior_of left) (behavior_of right) scope limit all → AreDiffering all listed
+        → All (HasDifference (behavior_of left) (behavior_of right) scope) listed.list.items }
 {}
 
 /// Lists what two sides aren't known to answer alike, of the records of the scope.

@@ -1,5 +1,5 @@
 -- From one region to the next.
-use Rattle.std.specs.Prelude.{◌≡◌, ◌⊎◌, ◌++◌, ◌∷◌, ◌↔◌, [], ℕ, List, Option, None, All, AllPairs, Bool, IfSome, IsSome, IsTrue}
+use Rattle.std.specs.Prelude.{◌≡◌, ◌⊎◌, ◌++◌, ◌∷◌, ◌↔◌, ◌≤◌, ◌+◌, length, [], ℕ, List, Option, None, All, AllPairs, Bool, IfSome, IsSome, IsTrue}
 use Rattle.scf_insn.specs.Words.{IsRecord, words_of}
 use Rattle.scf_facts.specs.Masks.{AreFew}
 use Rattle.scf_facts.specs.declared.word_facts.WordFacts.{Ghosts as Store}
@@ -58,4 +58,5 @@ pub record IsRegionStep {F K N : Type 0} (store : Store F) (compared : Compared)
   pub decided : (masks : ℕ) → AreFew masks
       → IsExact store tree masks old (here.is_plain masks from) (here.reaches from) → first_open ≡ None
       → (now_open ≡ None) × (All IsDecidedRegion old_regions → All IsDecidedRegion new_regions)
+  pub few : length new_regions ≤ length old_regions + 1
   pub nothing : FindsNothing stage

@@ -1,8 +1,15 @@
-use Rattle.scf_compare.proofs.Common.{◌≡◌, IsTrue, None, arith, common_steps, length}
+use Rattle.scf_compare.proofs.Common.{◌≡◌, ◌≤◌, ◌+◌, Bool, ℕ, List, IsTrue, None, arith, common_steps, length}
+use Rattle.scf_compare.specs.declared.comparison.PairLeaf.{PairLeaf}
+use Rattle.scf_compare.specs.declared.region.Region.{Region}
+use Rattle.scf_compare.specs.internal.Regions.{IsAdded}
 use Rattle.scf_compare.proofs.Branches.{goes_on, weaken, weaken_stage}
 use Rattle.scf_compare.proofs.Stages.{stepped_on}
 use Rattle.scf_compare.proofs.AddedRegions.{after_leaf, no_more_ahead, now_covered, still_covered}
 use Rattle.scf_compare.proofs.regions.region_step.Goals as goal
+
+grown : {allowed : List ℕ → Type 0} {leaf : PairLeaf} {is_whole : Bool} {old new : List Region}
+    → IsAdded allowed leaf is_whole old new → length new ≤ length old + 1
+grown added = grind (arith, common_steps, added)
 
 pub returns-in-Next : goal.returns-in-Next
 returns-in-Next g c = record {
@@ -10,6 +17,7 @@ returns-in-Next g c = record {
   kept = λ words covered. covered;
   regions = (c.requires.regions, goes_on c.requires.whole c.in-Next.ensures.leads);
   decided = λ masks few exact none. (none, λ all. all);
+  few = omega arith;
   nothing = tt;
 }
 
@@ -29,6 +37,7 @@ returns-in_ok-next-in-Branch g c =
         stays.0,
       );
       decided = λ masks few exact none. grind (arith, common_steps, c.in-Branch.ensures.plain masks exact.plain);
+      few = omega arith;
       nothing = tt;
     }
 
@@ -62,5 +71,6 @@ returns-in_ok-stage-in-Leaf g c =
         c.in_ok-add_region-in-Leaf.ensures.decided masks few,
         c.in-Leaf.ensures.plain masks exact.plain,
       );
+      few = grown added;
       nothing = taken.nothing;
     }

@@ -14,6 +14,7 @@ loop-steps-init g c = record {
     here = λ is words allowed. grind (arith, c.requires.scope words, c.requires.reached words);
   };
   regions = grind arith;
+  few = grind arith;
   size = grind arith;
   decided = λ masks few among plain. (refl, grind arith, grind (arith, c.requires.scope, c.requires.reached));
 }
@@ -35,6 +36,7 @@ returns-in-AllSeen-clause-regions g c =
           ];
       each = regions.0;
       disjoint = regions.1;
+      counted = omega (arith, c.loop-steps.invariant.few, after.few);
       within_limit = omega arith;
       within_size = omega (arith, c.loop-steps.invariant.size, counts, c.requires.size);
     }
@@ -58,6 +60,7 @@ loop-steps-preserved g c =
       ];
       whole = regions.1;
       regions = regions.0;
+      few = omega (arith, c.loop-steps.invariant.few, after.few);
       size = omega (arith, c.loop-steps.invariant.size, over.size);
       decided = λ masks few among plain.
           let before = c.loop-steps.invariant.decided masks few among plain in

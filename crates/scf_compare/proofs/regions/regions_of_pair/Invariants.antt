@@ -1,4 +1,4 @@
-use Rattle.scf_compare.proofs.Common.{◌≡◌, ◌+◌, ◌≤◌, ◌⊎◌, ℕ, All, List, None, AreWordsIn, IsAhead, IsExact, IsFrontier, open_size}
+use Rattle.scf_compare.proofs.Common.{length, ◌≡◌, ◌+◌, ◌≤◌, ◌⊎◌, ℕ, All, List, None, AreWordsIn, IsAhead, IsExact, IsFrontier, open_size}
 use Rattle.scf_facts.specs.Masks.{AreFew}
 use Rattle.scf_compare.specs.Regions.{IsCovered, IsDecidedRegion}
 use Rattle.scf_compare.specs.internal.Frontier.{IsWhole}
@@ -20,6 +20,7 @@ invariant-loop-steps g l =
           ⊎ IsAhead store tree l.frontier (here.reaches l.node) words;
       whole : IsWhole store tree l.frontier l.first_open (here.reaches l.node);
       regions : AreRegionsSoFar store compared tree l.frontier l.first_open l.list.items;
+      few : length l.list.items ≤ l.steps;
       size : l.steps + (open_size tree l.frontier + here.size l.node) ≤ start.size l.fn.root;
       decided : (masks : ℕ) → AreFew masks → store.refutes_among l.fn.facts 0 masks → start.is_plain masks l.fn.root
           → (l.first_open ≡ None) × All IsDecidedRegion l.list.items

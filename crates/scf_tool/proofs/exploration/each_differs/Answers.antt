@@ -1,0 +1,8 @@
+use Rattle.scf_compare.specs.Sides.{behavior_of}
+use Rattle.scf_tool.proofs.DifferenceLemmas.{each_differs}
+use Rattle.scf_tool.proofs.exploration.each_differs.Goals as goal
+
+pub returns : goal.returns
+returns c = λ left right scope limit masks all listed few of_left of_right are differing.
+    each_differs (behavior_of left) (behavior_of right) scope limit all listed are differing
+    (are.decided masks few of_left of_right)
