@@ -1,8 +1,10 @@
 -- The rules that entries state: their ranges, and one answer for each entry.
 use Rattle.scf_profile.proofs.Common.{◌≡◌, ℕ, suc, Bool, ◌+◌, ◌<◌, ◌≤◌, ◌^◌, List, [], ◌∷◌, ◌++◌, length, get_or, map, Some, None, Option, All, refl, sym, ap, ◌∙◌, arith, inl, inr, Contains, count_by-le-length, length-filter, option_map, cons_option, All-contains_itself, All-filter, Reading, effective_rules, is_effective, filter, get, cases_order, recursion_from_All, All-nil, All-cons, All-append, All-head, All-tail, All-contains, All-same, All-weaker, filter-append, filter_map-append, Architecture, row_of, Rule, IsEntry, AreStatedRules, Answer, EntriesConflict, max_rules, IsProfile, HaveNoConflict, Conflicts, IsRule, Names, AreCallNumbers, option_map_or, rules_by_each, rules_of_entry, rules_named, rules_from, Condition, IsCondition, AreConditions, HaveDistinctIndices, AllByRecursion, alternatives, has_repeated_index, cond, true, false, list_any, or_parts, eqb, eqb-false, ◌≢◌, append-nil, flat_map-cons}
+use Rattle.std.proofs.lemmas.List.Kept.{AllPairs-cons, AllPairs-filter}
 use Rattle.scf_insn.proofs.Architectures.{number_within}
 use Rattle.scf_profile.specs.declared.entry.Entry.{Entry}
 use Rattle.scf_profile.specs.Loading.{IsClash}
+use Rattle.scf_profile.specs.Profile.{AreInOrder}
 use Rattle.scf_profile.specs.Readings.{is_runtime}
 use Rattle.scf_profile.proofs.Answering.{conflicts_both_ways}
 
@@ -106,6 +108,50 @@ all_stated out a table below index (e ∷ es) h =
     (All-weaker (IsStated a (index + 1) answers) P (λ r h. (suc h.0, h.1, omega (arith, h.2), h.3))
     (rules_from out a table (index + 1) es) (all_stated out a table below (index + 1) es (All-tail IsEntry e es h)))
 
+-- ---- their order
+
+-- the rules of an entry, before those of later ones
+in_order_before : (xs ys : List Rule) (index : ℕ) → All (λ r. r.entry ≡ index) xs → All (λ r. index ≤ r.entry) ys
+    → AreInOrder ys → AreInOrder (xs ++ ys)
+in_order_before [] ys index of_one later order = order
+in_order_before (x ∷ xs) ys index of_one later order =
+    let here : x.entry ≡ index = All-head (λ (r : Rule). r.entry ≡ index) x xs of_one in
+    let rest = All-tail (λ (r : Rule). r.entry ≡ index) x xs of_one in
+    let R : Rule → Rule → Type 0 = λ r s. r.entry ≤ s.entry in
+    AllPairs-cons R x (xs ++ ys)
+    (All-append (R x) xs ys (All-weaker (λ (r : Rule). r.entry ≡ index) (R x) (λ r same. omega (arith, same, here)) xs rest)
+    (All-weaker (λ (r : Rule). index ≤ r.entry) (R x) (λ r le. omega (arith, le, here)) ys later))
+    (in_order_before xs ys index rest later order)
+
+of_entry : (out : Option Answer) (a : Architecture) (table : Names) (index : ℕ) (e : Entry)
+    → All (λ r. r.entry ≡ index) (rules_of_entry out a table index e)
+of_entry out a table index e =
+    let P : Rule → Type 0 = λ r. r.entry ≡ index in
+    all_unless P (option_map_or (λ (answer : Answer). eqb answer.0 e.answer.0) out false) _
+    (all_by_each P a table index e.answer e.names (alternatives e.conditions)
+    (λ k d lt. all_named a P table index (get_or (alternatives e.conditions) k d) e.answer (λ name number is. refl)))
+
+from_index : (out : Option Answer) (a : Architecture) (table : Names) (index : ℕ) (es : List Entry)
+    → All (λ r. index ≤ r.entry) (rules_from out a table index es)
+from_index out a table index [] = All-nil (λ (r : Rule). index ≤ r.entry)
+from_index out a table index (e ∷ es) =
+    let P : Rule → Type 0 = λ r. index ≤ r.entry in
+    All-append P (rules_of_entry out a table index e) (rules_from out a table (index + 1) es)
+    (All-weaker (λ (r : Rule). r.entry ≡ index) P (λ r same. omega (arith, same)) (rules_of_entry out a table index e)
+    (of_entry out a table index e))
+    (All-weaker (λ (r : Rule). index + 1 ≤ r.entry) P (λ r le. omega (arith, le)) (rules_from out a table (index + 1) es)
+    (from_index out a table (index + 1) es))
+
+stated_in_order : (out : Option Answer) (a : Architecture) (table : Names) (index : ℕ) (es : List Entry)
+    → AreInOrder (rules_from out a table index es)
+stated_in_order out a table index [] = λ i j d lt inside. absurd (omega (arith, lt, inside))
+stated_in_order out a table index (e ∷ es) =
+    in_order_before (rules_of_entry out a table index e) (rules_from out a table (index + 1) es) index
+    (of_entry out a table index e)
+    (All-weaker (λ (r : Rule). index + 1 ≤ r.entry) (λ (r : Rule). index ≤ r.entry) (λ r le. omega (arith, le))
+    (rules_from out a table (index + 1) es) (from_index out a table (index + 1) es))
+    (stated_in_order out a table (index + 1) es)
+
 -- ---- one name after another
 
 pub rules_first : (a : Architecture) (table : Names) (index : ℕ) (conditions : List Condition) (answer : Answer)
@@ -151,6 +197,7 @@ stated_rules out a table es rules below each is few =
           let two = All-contains (IsStated a 0 answers) rules s all has_s in
           let at : one.0 ≡ two.0 = omega (arith, one.2, two.2) in
           one.3 ∙ ap (λ (k : ℕ). get_or answers k (record { 0 = 0 })) at ∙ sym two.3;
+      in_order = rw is (stated_in_order out a table 0 es);
     }
 
 -- ---- the rules that a reading leaves
@@ -165,6 +212,7 @@ filter_stated p a rules stated =
       few = omega (arith, length-filter p rules, count_by-le-length p rules, stated.few);
       each = All-filter p (IsRule a) rules stated.each;
       one_answer = λ r s has_r has_s. stated.one_answer r s (inside r has_r) (inside s has_s);
+      in_order = AllPairs-filter (λ (r s : Rule). r.entry ≤ s.entry) p rules stated.in_order;
     }
 
 pub effective_stated : (reading : Reading) (a : Architecture) (rules : List Rule) → AreStatedRules a rules
@@ -203,4 +251,5 @@ profile_of_rules a default_answer rules fits stated none =
       few = stated.few;
       each = recursion_from_All (IsRule a) rules stated.each;
       no_conflict = have_no_conflict a rules stated none;
+      in_order = stated.in_order;
     }

@@ -22,12 +22,17 @@ abbrev pub HaveNoConflict : Architecture → List Rule → Type 0
 HaveNoConflict architecture rules =
     (r s : Rule) → Contains rules r → Contains rules s → Conflicts architecture r s → ⊥
 
+-- no rule stands before one of an earlier entry
+abbrev pub AreInOrder : List Rule → Type 0
+AreInOrder rules = AllPairs (λ r later. r.entry ≤ later.entry) rules
+
 -- what every loaded profile holds
 pub record IsProfile (p : Profile) : Type 0 where
   pub default_answer : p.default_answer.0 < 2 ^ 32
   pub few : length p.rules ≤ max_rules
   pub each : AllByRecursion (IsRule p.architecture) p.rules
   pub no_conflict : HaveNoConflict p.architecture p.rules
+  pub in_order : AreInOrder p.rules
 
 -- Profiles of which no two are for one call: those of architectures that are apart.
 abbrev pub AreOfApart : List Profile → Type 0

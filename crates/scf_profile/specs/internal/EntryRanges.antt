@@ -6,7 +6,7 @@ use Rattle.scf_profile.specs.declared.entry.Entry.{Entry}
 use Rattle.scf_profile.specs.declared.load_fault.LoadFault.{LoadFault}
 use Rattle.scf_profile.specs.declared.load_fault.LoadFault.TheVariants as faults
 use Rattle.scf_profile.specs.declared.rule.Rule.{Rule}
-use Rattle.scf_profile.specs.Profile.{Profile}
+use Rattle.scf_profile.specs.Profile.{AreInOrder, Profile}
 use Rattle.scf_profile.specs.Limits.{max_rules}
 use Rattle.scf_profile.specs.Rule.{IsCondition, IsRule}
 
@@ -14,11 +14,12 @@ pub record IsEntry (e : Entry) : Type 0 where
   pub conditions : All IsCondition e.conditions
   pub answer : e.answer.0 < 2 ^ 32
 
--- rules that entries state: few enough, each within its ranges, and those of one entry with one answer
+-- rules that entries state: few enough, each within its ranges, those of one entry with one answer, and in order
 pub record AreStatedRules (architecture : Architecture) (rules : List Rule) : Type 0 where
   pub few : length rules ≤ max_rules
   pub each : All (IsRule architecture) rules
   pub one_answer : (r s : Rule) → Contains rules r → Contains rules s → r.entry ≡ s.entry → r.answer ≡ s.answer
+  pub in_order : AreInOrder rules
 
 -- a fault other than out of memory tells that the rules are too many, and they are
 abbrev pub TellsTooMany : List Rule → LoadFault → Type 0
