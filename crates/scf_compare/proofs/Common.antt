@@ -38,7 +38,7 @@ pub use Rattle.scf_insn.specs.declared.operation.Register.{Register}
 pub use Rattle.scf_insn.specs.declared.operation.Register.TheVariants.{A}
 pub use Rattle.scf_insn.specs.declared.operation.Test.TheVariants.{CommonBit}
 pub use Rattle.scf_insn.specs.declared.record.CallRecord.{CallRecord}
-pub use Rattle.scf_machine.proofs.Common.{Ends, Fault, Faults, Goes, IsFine, IsPlainInsn, IsPlainProgram, IsReturn, IsValidList, Outcome, RunAnswers, RunsSafely, StackAnswers, Stands, State, effect, holds, ints, jumps_to, loads, operand_of, sets, slice_get-get_or, slice_get_within, start, step, unless, value_computed}
+pub use Rattle.scf_machine.proofs.Common.{Ends, EndsAt, Fault, Faults, Goes, IsFine, IsPlainInsn, IsPlainProgram, IsReturn, IsValidList, Outcome, RunAnswers, RunsSafely, StackAnswers, Stands, State, effect, holds, ints, jumps_to, loads, operand_of, sets, slice_get-get_or, slice_get_within, start, step, unless, value_computed}
 pub use Rattle.scf_machine.proofs.Runs.{fine_of, run_length, runs_safely, same_insn}
 pub use Rattle.scf_machine.proofs.Stacks.{one_answers, stack_answer_once}
 pub use Rattle.scf_profile.proofs.Answering.{one_answer}

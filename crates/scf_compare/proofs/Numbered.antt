@@ -1,8 +1,15 @@
 -- A profile's numbers: which rules a call can still meet, and how many steps the numbers take.
-use Rattle.scf_compare.proofs.Common.{drop-drop, ◌-◌, ◌≡◌, ◌≢◌, ℕ, ◌+◌, ◌<◌, ◌≤◌, false, true, eqb, List, [], Some, length, map, drop, get_or, refl, sym, ap, arith, inl, inr, slice_get, slice_get-get_or, slice_get-map, slice_get_within, get_or_from_slice_get, get_or-take, length-take, take_all, eqb-true, All, All-contains, All-contains_itself, All-filter, filter_passes, contains_filtered, Contains, CallRecord, Condition, NotEqual, NumberRules, Rule, ProfileAnswers, by_rule, by_default, meets, rules_of, AreNumbersOf, number_among, numbers_rise, sum_of_own, sum_by-drop_more, sum_by-take-drop, conditions_size, rules_size, numbers_size, own_conditions, own_rules, size_behind, IsAtCondition, IsAtRule, IsFrom, ConditionPosition, IsNumbered, NumberedProfile}
+use Rattle.scf_compare.proofs.Common.{drop-drop, take, ◌∷◌, ◌∙◌, Architecture, ◌-◌, ◌≡◌, ◌≢◌, ℕ, ◌+◌, ◌<◌, ◌≤◌, false, true, eqb, List, [], Some, length, map, drop, get_or, refl, sym, ap, arith, inl, inr, slice_get, slice_get-get_or, slice_get-map, slice_get_within, get_or_from_slice_get, get_or-take, length-take, take_all, eqb-true, All, All-contains, All-contains_itself, All-filter, filter_passes, contains_filtered, Contains, CallRecord, Condition, NotEqual, NumberRules, Rule, ProfileAnswers, by_rule, by_default, meets, rules_of, AreNumbersOf, number_among, numbers_rise, sum_of_own, sum_by-drop_more, sum_by-take-drop, conditions_size, rules_size, numbers_size, own_conditions, own_rules, size_behind, IsAtCondition, IsAtRule, IsFrom, ConditionPosition, IsNumbered, NumberedProfile}
 use Rattle.scf_profile.specs.Profile.{Profile}
 use Rattle.scf_compare.specs.Effort.{spread, stub_size}
-use Rattle.scf_compare.specs.Sides.{HasReason}
+use Rattle.std.proofs.Math.ListN.{get_or-map}
+use Rattle.std.proofs.lemmas.Bool.{cases_order}
+use Rattle.std.proofs.lemmas.List.{length-map}
+use Rattle.std.proofs.lemmas.List.Elements.{All-map}
+use Rattle.std.proofs.lemmas.List.Kept.{AllPairs-filter}
+use Rattle.std.specs.List.{filter}
+use Rattle.scf_profile.specs.Profile.{AreInOrder}
+use Rattle.scf_profile.specs.Reasons.{IsReason, entries_met}
 use Rattle.scf_profile.specs.declared.reason.Reason.{Reason}
 use Rattle.scf_profile.specs.declared.reason.Reason.TheVariants.{Default, Entry, Foreign, Stub}
 use Rattle.scf_compare.specs.declared.origin.Origin.TheVariants.{Profile as OfReason}
@@ -62,23 +69,77 @@ own_rule nr rules r has = (
       (filter_passes (λ (q : Rule). eqb q.number nr) rules) has),
 )
 
+-- what is mapped of an element is among what is mapped
+contains_mapped : {X Y : Type 0} (f : X → Y) (xs : List X) (x : X) → Contains xs x → Contains (map f xs) (f x)
+contains_mapped f xs x (k, inside, is) = (k, omega (arith, inside, length-map xs f), get_or-map f xs k x ∙ ap f is)
+
+-- what holds of each rule that a call meets
+each_met : (a : Architecture) (call : CallRecord) (rules : List Rule) (P : Rule → Type 0)
+    → ((r : Rule) → Contains rules r → meets a r call ≡ true → P r) → All P (filter (λ r. meets a r call) rules)
+each_met a call rules P holds k d inside =
+    let is_met = λ (r : Rule). meets a r call in
+    holds (get_or (filter is_met rules) k d)
+    (All-filter is_met (Contains rules) rules (All-contains_itself rules) k d inside)
+    (filter_passes is_met rules k d inside)
+
+no_entry_met : (a : Architecture) (call : CallRecord) (rules : List Rule)
+    → ((r : Rule) → Contains rules r → meets a r call ≡ false) → entries_met a rules call ≡ []
+no_entry_met a call rules none = ap (map (λ (r : Rule). r.entry)) (empty (filter (λ r. meets a r call) rules)
+    (each_met a call rules (λ r. ⊥) (λ r has met. absurd (grind (arith, met, none r has)))))
+  where
+    empty : (met : List Rule) → All (λ r. ⊥) met → met ≡ []
+    empty [] all = refl
+    empty (r ∷ met) all = absurd (all 0 r (omega arith))
+
+-- a rule that a call meets is one of its number
+met_among : (a : Architecture) (call : CallRecord) (rules : List Rule) (r : Rule) → Contains rules r
+    → meets a r call ≡ true → Contains (rules_of call.nr rules) r
+met_among a call rules r has met =
+    contains_filtered (λ (q : Rule). eqb q.number call.nr) rules r (grind (arith, met, unmet_apart)) has
+
+-- no rule that a call meets is of an earlier entry than the first of its number that it meets
+first_of_met : (a : Architecture) (call : CallRecord) (rules : List Rule) (index : ℕ) (r q : Rule) → AreInOrder rules
+    → slice_get (rules_of call.nr rules) index ≡ Some r
+    → All (λ earlier. meets a earlier call ≡ false) (take index (rules_of call.nr rules))
+    → Contains rules q → meets a q call ≡ true → r.entry ≤ q.entry
+first_of_met a call rules index r q order here unmet has met =
+    let own = rules_of call.nr rules in
+    let (k, inside, is) = met_among a call rules q has met in
+    let own_order = AllPairs-filter (λ (x y : Rule). x.entry ≤ y.entry) (λ (x : Rule). eqb x.number call.nr) rules order in
+    let within = slice_get_within own index r here in
+    elim (cases_order k index) [
+      | inl same ↦ grind (arith, same, is, get_or_from_slice_get own index r q here)
+      | inr (inl before) ↦ absurd (grind (arith, met, is, unmet k q, get_or-take, length-take, before, within))
+      | inr (inr after) ↦ grind (arith, own_order index k q after inside, is, get_or_from_slice_get own index r q here)
+    ]
+
 module _ (s : NumberedProfile) (call : CallRecord) where
   -- a rule that the call is at, all of whose conditions hold of it
-  pub by_own_rule : (at : ConditionPosition) (r : Rule) → IsAtCondition s at call
+  pub by_own_rule : (at : ConditionPosition) (r : Rule) → AreInOrder s.profile.rules → IsAtCondition s at call
       → slice_get (own_rules s.numbers at.number) at.rule ≡ Some r → length r.conditions ≤ at.condition
-      → ProfileAnswers s.profile call r.answer.0 × HasReason s.profile call (Entry r.entry)
-  by_own_rule at r is here all =
+      → ProfileAnswers s.profile call r.answer.0 × IsReason s.profile call (Entry r.entry)
+  by_own_rule at r order is here all =
       let own = own_rule call.nr s.profile.rules r
       (rw is.at_rule.own (contains_here (own_rules s.numbers at.number) at.rule r here)) in
       let held = rw (conditions_read s.numbers at r here, take_all at.condition r.conditions all) at is.held in
       let met : meets s.profile.architecture r call ≡ true = grind arith in
-      let left = is.at_rule.by_rules in
-      (by_rule r left.is_of left.not_stubbed own.0 met, (r, left.is_of, left.not_stubbed, own.0, met, refl))
+      let left = is.at_rule.by_rules in (
+        by_rule r left.is_of left.not_stubbed own.0 met,
+        (
+          left.is_of,
+          left.not_stubbed,
+          contains_mapped (λ (q : Rule). q.entry) _ r
+              (contains_filtered (λ (q : Rule). meets s.profile.architecture q call) s.profile.rules r met own.0),
+          All-map (λ (entry : ℕ). r.entry ≤ entry) (λ (q : Rule). q.entry) _ (each_met s.profile.architecture call s.profile.rules
+              (λ (q : Rule). r.entry ≤ q.entry) (λ q has met_too. first_of_met s.profile.architecture call s.profile.rules
+              at.rule r q order (rw is.at_rule.own here) (rw is.at_rule.own is.at_rule.unmet) has met_too)),
+        ),
+      )
 
   -- a call that meets none of the rules of its number
   unmet_own : IsLeftToRules s.profile call
       → All (λ r. meets s.profile.architecture r call ≡ false) (rules_of call.nr s.profile.rules)
-      → ProfileAnswers s.profile call s.profile.default_answer.0 × HasReason s.profile call Default
+      → ProfileAnswers s.profile call s.profile.default_answer.0 × IsReason s.profile call Default
   unmet_own left unmet =
       let none = λ (r : Rule) (has : Contains s.profile.rules r).
       let among = contains_filtered (λ (q : Rule). eqb q.number call.nr) s.profile.rules r in
@@ -86,16 +147,16 @@ module _ (s : NumberedProfile) (call : CallRecord) where
       (rules_of call.nr s.profile.rules) r unmet in
       let unmet_r : meets s.profile.architecture r call ≡ false = grind (arith, among, unmet_one, unmet_apart) in
       unmet_r in
-      (by_default left.is_of left.not_stubbed none, (left.is_of, left.not_stubbed, none))
+      (by_default left.is_of left.not_stubbed none, (left.is_of, left.not_stubbed, no_entry_met s.profile.architecture call s.profile.rules none))
 
   -- a call past the last rule of its number
   pub past_rules : (number rule : ℕ) → IsAtRule s number rule call → length (own_rules s.numbers number) ≤ rule
-      → ProfileAnswers s.profile call s.profile.default_answer.0 × HasReason s.profile call Default
+      → ProfileAnswers s.profile call s.profile.default_answer.0 × IsReason s.profile call Default
   past_rules number rule is past = unmet_own is.by_rules (grind (arith, take_all))
 
   -- a call with none of the numbers
   pub of_no_number : IsNumbered s → IsLeftToRules s.profile call → All (λ own. call.nr ≢ own.number) s.numbers
-      → ProfileAnswers s.profile call s.profile.default_answer.0 × HasReason s.profile call Default
+      → ProfileAnswers s.profile call s.profile.default_answer.0 × IsReason s.profile call Default
   of_no_number numbered left apart = elim (number_among s.numbers s.profile.rules numbered.numbers call.nr) [
     | inl (own, has, same) ↦ absurd (All-contains (λ o. call.nr ≢ o.number) s.numbers own apart has (sym same))
     | inr none ↦ unmet_own left (rw none (λ k d lt. absurd (omega arith)))

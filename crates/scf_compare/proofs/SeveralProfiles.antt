@@ -55,7 +55,7 @@ module _ (profiles : List Profile) (numbers : List NumberRules) (index : ℕ) (i
   answer_of_all (OfReason Stub) words answer own told gives =
       (by_profile _ has gives.0 answer told, (_, has, gives.0, gives))
   answer_of_all (OfReason (Entry entry)) words answer own told gives =
-      (by_profile _ has gives.1 answer told, (_, has, gives.1, gives))
+      (by_profile _ has gives.0 answer told, (_, has, gives.0, gives))
   answer_of_all (OfReason Default) words answer own told gives =
       (by_profile _ has gives.0 answer told, (_, has, gives.0, gives))
 

@@ -1,11 +1,16 @@
 -- The filters of a stack by their indices.
-use Rattle.std.specs.Prelude.{IfNone}
-use Rattle.scf_compare.specs.Sides.{CanEndAt, StackCanEndAt, StackIsOpenAt, origin_index}
+use Rattle.std.specs.Prelude.{IfNone, int_lt}
+use Rattle.std.proofs.lemmas.Int.{ints}
+use Rattle.scf_insn.specs.Answers.{rank_of}
+use Rattle.scf_insn.specs.Kernel.{seccomp_ret_allow}
+use Rattle.scf_machine.proofs.Stacks.{empty_allows, one_more, one_more_gives}
+use Rattle.scf_machine.specs.declared.stack.DecidingInsn.{DecidingInsn}
+use Rattle.scf_compare.specs.Sides.{AnswersFrom, CanEndAt, FilterGives, StackCanEndAt, StackIsOpenAt, origin_index}
 use Rattle.scf_compare.specs.declared.origin.Origin.{Origin}
 use Rattle.scf_compare.specs.declared.origin.Origin.TheVariants.{Filter, Profile as OfReason}
 use Rattle.scf_compare.specs.Leaves.{SideTells}
 use Rattle.scf_compare.specs.internal.Stacks.{FirstAnswer, IsEndAt, NextAnswers}
-use Rattle.scf_compare.proofs.Common.{EndsWith, Contains, FilterLeaf, None, Some, IsSideLeaf, Operation, SideLeaf, control_flow_at, refl, stack_behavior, ◌≡◌, ◌⊎◌, ℕ, ◌+◌, ◌*◌, ◌-◌, ◌<◌, ◌≤◌, List, [], ◌∷◌, length, drop, arith, Option, IfSome, slice_get-get_or, Answer, Insn, RunAnswers, one_answers, stack_paths, tree_size, IsFilterEnd, IsStackLeaf, filter_at}
+use Rattle.scf_compare.proofs.Common.{Bool, EndsAt, EndsWith, Contains, StackAnswers, false, true, FilterLeaf, None, Some, IsSideLeaf, Operation, SideLeaf, control_flow_at, refl, stack_behavior, ◌≡◌, ◌⊎◌, ℕ, ◌+◌, ◌*◌, ◌-◌, ◌<◌, ◌≤◌, List, [], ◌∷◌, length, drop, arith, Option, IfSome, slice_get-get_or, Answer, Insn, RunAnswers, stack_paths, tree_size, IsFilterEnd, IsStackLeaf, filter_at}
 use Rattle.scf_compare.proofs.Rules.{contains_here, drop_here}
 use Rattle.scf_insn.specs.declared.operation.Arithmetic.TheVariants.{Div}
 use Rattle.scf_insn.specs.declared.operation.Operand.TheVariants.{Index}
@@ -34,11 +39,87 @@ pub paths_before : (filters : List (List Insn)) (index : ℕ) → 0 < index → 
 paths_before filters index some within =
     let inside : index - 1 < length filters = omega arith in grind (arith, paths_from filters (index - 1) inside)
 
+-- ---- what gives the answer
+
+-- a run that ends somewhere answers
+runs : {insns : List Insn} {words : List ℕ} {index answer : ℕ} → EndsAt insns words index answer
+    → RunAnswers insns words answer
+runs ends = (
+  length ends.earlier + 1,
+  record { last = ends.last; earlier = ends.earlier; chain = ends.chain; answers = ends.answers; count = refl },
+)
+
+-- no answer has a greater rank than ALLOW
+most_permissive : (answer : ℕ) → int_lt (rank_of seccomp_ret_allow) (rank_of answer) ≡ false
+most_permissive answer = by_test (int_lt (rank_of seccomp_ret_allow) (rank_of answer)) refl where
+  by_test : (less : Bool) → int_lt (rank_of seccomp_ret_allow) (rank_of answer) ≡ less → less ≡ false
+  by_test true is = absurd (grind (arith, ints, is))
+  by_test false is = refl
+
 -- the first filter decides alone
+first_gives : (filters : List (List Insn)) (words : List ℕ) (at answer : ℕ) → 0 < length filters
+    → EndsAt (filter_at filters 0) words at answer → FirstAnswer filters 1 (Filter 0 at) words answer
+first_gives filters words at answer some ends =
+    let least = most_permissive answer in (
+      rw least at (one_more filters 0 [] words seccomp_ret_allow answer some (empty_allows words) (runs ends)),
+      rw least at (one_more_gives filters 0 [] words None seccomp_ret_allow at answer some (refl, refl) ends),
+    )
+
 pub first_decides : (filters : List (List Insn)) (index : ℕ) (words : List ℕ) (leaf : SideLeaf)
     → index < length filters → index ≡ 0 → SideTells (NextAnswers filters index) leaf words
     → SideTells (FirstAnswer filters (index + 1)) leaf words
-first_decides filters index words leaf inside first run = grind (arith, one_answers)
+first_decides filters index words leaf inside first run = rw first (by_leaf leaf.answer leaf.origin (rw first at run))
+  where
+    by_leaf : (answer : Option Answer) (origin : Origin) → IfSome answer (λ a. NextAnswers filters 0 origin words a.0)
+        → IfSome answer (λ a. FirstAnswer filters 1 origin words a.0)
+    by_leaf None origin run = tt
+    by_leaf (Some answer) (OfReason reason) run = absurd run
+    by_leaf (Some answer) (Filter filter at) run =
+        rw run.0 (first_gives filters words at answer.0 (omega (arith, inside)) run.1)
+
+-- one filter more, the newest: the older ones decide if its answer has a greater rank, and else it does
+module _ (filters : List (List Insn)) (index : ℕ) (words : List ℕ) (inside : index < length filters) where
+  pub older_decide : (origin newer : Origin) (first last : ℕ) → int_lt (rank_of first) (rank_of last) ≡ true
+      → FirstAnswer filters index origin words first → NextAnswers filters index newer words last
+      → FirstAnswer filters (index + 1) origin words first
+  older_decide (OfReason reason) newer first last less older next = absurd older.1
+  older_decide (Filter filter at) (OfReason reason) first last less older next = absurd next
+  older_decide (Filter filter at) (Filter other end) first last less older next =
+      let by : DecidingInsn = record { filter = filter; index = at } in (
+        rw less at (one_more filters index [] words first last inside older.0 (runs next.1)),
+        rw less at (one_more_gives filters index [] words (Some by) first end last inside older.1 next.1),
+      )
+
+  pub newest_decides : (origin newer : Origin) (first last : ℕ) → int_lt (rank_of first) (rank_of last) ≡ false
+      → FirstAnswer filters index origin words first → NextAnswers filters index newer words last
+      → FirstAnswer filters (index + 1) newer words last
+  newest_decides (OfReason reason) newer first last least older next = absurd older.1
+  newest_decides (Filter filter at) (OfReason reason) first last least older next = absurd next
+  newest_decides (Filter filter at) (Filter other end) first last least older next =
+      let by : DecidingInsn = record { filter = filter; index = at } in
+      rw next.0 (
+        rw least at (one_more filters index [] words first last inside older.0 (runs next.1)),
+        rw least at (one_more_gives filters index [] words (Some by) first end last inside older.1 next.1),
+      )
+
+-- what all filters decide is what the stack answers
+pub all_decide : (filters : List (List Insn)) (leaf : SideLeaf) (words : List ℕ) → 0 < length filters
+    → SideTells (λ origin words answer. StackAnswers filters words answer × FilterGives filters origin words answer) leaf words
+    → SideTells (AnswersFrom (stack_behavior filters)) leaf words
+all_decide [] leaf words some tells = absurd (omega (arith, some))
+all_decide (oldest ∷ newer) leaf words some tells = tells
+
+-- the end of a filter's run, as the stack tells it
+pub next_tells : (filters : List (List Insn)) (index : ℕ) (leaf : FilterLeaf) (words : List ℕ)
+    → IfSome leaf.answer (λ answer. EndsAt (filter_at filters index) words leaf.at answer.0)
+    → SideTells (NextAnswers filters index) (leaf_at index leaf) words
+next_tells filters index leaf words ends = by_answer leaf.answer ends where
+  by_answer : (answer : Option Answer) → IfSome answer (λ a. EndsAt (filter_at filters index) words leaf.at a.0)
+      → IfSome answer (λ a. NextAnswers filters index (Filter index leaf.at) words a.0)
+  by_answer None ends = tt
+  by_answer (Some answer) ends = (refl, ends)
+
+-- ---- where a stack ends
 
 -- where a run ends, one can end
 ending : (operation : Operation) (i : Insn) (at : ℕ) (answer : Option Answer)
@@ -82,19 +163,3 @@ pub side_leaf : (filters : List (List Insn)) (leaf : SideLeaf) → IsStackLeaf f
     → IsSideLeaf (stack_behavior filters) leaf
 side_leaf [] leaf is = rw is (refl, tt)
 side_leaf (oldest ∷ newer) leaf is = end_of oldest newer leaf.origin leaf.answer is
-
--- what a leaf of a filter tells, the stack's leaf does
-tells_at : (oldest : List Insn) (newer : List (List Insn)) (index at : ℕ) (answer : Option Answer) (words : List ℕ)
-    → IsEndAt (oldest ∷ newer) (Filter index at) answer
-    → IfSome answer (λ a. RunAnswers (filter_at (oldest ∷ newer) index) words a.0)
-    → SideTells (NextAnswers (oldest ∷ newer) index) (record { answer = answer; origin = Filter index at }) words
-tells_at oldest newer index at None words is run = tt
-tells_at oldest newer index at (Some answer) words (inside, ends) run = (run, (inside, can_end ends, run))
-
-pub next_tells : (filters : List (List Insn)) (index : ℕ) (leaf : FilterLeaf) (words : List ℕ) → index < length filters
-    → IsFilterEnd (filter_at filters index) leaf
-    → IfSome leaf.answer (λ a. RunAnswers (filter_at filters index) words a.0)
-    → SideTells (NextAnswers filters index) (leaf_at index leaf) words
-next_tells [] index leaf words inside ends run = absurd (omega arith)
-next_tells (oldest ∷ newer) index leaf words inside ends run =
-    tells_at oldest newer index leaf.at leaf.answer words (inside, ends) run

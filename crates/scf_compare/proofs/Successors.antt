@@ -1,5 +1,5 @@
 -- The runs that come to the nodes of a filter's tree.
-use Rattle.scf_compare.proofs.Common.{◌≡◌, ℕ, ◌+◌, ◌==◌, Bool, true, false, List, ◌∷◌, length, refl, subst, ◌∙◌, arith, Insn, Operation, State, Outcome, Goes, Ends, Faults, step, effect, jumps_to, holds, operand_of, RunAnswers, RunsSafely, Stands, FilterLeaf, FilterNode, ControlFlow, FallThrough, Jump, ConditionalJump, DivideByIndex, ReturnConstant, ReturnAccumulator, KnownRegisters, Step, Decision, control_flow_at, Tree, GoesOn, Describes, Decides, ComesTo, IsStepOf}
+use Rattle.scf_compare.proofs.Common.{◌≡◌, ℕ, ◌==◌, Bool, true, false, List, ◌∷◌, refl, subst, ◌∙◌, arith, Insn, Operation, State, Outcome, Goes, Ends, Faults, step, effect, jumps_to, holds, operand_of, EndsAt, RunsSafely, Stands, FilterLeaf, FilterNode, ControlFlow, FallThrough, Jump, ConditionalJump, DivideByIndex, ReturnConstant, ReturnAccumulator, KnownRegisters, Step, Decision, control_flow_at, Tree, GoesOn, Describes, Decides, ComesTo, IsStepOf}
 use Rattle.scf_compare.proofs.ControlFlows.{Does, does}
 
 -- A run over the words comes to an instruction, whose values are known.
@@ -13,11 +13,9 @@ module _ {insns : List Insn} {words : List ℕ} {index : ℕ} {i : Insn} {operat
   comes_on t next after e at d =
       record { state = t; earlier = c.state ∷ c.earlier; chain = (step_here ∙ e, c.chain); there = at; describes = d }
 
-  answers : (n : ℕ) → effect operation i words c.state ≡ Ends n → RunAnswers insns words n
-  answers n e = (
-    length c.earlier + 1,
-    record { last = c.state; earlier = c.earlier; chain = c.chain; answers = step_here ∙ e; count = refl },
-  )
+  answers : (n : ℕ) → effect operation i words c.state ≡ Ends n → EndsAt insns words index n
+  answers n e =
+      record { last = c.state; earlier = c.earlier; chain = c.chain; answers = step_here ∙ e; here = c.there }
 
   comes_next : RunsSafely insns words → (o : Outcome) → effect operation i words c.state ≡ o → (next : ℕ)
       → Does (FallThrough next) i c.state o → (after : KnownRegisters)
@@ -40,10 +38,10 @@ module _ {insns : List Insn} {words : List ℕ} {index : ℕ} {i : Insn} {operat
       × (outcome ≡ false → ComesTo insns if_false registers words)
   Leads (DivideByIndex next) =
       (after : KnownRegisters) → ((t : State) → effect operation i words c.state ≡ Goes t → Describes after words t)
-      → ((c.state.x == 0) ≡ true → RunAnswers insns words 0)
+      → ((c.state.x == 0) ≡ true → EndsAt insns words index 0)
       × ((c.state.x == 0) ≡ false → ComesTo insns next after words)
-  Leads ReturnConstant = RunAnswers insns words i.k
-  Leads ReturnAccumulator = RunAnswers insns words c.state.a
+  Leads ReturnConstant = EndsAt insns words index i.k
+  Leads ReturnAccumulator = EndsAt insns words index c.state.a
 
   leads_by : RunsSafely insns words → (control_flow : ControlFlow) → Does control_flow i c.state (effect operation i words c.state)
       → Leads control_flow

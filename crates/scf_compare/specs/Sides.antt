@@ -1,25 +1,18 @@
 -- The sides of a comparison.
-use Rattle.std.specs.Prelude.{◌≡◌, ◌*◌, ◌<◌, ◌⊎◌, ℕ, List, [], ◌∷◌, All, Contains, false, length, slice_index_or, true}
-use Rattle.scf_insn.specs.Architectures.{IsOf}
+use Rattle.std.specs.Prelude.{◌≡◌, ◌*◌, ◌⊎◌, ℕ, List, [], ◌∷◌, All, Contains, slice_index_or}
 use Rattle.scf_insn.specs.declared.insn.Insn.{Insn}
 use Rattle.scf_insn.specs.declared.operation.Arithmetic.TheVariants.{Div}
 use Rattle.scf_insn.specs.declared.operation.Operand.TheVariants.{Index}
 use Rattle.scf_insn.specs.declared.operation.Operation.{Operation}
 use Rattle.scf_insn.specs.declared.operation.Operation.TheVariants.{Compute, ReturnConstant, ReturnAccumulator}
-use Rattle.scf_insn.specs.declared.record.CallRecord.{CallRecord}
 use Rattle.scf_insn.specs.Words.{call_of}
-use Rattle.scf_machine.specs.Machine.{RunAnswers}
 use Rattle.scf_machine.specs.Plain.{IsPlainProgram}
-use Rattle.scf_machine.specs.Precedence.{StackAnswers}
+use Rattle.scf_machine.specs.Precedence.{GivesDecision, StackAnswers}
 use Rattle.scf_machine.specs.Rules.{Stands}
 use Rattle.scf_profile.specs.PlainProfile.{IsPlainProfile}
 use Rattle.scf_profile.specs.Profile.{Profile}
-use Rattle.scf_profile.specs.ProfileAnswers.{IsOfNone, ProfileAnswers, ProfilesAnswer}
-use Rattle.scf_profile.specs.Rule.{meets}
-use Rattle.scf_profile.specs.Stub.{is_stubbed}
-use Rattle.scf_profile.specs.declared.reason.Reason.{Reason}
-use Rattle.scf_profile.specs.declared.reason.Reason.TheVariants.{Foreign, Stub, Entry, Default}
-use Rattle.scf_profile.specs.declared.rule.Rule.{Rule}
+use Rattle.scf_profile.specs.ProfileAnswers.{ProfileAnswers, ProfilesAnswer}
+use Rattle.scf_profile.specs.Reasons.{IsReason, IsReasonAmong}
 use Rattle.scf_compare.specs.declared.origin.Origin.{Origin}
 use Rattle.scf_compare.specs.declared.origin.Origin.TheVariants.{Filter, Profile as OfReason}
 use Rattle.scf_compare.specs.declared.side.Side.{Side}
@@ -58,11 +51,10 @@ origin_index (OfReason reason) = 0
 abbrev pub filter_at : List (List Insn) → ℕ → List Insn
 filter_at filters index = slice_index_or filters index []
 
--- one of the filters answers the words so, and a run of it can end at this instruction
+-- the instruction of the filter gives a stack its answer to the words, as `decide` names it
 abbrev pub FilterGives : List (List Insn) → Origin → List ℕ → ℕ → Type 0
 FilterGives filters (Filter filter index) words answer =
-    (filter < length filters) × CanEndAt (filter_at filters filter) index
-    × RunAnswers (filter_at filters filter) words answer
+    GivesDecision filters words (record { filter = filter; index = index }) answer
 FilterGives filters (OfReason reason) words answer = ⊥
 
 -- so it is in a stack, and both indices are 0 where there is no filter
@@ -70,30 +62,15 @@ abbrev pub StackGives : List (List Insn) → Origin → List ℕ → ℕ → Typ
 StackGives [] origin words answer = origin ≡ Filter 0 0
 StackGives (oldest ∷ newer) origin words answer = FilterGives (oldest ∷ newer) origin words answer
 
--- The call is of another architecture, the stub answers it, it meets a rule of this entry, or it meets no rule.
-abbrev pub HasReason : Profile → CallRecord → Reason → Type 0
-HasReason p call Foreign = IsOf p.architecture call → ⊥
-HasReason p call Stub = IsOf p.architecture call × (is_stubbed p.stub call.nr ≡ true)
-HasReason p call (Entry index) = (r : Rule) × IsOf p.architecture call × (is_stubbed p.stub call.nr ≡ false)
-    × Contains p.rules r × (meets p.architecture r call ≡ true) × (r.entry ≡ index)
-HasReason p call Default = IsOf p.architecture call × (is_stubbed p.stub call.nr ≡ false)
-    × ((r : Rule) → Contains p.rules r → meets p.architecture r call ≡ false)
-
 -- the words of a call have the reason of an origin
 abbrev pub ProfileGives : Profile → Origin → List ℕ → Type 0
 ProfileGives p (Filter filter index) words = ⊥
-ProfileGives p (OfReason reason) words = HasReason p (call_of words) reason
-
--- the reason among several profiles: that of the one of the call's architecture
-abbrev pub HasReasonAmong : List Profile → CallRecord → Reason → Type 0
-HasReasonAmong profiles call Foreign = IsOfNone profiles call
-HasReasonAmong profiles call reason =
-    (p : Profile) × Contains profiles p × IsOf p.architecture call × HasReason p call reason
+ProfileGives p (OfReason reason) words = IsReason p (call_of words) reason
 
 -- the words of a call have the reason of an origin among several profiles
 abbrev pub ProfilesGive : List Profile → Origin → List ℕ → Type 0
 ProfilesGive profiles (Filter filter index) words = ⊥
-ProfilesGive profiles (OfReason reason) words = HasReasonAmong profiles (call_of words) reason
+ProfilesGive profiles (OfReason reason) words = IsReasonAmong profiles (call_of words) reason
 
 -- What a side is to a comparison: what it answers to the words of a call, from which origin it gives them an answer, at
 -- which instructions it ends, and at which of them its answer may be unknown, how many steps its whole tree takes, and

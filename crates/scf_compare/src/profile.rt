@@ -6,6 +6,7 @@ ghost use Rattle.scf_insn.specs.Architectures.{IsOf, argument_in};
 ghost use Rattle.scf_insn.specs.Words.{IsWords, call_of};
 ghost use Rattle.scf_profile.specs.declared.condition.Condition.{Condition};
 ghost use Rattle.scf_profile.specs.NumberTests.{test_of};
+ghost use Rattle.scf_profile.specs.Profile.{AreInOrder};
 ghost use Rattle.scf_profile.specs.Rule.{IsRule};
 ghost use Rattle.scf_compare.specs.internal.Conditions.{LeadsTo, successor_size};
 ghost use Rattle.scf_compare.specs.Effort.{conditions_size, rules_size};
@@ -265,6 +266,7 @@ impl ByNumber<'_> {
         ensures rules { result.now ≡ own_rules self.now.numbers number }
         ensures known { All (λ r. Contains self.now.profile.rules r) result.now }
         ensures valid { All (IsRule self.now.profile.architecture) result.now }
+        ensures order { AreInOrder self.now.profile.rules }
     {
         let number_rules = &self.numbers()[number];
         &number_rules.rules
@@ -279,6 +281,7 @@ impl ByNumber<'_> {
         ensures conditions { result.now.conditions ≡ own_conditions self.now.numbers at }
         ensures known { Contains self.now.profile.rules result.now }
         ensures valid { IsRule self.now.profile.architecture result.now }
+        ensures order { AreInOrder self.now.profile.rules }
     {
         &self.rules_at(at.number)[at.rule]
     }

@@ -11,6 +11,8 @@ CLONE_FLAGS = a_filter("ld [0]; jeq #56, 0, 3; ld [16]; and #0x7e020000; jeq #0,
 # Tests one bit of the first argument's low half, and that its high half is at most 5.
 BIT = a_filter("""ld [16]; jset #0x10, 0, denied; ld [20]; jgt #5, denied, 0; ret #0x7fc00000
     denied: ret #0x12345678""")
+# Denies each call, call 5 by an instruction of its own.
+DENIES_TWICE = a_filter("ld [0]; jeq #5, 0, 1; ret #0x50001; ret #0x50001")
 # Adds two words, and tests their sum.
 SUM = a_filter("ld [16]; tax; ld [24]; add x; jeq #9, 0, 1; ret #0x7fff0000; ret #0x50001")
 # Answers with a product.
@@ -19,6 +21,11 @@ PRODUCT = a_filter("ld [16]; tax; ld [24]; mul x; ret a")
 PROFILE, TABLE, X86_TABLE = a_profile(ONE_CALL), a_table(READ_TABLE), ("table-x86", "read 3\n")
 EACH = a_profile('''{"defaultAction":"SCMP_ACT_ERRNO","architectures":["SCMP_ARCH_X86_64","SCMP_ARCH_X86"],
     "syscalls":[{"names":["read"],"action":"SCMP_ACT_ALLOW"}]}''')
+# Allow `read` by four entries, of which the first two want the same argument.
+FOUR_ENTRIES = a_profile('''{"defaultAction":"SCMP_ACT_ERRNO","syscalls":[
+    {"names":["read"],"action":"SCMP_ACT_ALLOW","args":[{"index":0,"value":5,"op":"SCMP_CMP_EQ"}]},
+    {"names":["read"],"action":"SCMP_ACT_ALLOW","args":[{"index":0,"value":5,"op":"SCMP_CMP_EQ"}]},
+    {"names":["read"],"action":"SCMP_ACT_ALLOW"},{"names":["read"],"action":"SCMP_ACT_ALLOW"}]}''')
 # Options on a bundle of parts, what is printed, and the status.
 ANSWERS = (
     ("", [], "ALLOW 0 at 0:0\nregions 1 steps 1\n", 0),
@@ -38,6 +45,12 @@ ANSWERS = (
     # The filter that gives the answer.
     ("", [ALLOW, DENIES], "ERRNO 1 at 1:0\nregions 1 steps 1\n", 0),
     ("", [DENIES, ALLOW], "ERRNO 1 at 0:0\nregions 1 steps 1\n", 0),
+    # Of filters that answer alike the newest one, and in it the instruction that the run comes to.
+    ("", [DENIES, DENIES, ALLOW], "ERRNO 1 at 1:0\nregions 1 steps 1\n", 0),
+    ("", [DENIES, DENIES_TWICE], "ERRNO 1 at 1:2 w0 0x5\nERRNO 1 at 1:3 w0 0x0-0x4,0x6-0xffffffff\n"
+     "regions 2 steps 4\n", 0),
+    ("", [DENIES_TWICE, DENIES], "ERRNO 1 at 1:0 w0 0x5\nERRNO 1 at 1:0 w0 0x0-0x4,0x6-0xffffffff\n"
+     "regions 2 steps 4\n", 0),
     # The limit.
     ("--limit 3", [GATED], "unfinished\n", 4),
     ("--limit 0", [], "unfinished\n", 4),
@@ -45,6 +58,10 @@ ANSWERS = (
     ("--nr-from 0x3fffffff", [ALLOW], "ALLOW 0 at 0:0 w0 0x3fffffff w1 0xc000003e\nregions 1 steps 1\n", 0),
     # Profiles. Each record lies in one region; the order is the walk's.
     ("--nr-to 0", [PROFILE, TABLE], "ALLOW 0 entry 0 w0 0x0 w1 0xc000003e\nregions 1 steps 4\n", 0),
+    # Of entries that a call meets the first.
+    ("--nr-to 0", [FOUR_ENTRIES, TABLE], "ALLOW 0 entry 0 w0 0x0 w1 0xc000003e w4 0x5 w5 0x0\n"
+     "ALLOW 0 entry 2 w0 0x0 w1 0xc000003e w4 0x0-0x4,0x6-0xffffffff w5 0x0\n"
+     "ALLOW 0 entry 2 w0 0x0 w1 0xc000003e w5 0x1-0xffffffff\nregions 3 steps 11\n", 0),
     ("", [PROFILE, TABLE], "KILL_PROCESS 0 foreign w0 0x40000000-0xffffffff w1 0xc000003e\n"
      "ALLOW 0 entry 0 w0 0x0 w1 0xc000003e\nERRNO 1 default w0 0x1-0x3fffffff w1 0xc000003e\n"
      "KILL_PROCESS 0 foreign w1 0x0-0xc000003d,0xc000003f-0xffffffff\nregions 4 steps 7\n", 0),

@@ -3,7 +3,7 @@ use Rattle.std.specs.Prelude.{◌≡◌, ◌<◌, ℕ, List, Option, None, Some,
 use Rattle.scf_insn.specs.declared.answer.Answer.{Answer}
 use Rattle.scf_insn.specs.declared.insn.Insn.{Insn}
 use Rattle.scf_insn.specs.declared.operation.Operation.{Operation}
-use Rattle.scf_machine.specs.Machine.{State, start, IsChain, RunAnswers}
+use Rattle.scf_machine.specs.Machine.{EndsAt, IsChain, State, start}
 use Rattle.scf_machine.specs.Rules.{Stands}
 use Rattle.scf_compare.specs.declared.filter.FilterLeaf.{FilterLeaf}
 use Rattle.scf_compare.specs.declared.filter.FilterNode.{FilterNode}
@@ -50,7 +50,7 @@ filter_is_node insns registers (Stopped answer at) = IsFilterEnd insns (record {
 
 abbrev pub filter_reaches : List Insn → KnownRegisters → FilterNode → List ℕ → Type 0
 filter_reaches insns registers (At index) words = ComesTo insns index registers words
-filter_reaches insns registers (Stopped answer at) words = RunAnswers insns words answer.0
+filter_reaches insns registers (Stopped answer at) words = EndsAt insns words at answer.0
 
 abbrev pub filter_size : List Insn → FilterNode → ℕ
 filter_size insns (At index) = tree_size insns index
@@ -75,7 +75,7 @@ filter_tree insns registers = record {
 abbrev pub leaves_of_filter : List Insn → Leaves FilterLeaf
 leaves_of_filter insns = record {
   is_leaf = IsFilterEnd insns;
-  tells = λ leaf words. IfSome leaf.answer (λ answer. RunAnswers insns words answer.0);
+  tells = λ leaf words. IfSome leaf.answer (λ answer. EndsAt insns words leaf.at answer.0);
   tells_all = λ leaf. IsSome leaf.answer;
 }
 

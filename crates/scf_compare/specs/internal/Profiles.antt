@@ -10,6 +10,7 @@ use Rattle.scf_profile.specs.Rule.{all_hold, meets}
 use Rattle.scf_compare.specs.Masked.{IsMaskedRule}
 use Rattle.scf_profile.specs.Profile.{Profile}
 use Rattle.scf_profile.specs.ProfileAnswers.{ProfileAnswers}
+use Rattle.scf_profile.specs.Reasons.{IsReason}
 use Rattle.scf_profile.specs.declared.reason.Reason.TheVariants.{Foreign}
 use Rattle.scf_profile.specs.declared.rule.Rule.{Rule}
 use Rattle.scf_compare.specs.declared.origin.Origin.TheVariants.{Profile as OfReason}
@@ -24,7 +25,6 @@ use Rattle.scf_compare.specs.declared.profile.ProfileNode.TheVariants.{Architect
 use Rattle.scf_compare.specs.declared.question.ConditionPart.{ConditionPart}
 use Rattle.scf_compare.specs.internal.Conditions.{IsAtTest, part_size}
 use Rattle.scf_compare.specs.Effort.{conditions_size, rules_size, stub_size}
-use Rattle.scf_compare.specs.Sides.{HasReason}
 use Rattle.scf_compare.specs.internal.NumberedProfiles.{NumberedProfile}
 use Rattle.scf_compare.specs.internal.Trees.{Tree}
 
@@ -93,7 +93,7 @@ profile_reaches s (Number index) words =
     IsLeftToRules s.profile (call_of words) × IsFrom index s.numbers (call_of words)
 profile_reaches s (OfCondition at part) words = KnowsPart s at part (call_of words)
 profile_reaches s (Answers answer reason) words =
-    ProfileAnswers s.profile (call_of words) answer.0 × HasReason s.profile (call_of words) reason
+    ProfileAnswers s.profile (call_of words) answer.0 × IsReason s.profile (call_of words) reason
 
 -- the size of what is asked once a rule failed
 abbrev pub size_behind : List NumberRules → ConditionPosition → ℕ

@@ -3,7 +3,7 @@ use Rattle.std.specs.Prelude.{◌≡◌, ◌+◌, ◌*◌, ◌<◌, ℕ, List, [
 use Rattle.scf_insn.specs.declared.answer.Answer.{Answer}
 use Rattle.scf_insn.specs.declared.insn.Insn.{Insn}
 use Rattle.scf_insn.specs.Kernel.{seccomp_ret_allow}
-use Rattle.scf_machine.specs.Machine.{RunAnswers}
+use Rattle.scf_machine.specs.Machine.{EndsAt}
 use Rattle.scf_machine.specs.Precedence.{StackAnswers}
 use Rattle.scf_compare.specs.declared.origin.Origin.{Origin}
 use Rattle.scf_compare.specs.declared.origin.Origin.TheVariants.{Filter, Profile as OfReason}
@@ -13,7 +13,7 @@ use Rattle.scf_compare.specs.declared.stack.StackNode.{StackNode}
 use Rattle.scf_compare.specs.declared.stack.StackNode.TheVariants.{Empty, At}
 use Rattle.scf_compare.specs.Effort.{stack_paths}
 use Rattle.scf_compare.specs.Masked.{IsMaskedProgram}
-use Rattle.scf_compare.specs.Sides.{StackGives, filter_at}
+use Rattle.scf_compare.specs.Sides.{FilterGives, filter_at}
 use Rattle.scf_compare.specs.Leaves.{KnowsAnswer, SideTells}
 use Rattle.scf_compare.specs.internal.Filters.{IsFilterEnd, filter_is_node, filter_reaches, filter_size, filter_is_plain}
 use Rattle.scf_compare.specs.internal.Trees.{Tree}
@@ -29,15 +29,16 @@ abbrev pub IsStackLeaf : List (List Insn) → SideLeaf → Type 0
 IsStackLeaf [] leaf = leaf ≡ record { answer = Some (record { 0 = seccomp_ret_allow }); origin = Filter 0 0 }
 IsStackLeaf (oldest ∷ newer) leaf = IsEndAt (oldest ∷ newer) leaf.origin leaf.answer
 
--- the filter at an index answers so, from this origin
+-- the run of the filter at an index ends so, at the instruction of this origin
 abbrev pub NextAnswers : List (List Insn) → ℕ → Origin → List ℕ → ℕ → Type 0
-NextAnswers filters index origin words answer =
-    RunAnswers (filter_at filters index) words answer × StackGives filters origin words answer
+NextAnswers filters index (Filter filter at) words answer =
+    (filter ≡ index) × EndsAt (filter_at filters index) words at answer
+NextAnswers filters index (OfReason reason) words answer = ⊥
 
--- so many filters, the oldest first, answer so, from this origin
+-- so many filters, the oldest first, answer so, by the instruction of this origin
 abbrev pub FirstAnswer : List (List Insn) → ℕ → Origin → List ℕ → ℕ → Type 0
 FirstAnswer filters count origin words answer =
-    StackAnswers (take count filters) words answer × StackGives filters origin words answer
+    StackAnswers (take count filters) words answer × FilterGives (take count filters) origin words answer
 
 -- what the filters before an index decide, from the second one on
 abbrev pub IsOlder : List (List Insn) → ℕ → Option SideLeaf → Type 0

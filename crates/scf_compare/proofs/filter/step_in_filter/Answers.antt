@@ -1,5 +1,5 @@
 -- The successors of an instruction follow the runs that come to it, and their sizes are within its size.
-use Rattle.scf_compare.proofs.Common.{◌≡◌, ℕ, Bool, true, false, inl, inr, refl, subst, arith, IfSome_then, Answer, RunAnswers, filter_tree}
+use Rattle.scf_compare.proofs.Common.{◌≡◌, ℕ, Bool, true, false, inl, inr, refl, subst, arith, IfSome_then, Answer, EndsAt, filter_tree}
 use Rattle.scf_compare.proofs.ControlFlows.{masked_at}
 use Rattle.scf_compare.proofs.MaskedSides.{by_decision, carried, costs_by, proper_by}
 use Rattle.scf_compare.proofs.Successors.{comes_noted, leads, step_leads}
@@ -128,7 +128,7 @@ returns-in-ReturnAccumulator g c =
       leads = λ words w r.
           let answered = leads here.stands r (c.insns.ensures.safe words) _ here.control_flow in
           IfSome_then c.answer.result (c.answer.ensures words r.state w.1 r.describes)
-          (λ (answer : Answer) same. subst (RunAnswers c.args.program.now words) same answered);
+          (λ (answer : Answer) same. subst (EndsAt c.args.program.now words c.in-At.index) same answered);
       costs = omega (arith, here.size);
       plain = λ masks plain.
           absurd (rw here.control_flow at (masked_at masks plain.0 here.stands));

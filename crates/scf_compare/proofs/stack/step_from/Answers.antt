@@ -1,6 +1,6 @@
 -- The steps of the filter that is asked are steps of the stack, and at its leaves the next one begins.
 use Rattle.scf_compare.proofs.Common.{[], ◌+◌, ◌*◌, ◌<◌, ◌≤◌, length, drop, arith, take_all, mul-le-mul_left, stack_paths, filter_size, paths_count, filter_at}
-use Rattle.scf_compare.proofs.Stacks.{is_stack_leaf, next_tells, paths_from, side_leaf}
+use Rattle.scf_compare.proofs.Stacks.{all_decide, is_stack_leaf, next_tells, paths_from, side_leaf}
 use Rattle.scf_compare.proofs.SeveralProfiles.{on_either}
 use Rattle.scf_compare.specs.internal.Laws.{scaled_costs, scaled_counts}
 use Rattle.scf_compare.proofs.stack.step_from.Goals as goal
@@ -18,9 +18,10 @@ returns-then-index-filters g c =
           (is_stack_leaf filters index c.in-Leaf.leaf so_far.node.0 step.proper));
       leads = λ words w r.
           let before = so_far.reaches words w r in
-          rw (take_all (index + 1) filters past)
+          all_decide filters c.decided_at-decided.result words (omega (arith, so_far.node.0))
+          (rw (take_all (index + 1) filters past)
           at (c.decided_at-decided.ensures.decides filters index words so_far.node.0 so_far.node.2 before.0
-          (next_tells filters index c.in-Leaf.leaf words so_far.node.0 step.proper (step.leads words w before.1)));
+          (next_tells filters index c.in-Leaf.leaf words (step.leads words w before.1))));
       costs = omega (
         arith,
         scaled_counts (filter_size (filter_at filters index) c.loop-next.node) (stack_paths (drop (index + 1) filters))
@@ -53,7 +54,7 @@ loop-next-preserved g c =
       reaches = λ words w r.
           let before = so_far.reaches words w r in (
             c.decided_at-decided.ensures.decides filters index words so_far.node.0 so_far.node.2 before.0
-                (next_tells filters index c.in-Leaf.leaf words so_far.node.0 step.proper (step.leads words w before.1)),
+                (next_tells filters index c.in-Leaf.leaf words (step.leads words w before.1)),
             begun.reached words,
           );
       size = grind (arith, begun.size, paths_from filters (index + 1) inside, most, so_far.size);

@@ -24,5 +24,6 @@ returns-then-at-as_slice-clause-size c = λ others.
 
 pub returns-else-at-as_slice-clause-reached : goal.returns-else-at-as_slice-clause-reached
 returns-else-at-as_slice-clause-reached c = λ words at.
-    by_own_rule c.args.self.now (call_of words) c.args.at _ at c.rule_at-rule.ensures.stands
+    by_own_rule c.args.self.now (call_of words) c.args.at _ c.rule_at-rule.ensures.order at
+    c.rule_at-rule.ensures.stands
     (omega (arith, ap length c.as_slice.ensures, c.if-at-as_slice.false))
