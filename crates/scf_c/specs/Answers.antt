@@ -13,7 +13,7 @@ use Rattle.scf_compare.specs.declared.origin.Origin.TheVariants.{Filter, Profile
 use Rattle.scf_compare.specs.declared.region.Region.{Region}
 use Rattle.scf_compare.specs.declared.regions.Regions.{Regions}
 use Rattle.scf_tool.specs.Explorations.{AreListed}
-use Rattle.scf_tool.specs.RegionLines.{are_whole, word_indices}
+use Rattle.scf_tool.specs.RegionLines.{are_whole}
 use Rattle.scf_c.specs.declared.answers.Listed.{Listed}
 use Rattle.scf_c.specs.declared.layout.Listing.{Listing}
 use Rattle.scf_c.specs.declared.layout.Question.{Question}
@@ -64,6 +64,10 @@ facts_of_set index facts =
 -- of the words with these indices
 abbrev pub facts_at : List NumberFacts → List ℕ → List WordFact
 facts_at words indices = flat_map (λ index. option_map_or (facts_of_set index) (slice_get words index) []) indices
+
+-- the indices of a record's words
+abbrev pub word_indices : List ℕ
+word_indices = 0 ∷ 1 ∷ 2 ∷ 3 ∷ 4 ∷ 5 ∷ 6 ∷ 7 ∷ 8 ∷ 9 ∷ 10 ∷ 11 ∷ 12 ∷ 13 ∷ 14 ∷ 15 ∷ []
 
 abbrev pub facts_of : Region → List WordFact
 facts_of region = facts_at region.words word_indices

@@ -14,15 +14,14 @@ pub use Rattle.scf_compare.specs.Sides.{behavior_of}
 pub use Rattle.scf_compare.specs.declared.finding.Finding.{Finding}
 pub use Rattle.scf_compile.proofs.Common.{drop_more, take_more}
 pub use Rattle.scf_facts.proofs.Common.{take-append-drop}
-pub use Rattle.scf_insn.proofs.Common.{TakesAll, max_filter_len, max_insns_per_path, program_bytes}
-pub use Rattle.scf_insn.proofs.Written.{fails_then}
+pub use Rattle.scf_insn.proofs.Common.{max_filter_len, max_insns_per_path, program_bytes}
 pub use Rattle.scf_compare.specs.declared.finding.Finding.TheVariants.{Holds, Fails, Undecided, Unfinished}
 pub use Rattle.scf_insn.specs.declared.insn.Insn.{Insn}
 pub use Rattle.scf_machine.specs.Precedence.{StackAnswers}
 pub use Rattle.scf_machine.proofs.Common.{IsPush, cost_of}
 pub use Rattle.scf_profile.proofs.Common.{IfOk-weaker, Names, err_from_is_err_and, map-append, texts_at}
 pub use Rattle.scf_profile.specs.declared.load_fault.LoadFault.{LoadFault}
-pub use Rattle.scf_text.proofs.Common.{each_fails, fails_first, flat_map, writes_then}
+pub use Rattle.scf_text.proofs.Common.{flat_map}
 pub use Rattle.scf_tool.specs.Commands.{NoReadFailed, ReadsInput}
 pub use Rattle.scf_tool.specs.FilterStacks.{HasNoStack, HasStack, HaveStopped, IsNotPushed}
 pub use Rattle.scf_tool.specs.Reports.{argument_text, name_line, named_line}
@@ -38,6 +37,4 @@ pub use Rattle.scf_tool.specs.declared.reply.Reply.TheVariants.{CommandLine}
 pub use Rattle.scf_tool.specs.declared.verify_fault.VerifyFault.{VerifyFault}
 pub use Rattle.scf_tool.specs.declared.verify_fault.VerifyFault.TheVariants.{FilterRead}
 pub use Rattle.scf_request.specs.Contents.{rest_of}
-pub use Rattle.scf_tool.specs.internal.Gathering.{buffered}
 pub use Rattle.scf_tool.specs.internal.Explaining.{Explains}
-pub use Rattle.scf_tool.specs.internal.Pieces.{fragment_text}

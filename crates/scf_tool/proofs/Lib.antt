@@ -5,12 +5,11 @@ pub mod Common
 mod ComparisonParts
 pub mod DifferenceLemmas
 pub mod ExplorationLemmas
-pub mod FaultLemmas
 mod InputLemmas
+pub mod NumeralLemmas
 mod RunLemmas
 mod ScopeLemmas
 mod SideLemmas
 pub mod StackLemmas
 pub mod TableLemmas
 pub mod WholeInput
-pub mod WritingLemmas

@@ -228,10 +228,11 @@ abbrev pub number_text : Number → List ℕ
 number_text (None, _) = []
 number_text (Some name, value) = codes " " ++ name ++ codes " " ++ decimal value
 
+abbrev pub fault_line : Row → List ℕ
+fault_line row = names_text row ++ flat_map number_text row.1.2 ++ codes "\n"
+
 abbrev pub printed_fault : Fault → Status × List ℕ
-printed_fault fault =
-    let row = fault_row fault in
-    (row.1.0, names_text row ++ flat_map number_text row.1.2 ++ codes "\n")
+printed_fault fault = ((fault_row fault).1.0, fault_line (fault_row fault))
 
 -- ---- rows as the code keeps them
 

@@ -1,6 +1,6 @@
 -- What the program prints of regions.
 use Rattle.std.specs.Prelude.{◌==◌, ◌&&◌, ◌-◌, ◌^◌, ℕ, Bool, true, false, List, [], ◌∷◌, ◌++◌, codes, length, min, slice_get, sum_by, Option, Some, None, if◌then◌else◌}
-use Rattle.std.specs.List.{flat_map}
+use Rattle.std.specs.List.{flat_map, join_by, range_with_len}
 use Rattle.std.specs.Fmt.{decimal}
 use Rattle.std.specs.Option.{option_map_or}
 use Rattle.scf_insn.specs.declared.answer.Answer.{Answer}
@@ -25,20 +25,14 @@ interval_text interval =
     if interval.low == interval.high then prefixed interval.low
     else prefixed interval.low ++ (codes "-" ++ prefixed interval.high)
 
--- intervals with commas between
-abbrev pub joined_text : List Interval → List ℕ
-joined_text [] = []
-joined_text (first ∷ later) =
-    interval_text first ++ flat_map (λ interval. codes "," ++ interval_text interval) later
-
 -- the intervals are the whole word
 abbrev pub are_whole : List Interval → Bool
 are_whole (interval ∷ []) = interval.low == 0 && interval.high == 2 ^ 32 - 1
 are_whole intervals = false
 
--- the intervals, unless they are the whole word
+-- the intervals with commas between, unless they are the whole word
 abbrev pub intervals_text : List Interval → List ℕ
-intervals_text intervals = if are_whole intervals then [] else joined_text intervals
+intervals_text intervals = if are_whole intervals then [] else join_by interval_text (codes ",") intervals
 
 -- a mask and a value behind a sign
 abbrev pub bits_text : List ℕ → Bits → List ℕ
@@ -62,13 +56,10 @@ is_free facts = are_whole facts.intervals && (facts.known.mask == 0 && length fa
 abbrev pub word_text : ℕ → NumberFacts → List ℕ
 word_text index facts = if is_free facts then [] else codes " w" ++ (decimal index ++ (codes " " ++ set_text facts))
 
--- the indices of a record's words
-abbrev pub word_indices : List ℕ
-word_indices = 0 ∷ 1 ∷ 2 ∷ 3 ∷ 4 ∷ 5 ∷ 6 ∷ 7 ∷ 8 ∷ 9 ∷ 10 ∷ 11 ∷ 12 ∷ 13 ∷ 14 ∷ 15 ∷ []
-
--- what is known of all words
-abbrev pub words_text : List NumberFacts → List ℕ
-words_text words = flat_map (λ index. option_map_or (word_text index) (slice_get words index) []) word_indices
+-- what is known of so many words, from the first on
+abbrev pub words_text : ℕ → List NumberFacts → List ℕ
+words_text count words =
+    flat_map (λ index. option_map_or (word_text index) (slice_get words index) []) (range_with_len 0 count)
 
 -- ---- a region
 
@@ -98,7 +89,7 @@ leaf_text true leaf = side_text leaf.left ++ (codes " beside " ++ side_text leaf
 
 abbrev pub region_line : Bool → Region → List ℕ
 region_line has_both region =
-    (leaf_text has_both region.leaf ++ exactness_text region.is_exact) ++ (words_text region.words ++ codes "\n")
+    (leaf_text has_both region.leaf ++ exactness_text region.is_exact) ++ (words_text 16 region.words ++ codes "\n")
 
 -- the line of a record in a region, if examples are asked for and one is known
 abbrev pub example_text : Bool → Region → List ℕ

@@ -63,7 +63,7 @@ abbrev pub printed_of_no_utf8 : Status × List ℕ
 printed_of_no_utf8 = (CommandLine, codes "error: invalid UTF-8 was detected in one or more arguments\n")
 
 -- A run of the program: there is something that it ends with, which is true of the words and of standard input, and
--- this is printed.
+-- this is printed, or that memory ran out for its text.
 pub record IsRunOfProgram {R W : Type 0} (words : List Text)
     (remaining : R → Option (List ℕ)) (input_failures : R → ℕ) (input input_after : R)
     (contents : W → Option (List ℕ)) (out_failures : W → ℕ) (out out_after : W)
@@ -71,3 +71,4 @@ pub record IsRunOfProgram {R W : Type 0} (words : List Text)
   pub ending : Result Reply Fault
   pub ends : Ends words remaining input_failures input ending input_after
   pub prints : Prints contents out_failures out (printed ending) status out_after
+      ⊎ Prints contents out_failures out (printed (Err faults.CommandLine)) status out_after

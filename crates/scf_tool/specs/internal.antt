@@ -1,7 +1,6 @@
 pub mod Bytes
 pub mod Explaining
-pub mod Gathering
 pub mod Parts
-pub mod Pieces
+pub mod Words
 pub mod Sides
 pub mod Verification

@@ -1,25 +1,18 @@
 //! The report of a comparison syscall by syscall.
 
-ghost use Rattle.std.specs.Prelude.{◌≡◌, ◌++◌, codes, find, map, not, string_bytes, IfOk};
-ghost use Rattle.std.specs.Fmt.{decimal};
+ghost use Rattle.std.specs.Prelude.{◌≡◌, ◌++◌, Some, codes, find, map, not, string_bytes};
 ghost use Rattle.std.specs.List.{flat_map, join_by};
 ghost use Rattle.scf_tool.specs.JointFindings.{worst_of_calls, is_failure, is_holding};
 ghost use Rattle.scf_tool.specs.Reports.{found_text, joint_text, named_line};
-ghost use Rattle.scf_tool.specs.internal.Gathering.{Adds};
-ghost use Rattle.scf_tool.specs.internal.Pieces.{names_in};
+ghost use Rattle.scf_tool.specs.internal.Words.{names_in};
 
-use crate::buffer::Buffer;
 use crate::findings::CallFinding;
-use crate::fragments::Fragment::{Decimal, Text};
 use crate::joint_finding::{fails, holds};
-use crate::lines::add_answer;
-use crate::reporting::{
-    SideWords, add_answer_line, add_arguments, add_finding, add_word, failing, holding,
-};
+use crate::lines::AnswerText;
+use crate::reporting::{AnswerLine, Arguments, FindingLines, Words};
 use scf_compare::Finding;
-use scf_insn::{Answer, CallRecord, Memory};
-use scf_profile::{Relation, Texts};
-use std::alloc::{AllocError, Global};
+use scf_profile::Relation;
+use std::fmt;
 
 /// The first finding that fails.
 fn first_failure(calls: &[CallFinding]) -> Option<Finding>
@@ -44,124 +37,111 @@ pub(crate) fn worst_of_calls(calls: &[CallFinding]) -> Option<Finding>
     first_failure(calls).or(first_other(calls))
 }
 
-fn add_joint(
-    text: &mut Buffer,
-    relation: Relation,
-    words: SideWords,
-    joint: Option<Finding>,
-) -> Result<(), Memory>
-    ensures { Adds text.old (joint_text relation (names_in words) joint) result text.new }
-{
-    match joint {
-        None => add_word(text, holding(relation)),
-        Some(Finding::Fails { .. }) => add_word(text, failing(relation)),
-        Some(finding) => add_finding(text, relation, words, &finding),
+/// The line of the worst finding on calls.
+#[derive(Clone, Copy)]
+pub(crate) struct JointLine(pub Words, pub Option<Finding>);
+
+impl fmt::Display for JointLine {
+    ghost output = { λ line. Some (joint_text line.0.relation (names_in line.0) line.1) };
+
+    fn fmt<W: fmt::Write>(&self, f: &mut fmt::Formatter<W>) -> fmt::Result {
+        match self.1 {
+            None => write!(f, "{}\n", self.0.holding()),
+            Some(Finding::Fails { .. }) => write!(f, "{}\n", self.0.failing()),
+            Some(finding) => f.write(FindingLines(self.0, finding)),
+        }
+    }
+}
+
+/// Names, each behind a comma.
+#[derive(Clone, Copy)]
+struct LaterNames<'a>(&'a [String]);
+
+impl fmt::Display for LaterNames<'_> {
+    ghost output = { λ names. Some (flat_map (λ name. codes "," ++ name) (map string_bytes names.0.now)) };
+
+    fn fmt<W: fmt::Write>(&self, f: &mut fmt::Formatter<W>) -> fmt::Result {
+        for name in self.0 {
+            write!(f, ",{}", name.as_str())?;
+        }
+        Ok(())
     }
 }
 
 /// The names of a syscall, with commas between.
-fn joined(alloc: Global, names: &Texts) -> Result<String, AllocError>
-    ensures { IfOk result (λ text. string_bytes text ≡ join_by (λ name. name) (codes ",") names.now) }
-{
-    names.as_slice().join(alloc, ",")
-}
+#[derive(Clone, Copy)]
+struct Names<'a>(&'a [String]);
 
-/// Adds the number and the names of a syscall.
-fn add_front(alloc: Global, text: &mut Buffer, call: &CallFinding) -> Result<(), Memory>
-    ensures { Adds text.old
-        ((decimal call.now.number ++ codes " ")
-        ++ (join_by (λ name. name) (codes ",") call.now.names ++ codes " ")) result text.new }
-{
-    let names = joined(alloc, &call.names)?;
-    let number = u64::from(call.number);
-    text.add(&[Decimal(number), Text(" "), Text(names.as_str()), Text(" ")])?;
-    Ok(())
-}
+impl fmt::Display for Names<'_> {
+    ghost output = { λ names. Some (join_by (λ name. name) (codes ",") (map string_bytes names.0.now)) };
 
-/// Adds the rest of the line of a syscall for which the relation doesn't hold.
-fn add_difference_found(
-    text: &mut Buffer,
-    relation: Relation,
-    words: SideWords,
-    call: &CallRecord,
-    left: Answer,
-    right: Answer,
-) -> Result<(), Memory>
-    ensures { Adds text.old
-        (found_text relation (names_in words) (Finding.Fails call.now left right)) result text.new }
-{
-    text.add(&[Text(failing(relation)), Text(" args")])?;
-    add_arguments(text, &call.args)?;
-    text.add(&[Text(" "), Text(words.left), Text(" ")])?;
-    add_answer(text, left)?;
-    text.add(&[Text(" ")])?;
-    add_answer_line(text, words.right, right)?;
-    Ok(())
-}
-
-fn add_found(
-    text: &mut Buffer,
-    relation: Relation,
-    words: SideWords,
-    finding: &Finding,
-) -> Result<(), Memory>
-    ensures { Adds text.old (found_text relation (names_in words) finding.now) result text.new }
-{
-    match finding {
-        Finding::Fails { call, left, right } => add_difference_found(
-            text, relation, words, call, *left, *right,
-        ),
-        _ => add_finding(text, relation, words, finding),
+    fn fmt<W: fmt::Write>(&self, f: &mut fmt::Formatter<W>) -> fmt::Result {
+        match self.0 {
+            [first, later @ ..] => write!(f, "{}{}", first.as_str(), LaterNames(later)),
+            [] => Ok(()),
+        }
     }
 }
 
-/// Adds the line of a syscall for which the relation doesn't hold; nothing if it holds.
-fn add_named(
-    alloc: Global,
-    text: &mut Buffer,
-    relation: Relation,
-    words: SideWords,
-    call: &CallFinding,
-) -> Result<(), Memory>
-    ensures { Adds text.old (named_line relation (names_in words) call.now) result text.new }
-{
-    if holds(&call.finding) {
-        return Ok(());
+/// What the line of a syscall says behind its names.
+#[derive(Clone, Copy)]
+struct FoundText(Words, Finding);
+
+impl fmt::Display for FoundText {
+    ghost output = { λ text. Some (found_text text.0.relation (names_in text.0) text.1) };
+
+    fn fmt<W: fmt::Write>(&self, f: &mut fmt::Formatter<W>) -> fmt::Result {
+        let words = self.0;
+        match self.1 {
+            Finding::Fails { call, left, right } => {
+                let arguments = Arguments(&call.args);
+                let left = AnswerText(left);
+                write!(
+                    f,
+                    "{} args{arguments} {} {left} ",
+                    words.failing(),
+                    words.left
+                )?;
+                f.write(AnswerLine(words.right, right))
+            }
+            finding => f.write(FindingLines(words, finding)),
+        }
     }
-    add_front(alloc, text, call)?;
-    add_found(text, relation, words, &call.finding)?;
-    Ok(())
 }
 
-fn add_calls(
-    alloc: Global,
-    text: &mut Buffer,
-    relation: Relation,
-    words: SideWords,
-    calls: &[CallFinding],
-) -> Result<(), Memory>
-    ensures { Adds text.old (flat_map (named_line relation (names_in words)) calls.now) result text.new }
-{
-    for call in calls {
-        add_named(alloc, text, relation, words, call)?;
+/// The line of a syscall of which the relation doesn't hold; nothing if it holds.
+#[derive(Clone, Copy)]
+struct NamedLine<'a>(Words, &'a CallFinding);
+
+impl fmt::Display for NamedLine<'_> {
+    ghost output = { λ line. Some (named_line line.0.relation (names_in line.0) line.1.now) };
+
+    fn fmt<W: fmt::Write>(&self, f: &mut fmt::Formatter<W>) -> fmt::Result {
+        let call = self.1;
+        if holds(&call.finding) {
+            return Ok(());
+        }
+        let names = Names(call.names.as_slice());
+        write!(
+            f,
+            "{} {names} {}",
+            call.number,
+            FoundText(self.0, call.finding)
+        )
     }
-    Ok(())
 }
 
-/// Adds the line of the worst finding on calls, then a line for each syscall for which the relation doesn't
-/// hold.
-pub(crate) fn add_findings(
-    alloc: Global,
-    text: &mut Buffer,
-    relation: Relation,
-    words: SideWords,
-    calls: &[CallFinding],
-) -> Result<(), Memory>
-    ensures { Adds text.old
-        (joint_text relation (names_in words) (worst_of_calls calls.now)
-        ++ flat_map (named_line relation (names_in words)) calls.now) result text.new }
-{
-    add_joint(text, relation, words, worst_of_calls(calls))?;
-    add_calls(alloc, text, relation, words, calls)?;
-    Ok(())
+/// A line for each syscall of which the relation doesn't hold.
+#[derive(Clone, Copy)]
+pub(crate) struct NamedLines<'a>(pub Words, pub &'a [CallFinding]);
+
+impl fmt::Display for NamedLines<'_> {
+    ghost output = { λ lines. Some (flat_map (named_line lines.0.relation (names_in lines.0)) lines.1.now) };
+
+    fn fmt<W: fmt::Write>(&self, f: &mut fmt::Formatter<W>) -> fmt::Result {
+        for call in self.1 {
+            f.write(NamedLine(self.0, call))?;
+        }
+        Ok(())
+    }
 }

@@ -18,10 +18,9 @@ mod profile;
 mod stack;
 mod text;
 
-use crate::buffer::Buffer;
 use crate::command_line::{explain, report_out_of_memory};
 use crate::fault::Fault;
-use crate::reply::{LINE_ROOM, Reply, print_ending, status_of};
+use crate::reply::{LINE_ROOM, Reply, status_of, text_of};
 use crate::status::Status;
 use answers::{list_answers, list_architectures};
 use architectures::{ask_architectures, compile_architectures};
@@ -29,7 +28,7 @@ use compare::compare_bundle;
 use differences::list_differences;
 use filter::{check_filter, list_filter, run_filter, trace_filter};
 use profile::{ask_profile, compile_profile};
-use scf_insn::{InputFault, Sink, Source, read_input};
+use scf_insn::{InputFault, Sink, Source, read_input, write_whole};
 use scf_profile::Reading;
 use scf_request::{BundleForm, Request, parse, reading_of, request_of};
 use stack::{decide_stack, decide_stack_at, trace_stack};
@@ -154,12 +153,16 @@ pub fn run_command<T: AsStr, R: Source, W: Sink>(
         W.contents W.failures out.old out.new
         result }
 {
-    let Ok(room) = Buffer::with_room(alloc, LINE_ROOM) else {
+    let Ok(line) = String::with_capacity(alloc, LINE_ROOM) else {
         return report_out_of_memory(out);
     };
     let ending = ending_of(alloc, words, input);
-    match print_ending(out, &ending, room) {
-        Ok(()) => status_of(&ending).code(),
+    let status = status_of(&ending);
+    let Ok(text) = text_of(ending, line) else {
+        return report_out_of_memory(out);
+    };
+    match write_whole(out, &text) {
+        Ok(()) => status.code(),
         Err(_) => Status::Failed.code(),
     }
 }

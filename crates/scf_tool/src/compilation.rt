@@ -6,10 +6,11 @@ ghost use Rattle.scf_insn.specs.Kernel.{bpf_maxinsns};
 ghost use Rattle.scf_tool.specs.Commands.{IsFilterOf, IsFilterOfEach};
 ghost use Rattle.scf_tool.specs.Reports.{left_out_front};
 
-use crate::buffer::{Buffer, encoding_of};
+use crate::buffer::encoding_of;
 use crate::left_out::LeftOut;
-use crate::reporting::add_left_out_front;
+use crate::reporting::LeftOutFront;
 use scf_compile::{CallCount, CompileFault, compile_by_counts};
+use scf_insn::Memory;
 use scf_profile::{Profile, Profiles};
 use std::alloc::Global;
 
@@ -54,8 +55,8 @@ pub(crate) fn behind_left_out(
     if !has_left_out {
         return Ok(filter);
     }
-    let mut text = Buffer::new(alloc);
-    add_left_out_front(&mut text, left_out)?;
-    text.add_bytes(&filter)?;
-    Ok(text.into_bytes())
+    let front = format!(in alloc; "{}", LeftOutFront(left_out)).map_err(Memory::from)?;
+    let mut text = front.into_bytes();
+    text.extend_from_slice(&filter).map_err(Memory::from)?;
+    Ok(text)
 }

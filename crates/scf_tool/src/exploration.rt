@@ -22,7 +22,7 @@ ghost use Rattle.scf_tool.specs.Explorations.{
 ghost use Rattle.scf_tool.specs.Explorations as spec;
 
 use crate::architecture_scope::scope_of;
-use crate::region_lines::{RegionFormat, listing_of_regions, unfinished_line};
+use crate::region_lines::{RegionFormat, listing_of_regions};
 use crate::reply::Reply;
 use crate::status::Status;
 use scf_compare::{PairLeaf, Regions, Side, regions_of};
@@ -78,7 +78,7 @@ fn explore_each(
 fn reply_of(alloc: Global, format: RegionFormat, listed: &[Regions]) -> Result<Reply, Memory>
     ensures { IfOk result (IsListing format (Some listed.now)) }
 {
-    let text = listing_of_regions(alloc, format, listed)?;
+    let text = listing_of_regions(alloc, format, listed)?.into_bytes();
     Ok(Reply::Compared {
         text,
         status: Status::Success,
@@ -89,7 +89,7 @@ fn reply_of(alloc: Global, format: RegionFormat, listed: &[Regions]) -> Result<R
 fn unfinished(alloc: Global) -> Result<Reply, Memory>
     ensures { IfOk result (λ reply. (format : RegionFormat) → IsListing format None reply) }
 {
-    let text = unfinished_line(alloc)?;
+    let text = String::from_str(alloc, "unfinished\n")?.into_bytes();
     Ok(Reply::Compared {
         text,
         status: Status::Unknown,

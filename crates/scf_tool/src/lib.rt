@@ -15,7 +15,6 @@ mod fault_row;
 mod filter;
 mod filter_stack;
 mod findings;
-mod fragments;
 mod in_memory;
 mod joint_finding;
 mod left_out;

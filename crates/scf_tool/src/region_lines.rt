@@ -1,41 +1,18 @@
-//! Lines about regions.
+//! Lines about regions, as values that display.
 
-ghost use Rattle.std.specs.Prelude.{◌≡◌, ◌<◌, ◌++◌, [], Bool, IfOk, None, Some, codes, slice_get, length};
-ghost use Rattle.std.specs.List.{AllByRecursion, flat_map};
-ghost use Rattle.std.specs.Option.{option_map_or};
-ghost use Rattle.scf_tool.specs.RegionLines.{
-  bits_text,
-  exactness_text,
-  example_text,
-  interval_text,
-  intervals_text,
-  joined_text,
-  known_bits_text,
-  leaf_text,
-  listing_text,
-  origin_text,
-  region_answer_text,
-  region_line,
-  region_text,
-  regions_text,
-  set_text,
-  side_text,
-  total_of,
-  totals_line,
-  word_text,
-  words_text,
-};
+ghost use Rattle.std.specs.Prelude.{◌≡◌, [], Some, IfOk, codes, length, string_bytes};
+ghost use Rattle.std.specs.List.{flat_map};
+ghost use Rattle.scf_tool.specs.RegionLines.{bits_text, interval_text, intervals_text, leaf_text, listing_text};
+ghost use Rattle.scf_tool.specs.RegionLines.{region_line, region_text, regions_text, side_text, total_of};
+ghost use Rattle.scf_tool.specs.RegionLines.{word_text, words_text};
 ghost use Rattle.scf_tool.specs.RegionLines as spec;
-ghost use Rattle.scf_tool.specs.internal.Gathering.{Adds};
 
-use crate::buffer::Buffer;
-use crate::fragments::Fragment::{Decimal, Hexadecimal, Text};
-use crate::lines::{add_answer, add_insn, add_reason};
-use crate::reporting::add_call;
+use crate::lines::{AnswerText, InsnText, ReasonText};
+use crate::reporting::CallLine;
 use scf_compare::{Origin, PairLeaf, Region, Regions, SideLeaf};
 use scf_facts::{Bits, Interval, Snapshot, WordSet};
-use scf_insn::{Answer, Memory};
-use std::alloc::Global;
+use std::alloc::{AllocError, Global};
+use std::fmt;
 
 /// How regions are printed.
 #[derive(Clone, Copy)]
@@ -46,42 +23,22 @@ pub(crate) struct RegionFormat {
     pub has_examples: bool,
 }
 
-/// The indices of a record's words.
-const WORD_INDICES: [u8; 16] = [0, 1, 2, 3, 4, 5, 6, 7, 8, 9, 10, 11, 12, 13, 14, 15];
+/// An interval by its ends, or by its only number.
+#[derive(Clone, Copy)]
+struct IntervalText(Interval);
 
-fn add_interval(text: &mut Buffer, interval: Interval) -> Result<(), Memory>
-    ensures { Adds text.old (interval_text interval) result text.new }
-{
-    let low = u64::from(interval.low);
-    let high = u64::from(interval.high);
-    if interval.low == interval.high {
-        return text.add(&[Text("0x"), Hexadecimal(low)]);
+impl fmt::Display for IntervalText {
+    ghost output = { λ interval. Some (interval_text interval.0) };
+
+    fn fmt<W: fmt::Write>(&self, f: &mut fmt::Formatter<W>) -> fmt::Result {
+        let low = self.0.low;
+        let high = self.0.high;
+        if low == high {
+            write!(f, "0x{low:x}")
+        } else {
+            write!(f, "0x{low:x}-0x{high:x}")
+        }
     }
-    text.add(&[Text("0x"), Hexadecimal(low), Text("-0x"), Hexadecimal(high)])
-}
-
-/// Adds intervals, each behind a comma.
-fn add_later(text: &mut Buffer, intervals: &[Interval]) -> Result<(), Memory>
-    ensures { Adds text.old
-        (flat_map (λ interval. codes "," ++ interval_text interval) intervals.now) result text.new }
-{
-    for interval in intervals {
-        text.add(&[Text(",")])?;
-        add_interval(text, *interval)?;
-    }
-    Ok(())
-}
-
-/// Adds intervals with commas between.
-fn add_joined(text: &mut Buffer, intervals: &[Interval]) -> Result<(), Memory>
-    ensures { Adds text.old (joined_text intervals.now) result text.new }
-{
-    let Some((first, later)) = intervals.split_first() else {
-        return Ok(());
-    };
-    add_interval(text, *first)?;
-    add_later(text, later)?;
-    Ok(())
 }
 
 /// Whether intervals are the whole word.
@@ -94,57 +51,54 @@ fn are_whole(intervals: &[Interval]) -> bool
     }
 }
 
-/// Adds intervals, unless they are the whole word.
-fn add_intervals(text: &mut Buffer, intervals: &[Interval]) -> Result<(), Memory>
-    ensures { Adds text.old (intervals_text intervals.now) result text.new }
-{
-    if are_whole(intervals) {
-        return Ok(());
+/// Intervals with commas between, unless they are the whole word.
+#[derive(Clone, Copy)]
+struct IntervalsText<'a>(&'a [Interval]);
+
+impl fmt::Display for IntervalsText<'_> {
+    ghost output = { λ intervals. Some (intervals_text intervals.0.now) };
+
+    fn fmt<W: fmt::Write>(&self, f: &mut fmt::Formatter<W>) -> fmt::Result {
+        if are_whole(self.0) {
+            return Ok(());
+        }
+        if let [first, later @ ..] = self.0 {
+            f.write(IntervalText(*first))?;
+            for interval in later {
+                write!(f, ",{}", IntervalText(*interval))?;
+            }
+        }
+        Ok(())
     }
-    add_joined(text, intervals)
 }
 
-/// Adds a mask and a value behind a sign.
-fn add_bits(text: &mut Buffer, sign: &str, bits: Bits) -> Result<(), Memory>
-    ensures { Adds text.old (bits_text sign.now bits) result text.new }
-{
-    text.add(&[
-        Text(sign),
-        Text("0x"),
-        Hexadecimal(u64::from(bits.mask)),
-        Text("=0x"),
-        Hexadecimal(u64::from(bits.value)),
-    ])
-}
+/// A mask and a value.
+#[derive(Clone, Copy)]
+struct BitsText(Bits);
 
-/// Adds the known bits, if there are any.
-fn add_known_bits(text: &mut Buffer, bits: Bits) -> Result<(), Memory>
-    ensures { Adds text.old (known_bits_text bits) result text.new }
-{
-    if bits.mask == 0 {
-        return Ok(());
+impl fmt::Display for BitsText {
+    ghost output = { λ bits. Some (bits_text [] bits.0) };
+
+    fn fmt<W: fmt::Write>(&self, f: &mut fmt::Formatter<W>) -> fmt::Result {
+        let mask = self.0.mask;
+        let value = self.0.value;
+        write!(f, "0x{mask:x}=0x{value:x}")
     }
-    add_bits(text, "&", bits)
 }
 
-/// Adds refuted bits.
-fn add_refuted(text: &mut Buffer, refuted: &[Bits]) -> Result<(), Memory>
-    ensures { Adds text.old (flat_map (bits_text (codes "!")) refuted.now) result text.new }
-{
-    for bits in refuted {
-        add_bits(text, "!", *bits)?;
+/// Refuted bits.
+#[derive(Clone, Copy)]
+struct RefutedText<'a>(&'a [Bits]);
+
+impl fmt::Display for RefutedText<'_> {
+    ghost output = { λ refuted. Some (flat_map (bits_text (codes "!")) refuted.0.now) };
+
+    fn fmt<W: fmt::Write>(&self, f: &mut fmt::Formatter<W>) -> fmt::Result {
+        for bits in self.0 {
+            write!(f, "!{}", BitsText(*bits))?;
+        }
+        Ok(())
     }
-    Ok(())
-}
-
-/// Adds what is known of a word.
-fn add_set(text: &mut Buffer, word: &WordSet) -> Result<(), Memory>
-    ensures { Adds text.old (set_text word.now) result text.new }
-{
-    add_intervals(text, word.intervals())?;
-    add_known_bits(text, word.known())?;
-    add_refuted(text, word.refuted())?;
-    Ok(())
 }
 
 /// Whether nothing is known of a word.
@@ -154,144 +108,137 @@ fn is_free(word: &WordSet) -> bool
     are_whole(word.intervals()) && word.known().mask == 0 && word.refuted().is_empty()
 }
 
-/// Adds a word by its index, if something is known of it.
-fn add_word_set(text: &mut Buffer, index: u8, word: &WordSet) -> Result<(), Memory>
-    ensures { Adds text.old (word_text index word.now) result text.new }
-{
-    if is_free(word) {
-        return Ok(());
-    }
-    text.add(&[Text(" w"), Decimal(u64::from(index)), Text(" ")])?;
-    add_set(text, word)?;
-    Ok(())
-}
+/// A word by its index, if something is known of it: its intervals, its known bits and those that are refuted.
+#[derive(Clone, Copy)]
+struct WordText<'a>(u8, &'a WordSet);
 
-/// Adds the word of a record with this index, if something is known of it.
-fn add_word_at(text: &mut Buffer, words: &Snapshot, index: u8) -> Result<(), Memory>
-    requires { index < 16 }
-    ensures { Adds text.old (option_map_or (word_text index) (slice_get words.now index) []) result text.new }
-{
-    add_word_set(text, index, words.word(index))
-}
+impl fmt::Display for WordText<'_> {
+    ghost output = { λ word. Some (word_text word.0 word.1.now) };
 
-/// Adds the words of a record with these indices.
-fn add_words_at(text: &mut Buffer, words: &Snapshot, indices: &[u8]) -> Result<(), Memory>
-    requires { AllByRecursion (λ index. index < 16) indices.now }
-    ensures { Adds text.old
-        (flat_map (λ index. option_map_or (word_text index) (slice_get words.now index) []) indices.now)
-        result text.new }
-{
-    let Some((index, later)) = indices.split_first() else {
-        return Ok(());
-    };
-    add_word_at(text, words, *index)?;
-    add_words_at(text, words, later)
-}
-
-/// Adds what is known of a record's words.
-fn add_words(text: &mut Buffer, words: &Snapshot) -> Result<(), Memory>
-    ensures { Adds text.old (words_text words.now) result text.new }
-{
-    add_words_at(text, words, &WORD_INDICES)
-}
-
-/// Adds the answer of a region, if it is known.
-fn add_region_answer(text: &mut Buffer, answer: Option<Answer>) -> Result<(), Memory>
-    ensures { Adds text.old (region_answer_text answer) result text.new }
-{
-    match answer {
-        Some(answer) => add_answer(text, answer),
-        None => text.add(&[Text("unknown")]),
+    fn fmt<W: fmt::Write>(&self, f: &mut fmt::Formatter<W>) -> fmt::Result {
+        let index = self.0;
+        let word = self.1;
+        if is_free(word) {
+            return Ok(());
+        }
+        write!(f, " w{index} {}", IntervalsText(word.intervals()))?;
+        let known = word.known();
+        if known.mask != 0 {
+            write!(f, "&{}", BitsText(known))?;
+        }
+        f.write(RefutedText(word.refuted()))
     }
 }
 
-/// Adds where an answer comes from.
-fn add_origin(text: &mut Buffer, origin: Origin) -> Result<(), Memory>
-    ensures { Adds text.old (origin_text origin) result text.new }
-{
-    match origin {
-        Origin::Filter { filter, index } => add_insn(text, filter, index),
-        Origin::Profile(reason) => add_reason(text, reason),
+/// What is known of a record's words.
+#[derive(Clone, Copy)]
+struct WordsText<'a>(&'a Snapshot);
+
+impl fmt::Display for WordsText<'_> {
+    ghost output = { λ words. Some (words_text 16 words.0.now) };
+
+    fn fmt<W: fmt::Write>(&self, f: &mut fmt::Formatter<W>) -> fmt::Result {
+        for index in 0..16u8 {
+            f.write(WordText(index, self.0.word(index)))?;
+        }
+        Ok(())
     }
 }
 
-/// Adds whether a region is open.
-fn add_exactness(text: &mut Buffer, is_exact: bool) -> Result<(), Memory>
-    ensures { Adds text.old (exactness_text is_exact) result text.new }
-{
-    if is_exact {
-        return Ok(());
-    }
-    text.add(&[Text(" open")])
-}
+/// What a side answers, if that is known, and where the answer comes from.
+#[derive(Clone, Copy)]
+struct SideText(SideLeaf);
 
-/// Adds what a side answers.
-fn add_side(text: &mut Buffer, leaf: SideLeaf) -> Result<(), Memory>
-    ensures { Adds text.old (side_text leaf) result text.new }
-{
-    add_region_answer(text, leaf.answer)?;
-    add_origin(text, leaf.origin)
-}
+impl fmt::Display for SideText {
+    ghost output = { λ side. Some (side_text side.0) };
 
-/// Adds what the left side answers, or both sides.
-fn add_leaf(text: &mut Buffer, has_both: bool, leaf: PairLeaf) -> Result<(), Memory>
-    ensures { Adds text.old (leaf_text has_both leaf) result text.new }
-{
-    add_side(text, leaf.left)?;
-    if !has_both {
-        return Ok(());
-    }
-    text.add(&[Text(" beside ")])?;
-    add_side(text, leaf.right)
-}
-
-/// Adds the line of a region.
-fn add_region_line(text: &mut Buffer, has_both: bool, region: &Region) -> Result<(), Memory>
-    ensures { Adds text.old (region_line has_both region.now) result text.new }
-{
-    add_leaf(text, has_both, region.leaf)?;
-    add_exactness(text, region.is_exact)?;
-    add_words(text, &region.words)?;
-    text.add(&[Text("\n")])?;
-    Ok(())
-}
-
-/// Adds the line of a record in a region, if examples are asked for and one is known.
-fn add_example(text: &mut Buffer, has_examples: bool, region: &Region) -> Result<(), Memory>
-    ensures { Adds text.old (example_text has_examples region.now) result text.new }
-{
-    match &region.example {
-        Some(call) if has_examples => add_call(text, call),
-        _ => Ok(()),
+    fn fmt<W: fmt::Write>(&self, f: &mut fmt::Formatter<W>) -> fmt::Result {
+        match self.0.answer {
+            Some(answer) => f.write(AnswerText(answer))?,
+            None => f.write_str("unknown")?,
+        }
+        match self.0.origin {
+            Origin::Filter { filter, index } => f.write(InsnText(filter, index)),
+            Origin::Profile(reason) => f.write(ReasonText(reason)),
+        }
     }
 }
 
-/// Adds the lines of a region.
-fn add_region(text: &mut Buffer, format: RegionFormat, region: &Region) -> Result<(), Memory>
-    ensures { Adds text.old (region_text format region.now) result text.new }
-{
-    add_region_line(text, format.has_both, region)?;
-    add_example(text, format.has_examples, region)
+/// What the left side answers, or both sides.
+#[derive(Clone, Copy)]
+struct LeafText(bool, PairLeaf);
+
+impl fmt::Display for LeafText {
+    ghost output = { λ text. Some (leaf_text text.0 text.1) };
+
+    fn fmt<W: fmt::Write>(&self, f: &mut fmt::Formatter<W>) -> fmt::Result {
+        let left = SideText(self.1.left);
+        if self.0 {
+            write!(f, "{left} beside {}", SideText(self.1.right))
+        } else {
+            f.write(left)
+        }
+    }
 }
 
-/// Adds the lines of regions.
-fn add_regions(text: &mut Buffer, format: RegionFormat, regions: &Regions) -> Result<(), Memory>
-    ensures { Adds text.old (regions_text format regions.now) result text.new }
-{
-    for region in &regions.list {
-        add_region(text, format, region)?;
+/// The line of a region.
+#[derive(Clone, Copy)]
+struct RegionLine<'a>(bool, &'a Region);
+
+impl fmt::Display for RegionLine<'_> {
+    ghost output = { λ line. Some (region_line line.0 line.1.now) };
+
+    fn fmt<W: fmt::Write>(&self, f: &mut fmt::Formatter<W>) -> fmt::Result {
+        let leaf = LeafText(self.0, self.1.leaf);
+        let open = if self.1.is_exact { "" } else { " open" };
+        write!(f, "{leaf}{open}{}\n", WordsText(&self.1.words))
     }
-    Ok(())
 }
 
-/// Adds the lines of the regions of walks, one walk after another.
-fn add_listed(text: &mut Buffer, format: RegionFormat, listed: &[Regions]) -> Result<(), Memory>
-    ensures { Adds text.old (flat_map (regions_text format) listed.now) result text.new }
-{
-    for regions in listed {
-        add_regions(text, format, regions)?;
+/// The line of a region, and that of a record in it, if examples are asked for and one is known.
+#[derive(Clone, Copy)]
+struct RegionLines<'a>(RegionFormat, &'a Region);
+
+impl fmt::Display for RegionLines<'_> {
+    ghost output = { λ lines. Some (region_text lines.0 lines.1.now) };
+
+    fn fmt<W: fmt::Write>(&self, f: &mut fmt::Formatter<W>) -> fmt::Result {
+        let line = RegionLine(self.0.has_both, self.1);
+        match self.1.example {
+            Some(call) if self.0.has_examples => write!(f, "{line}{}", CallLine(call)),
+            _ => f.write(line),
+        }
     }
-    Ok(())
+}
+
+/// The lines of regions.
+#[derive(Clone, Copy)]
+struct RegionList<'a>(RegionFormat, &'a [Region]);
+
+impl fmt::Display for RegionList<'_> {
+    ghost output = { λ list. Some (flat_map (region_text list.0) list.1.now) };
+
+    fn fmt<W: fmt::Write>(&self, f: &mut fmt::Formatter<W>) -> fmt::Result {
+        for region in self.1 {
+            f.write(RegionLines(self.0, region))?;
+        }
+        Ok(())
+    }
+}
+
+/// The lines of the regions of walks, one walk after another.
+#[derive(Clone, Copy)]
+struct WalkList<'a>(RegionFormat, &'a [Regions]);
+
+impl fmt::Display for WalkList<'_> {
+    ghost output = { λ list. Some (flat_map (regions_text list.0) list.1.now) };
+
+    fn fmt<W: fmt::Write>(&self, f: &mut fmt::Formatter<W>) -> fmt::Result {
+        for walk in self.1 {
+            f.write(RegionList(self.0, walk.list.as_slice()))?;
+        }
+        Ok(())
+    }
 }
 
 /// How many regions walks list.
@@ -316,38 +263,16 @@ fn steps_of(listed: &[Regions]) -> u64
     steps
 }
 
-/// Adds how many regions walks list, and in how many steps.
-fn add_totals(text: &mut Buffer, listed: &[Regions]) -> Result<(), Memory>
-    ensures { Adds text.old (totals_line listed.now) result text.new }
-{
-    text.add(&[
-        Text("regions "),
-        Decimal(count_of(listed)),
-        Text(" steps "),
-        Decimal(steps_of(listed)),
-        Text("\n"),
-    ])
-}
-
-/// The lines of the regions that walks list, and of how many they are.
+/// The lines of the regions that walks list, of how many they are, and of how many steps the walks took.
 pub(crate) fn listing_of_regions(
     alloc: Global,
     format: RegionFormat,
     listed: &[Regions],
-) -> Result<Vec<u8>, Memory>
-    ensures { IfOk result (λ text. text.items ≡ listing_text format (Some listed.now)) }
+) -> Result<String, AllocError>
+    ensures { IfOk result (λ text. string_bytes text ≡ listing_text format (Some listed.now)) }
 {
-    let mut text = Buffer::new(alloc);
-    add_listed(&mut text, format, listed)?;
-    add_totals(&mut text, listed)?;
-    Ok(text.into_bytes())
-}
-
-/// The line of walks that are unfinished.
-pub(crate) fn unfinished_line(alloc: Global) -> Result<Vec<u8>, Memory>
-    ensures { IfOk result (λ text. (format : RegionFormat) → text.items ≡ listing_text format None) }
-{
-    let mut text = Buffer::new(alloc);
-    text.add(&[Text("unfinished\n")])?;
-    Ok(text.into_bytes())
+    let list = WalkList(format, listed);
+    let count = count_of(listed);
+    let steps = steps_of(listed);
+    format!(in alloc; "{list}regions {count} steps {steps}\n")
 }

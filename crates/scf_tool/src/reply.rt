@@ -1,26 +1,18 @@
 //! Replies of commands: what is printed, and the exit status.
-#![tactic(auto, using(crate::proofs::WritingLemmas::one_after_another))]
 
-ghost use Rattle.std.specs.Prelude.{◌≡◌, ◌++◌, []};
-ghost use Rattle.scf_insn.specs.Streams.{Writes};
-ghost use Rattle.scf_tool.specs.Lines.{answer_text, reason_text, steps_text};
+ghost use Rattle.std.specs.Prelude.{◌≡◌, [], IfOk, IfSome, string_bytes};
 ghost use Rattle.scf_tool.specs.Replies.{printed};
-ghost use Rattle.scf_tool.specs.internal.Gathering.{buffered};
 
-use crate::buffer::Buffer;
 use crate::fault::Fault;
-use crate::fault_line::write_fault;
-use crate::fragments::Fragment::{Decimal, Text};
-use crate::fragments::write_fragments;
-use crate::lines::{
-    write_answer, write_decision, write_last_answer, write_last_reason, write_steps,
-};
+use crate::lines::{AnswerText, DecisionLine, ReasonText};
 use crate::status::Status;
-use scf_insn::{Answer, Sink, WriteFault, write_whole};
+use scf_insn::Answer;
 use scf_machine::{Decision, Ran};
 use scf_profile::Reason;
+use std::alloc::AllocError;
+use std::fmt::Display;
 
-/// The result of a command. Printing it allocates nothing beyond one line's buffer.
+/// The result of a command. Printing it allocates nothing beyond one line.
 #[derive(Drop)]
 pub(crate) enum Reply {
     /// `clap`'s text: help, the version or a usage error.
@@ -52,66 +44,41 @@ pub(crate) fn status_of(ending: &Result<Reply, Fault>) -> Status
     }
 }
 
-/// Writes the answer of a run and its steps.
-fn write_ran<S: Sink>(sink: &mut S, ran: &Ran) -> Result<(), WriteFault>
-    ensures { Writes S.contents S.failures sink.old
-        (answer_text ran.now.answer.0 ++ steps_text ran.now.steps) result sink.new }
-{
-    write_answer(sink, ran.answer)?;
-    write_steps(sink, u64::from(ran.steps))
-}
-
-/// Writes the answer of a profile and its reason.
-fn write_asked<S: Sink>(sink: &mut S, answer: Answer, reason: Reason) -> Result<(), WriteFault>
-    ensures { Writes S.contents S.failures sink.old (answer_text answer.0 ++ reason_text reason) result sink.new }
-{
-    write_answer(sink, answer)?;
-    write_last_reason(sink, reason)
-}
-
-/// Writes a result or a fault, fragment by fragment.
-fn write_ending<S: Sink>(sink: &mut S, ending: &Result<Reply, Fault>) -> Result<(), WriteFault>
-    ensures { Writes S.contents S.failures sink.old (printed ending.now).1 result sink.new }
-{
-    match ending {
-        Ok(Reply::CommandLine { text, .. }) => write_whole(sink, text.as_bytes()),
-        Ok(Reply::Accepted(count)) => {
-            let line = [Text("accepted "), Decimal(*count as u64), Text("\n")];
-            write_fragments(sink, &line)
-        }
-        Ok(Reply::Ran(ran)) => write_ran(sink, ran),
-        Ok(Reply::Decided(answer)) => write_last_answer(sink, *answer),
-        Ok(Reply::DecidedBy(decision)) => write_decision(sink, *decision),
-        Ok(Reply::Asked { answer, reason }) => write_asked(sink, *answer, *reason),
-        Ok(Reply::Bytes(bytes)) => write_whole(sink, bytes),
-        Ok(Reply::Compared { text, .. }) => write_whole(sink, text),
-        Err(fault) => write_fault(sink, *fault),
-    }
-}
-
-/// The size of the line buffer that is allocated before a command reads its input. Each line of a fault, a check and an
-/// answer is shorter.
+/// The size of the line that is allocated before a command reads its input. Each line of a fault, a check and an answer
+/// is shorter.
 pub(crate) const LINE_ROOM: usize = 256;
 
-/// Writes a result or a fault in one call; or a prefix of it, if writing fails. A line is assembled in the buffer.
-pub(crate) fn print_ending<S: Sink>(
-    sink: &mut S,
-    ending: &Result<Reply, Fault>,
-    room: Buffer,
-) -> Result<(), WriteFault>
-    requires { buffered room ≡ [] }
-    ensures { Writes S.contents S.failures sink.old (printed ending.now).1 result sink.new }
+/// The bytes of what a value displays, in place of an empty line.
+fn filled<D: Display + Drop>(mut line: String, value: D) -> Result<Vec<u8>, AllocError>
+    requires { string_bytes line ≡ [] }
+    ensures { IfOk result (λ text. IfSome (D.output value) (λ bytes. text.items ≡ bytes)) }
+{
+    line.write(value)?;
+    Ok(line.into_bytes())
+}
+
+/// What is printed of a result or a fault; a line in place of an empty one.
+pub(crate) fn text_of(ending: Result<Reply, Fault>, line: String) -> Result<Vec<u8>, AllocError>
+    requires { string_bytes line ≡ [] }
+    ensures { IfOk result (λ text. text.items ≡ (printed ending).1) }
 {
     match ending {
-        Ok(Reply::CommandLine { .. } | Reply::Bytes(_) | Reply::Compared { .. }) => write_ending(
-            sink, ending,
-        ),
-        _ => {
-            let mut line = room;
-            match write_ending(&mut line, ending) {
-                Ok(()) => write_whole(sink, line.as_bytes()),
-                Err(_) => write_ending(sink, ending),
-            }
+        Ok(Reply::CommandLine { text, .. }) => Ok(text.into_bytes()),
+        Ok(Reply::Accepted(count)) => filled(line, format_args!("accepted {count}\n")),
+        Ok(Reply::Ran(ran)) => {
+            let answer = AnswerText(ran.answer);
+            let steps = ran.steps;
+            filled(line, format_args!("{answer} steps {steps}\n"))
         }
+        Ok(Reply::Decided(answer)) => filled(line, format_args!("{}\n", AnswerText(answer))),
+        Ok(Reply::DecidedBy(decision)) => filled(line, DecisionLine(decision)),
+        Ok(Reply::Asked { answer, reason }) => {
+            let answer = AnswerText(answer);
+            let reason = ReasonText(reason);
+            filled(line, format_args!("{answer}{reason}\n"))
+        }
+        Ok(Reply::Bytes(bytes)) => Ok(bytes),
+        Ok(Reply::Compared { text, .. }) => Ok(text),
+        Err(fault) => filled(line, fault.row()),
     }
 }

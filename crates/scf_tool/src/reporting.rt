@@ -1,175 +1,142 @@
 //! The report of a comparison.
 
-ghost use Rattle.std.specs.Prelude.{◌≡◌, ◌++◌, Some, codes, string_bytes, true, IfOk};
-ghost use Rattle.std.specs.Fmt.{decimal};
+ghost use Rattle.std.specs.Prelude.{◌≡◌, Some, map, string_bytes, true, IfOk};
 ghost use Rattle.std.specs.List.{flat_map};
 ghost use Rattle.scf_compare.specs.Verdicts.{finding_of};
-ghost use Rattle.scf_tool.specs.Reports.{
-  answer_line,
-  argument_text,
-  call_line,
-  finding_text,
-  left_out_front,
-  left_out_text,
-  length_text,
-  name_line,
-  outcome_of,
-  prefixed,
-  report_text,
-  said_of,
-  sides_text,
-  words_of_left_out,
-};
+ghost use Rattle.scf_tool.specs.Reports.{answer_line, argument_text, call_line, finding_text, left_out_front};
+ghost use Rattle.scf_tool.specs.Reports.{left_out_text, length_text, name_line, outcome_of, report_text, said_of};
+ghost use Rattle.scf_tool.specs.Reports.{sides_text};
 ghost use Rattle.scf_tool.specs.Reports as spec;
-ghost use Rattle.scf_tool.specs.internal.Gathering.{Adds};
-ghost use Rattle.scf_tool.specs.internal.Pieces.{names_in};
+ghost use Rattle.scf_tool.specs.internal.Words.{names_in};
 
-use crate::buffer::Buffer;
-use crate::call_reporting::add_findings;
+use crate::call_reporting::{JointLine, NamedLines, worst_of_calls};
 use crate::findings::{ComparisonOutcome, Findings};
-use crate::fragments::Fragment::{Decimal, Hexadecimal, Text};
 use crate::left_out::LeftOut;
-use crate::lines::add_answer;
+use crate::lines::AnswerText;
 use crate::verification::Outcome;
 use scf_compare::{Finding, Verdict, Which};
 use scf_insn::{Answer, CallRecord, Memory};
-use scf_profile::{Relation, Texts};
+use scf_profile::Relation;
 use std::alloc::Global;
+use std::fmt;
 
-pub(crate) fn add_arguments(text: &mut Buffer, arguments: &[u64]) -> Result<(), Memory>
-    ensures { Adds text.old (flat_map argument_text arguments.now) result text.new }
-{
-    for argument in arguments {
-        text.add(&[Text(" 0x"), Hexadecimal(*argument)])?;
-    }
-    Ok(())
-}
-
-/// Adds the number, the architecture and the instruction pointer of a call.
-fn add_call_front(text: &mut Buffer, call: &CallRecord) -> Result<(), Memory>
-    ensures { Adds text.old
-        (codes "call nr " ++ decimal call.now.nr ++ codes " arch " ++ prefixed call.now.arch
-        ++ codes " ip " ++ prefixed call.now.ip ++ codes " args")
-        result text.new }
-{
-    let front = [
-        Text("call nr "),
-        Decimal(u64::from(call.nr)),
-        Text(" arch 0x"),
-        Hexadecimal(u64::from(call.arch)),
-        Text(" ip 0x"),
-        Hexadecimal(call.ip),
-        Text(" args"),
-    ];
-    text.add(&front)
-}
-
-pub(crate) fn add_call(text: &mut Buffer, call: &CallRecord) -> Result<(), Memory>
-    ensures { Adds text.old (call_line call.now) result text.new }
-{
-    add_call_front(text, call)?;
-    add_arguments(text, &call.args)?;
-    text.add(&[Text("\n")])?;
-    Ok(())
-}
-
-pub(crate) fn add_answer_line(text: &mut Buffer, who: &str, answer: Answer) -> Result<(), Memory>
-    ensures { Adds text.old (answer_line who.now answer.0) result text.new }
-{
-    text.add(&[Text(who), Text(" ")])?;
-    add_answer(text, answer)?;
-    text.add(&[Text("\n")])?;
-    Ok(())
-}
-
-/// The names of the sides of a comparison in the lines.
+/// Arguments, each behind a blank.
 #[derive(Clone, Copy)]
-pub(crate) struct SideWords {
+pub(crate) struct Arguments<'a>(pub &'a [u64]);
+
+impl fmt::Display for Arguments<'_> {
+    ghost output = { λ arguments. Some (flat_map argument_text arguments.0.now) };
+
+    fn fmt<W: fmt::Write>(&self, f: &mut fmt::Formatter<W>) -> fmt::Result {
+        for argument in self.0 {
+            let argument = *argument;
+            write!(f, " 0x{argument:x}")?;
+        }
+        Ok(())
+    }
+}
+
+/// The line of a call.
+#[derive(Clone, Copy)]
+pub(crate) struct CallLine(pub CallRecord);
+
+impl fmt::Display for CallLine {
+    ghost output = { λ line. Some (call_line line.0) };
+
+    fn fmt<W: fmt::Write>(&self, f: &mut fmt::Formatter<W>) -> fmt::Result {
+        let nr = self.0.nr;
+        let arch = self.0.arch;
+        let ip = self.0.ip;
+        let arguments = Arguments(&self.0.args);
+        write!(
+            f,
+            "call nr {nr} arch 0x{arch:x} ip 0x{ip:x} args{arguments}\n"
+        )
+    }
+}
+
+/// Who answers, and the answer.
+#[derive(Clone, Copy)]
+pub(crate) struct AnswerLine(pub &'static str, pub Answer);
+
+impl fmt::Display for AnswerLine {
+    ghost output = { λ line. Some (answer_line line.0.now line.1.0) };
+
+    fn fmt<W: fmt::Write>(&self, f: &mut fmt::Formatter<W>) -> fmt::Result {
+        write!(f, "{} {}\n", self.0, AnswerText(self.1))
+    }
+}
+
+/// The words of a report: the relation that is compared by, and the names of both sides.
+#[derive(Clone, Copy)]
+pub(crate) struct Words {
+    pub relation: Relation,
     pub left: &'static str,
     pub right: &'static str,
 }
 
-/// The names of filters and a profile, of filters and others beside them, of a profile and one beside it, by what was
-/// left out of the profiles.
-fn words_of_sides(left: &Option<LeftOut>, right: &Option<LeftOut>) -> SideWords
-    ensures { names_in result ≡ spec.words_of_sides left.now right.now }
-{
-    let (left, right) = match (left, right) {
-        (Some(_), _) => ("profile", "beside"),
-        (None, Some(_)) => ("filter", "profile"),
-        (None, None) => ("filter", "beside"),
-    };
-    SideWords { left, right }
-}
-
-/// The word for a relation that holds.
-pub(crate) fn holding(relation: Relation) -> &'static str
-    ensures { result.now ≡ (said_of relation).0 }
-{
-    match relation {
-        Relation::Same => "same",
-        Relation::NoMore => "no more",
-        Relation::NoLess => "no less",
-        Relation::SameDisposition => "same disposition",
-    }
-}
-
-/// The word for a relation that doesn't hold.
-pub(crate) fn failing(relation: Relation) -> &'static str
-    ensures { result.now ≡ (said_of relation).1 }
-{
-    match relation {
-        Relation::Same | Relation::SameDisposition => "differs",
-        Relation::NoMore => "more",
-        Relation::NoLess => "less",
-    }
-}
-
-/// Adds a line of one word or two.
-pub(crate) fn add_word(text: &mut Buffer, word: &str) -> Result<(), Memory>
-    ensures { Adds text.old (word.now ++ codes "\n") result text.new }
-{
-    text.add(&[Text(word), Text("\n")])
-}
-
-/// Adds the lines of a call for which the relation doesn't hold.
-fn add_difference(
-    text: &mut Buffer,
-    relation: Relation,
-    words: SideWords,
-    call: &CallRecord,
-    left: Answer,
-    right: Answer,
-) -> Result<(), Memory>
-    ensures { Adds text.old
-        (finding_text relation (names_in words) (Finding.Fails call.now left right)) result text.new }
-{
-    add_word(text, failing(relation))?;
-    add_call(text, call)?;
-    add_answer_line(text, words.left, left)?;
-    add_answer_line(text, words.right, right)?;
-    Ok(())
-}
-
-/// Adds the lines of a finding on sides with these names.
-pub(crate) fn add_finding(
-    text: &mut Buffer,
-    relation: Relation,
-    words: SideWords,
-    finding: &Finding,
-) -> Result<(), Memory>
-    ensures { Adds text.old (finding_text relation (names_in words) finding.now) result text.new }
-{
-    match finding {
-        Finding::Holds { .. } => add_word(text, holding(relation)),
-        Finding::Fails { call, left, right } => add_difference(
-            text, relation, words, call, *left, *right,
-        ),
-        Finding::Undecided { at, .. } => {
-            let line = [Text("undecided at "), Decimal(*at as u64), Text("\n")];
-            text.add(&line)
+impl Words {
+    /// The words for filters and a profile, for filters and others beside them, and for a profile and one beside it, by
+    /// what was left out of the profiles.
+    fn of(relation: Relation, left: &Option<LeftOut>, right: &Option<LeftOut>) -> Words
+        ensures relation { result.relation ≡ relation }
+        ensures names { names_in result ≡ spec.words_of_sides left.now right.now }
+    {
+        let (left, right) = match (left, right) {
+            (Some(_), _) => ("profile", "beside"),
+            (None, Some(_)) => ("filter", "profile"),
+            (None, None) => ("filter", "beside"),
+        };
+        Words {
+            relation,
+            left,
+            right,
         }
-        Finding::Unfinished => text.add(&[Text("unfinished\n")]),
+    }
+
+    /// What is said if the relation holds.
+    pub(crate) fn holding(self) -> &'static str
+        ensures { result.now ≡ (said_of self.relation).0 }
+    {
+        match self.relation {
+            Relation::Same => "same",
+            Relation::NoMore => "no more",
+            Relation::NoLess => "no less",
+            Relation::SameDisposition => "same disposition",
+        }
+    }
+
+    /// What is said if it doesn't hold.
+    pub(crate) fn failing(self) -> &'static str
+        ensures { result.now ≡ (said_of self.relation).1 }
+    {
+        match self.relation {
+            Relation::Same | Relation::SameDisposition => "differs",
+            Relation::NoMore => "more",
+            Relation::NoLess => "less",
+        }
+    }
+}
+
+/// The lines of a finding.
+#[derive(Clone, Copy)]
+pub(crate) struct FindingLines(pub Words, pub Finding);
+
+impl fmt::Display for FindingLines {
+    ghost output = { λ lines. Some (finding_text lines.0.relation (names_in lines.0) lines.1) };
+
+    fn fmt<W: fmt::Write>(&self, f: &mut fmt::Formatter<W>) -> fmt::Result {
+        let words = self.0;
+        match self.1 {
+            Finding::Holds { .. } => write!(f, "{}\n", words.holding()),
+            Finding::Fails { call, left, right } => {
+                let left = AnswerLine(words.left, left);
+                let right = AnswerLine(words.right, right);
+                write!(f, "{}\n{}{left}{right}", words.failing(), CallLine(call))
+            }
+            Finding::Undecided { at, .. } => write!(f, "undecided at {at}\n"),
+            Finding::Unfinished => f.write_str("unfinished\n"),
+        }
     }
 }
 
@@ -196,96 +163,84 @@ pub(crate) fn finding_of(verdict: &Verdict) -> Finding
     }
 }
 
-fn add_name<'a>(text: &mut Buffer, word: &'a str, name: &'a String) -> Result<(), Memory>
-    ensures { Adds text.old (name_line word.now (string_bytes name.now)) result text.new }
-{
-    text.add(&[Text(word), Text(" "), Text(name.as_str()), Text("\n")])
-}
+/// A line for each name, behind a word.
+#[derive(Clone, Copy)]
+struct NameLines<'a>(&'static str, &'a [String]);
 
-/// Adds a line for each name, behind a word.
-fn add_names(text: &mut Buffer, word: &str, names: &Texts) -> Result<(), Memory>
-    ensures { Adds text.old (flat_map (name_line word.now) names.now) result text.new }
-{
-    for name in names.as_slice() {
-        add_name(text, word, name)?;
-    }
-    Ok(())
-}
+impl fmt::Display for NameLines<'_> {
+    ghost output = { λ lines. Some (flat_map (name_line lines.0.now) (map string_bytes lines.1.now)) };
 
-/// Adds what was left out of a profile, by these words.
-fn add_names_left_out(
-    text: &mut Buffer,
-    skipped_word: &str,
-    other_word: &str,
-    skipped: &Texts,
-    others: &Texts,
-) -> Result<(), Memory>
-    ensures { Adds text.old (left_out_text (skipped_word.now, other_word.now)
-        (Some (record { skipped = skipped.now; other_architectures = others.now }))) result text.new }
-{
-    add_names(text, skipped_word, skipped)?;
-    add_names(text, other_word, others)?;
-    Ok(())
-}
-
-/// Adds the length of each name.
-fn add_lengths(text: &mut Buffer, names: &Texts) -> Result<(), Memory>
-    ensures { Adds text.old (flat_map length_text names.now) result text.new }
-{
-    for name in names.as_slice() {
-        text.add(&[Text(" "), Decimal(name.len() as u64)])?;
-    }
-    Ok(())
-}
-
-/// Adds what was left out of a profile, and a line that ends it.
-pub(crate) fn add_left_out_front(text: &mut Buffer, left_out: &LeftOut) -> Result<(), Memory>
-    ensures { Adds text.old (left_out_front true left_out.now) result text.new }
-{
-    let skipped = &left_out.skipped;
-    let others = &left_out.other_architectures;
-    add_names_left_out(text, "skipped", "other", skipped, others)?;
-    text.add(&[Text("left-out skipped")])?;
-    add_lengths(text, skipped)?;
-    text.add(&[Text(" other")])?;
-    add_lengths(text, others)?;
-    text.add(&[Text("\n")])?;
-    Ok(())
-}
-
-/// Adds what was left out of a profile, if there is one.
-fn add_left_out(
-    text: &mut Buffer,
-    skipped_word: &str,
-    other_word: &str,
-    left_out: &Option<LeftOut>,
-) -> Result<(), Memory>
-    ensures { Adds text.old
-        (left_out_text (skipped_word.now, other_word.now) left_out.now) result text.new }
-{
-    match left_out {
-        Some(left_out) => add_names_left_out(
-            text,
-            skipped_word,
-            other_word,
-            &left_out.skipped,
-            &left_out.other_architectures,
-        ),
-        None => Ok(()),
+    fn fmt<W: fmt::Write>(&self, f: &mut fmt::Formatter<W>) -> fmt::Result {
+        let word = self.0;
+        for name in self.1 {
+            write!(f, "{word} {}\n", name.as_str())?;
+        }
+        Ok(())
     }
 }
 
-/// Adds what was left out of the profile on the right, by words of its own beside a profile.
-fn add_left_out_of_right(
-    text: &mut Buffer,
-    left: &Option<LeftOut>,
-    right: &Option<LeftOut>,
-) -> Result<(), Memory>
-    ensures { Adds text.old (left_out_text (words_of_left_out left.now) right.now) result text.new }
+/// The length of each name, behind a blank.
+#[derive(Clone, Copy)]
+struct Lengths<'a>(&'a [String]);
+
+impl fmt::Display for Lengths<'_> {
+    ghost output = { λ lengths. Some (flat_map length_text (map string_bytes lengths.0.now)) };
+
+    fn fmt<W: fmt::Write>(&self, f: &mut fmt::Formatter<W>) -> fmt::Result {
+        for name in self.0 {
+            write!(f, " {}", name.len())?;
+        }
+        Ok(())
+    }
+}
+
+/// What was left out of a profile, and a line that ends it.
+#[derive(Clone, Copy)]
+pub(crate) struct LeftOutFront<'a>(pub &'a LeftOut);
+
+impl fmt::Display for LeftOutFront<'_> {
+    ghost output = { λ front. Some (left_out_front true front.0.now) };
+
+    fn fmt<W: fmt::Write>(&self, f: &mut fmt::Formatter<W>) -> fmt::Result {
+        let skipped = self.0.skipped.as_slice();
+        let others = self.0.other_architectures.as_slice();
+        let skipped_lines = NameLines("skipped", skipped);
+        let other_lines = NameLines("other", others);
+        let skipped = Lengths(skipped);
+        let others = Lengths(others);
+        write!(
+            f,
+            "{skipped_lines}{other_lines}left-out skipped{skipped} other{others}\n"
+        )
+    }
+}
+
+/// What was left out of a side, if it is a profile, behind a word for skipped names and one for other architectures.
+#[derive(Clone, Copy)]
+struct LeftOutLines<'a>(&'static str, &'static str, &'a Option<LeftOut>);
+
+impl fmt::Display for LeftOutLines<'_> {
+    ghost output = { λ lines. Some (left_out_text (lines.0.now, lines.1.now) lines.2.now) };
+
+    fn fmt<W: fmt::Write>(&self, f: &mut fmt::Formatter<W>) -> fmt::Result {
+        match self.2 {
+            Some(left_out) => {
+                let skipped = NameLines(self.0, left_out.skipped.as_slice());
+                let others = NameLines(self.1, left_out.other_architectures.as_slice());
+                write!(f, "{skipped}{others}")
+            }
+            None => Ok(()),
+        }
+    }
+}
+
+/// The words for what was left out of a profile, beside another one words of its own.
+fn words_of_left_out(left: &Option<LeftOut>) -> (&'static str, &'static str)
+    ensures { (result.0.now, result.1.now) ≡ spec.words_of_left_out left.now }
 {
     match left {
-        Some(_) => add_left_out(text, "beside-skipped", "beside-other", right),
-        None => add_left_out(text, "skipped", "other", right),
+        Some(_) => ("beside-skipped", "beside-other"),
+        None => ("skipped", "other"),
     }
 }
 
@@ -294,21 +249,15 @@ fn add_left_out_of_right(
 pub fn report(alloc: Global, outcome: &Outcome) -> Result<Vec<u8>, Memory>
     ensures { IfOk result (λ text. text.items ≡ report_text Relation.Same (outcome_of outcome.now)) }
 {
-    let finding = finding_of(&outcome.verdict);
-    let words = SideWords {
+    let words = Words {
+        relation: Relation::Same,
         left: "filter",
         right: "profile",
     };
-    let mut text = Buffer::new(alloc);
-    add_finding(&mut text, Relation::Same, words, &finding)?;
-    add_names_left_out(
-        &mut text,
-        "skipped",
-        "other",
-        &outcome.skipped,
-        &outcome.other_architectures,
-    )?;
-    Ok(text.into_bytes())
+    let finding = FindingLines(words, finding_of(&outcome.verdict));
+    let skipped = NameLines("skipped", outcome.skipped.as_slice());
+    let others = NameLines("other", outcome.other_architectures.as_slice());
+    Ok(format!(in alloc; "{finding}{skipped}{others}")?.into_bytes())
 }
 
 /// The report of an outcome by a relation: `no more` or `no less` in place of `same`, `more` or `less` in place of
@@ -333,13 +282,19 @@ pub(crate) fn report_sides(
 ) -> Result<Vec<u8>, Memory>
     ensures { IfOk result (λ text. text.items ≡ sides_text relation left.now outcome.now) }
 {
-    let words = words_of_sides(left, &outcome.left_out);
-    let mut text = Buffer::new(alloc);
+    let words = Words::of(relation, left, &outcome.left_out);
+    let of_left = LeftOutLines("skipped", "other", left);
+    let (skipped, other) = words_of_left_out(left);
+    let of_right = LeftOutLines(skipped, other, &outcome.left_out);
     match &outcome.findings {
-        Findings::AtOnce(finding) => add_finding(&mut text, relation, words, finding)?,
-        Findings::EachCall(calls) => add_findings(alloc, &mut text, relation, words, calls)?,
+        Findings::AtOnce(finding) => {
+            let finding = FindingLines(words, *finding);
+            Ok(format!(in alloc; "{finding}{of_left}{of_right}")?.into_bytes())
+        }
+        Findings::EachCall(calls) => {
+            let joint = JointLine(words, worst_of_calls(calls));
+            let each = NamedLines(words, calls);
+            Ok(format!(in alloc; "{joint}{each}{of_left}{of_right}")?.into_bytes())
+        }
     }
-    add_left_out(&mut text, "skipped", "other", left)?;
-    add_left_out_of_right(&mut text, left, &outcome.left_out)?;
-    Ok(text.into_bytes())
 }

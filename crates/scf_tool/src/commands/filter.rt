@@ -8,13 +8,13 @@ ghost use Rattle.scf_request.specs.declared.request.Request.TheVariants as reque
 ghost use Rattle.scf_tool.specs.Lines.{traced_text};
 ghost use Rattle.scf_tool.specs.Statuses.{LeavesFilter};
 
-use crate::buffer::{Buffer, listing_of};
+use crate::buffer::listing_of;
 use crate::fault::Fault;
 use crate::filter::read_filter;
-use crate::lines::add_trace;
+use crate::lines::TraceLines;
 use crate::reply::Reply;
 use scf_insn::{CallRecord, Memory, ReadFault, Source, read_program};
-use scf_machine::{Program, Trace, run, trace};
+use scf_machine::{Program, run, trace};
 use std::alloc::Global;
 
 /// `check`: whether a filter is accepted.
@@ -39,22 +39,13 @@ pub(super) fn run_filter<R: Source>(
     Ok(Reply::Ran(run(&program, call)))
 }
 
-/// The lines of a run and its way.
-fn lines_of(alloc: Global, trace: &Trace) -> Result<Vec<u8>, Memory>
-    ensures { IfOk result (λ text. text.items ≡ traced_text trace.now.answer.0 trace.now.indices.items) }
-{
-    let mut text = Buffer::new(alloc);
-    add_trace(&mut text, trace)?;
-    Ok(text.into_bytes())
-}
-
 /// The lines of a filter's run on a call and its way.
 fn traced(alloc: Global, program: &Program, call: &CallRecord) -> Result<Vec<u8>, Memory>
     ensures { IfOk result (λ text. (answer : ℕ) × (indices : List ℕ)
         × IsPathOf program.now (words_of call.now) answer indices × (text.items ≡ traced_text answer indices)) }
 {
     let trace = trace(alloc, program, call)?;
-    lines_of(alloc, &trace)
+    Ok(format!(in alloc; "{}", TraceLines(&trace))?.into_bytes())
 }
 
 /// `run --path`: what a filter answers to a call, and the instructions on the way.

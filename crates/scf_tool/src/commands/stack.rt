@@ -1,6 +1,6 @@
 //! Commands on a stack of filters.
 
-ghost use Rattle.std.specs.Prelude.{◌≡◌, ◌++◌, ℕ, List, map, Err, IfErr, IfOk, Some};
+ghost use Rattle.std.specs.Prelude.{◌≡◌, ◌++◌, ℕ, List, map, string_bytes, Err, IfErr, IfOk, Some};
 ghost use Rattle.scf_insn.specs.Words.{words_of};
 ghost use Rattle.scf_machine.specs.Path.{IsPathOf};
 ghost use Rattle.scf_machine.specs.Precedence.{IsDecidedBy};
@@ -12,13 +12,11 @@ ghost use Rattle.scf_tool.specs.Commands.{AreFilters, Decides, ShowsRuns};
 ghost use Rattle.scf_tool.specs.FilterStacks.{HasStack};
 ghost use Rattle.scf_tool.specs.Lines.{decision_text, traced_text};
 ghost use Rattle.scf_tool.specs.internal.Bytes.{EndsOnBytes};
-ghost use Rattle.scf_tool.specs.internal.Gathering.{buffered};
 
-use crate::buffer::Buffer;
 use crate::commands::parts::are_filters;
 use crate::fault::Fault;
 use crate::filter_stack::stack_of;
-use crate::lines::{add_decision, add_trace};
+use crate::lines::{DecisionLine, TraceLines};
 use crate::reply::Reply;
 use scf_insn::{CallRecord, Memory};
 use scf_machine::{Decision, FilterStack, Program, trace};
@@ -63,27 +61,28 @@ pub(super) fn decide_stack_at(
 /// Adds the lines of a filter's run on a call and its path.
 fn add_run(
     alloc: Global,
-    text: &mut Buffer,
+    text: &mut String,
     filter: &Program,
     call: &CallRecord,
 ) -> Result<(), Memory>
     ensures { IfOk result (λ _. (answer : ℕ) × (indices : List ℕ)
         × IsPathOf filter.now (words_of call.now) answer indices
-        × (buffered text.new ≡ buffered text.old ++ traced_text answer indices)) }
+        × (string_bytes text.new ≡ string_bytes text.old ++ traced_text answer indices)) }
 {
     let trace = trace(alloc, filter, call)?;
-    add_trace(text, &trace)
+    text.write(TraceLines(&trace))?;
+    Ok(())
 }
 
 /// Adds the lines of the runs of filters on a call and their paths.
 fn add_runs(
     alloc: Global,
-    text: &mut Buffer,
+    text: &mut String,
     filters: &[Program],
     call: &CallRecord,
 ) -> Result<(), Memory>
     ensures { IfOk result (λ _. (runs : List ℕ) × ShowsRuns filters.now (words_of call.now) runs
-        × (buffered text.new ≡ buffered text.old ++ runs)) }
+        × (string_bytes text.new ≡ string_bytes text.old ++ runs)) }
 {
     for filter in filters {
         add_run(alloc, text, filter, call)?;
@@ -98,8 +97,7 @@ fn lines_of_runs(alloc: Global, stack: &FilterStack, call: &CallRecord) -> Resul
         × ShowsRuns stack.now (words_of call.now) runs
         × (text.items ≡ decision_text decision.by decision.answer.0 ++ runs)) }
 {
-    let mut text = Buffer::new(alloc);
-    add_decision(&mut text, stack.decision(call))?;
+    let mut text = format!(in alloc; "{}", DecisionLine(stack.decision(call)))?;
     add_runs(alloc, &mut text, stack.filters(), call)?;
     Ok(text.into_bytes())
 }
