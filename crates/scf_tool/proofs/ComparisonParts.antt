@@ -37,7 +37,7 @@ module _ (held : Held) (tables : List (TableReader PartReader)) (are : map rest_
   one_for_calls forms.Profile (inr taken) = counted ∙ taken.has_kinds.has_tables.table_count
   one_for_calls forms.Architectures (inl taken) = counted ∙ taken.has_kinds.has_tables.table_count
   one_for_calls forms.Architectures (inr taken) = counted ∙ taken.has_kinds.has_tables.table_count
-  one_for_calls (forms.Beside scopes) takes = counted ∙ takes refl
+  one_for_calls (forms.Beside scopes) one = counted ∙ one
 
 -- ---- the sides
 

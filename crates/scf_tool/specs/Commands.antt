@@ -1,5 +1,5 @@
 -- The replies and faults of each command, by the bytes of standard input. These count where its reader tells them.
-use Rattle.std.specs.Prelude.{◌≡◌, ◌≢◌, ◌⊎◌, ◌<◌, ◌≤◌, ◌++◌, ℕ, Bool, true, false, List, [], ◌∷◌, length, map, All, Option, Some, Result, Ok, Err}
+use Rattle.std.specs.Prelude.{◌≡◌, ◌≢◌, ◌⊎◌, ◌+◌, ◌<◌, ◌≤◌, ◌++◌, ℕ, Bool, true, false, List, [], ◌∷◌, length, map, All, Option, Some, Result, Ok, Err}
 use Rattle.std.specs.List.{AllZip, flat_map}
 use Rattle.scf_insn.specs.declared.encoding.ReadFault.TheVariants as reads
 use Rattle.scf_insn.specs.declared.input.InputFault.{InputFault}
@@ -301,11 +301,13 @@ is_call_by_call EachCall = true
 abbrev pub TakesProfile : Bool → Held → Type 0
 TakesProfile only_one held = AreTaken besides.Filters only_one held ⊎ AreTaken besides.Profile only_one held
 
--- What a comparison takes: beside a profile for x86-64 alone one table; call by call one table in any case.
+-- What a comparison takes: beside a profile for x86-64 alone one table; call by call one table in any case. No input
+-- at all isn't two empty stacks.
 abbrev pub TakesSides : BundleForm → Scopes → Held → Type 0
 TakesSides forms.Profile over held = TakesProfile true held
 TakesSides forms.Architectures over held = TakesProfile (is_call_by_call over) held
-TakesSides (forms.Beside scopes) over held = over ≡ EachCall → length held.tables ≡ 1
+TakesSides (forms.Beside scopes) EachCall held = length held.tables ≡ 1
+TakesSides (forms.Beside scopes) (AtOnce scope) held = 1 ≤ length held.filters + length held.beside
 
 -- the sides that the parts with a profile are: filters and a profile, or a profile and the one beside it
 abbrev pub AreWithProfile : Held → SideBytes → SideBytes → Type 0

@@ -109,7 +109,7 @@ class Drawn(Case):
         while len(status) < self.COUNT:
             actual = [drawn(dice) for _ in range(dice.choice((0, 1, 1, 2)))]
             right = [mutated(dice, data) for data in actual] if dice.randrange(2) else [drawn(dice)]
-            if any(MACHINE.fault(unpacked(data)) for data in actual + right):
+            if not actual + right or any(MACHINE.fault(unpacked(data)) for data in actual + right):
                 continue
             status.append(self.judge(actual, right, dice.choice(list(SCOPES)), dice.choice(list(RELATIONS))))
         without, by_splits = zip(*status)
@@ -127,6 +127,14 @@ def clone_of(flags, answer=EPERM, otherwise=ALLOW):
 
 class Tools(Case):
     """compare --beside and diff."""
+
+    def test_no_input_is_not_two_empty_stacks(self):
+        """So a pipe from a tool that failed says nothing. One side may have no filter, which allows every call."""
+        for words in (["compare", "--beside"], ["compare", "--beside", "--native"],
+                      ["answers", "--differences", "--beside"]):
+            self.assertEqual(self.run_words([PROGRAM, *words], b""), (3, "fault bundle Parts\n", ""), words)
+            for kind in ("filter", "beside"):
+                self.assertEqual(self.run_words([PROGRAM, *words], part(kind, ret(ALLOW)))[0], 0, words)
 
     def test_equal_stacks_are_the_same_without_a_step(self):
         """Whatever the filters are, and each relation holds; what isn't a filter is still refused."""

@@ -134,9 +134,9 @@ FROM_FIVE = a_filter("ld [16]; and #0xff; tax; mul x; jge #25, 0, 1; ret #0x7fff
 ABOVE_FOUR = beside("ld [16]; and #0xff; jgt #4, 0, 1; ret #0x7fff0000; ret #0x50001")
 OTHER, NAMES_OF_1 = beside(ALLOW_ALL), a_table("b 1\na 1\nd 0")
 BESIDE = (
-    # No filter on either side, or on one.
-    ("--beside", [], "same\n", "", 0),
+    # No filter on one side; on neither, which is no input.
     ("--beside", [OTHER], "same\n", "", 0),
+    ("--beside", [], "fault bundle Parts\n", "", 3),
     ("--beside --no-less", [EPERM], "less\ncall nr ", "\nfilter ERRNO 1\nbeside ALLOW 0\n", 1),
     # The sides aren't exchanged, and precedence decides on each.
     ("--beside --nr-from 1 --nr-to 0x1", [OTHER, WITHOUT_WRITE, ALLOW], "differs\ncall nr 1 arch 0xc000003e ip ",

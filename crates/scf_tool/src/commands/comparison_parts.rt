@@ -91,7 +91,11 @@ fn two_stacks<'a>(
         × AreComparisonParts (AreSidesOf form) reading (held_by contents.entry) parts)) }
     ensures fault { IfErr result (λ fault. fault ≡ BundleFault.Memory) }
 {
-    if is_call_by_call(over) && contents.tables.len() != 1 {
+    let is_taken = match over {
+        Scopes::EachCall => contents.tables.len() == 1,
+        Scopes::AtOnce(_) => !contents.filters.is_empty() || !contents.beside.is_empty(),
+    };
+    if !is_taken {
         return Ok(None);
     }
     let by = Interpretation::of_parts(alloc, reading, &contents.stubs)?;
