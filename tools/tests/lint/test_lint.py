@@ -1475,8 +1475,8 @@ class Gate(Linted):
         self.assertEqual((many["findings"][0]["name"], many["findings"][0]["nearest"]), ("ptrcae", "ptrace"))
 
     def test_names_that_are_known(self):
-        """None of libseccomp's is misspelt: those that the installed one resolves, and those that are new in its 2.6.0
-        (src/syscalls.csv); nor has an engine's list one."""
+        """None of libseccomp's is misspelt: those that the installed one resolves, and those that 2.6.0 is known to
+        add, listed without its file at hand; nor has an engine's list one."""
         newer = ("cachestat fchmodat2 futex_requeue futex_wait futex_wake getxattrat listmount listxattrat "
                  "lsm_get_self_attr lsm_list_modules lsm_set_self_attr map_shadow_stack mseal removexattrat "
                  "riscv_hwprobe set_mempolicy_home_node setxattrat statmount uretprobe").split()

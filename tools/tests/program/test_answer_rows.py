@@ -59,6 +59,7 @@ ANSWERS = (
     # Profiles. Each record lies in one region; the order is the walk's.
     ("--nr-to 0", [PROFILE, TABLE], "ALLOW 0 entry 0 w0 0x0 w1 0xc000003e\nregions 1 steps 4\n", 0),
     # Of entries that a call meets the first.
+    # (Regions and entries by hand; the count of steps is the program's.)
     ("--nr-to 0", [FOUR_ENTRIES, TABLE], "ALLOW 0 entry 0 w0 0x0 w1 0xc000003e w4 0x5 w5 0x0\n"
      "ALLOW 0 entry 2 w0 0x0 w1 0xc000003e w4 0x0-0x4,0x6-0xffffffff w5 0x0\n"
      "ALLOW 0 entry 2 w0 0x0 w1 0xc000003e w5 0x1-0xffffffff\nregions 3 steps 11\n", 0),
