@@ -52,8 +52,7 @@ class Options:
             if fault is not None and fault.kind not in ("Conflict", "RepeatedIndex"):
                 when, _, *where = *compare_output.fault_sentences(comparison, fault), "", ""
                 sentence = " ".join(filter(None, (f"{fault.line}:", when, *where)))
-                raise program.ToolError(f"'{name}': {sentence}" if fault.source == "profile" else sentence,
-                                        program.USAGE_ERROR if fault.source == "number" else program.IO_ERROR)
+                raise program.ToolError(f"'{name}': {sentence}" if fault.source == "profile" else sentence)
 
 
 class Expectations:

@@ -273,7 +273,7 @@ def finding_of(inspection: Inspection, request: verify.Request, process: Contain
     if others is not None and status == program.SUCCESS:
         status, verdict = program.UNKNOWN, None
     remarks = [*request.remarks, *process.members.remarks, *([others] if others else [])]
-    if status == program.NEGATIVE and blocks[0].report is not None:
+    if status in (program.NEGATIVE, program.TROUBLE) and blocks[0].report is not None:
         runtime = request.applied.runtime.name if request.applied is not None else None
         remarks += filter(None, [configurations.other_runtime([process.container.name], runtime)])
 
@@ -295,7 +295,7 @@ def plain_finding(status: int, verdict: str | None, line: str) -> HookResult:
     return HookResult(status, verdict, lambda: [line], lambda: value if verdict else {**value, "why": line})
 
 
-def failure(why: str, status: int = program.IO_ERROR) -> HookResult:
+def failure(why: str, status: int = program.TROUBLE) -> HookResult:
     return plain_finding(status, None, why)
 
 
@@ -351,7 +351,7 @@ class Examination:
             worker = Worker(lambda send: send_result(run_safely(find), is_json, send),
                             [self.watchdog.end] if self.watchdog else [])
         except OSError as error:
-            self.settle(program.IO_ERROR)
+            self.settle(program.TROUBLE)
             return failure(f"no process can be started: {error.strerror}")
         return result_of(worker, self.seconds, is_json, self.settle)
 
@@ -367,7 +367,7 @@ class Examination:
         killed = self.process.kill()
         line = f"{self.process.container.description}: the hook was ended or stopped: {killed.line}"
         program.say(line)
-        write_log(program.name(), program.IO_ERROR, [line])
+        write_log(program.name(), program.TROUBLE, [line])
 
 
 def write_log(name: str, status: int, lines: Sequence[str]) -> None:
@@ -432,7 +432,7 @@ def run_safely(find: Callable[[], HookResult]) -> HookResult:
         return find()
     except (ContainerError, program.ToolError) as why:
         status = getattr(why, "status", None)
-        return failure(str(why), status if status in (program.INTERNAL, program.NOT_BUILT) else program.IO_ERROR)
+        return failure(str(why), status if status in (program.INTERNAL, program.NOT_BUILT) else program.TROUBLE)
     except processes.Unreadable as why:
         return failure(f"{why} (--force stops it)" if isinstance(why, hold.Waiting) else str(why))
     except processes.Interrupted as came:

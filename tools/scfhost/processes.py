@@ -138,8 +138,8 @@ def read_or_end(read: Callable[[], Any], has_force: bool = False, is_json: bool 
     except Unreadable as error:
         why = f"{error} (--force stops it)" if has_force and isinstance(error, Waiting) else str(error)
         if is_json:
-            output.put_json({"status": program.IO_ERROR, "verdict": None, "stacks": [], "why": output.escaped(why)})
-        raise program.ToolError(why, program.IO_ERROR) from error
+            output.put_json({"status": program.TROUBLE, "verdict": None, "stacks": [], "why": output.escaped(why)})
+        raise program.ToolError(why) from error
     except Interrupted as came:
         import signal  # pylint: disable=import-outside-toplevel
 
@@ -147,4 +147,4 @@ def read_or_end(read: Callable[[], Any], has_force: bool = False, is_json: bool 
         program.say(f"ended by {signal.Signals(number).name}; all stopped threads continue")
         signal.signal(number, signal.SIG_DFL)
         os.kill(os.getpid(), number)
-        raise program.ToolError("the signal didn't end it", program.IO_ERROR) from came
+        raise program.ToolError("the signal didn't end it") from came

@@ -239,13 +239,12 @@ def printed_by(words: Sequence[str]) -> str:
                                                 # in a container of the machine, too
                                                 "SYSTEMD_IGNORE_CHROOT": "1"})
     except OSError as error:
-        raise program.ToolError(f"{words[0]} can't be run: {error.strerror}", program.IO_ERROR) from error
+        raise program.ToolError(f"{words[0]} can't be run: {error.strerror}") from error
     if done.returncode:
         message = done.stderr.decode("utf-8", "backslashreplace").strip().split("\n")[0]
-        raise program.ToolError(f"{words[0]} ended with status {done.returncode}" + (f": {message}" if message else ""),
-                              program.IO_ERROR)
+        raise program.ToolError(f"{words[0]} ended with status {done.returncode}" + (f": {message}" if message else ""))
     if len(done.stdout) > MOST_PRINTED_BYTES:
-        raise program.ToolError(f"{words[0]} printed more than {MOST_PRINTED_BYTES} bytes", program.IO_ERROR)
+        raise program.ToolError(f"{words[0]} printed more than {MOST_PRINTED_BYTES} bytes")
     return done.stdout.decode("utf-8", "surrogateescape")
 
 
@@ -351,10 +350,9 @@ def _as_newer(call_list: CallList, reader: ListReader) -> list[str] | None:
 def settings_in(shown: dict[str, str], unit: str, reader: ListReader) -> UnitSettings:
     """The settings of a unit of which systemctl shows this."""
     if shown.get("LoadState", "loaded") != "loaded":
-        raise program.ToolError(f"the unit {unit} isn't loaded: {shown['LoadState']}", program.IO_ERROR)
+        raise program.ToolError(f"the unit {unit} isn't loaded: {shown['LoadState']}")
     if "SystemCallFilter" not in shown:
-        raise program.ToolError(f"the unit {unit} runs no processes of its own: it has no SystemCallFilter",
-                              program.IO_ERROR)
+        raise program.ToolError(f"the unit {unit} runs no processes of its own: it has no SystemCallFilter")
     call_list = reader.shown(shown["SystemCallFilter"])
     if call_list is not None and not call_list.is_inverted:
         try:

@@ -34,7 +34,7 @@ def _start(run: Callable[[], object]) -> int:
     try:
         run()
     finally:
-        os._exit(program.IO_ERROR)
+        os._exit(program.TROUBLE)
 
 
 def _status_of(child: int) -> int | None:

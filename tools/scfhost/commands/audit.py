@@ -32,8 +32,7 @@ node_exporter, and --html a page without scripts, which also shows what each dis
 once. --watch audits again and again, and after the first time prints a line for each change.
 
 Exit status: 0 nothing is unconfined or weaker than configured; 1 something is (with --allow-unconfined what is
-unconfined by configuration doesn't count); 2 usage error; 3 an input or the output failed; 4 something isn't known or
-wasn't looked at.
+unconfined by configuration doesn't count); 4 something isn't known or wasn't looked at.
 
 Examples:
 
@@ -100,7 +99,7 @@ def earlier_in(name):
     try:
         return audit_output.Earlier.of_object(json.loads(inputs.read_whole(name, "object")))
     except (ValueError, RecursionError) as why:
-        raise program.ToolError(f"'{name}' isn't an object that --json printed", program.IO_ERROR) from why
+        raise program.ToolError(f"'{name}' isn't an object that --json printed") from why
 
 
 def write(report, given, options, earlier):

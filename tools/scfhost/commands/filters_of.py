@@ -17,9 +17,9 @@ others end with different ones, --thread takes those of one, whose number the to
 privileges of set-user-ID, set-group-ID or file capabilities. LOG is what `strace -f -v -o LOG PROGRAM ..` wrote, with
 all of seccomp, prctl, clone, clone3, fork and vfork.
 
-Exit status: 0 success; 2 usage error; 3 the filters can't be read, there are none, or the threads have different ones;
-125 strace isn't installed; 126 PROGRAM isn't executable; 127 there is none. If the filters of a PROGRAM are written, it
-is the program's status, or the signal that ended it.
+Exit status: 0 success; 1 there are none; 2 the threads have different ones; 125 strace isn't installed; 126 PROGRAM
+isn't executable; 127 there is none. If the filters of a PROGRAM are written, it is the program's status, or the signal
+that ended it.
 
 Examples:
 
@@ -73,11 +73,11 @@ def the_one_stack(stacks, process):
     if len(stacks) > 1:
         shares = "".join(f"; {threads_text(stack.threads[process])}: {stack.description}" for stack in stacks)
         raise program.ToolError(f"the threads of process {process} don't have the same filters{shares}; --thread takes "
-                                "those of one thread", program.IO_ERROR)
+                                "those of one thread")
     if not stacks[0].filters:
         thread = stacks[0].threads[process][0]
         who = called(thread, process) if len(stacks[0].threads[process]) == 1 else f"process {process}"
-        raise program.ToolError(f"{who} has {stacks[0].description}", program.IO_ERROR)
+        raise program.ToolError(f"{who} has {stacks[0].description}", program.NEGATIVE)
     return stacks[0]
 
 
@@ -86,17 +86,17 @@ def loaded_in(log, label, thread, hint):
     try:
         stacks = filter_loads.stacks_in(strace.log_lines(log, filter_loads.LONGEST_LOAD))
     except c_arrays.NotAnArray as why:
-        raise program.ToolError(f"the filters in {label} can't be read: {why}", program.IO_ERROR) from why
+        raise program.ToolError(f"the filters in {label} can't be read: {why}") from why
     if thread is not None:
         stacks = {stack: threads for stack, threads in stacks.items() if str(thread) in threads}
     if not stacks:
         whose = "" if thread is None else f" by {thread}"
-        raise program.ToolError(f"no filter is loaded{whose} in {label}", program.IO_ERROR)
+        raise program.ToolError(f"no filter is loaded{whose} in {label}", program.NEGATIVE)
     if len(stacks) > 1:
         shares = "".join(f"; {', '.join(threads[:3])}{', ..' * (len(threads) > 3)}: {Stack(stack, False).description}"
                          for stack, threads in stacks.items())
         raise program.ToolError(f"the processes in {label} end with different filters{shares}; {hint} takes those of "
-                                "one", program.IO_ERROR)
+                                "one")
     return Stack(next(iter(stacks)), False)
 
 

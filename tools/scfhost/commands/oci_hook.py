@@ -30,8 +30,7 @@ since a runtime may call its hooks before the filter is loaded.
 --print-hook prints a file for hooks.d (oci-hooks(5)) that has podman call this tool with the other options for each
 container, and wait longer for it than its own limits allow it to take.
 
-Exit status: 0 confined as configured, 1 not, or the profile is refused, 2 usage error, 3 the state, the configuration
-or the filters can't be read, 4 undecided or not known at the deadline, 70 an internal error, 125 scf can't be run.
+Exit status: 0 confined as configured, 1 not, 4 undecided or not known at the deadline.
 
 Examples:
 
@@ -148,13 +147,13 @@ def hook():
     except program.ToolError as why:
         if is_dry_run():
             program.say(f"dry run: usage error: {why}")
-            return program.USAGE_ERROR
+            return program.TROUBLE
         if not is_hook_with("--kill"):
             raise
-        wrong = hooks.failure(f"usage error: {why}", program.USAGE_ERROR)
+        wrong = hooks.failure(f"usage error: {why}", program.TROUBLE)
         program.say(str(why))
         examine(lambda _: wrong, hooks.DEADLINE, True, False)
-        return program.USAGE_ERROR
+        return program.TROUBLE
     seconds = options.wait + options.deadline
     if options.print_hook:
         output.put(hooks.hook_file(os.path.abspath(sys.argv[0]), sys.argv[1:], seconds))

@@ -26,8 +26,7 @@ ENOSYS what isn't in @known. A command that systemd starts with full privileges 
 these are read from the unit's files. With --set, as in systemd, a name that the installed libseccomp doesn't know is
 left out. The name of another architecture's syscall stays in the profile, and scf skips it.
 
-Exit status: 0 success; 1 an errno, an architecture or another setting is unknown; 2 usage error; 3 systemd can't be
-asked, has no such unit, or the output failed; 4 the unit's files can't be read, or changed since systemd read them.
+Exit status: 0 success; 4 the unit's files can't be read, or changed since systemd read them.
 
 Examples:
 
@@ -70,7 +69,7 @@ def group_of(settings, wanted, say):
     """The architectures for which a profile is printed, among them this one; says which others there are."""
     group = next((group for group in unit_profiles.groups_of(settings) if wanted.oci in group), None)
     if group is None:
-        raise program.ToolError(f"the unit permits no {wanted.name} syscalls", program.NEGATIVE)
+        raise program.ToolError(f"the unit permits no {wanted.name} syscalls")
     alike, others = (architectures.names_of([oci for oci in units.LOCAL if oci in settings.architectures
                                              and (oci in group) == is_alike]) for is_alike in (True, False))
     if others:
@@ -100,7 +99,7 @@ def main():
         reader.tell_unknown()
         text = unit_profiles.profile_of(settings, group_of(settings, wanted, say))
     except units.SettingError as why:
-        raise program.ToolError(str(why), program.NEGATIVE) from why
+        raise program.ToolError(str(why)) from why
     if settings.filter is None:
         say("there is no SystemCallFilter: every syscall is allowed"
             + (" that no other setting denies" if settings.restrictions else ""))

@@ -40,9 +40,8 @@ With a profile the syscalls of each architecture that it names are compared, as 
 another ABI of the machine that the profile doesn't name must be denied, unless --native or --no-less is given; --also
 gives the other profile of a unit that has two (`scf unit-profile --arch i386`).
 
-The exit status is the worst of all stacks, 1 before 3 before 4 before 0: 0 same, no more or no less, 1 differs, more,
-less, not confined or refused, 2 usage error, 3 the filters can't be read or an input or the output failed, 4 undecided
-or unfinished.
+The exit status is the worst of all stacks, 1 before 2 before 4 before 0: 0 same, no more or no less, 1 differs, more,
+less or not confined, 4 undecided or unfinished.
 
 Examples:
 
@@ -113,7 +112,7 @@ def is_configured(data, name, kernel, pid):
                                     "prints the first process of a container and its configuration")
         return configurations.seccomp_in(value, name) is not None
     except configurations.ContainerError as why:
-        raise program.ToolError(f"{inputs.label(name)}: {why}", program.NEGATIVE) from why
+        raise program.ToolError(f"{inputs.label(name)}: {why}") from why
 
 
 def read_profile(name, is_engines):
@@ -159,7 +158,8 @@ def request_of(options, kernel):
 
 def other_runtime(options, kernel, request, worst):
     """The line, where filters aren't as configured, that another runtime than was said reads the configuration."""
-    if request.configured and worst.report is not None and worst.status == program.NEGATIVE:
+    if request.configured and worst.report is not None and \
+            worst.status in (program.NEGATIVE, program.TROUBLE):
         identifiers = [*configurations.identifiers_of(kernel, options.pid), *configurations.identifiers_in(options.profile)]
         yield from filter(None, [configurations.other_runtime(identifiers, options.runtime)])
 

@@ -5,7 +5,7 @@ import os
 from collections.abc import Iterable, Sequence
 
 from ..base import output, program
-from ..base.program import NEGATIVE, NOT_BUILT, SUCCESS, UNKNOWN, ToolError
+from ..base.program import NOT_BUILT, SCF_IO_ERROR, SUCCESS, TROUBLE, UNKNOWN, ToolError
 from ..base.values import NoReturn, Pattern, dataclass
 from ..model import bundles
 from ..model.tables import Tables
@@ -34,6 +34,8 @@ FAULT = Pattern(r"fault ([a-z]+) ([A-Za-z0-9]+)((?: [a-z]+ [0-9]+)*)")
 MOST_KEPT_RUNS = 64
 _kept_runs: dict[tuple[tuple[str, ...], bytes], Run] = {}
 _is_spent_reported = False
+# Whether a tool answers standard input in scf's place, and so has scf's own statuses.
+keeps_statuses = False
 # The CPU time of scf's comparisons since the limits began to count, in seconds; None if they count from the start of
 # the tool on, with its own time.
 _seconds_of_scf: float | None = None
@@ -46,7 +48,7 @@ def lines_of(text: str) -> list[str]:
 
 
 def rank(status: int) -> tuple[bool, int]:
-    """Sorts statuses, the worst first: what differs, a usage error, an I/O error, what isn't known, then success."""
+    """Sorts statuses, the worst first: an answer no, trouble, what isn't known, then success."""
     return status == SUCCESS, status
 
 
@@ -82,7 +84,7 @@ class Refusal(Exception):
     `subject` says which of several inputs was refused, where the caller has several: a name and the input's bytes.
     """
 
-    def __init__(self, line: str, status: int = NEGATIVE, subject: tuple[str, bytes] = ("", b"")):
+    def __init__(self, line: str, status: int = TROUBLE, subject: tuple[str, bytes] = ("", b"")):
         super().__init__(line)
         self.line, self.status, self.subject, self.fault = line, status, subject, Fault.read(line)
 
@@ -91,8 +93,15 @@ class Refusal(Exception):
 class Run:
     """How a run of scf ended, and what it printed; nothing if it exceeded its time. Names in it are untrusted."""
 
-    status: int
+    scf_status: int
     out: bytes
+
+    @property
+    def status(self) -> int:
+        """The tool's status: scf's own, but for what can't be read or is refused."""
+        is_trouble = self.scf_status == SCF_IO_ERROR or \
+            self.scf_status not in (SUCCESS, UNKNOWN) and self.out.startswith(b"fault ")
+        return TROUBLE if is_trouble and not keeps_statuses else self.scf_status
 
     @property
     def text(self) -> str:

@@ -144,7 +144,7 @@ class Region(Side):
         """The record that scf shows; of an open region it may show none, since it may have none."""
         call = Call.read(self._example)
         if call is None and (self._example or self.is_exact):
-            raise program.ToolError(f"scf answers printed an unexpected record: {self._example}", program.IO_ERROR)
+            raise program.ToolError(f"scf answers printed an unexpected record: {self._example}")
         return call
 
     def call_of(self, number: int, architecture: int, given: Mapping[int, int] | None = None) -> Call | None:
@@ -211,7 +211,7 @@ def asked(words: Sequence[str], bundle: bytes, places: Sequence[int] | None = No
         return None
     refusal = client.Refusal(done.line, done.status)
     if refusal.fault is None or done.status == program.SUCCESS:
-        raise program.ToolError(f"scf ended with status {done.status} and unexpected output", program.IO_ERROR)
+        raise program.ToolError(f"scf ended with status {done.status} and unexpected output")
     raise refusal
 
 

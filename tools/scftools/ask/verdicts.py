@@ -244,7 +244,7 @@ def checked(status: int, checked_report: Report, is_by_call: bool = False) -> Re
         raise Refusal(checked_report.fault.line, status)
     expected = None if checked_report.verdict is None else checked_report.verdict.status
     if status != expected or is_by_call and len(checked_report.calls) != len(checked_report.lines) - 1:
-        raise program.ToolError(f"scf ended with status {status} and unexpected output", program.IO_ERROR)
+        raise program.ToolError(f"scf ended with status {status} and unexpected output")
     return checked_report
 
 

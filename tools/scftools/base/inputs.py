@@ -39,13 +39,13 @@ def why(name: str, kind: str, error: OSError) -> str:
     return f"the {kind} {shown} can't be read: {error.strerror}"
 
 
-def read_input(name: str, kind: str, status: int = program.USAGE_ERROR, most: int | None = None) -> bytes:
+def read_input(name: str, kind: str, most: int | None = None) -> bytes:
     """The bytes of an input (`-` is standard input): at most one more than its kind may have, or than `most`. Raises
-    ToolError with this status if it can't be read."""
-    return b"".join(input_pieces(name, kind, (LIMITS[kind] if most is None else most) + 1, status))
+    ToolError if it can't be read."""
+    return b"".join(input_pieces(name, kind, (LIMITS[kind] if most is None else most) + 1))
 
 
-def input_pieces(name: str, kind: str, room: int, status: int = program.USAGE_ERROR) -> Iterator[bytes]:
+def input_pieces(name: str, kind: str, room: int) -> Iterator[bytes]:
     """The first bytes of an input, so many, piece by piece."""
     try:
         file = os.dup(0) if name == "-" else os.open(name, os.O_RDONLY | os.O_CLOEXEC | os.O_NOCTTY)
@@ -59,10 +59,10 @@ def input_pieces(name: str, kind: str, room: int, status: int = program.USAGE_ER
         finally:
             os.close(file)
     except OSError as error:
-        raise program.ToolError(why(name, kind, error), status) from error
+        raise program.ToolError(why(name, kind, error)) from error
     except UnicodeEncodeError as error:
         # an unpaired surrogate, which no file name has
-        raise program.ToolError(f"there is no file '{output.escaped(name)}'", status) from error
+        raise program.ToolError(f"there is no file '{output.escaped(name)}'") from error
 
 
 def read_whole(name: str, kind: str) -> bytes:

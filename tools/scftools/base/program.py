@@ -17,10 +17,11 @@ TOOLS = os.path.dirname(os.path.dirname(os.path.dirname(__file__)))
 TOP = os.path.dirname(os.path.realpath(TOOLS))
 FAULTS = os.path.join(TOP, "docs", "FAULTS.md")
 
-# The statuses of scf and of its tools: all is as it should be; something differs, is found or is refused; a usage
-# error; an input can't be read or the output not written; it isn't known; the tool itself failed (EX_SOFTWARE of
-# sysexits.h); scf isn't built, or Python lacks modules.
-SUCCESS, NEGATIVE, USAGE_ERROR, IO_ERROR, UNKNOWN, INTERNAL, NOT_BUILT = 0, 1, 2, 3, 4, 70, 125
+# The statuses of the tools, as diff(1) has them: yes; an answer no; what can't be read, is refused or is misspelt; it
+# isn't known; the tool itself failed (EX_SOFTWARE of sysexits.h); scf isn't built, or Python lacks modules.
+SUCCESS, NEGATIVE, TROUBLE, UNKNOWN, INTERNAL, NOT_BUILT = 0, 1, 2, 4, 70, 125
+# The status of scf where an input can't be read or the output not written; what it refuses has NEGATIVE there.
+SCF_IO_ERROR = 3
 # At most so many characters of an exception's text are printed.
 MOST_OF_REASON = 200
 
@@ -54,7 +55,7 @@ def say(*lines: str) -> None:
 class ToolError(Exception):
     """Ends a tool with a line on standard error and a status."""
 
-    def __init__(self, text: str, status: int = USAGE_ERROR):
+    def __init__(self, text: str, status: int = TROUBLE):
         super().__init__(text)
         self.status = status
 
@@ -109,14 +110,14 @@ def start(main: Callable[[], int]) -> NoReturn:
         status = why.status
     except MemoryError:
         say("out of memory")
-        status = IO_ERROR
+        status = TROUBLE
     except output.Failed as error:
         say(f"the output failed: {error.strerror}")
         # what can't be written isn't tried again
-        os._exit(IO_ERROR)
+        os._exit(TROUBLE)
     except OSError as error:
         say(f"{error.strerror}" if error.filename is None else f"'{error.filename}': {error.strerror}")
-        status = IO_ERROR
+        status = TROUBLE
     except ModuleNotFoundError as error:
         say(why_it_lacks(error))
         status = NOT_BUILT
@@ -132,6 +133,6 @@ def finish(status: int) -> NoReturn:
         output.flush()
     except OSError as error:
         say(f"the output failed: {error.strerror}")
-        status = IO_ERROR
+        status = TROUBLE
     # without the interpreter's exit, which would try to print the rest again
     os._exit(status)

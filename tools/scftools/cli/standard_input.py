@@ -1,4 +1,5 @@
-"""A tool that is given no file: the proved program answers standard input, and nothing is added to its lines.
+"""A tool that is given no file: the proved program answers standard input, and nothing is added to its lines and
+statuses.
 
 The program takes a filter, or a bundle of several inputs. In place of a bundle, `decide` and `answers` also take a
 filter alone, and `ask` and `compile` a profile alone, as they do a file.
@@ -78,4 +79,4 @@ def take(parser: Any, options: Any) -> None:
     if len(files) > 1 or os.isatty(0):
         parser.error(f"the following arguments are required: {', '.join(action.metavar for action in missing)}")
     setattr(options, files[0].dest, "-" if files[0].nargs is None else ["-"])
-    output.has_notes = False
+    output.has_notes, client.keeps_statuses = False, True

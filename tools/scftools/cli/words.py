@@ -28,6 +28,9 @@ FILTER_HELP = "a filter: raw, or text (hexadecimal, a C array, tcpdump -ddd, scf
 # Options that few need, which -h leaves out, and the most others that it shows.
 COMMON, MOST_IN_SHORT = ("--color", "--limit", "--splits", "--strict", "--table", "--version"), 5
 OBJECT_NAME, LONGEST_OBJECT_NAME = Pattern(r"[a-z0-9]([-a-z0-9]*[a-z0-9])?(\.[a-z0-9]([-a-z0-9]*[a-z0-9])?)*"), 253
+# What the statuses of each tool have in common.
+OTHER_STATUSES = ("It is 2 if anything can't be read, is refused or is misspelt, or the output can't be written; 70 "
+                  "after an internal error; 125 if scf can't be run.")
 OF_DISPOSITION = "only check that both sides deny, delegate and allow the same"
 
 
@@ -131,7 +134,8 @@ class Parser(argparse.ArgumentParser):
         self.command, self.record_words = command, lambda options: []
         text, _, examples = doc.partition("\nExamples:\n")
         (summary, usage, *paragraphs), name = text.split("\n\n"), output.escaped(program.name())
-        statuses = [text for text in paragraphs if text.startswith(("Exit status:", "The exit status is"))]
+        statuses = [f"{text} {OTHER_STATUSES}" for text in paragraphs
+                    if text.startswith(("Exit status:", "The exit status is"))]
         # (a percent sign would be argparse's)
         usage = re.sub(r"(?m)^    (?:scf )?[\w/-]+", lambda _: f"    {name}", usage)
         usage = re.sub("(?m)^   ", " " * len("usage:"), usage)

@@ -17,8 +17,8 @@ after each, marked by `# `, has a syscall of the region, if one is found. --arch
 syscalls than this machine's own. Without a FILTER standard input is read, one filter or a bundle, of a profile too; of
 a bundle the program's own lines are printed.
 
-Exit status: 0 every answer is known; 1 a filter or the table is refused; 2 usage error; 3 an input or the output
-failed; 4 a region is open or its answer unknown, or scf took as many steps as --limit says; 125 scf can't be run.
+Exit status: 0 every answer is known; 4 a region is open or its answer unknown, or scf took as many steps as --limit
+says.
 
 Examples:
 

@@ -16,8 +16,7 @@ are answered, as far as scf has a table of it; with --native x86-64's alone. For
 answer is `undetermined`. With --json one object is printed instead. Without a PROFILE standard input is read, a profile
 or a bundle, and nothing is added to scf's lines.
 
-The exit status is the worst of all syscalls: 0 success, 1 the profile or the table is refused, 2 usage error, 3 an
-input or the output failed, 4 undetermined; 125 scf can't be run.
+The exit status is the worst of all syscalls: 0 success, 4 undetermined.
 
 Examples:
 

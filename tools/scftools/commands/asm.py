@@ -25,8 +25,7 @@ These are the instructions, with the accumulator A, the index register X and the
 
 All jumps go forwards. In place of a label a number says how many instructions are skipped.
 
-Exit status: 0 success, 1 the text has a fault, which standard error says, with the word and the nearest one, 2 usage
-error, 3 the input can't be read or is too long, or the output failed.
+Exit status: 0 success. Standard error says a text's fault, with the word and the nearest one.
 
 Examples:
 

@@ -13,7 +13,7 @@ newline, and then the COUNT bytes of its file. The parts stand in the order of t
 scf compares a bundle over all records, unless --architectures is given; `scf compare` compares files on each
 architecture that the profile names. So the same filter and profile can be `same` by files and `differs` by a bundle.
 
-Exit status: 0 success, 2 usage error or a file that can't be read (nothing is printed), 3 the output failed.
+Exit status: 0 success. If a file can't be read, nothing is printed.
 
 Examples:
 

@@ -15,8 +15,7 @@ asm/unistd_64.h of arm64, riscv, powerpc and loongarch, asm/unistd_o32.h, unistd
 both asm/unistd-eabi.h and asm/unistd.h of arm. Debian's linux-libc-dev has all of them since 6.12, below
 /usr/lib/linux/uapi.
 
-Exit status: 0 success; 2 usage error, or a header that is malformed or longer than 4 MiB; 3 there is no libseccomp, or
-the output failed.
+Exit status: 0 success.
 
 Examples:
 

@@ -12,8 +12,7 @@ For each of them scf's line comes first, after its name if there are several; th
 what a fault is and what to do about it. Without a FILTER scf reads a raw one from standard input, and nothing is added
 to its line.
 
-The exit status is the worst of all filters: 0 accepted, 1 refused, 2 usage error, 3 an input or the output failed; 125
-scf can't be run.
+The exit status is the worst of all filters: 0 accepted, 1 not.
 
 Examples:
 
@@ -21,16 +20,21 @@ Examples:
     scf check *.bpf
     scf check --json filter.bpf
 """
-from ..base import output
+from ..base import output, program
 from ..ask import client, explanation
 from ..cli import words
 from ..forms import filters
 
 
+def status_of(done):
+    """What the kernel would refuse a filter for is an answer, and no trouble."""
+    return done.scf_status if done.scf_status == program.NEGATIVE else done.status
+
+
 def filter_json(name, data, done):
     """One filter and what `scf check` said of it."""
     fault = client.Fault.read(done.line)
-    return {"file": name, "status": done.status,
+    return {"file": name, "status": status_of(done),
             **({"fault": fault.as_json(explanation.explain_fault(fault))} if fault else
                {"instructions": len(data) // 8})}
 
@@ -44,7 +48,7 @@ def main():
     for name in options.filters:
         data = filters.read_filter(name).data
         done = client.run_scf(["check"], data)
-        statuses.append(done.status)
+        statuses.append(status_of(done))
         if options.json:
             objects.append(filter_json(name, data, done))
             continue

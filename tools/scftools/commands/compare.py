@@ -45,8 +45,7 @@ old release beside a new one, a filter made by hand beside a generated one. The 
 Without files scf answers a bundle on standard input (see `scf bundle` and scf(1)), and nothing is added to its lines.
 Then all records are compared unless --native or --calls, or --architectures, which takes the tables in the bundle.
 
-Exit status: 0 same, no more or no less; 1 differs, more, less or refused; 2 usage error; 3 an input or the output
-failed; 4 undecided, undetermined or unfinished; 125 scf can't be run.
+Exit status: 0 same, no more or no less; 1 differs, more or less; 4 undecided, undetermined or unfinished.
 
 Examples:
 

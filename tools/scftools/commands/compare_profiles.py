@@ -22,8 +22,7 @@ are resolved for one container as by `scf resolve-profile`. With --runtime both 
 the numbers that runc answers with ENOSYS, above all that a profile names, count too; they are called `stub`. What is
 left out of one profile alone goes to standard error. Entries are always numbered by their index in OLD and NEW.
 
-Exit status: 0 same, no more or no less; 1 differs, more, less, or a profile is refused; 2 usage error; 3 an input or
-the output failed; 4 undecided or unfinished.
+Exit status: 0 same, no more or no less; 1 differs, more or less; 4 undecided or unfinished.
 
 Examples:
 
@@ -69,7 +68,7 @@ def resolved(path, options):
         profile, origins = engines.resolve(value, options.setting, notes.append, options.keep_first)
         return profile_inputs.ProfileInput(engines.to_bytes(profile), origins), notes
     except profiles.Refused as why:
-        raise program.ToolError(f"{path}: {why}", program.NEGATIVE) from why
+        raise program.ToolError(f"{path}: {why}") from why
 
 
 def both(options):
@@ -89,7 +88,7 @@ def refuse(why, options, table, source):
     """Prints what scf refuses, and of which profile."""
     fault, (side, data) = why.fault, why.subject
     if fault is None:
-        raise program.ToolError(f"scf ended with status {why.status} on the {side} profile", program.IO_ERROR)
+        raise program.ToolError(f"scf ended with status {why.status} on the {side} profile")
     sentences = list(refusals.sentences(fault, data, tables.tables_of_profile(data, table, options.native)))
     if fault.source == "profile" and source.origins is not None:
         sentences += profiles.original_entries(fault.numbers, source.origins)

@@ -16,8 +16,7 @@ With --hot the syscalls that FILE counts take fewer steps; the answers, and the 
 stay the same. FILE has lines NAME COUNT, as `scf needs --counts` prints them, and for another architecture than x86-64,
 or than the first that PROFILE lists, ARCH NAME COUNT.
 
-Exit status: 0 success; 1 the table or the profile is refused, or the filter would be too long; 2 usage error; 3 an
-input or the output failed; 125 scf can't be run.
+Exit status: 0 success.
 
 Examples:
 

@@ -21,8 +21,7 @@ row with another answer is printed, and how many rows there are. All are judged 
 each region of records that all of them get its answer; a record of an undecided region is answered by a start of its
 own.
 
-The exit status is the worst of all syscalls: 0 success, 1 a filter is refused, or a row is answered otherwise, 2 usage
-error, 3 an input or the output failed; 125 scf can't be run.
+The exit status is the worst of all syscalls: 0 success, 1 a row is answered otherwise.
 
 Examples:
 

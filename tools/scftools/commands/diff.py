@@ -10,8 +10,7 @@ last tests on the path of each, and the syscalls in the table that differ. NEW i
 `scf compare-profiles`: --no-more asks whether NEW is nowhere more permissive than OLD, --no-less whether it is nowhere
 stricter.
 
-Exit status: 0 same, no more or no less; 1 differs, more, less or refused; 2 usage error; 3 an input or the output
-failed; 4 undecided or unfinished; 125 scf can't be run.
+Exit status: 0 same, no more or no less; 1 differs, more or less; 4 undecided or unfinished.
 
 Examples:
 

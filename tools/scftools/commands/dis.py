@@ -6,7 +6,7 @@ FILE is a filter as `scf check` takes it, by default a raw one on standard input
 instruction with an unknown code, or with something in a field that its code doesn't use, is printed as `raw` with its
 four fields. `scf list` also prints indexes, the targets of jumps, and the names of syscalls and answers.
 
-Exit status: 0 success, 2 usage error, 3 the input can't be read, is cut or too long, or the output failed.
+Exit status: 0 success.
 
 Examples:
 

@@ -9,7 +9,7 @@ copied, and below each line that scf can explain stands what it means, marked by
 
     scf compare <bundle | scf explain
 
-Exit status: 0 a line is explained; 1 nothing is known of it; 2 usage error; 3 an input or the output failed.
+Exit status: 0 a line is explained, 2 none is.
 
 Examples:
 
@@ -34,8 +34,7 @@ def main():
     if options.line:
         sentences = meanings.meaning_of(" ".join(options.line), table)
         if not sentences:
-            raise program.ToolError("scf prints no such line, and has no such exit status: see scf help",
-                                    program.NEGATIVE)
+            raise program.ToolError("scf prints no such line, and has no such exit status: see scf help")
         output.put_lines(sentences)
         return program.SUCCESS
     if os.isatty(0):
@@ -46,4 +45,4 @@ def main():
         is_explained = is_explained or bool(sentences)
         output.put_line(line)
         output.put_lines(output.notes(sentences))
-    return program.SUCCESS if is_explained else program.NEGATIVE
+    return program.SUCCESS if is_explained else program.TROUBLE

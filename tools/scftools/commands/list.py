@@ -17,8 +17,7 @@ answer follow the listing in lines marked by `# `; a filter that can't be run is
 one word after another are one node, with the ranges of values that lead to each target, and all returns of an answer
 are one. If a syscall is given, its path is red.
 
-Exit status: 0 success; 1 a syscall is given, and the filter isn't accepted; 2 usage error; 3 the input or the output
-failed.
+Exit status: 0 success.
 
 Examples:
 

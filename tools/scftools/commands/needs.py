@@ -67,10 +67,9 @@ no conflict.
     scf record log -- ls / && scf needs log profile.json
     scf needs --profile --runtime runc log profile.json >least.json
 
-Exit status: 0 every syscall is allowed; 1 one isn't, or the profile or the table is refused; 2 usage error, such as LOG
-and PROFILE in the wrong order; 3 an input or the output failed; 4 none is denied, but one depends or wasn't judged, or
-the log has none; 125 scf can't be run. With --counts it is 0, or 4 if something in the log wasn't judged; with
---widen 1 only for syscalls without a name or of an architecture that PROFILE doesn't list.
+Exit status: 0 every syscall is allowed; 1 one isn't; 4 none is denied, but one depends or wasn't judged, or the log has
+none. With --counts it is 0, or 4 if something in the log wasn't judged; with --widen 1 only for syscalls without a name
+or of an architecture that PROFILE doesn't list.
 
 Examples:
 
@@ -149,7 +148,7 @@ def main():
     try:
         return tell(options, requirements.read_needs(options.logs, judges, options.runtime), judges)
     except profiles.Refused as why:
-        raise program.ToolError(str(why), program.NEGATIVE) from why
+        raise program.ToolError(str(why)) from why
     except client.Refusal as why:
         output.put_lines(refusals.lines_of(why, judges.profile, judges.listed))
         return why.status

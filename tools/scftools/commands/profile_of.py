@@ -41,8 +41,7 @@ profiles have so many entries that `compile` has no room for them in a filter: t
 With --runtime the profile is one that this runtime loads: it is compared as the runtime reads it, and runc's ENOSYS for
 numbers above all that a profile names, which no profile says, is expected of the filters.
 
-Exit status: 0 the profile is proved; 1 a filter or the table is refused; 2 usage error; 3 an input or the output
-failed; 4 no profile answers alike (the nearest ones are printed), or scf can't decide.
+Exit status: 0 the profile is proved; 4 no profile answers alike (the nearest ones are printed), or scf can't decide.
 
 Examples:
 
@@ -93,7 +92,7 @@ def main():
             program.say(why.line, *explanation.explain_line(why.line))
         return why.status
     except profiles.Refused as why:
-        raise program.ToolError(str(why), program.NEGATIVE) from why
+        raise program.ToolError(str(why)) from why
     if options.json:
         output.put_json(result.as_json())
         return result.status

@@ -16,9 +16,9 @@ did in this run is recorded: run whatever it has to be able to do.
 A traced program gets no privileges of set-user-ID, set-group-ID or file capabilities, unless root traces it, and it is
 slower.
 
-Exit status: the program's, or the signal that ended it; 1 BASE is refused, or denies what a program needs that ended
-with 0; 2 usage error; 3 FILE can't be written; 4 whether BASE allows what was recorded isn't proved; 125
-strace isn't installed or scf can't be run; 126 PROGRAM isn't executable; 127 there is no PROGRAM.
+Exit status: the program's, or the signal that ended it; 1 BASE denies what a program needs that ended with 0; 4 whether
+BASE allows what was recorded isn't proved; 125 strace isn't installed; 126 PROGRAM isn't executable; 127 there is no
+PROGRAM.
 
 Examples:
 

@@ -37,8 +37,7 @@ argument 0. --multiplexed adds these entries if the profile names one of these a
 ipc without conditions covers them. If a syscall has two answers that differ by argument 0 alone, they conflict there,
 and runc and crun refuse the profile.
 
-Exit status: 0 success; 1 the engine or the runtime refuses the profile, or a member may be a condition; 2 usage error,
-no such file, or one of more than 4194304 bytes; 3 the output failed.
+Exit status: 0 success; 4 what a list states isn't known here.
 
 Examples:
 
@@ -82,6 +81,6 @@ def main():
         text = engines.printed(profile) if options.kubernetes is None else \
             kubernetes.printed(profile, options.kubernetes)
     except profiles.Refused as why:
-        raise program.ToolError(str(why), program.NEGATIVE) from why
+        raise program.ToolError(str(why)) from why
     output.put(text)
     return program.SUCCESS

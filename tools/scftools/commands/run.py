@@ -6,8 +6,7 @@
 This is `scf decide` for one filter, whose line also says how many instructions ran; with --path scf's next line has
 their indexes. Without a FILTER scf reads a raw one from standard input, and nothing is added to its lines.
 
-The exit status is the worst of all syscalls: 0 success, 1 the filter is refused, 2 usage error, 3 an input or the
-output failed; 125 scf can't be run.
+Exit status: 0 success.
 
 Examples:
 

@@ -35,8 +35,7 @@ where a test isn't decided, by comparisons of scf with profiles that deny, allow
 decide, the line says `undecided` or `unfinished`, with the examples that were found. KILL_PROCESS, KILL_THREAD, TRAP
 and ERRNO deny a syscall, USER_NOTIF and TRACE delegate it, LOG and ALLOW allow it.
 
-Exit status: 0 everything is decided; 1 a filter or the table is refused, a thread has no filter, or with --beside they
-differ; 2 usage error; 3 an input or the output failed; 4 something is undecided.
+Exit status: 0 everything is decided; 1 a thread has no filter, or with --beside they differ; 4 something is undecided.
 
 Examples:
 

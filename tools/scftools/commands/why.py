@@ -48,9 +48,7 @@ the filter was loaded with SECCOMP_FILTER_FLAG_LOG (`flags` of a profile); and e
     ulimit -c unlimited; ./program; scf why --core core profile.json
     strace -f -o log ./program; scf why --all - profile.json <log
 
-Exit status: 0 each syscall is answered as it was logged; 1 one isn't, or an input is refused; 2 usage error; 3 an
-input or the output failed, or a record has a value that no kernel writes; 4 it isn't known, or no syscall was logged;
-125 scf can't be run.
+Exit status: 0 each syscall is answered as it was logged; 1 one isn't; 4 it isn't known, or no syscall was logged.
 
 Examples:
 

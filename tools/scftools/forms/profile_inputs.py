@@ -141,7 +141,7 @@ def plain(data: bytes, name: str) -> bytes:
     try:
         spec = kubernetes.spec_of(data)
     except profiles.Refused as why:
-        raise program.ToolError(f"{label}: {why}", program.NEGATIVE) from why
+        raise program.ToolError(f"{label}: {why}") from why
     if spec is None:
         return data
     program.say(f"{label} is a {kubernetes.KIND} of Kubernetes: its spec is the profile")
@@ -166,7 +166,7 @@ def _resolved(data: bytes, name: str, caps: str, machine: str | None) -> Profile
         resolved, origins = engines.resolve(engines.parse_json(data), setting, lambda _: None, True)
         profile = DerivedProfile(engines.to_bytes(resolved))
     except profiles.Refused as why:
-        raise program.ToolError(f"{inputs.label(name)}: {why}", program.NEGATIVE) from why
+        raise program.ToolError(f"{inputs.label(name)}: {why}") from why
     more = "" if machine is None else f" --machine {machine}"
     program.say(f"{inputs.label(name)} is resolved as by resolve-profile --keep-first --caps {caps}{more}, which says "
                 f"what is left out; entries that remain: {len(resolved['syscalls'])}")
@@ -196,7 +196,7 @@ def tell_unread(data: bytes, path: str, is_strict: bool) -> None:
     others = f", and of {len(unread) - 1} more" * (len(unread) > 1)
     remark = f"{inputs.label(path)}: nothing reads the member '{output.cut(name)}' of {where}{others}{nearest}"
     if is_strict:
-        raise program.ToolError(remark, program.NEGATIVE)
+        raise program.ToolError(remark)
     program.say(remark)
 
 
@@ -214,9 +214,9 @@ def profile_in(data: bytes, name: str, caps: str | None = None, is_runtimes: boo
     remark = profiles.errno_by_name(data)
     if remark is not None:
         hint = "--runtime podman takes it" if is_runtimes else "scf resolve-profile resolves it"
-        raise program.ToolError(f"{remark}, which only podman reads: {hint}", program.NEGATIVE)
+        raise program.ToolError(f"{remark}, which only podman reads: {hint}")
     misread = profiles.misread_members(data) if is_runtimes else []
     if misread:
-        raise program.ToolError(misread[0].describe(), program.NEGATIVE)
+        raise program.ToolError(misread[0].describe())
     tell_unread(data, name, is_strict)
     return ProfileInput(data)

@@ -399,7 +399,7 @@ def applied_in(data: bytes, path: str, name: str, setting: Setting, is_strict: b
     try:
         given = applied(engines.parse_json(data), name, setting)
     except Refused as why:
-        raise program.ToolError(f"{path}: {why}", program.NEGATIVE) from why
+        raise program.ToolError(f"{path}: {why}") from why
     if is_strict is not None:
         profile_inputs.tell_unread(data, path, is_strict)
     return given

@@ -209,8 +209,7 @@ def kernel_lines() -> Iterator[str]:
     try:
         log = os.open(KERNEL_LOG, os.O_RDONLY | os.O_NONBLOCK | os.O_CLOEXEC)
     except OSError as error:
-        raise program.ToolError(f"the kernel's log can't be read: {KERNEL_LOG}: {error.strerror}",
-                                program.IO_ERROR) from error
+        raise program.ToolError(f"the kernel's log can't be read: {KERNEL_LOG}: {error.strerror}") from error
     try:
         while True:
             try:

@@ -36,7 +36,7 @@ class LogReport:
         log = self.log
         statuses = {cause.status for cause in self.causes}
         if log.faults:
-            statuses.add(program.IO_ERROR)
+            statuses.add(program.TROUBLE)
         if not self.causes or log.beyond or log.suppressed or any(core.has_syscall for core in log.cores) or \
                 self.denials and self.denials.is_partial:
             statuses.add(program.UNKNOWN)

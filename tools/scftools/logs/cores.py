@@ -52,7 +52,7 @@ LAYOUTS = {
 
 
 def refused(why: str) -> program.ToolError:
-    return program.ToolError(f"the core {why}", program.IO_ERROR)
+    return program.ToolError(f"the core {why}")
 
 
 def layout_of(data: bytes) -> Layout:

@@ -148,7 +148,7 @@ class Judge:
         self._lookup = Lookup(answered)
         top = entries.parse_seccomp(profile)
         if top is None:
-            raise program.ToolError("the profile's JSON can't be parsed by this tool", program.IO_ERROR)
+            raise program.ToolError("the profile's JSON can't be parsed by this tool")
         self.top: Object = top
         looked: dict[int | None, set[int]] = {}
         for entry in entries.entries_of(top, table.number_of):

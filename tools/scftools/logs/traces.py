@@ -186,10 +186,9 @@ class Trace(Log):
             entries = json.loads(text if spec is None else spec)["syscalls"]
             names = [name for entry in entries if entry["action"] in ALLOWING for name in entry["names"]]
         except Refused as why:
-            raise program.ToolError(f"the log '{output.escaped(self.name)}': {why}", program.IO_ERROR) from why
+            raise program.ToolError(f"the log '{output.escaped(self.name)}': {why}") from why
         except (ValueError, LookupError, TypeError, RecursionError) as error:
-            raise program.ToolError(f"the log '{output.escaped(self.name)}' is a profile that can't be read",
-                                    program.IO_ERROR) from error
+            raise program.ToolError(f"the log '{output.escaped(self.name)}' is a profile that can't be read") from error
         for name in names:
             if isinstance(name, str):
                 self._by_name(1, name)

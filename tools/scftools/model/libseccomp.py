@@ -36,7 +36,7 @@ class Library:
             self._free = ctypes.CDLL(None).free
             version_of = library.seccomp_version
         except (OSError, AttributeError) as error:
-            raise program.ToolError("there is no libseccomp.so.2", program.IO_ERROR) from error
+            raise program.ToolError("there is no libseccomp.so.2") from error
         self._library, library.seccomp_init.restype = library, ctypes.c_void_p
         self._pointer = ctypes.c_void_p
         self._string_at = ctypes.string_at

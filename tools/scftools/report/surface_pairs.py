@@ -4,6 +4,7 @@ from __future__ import annotations
 
 from collections.abc import Iterable, Iterator, Sequence
 
+from ..base import program
 from ..base.values import dataclass
 from ..model import constants
 from ..model.answers import ALLOW, DEPENDS
@@ -73,9 +74,9 @@ class Beside:
     def status(self) -> int:
         """1 if they differ, 4 if something is undecided, else 0."""
         if any(pair.is_decided for pair in self.pairs) or self.foreign_differ or self.unnamed_differ:
-            return client.NEGATIVE
+            return program.NEGATIVE
         are_same = all(verdict is not None and verdict.holds for verdict in (*self.of_unnamed, *self.of_foreign))
-        return client.SUCCESS if are_same and not self.pairs else client.UNKNOWN
+        return program.SUCCESS if are_same and not self.pairs else program.UNKNOWN
 
 
 def _comparison(sides: Iterable[Sequence[bytes]], table: Table) -> StackComparison:

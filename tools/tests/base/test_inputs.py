@@ -49,24 +49,24 @@ class Limits(Measured):
         too_long, table = "fault filter TooLong\n", f"has more than {TEXT} bytes"
         for endless in ("/dev/zero", self.huge):
             for words, status, says in (
-                    (("compare", endless, self.profile), 3, too_long),
-                    (("compare", self.filter, endless, self.profile), 3, too_long),
-                    (("compare", self.filter, endless), 3, "fault profile TooLong\n"),
+                    (("compare", endless, self.profile), 2, too_long),
+                    (("compare", self.filter, endless, self.profile), 2, too_long),
+                    (("compare", self.filter, endless), 2, "fault profile TooLong\n"),
                     (("compare", "--table", endless, self.filter, self.profile), 2, table),
-                    (("decide", "--nr=0", self.filter, endless), 3, too_long),
+                    (("decide", "--nr=0", self.filter, endless), 2, too_long),
                     (("decide", "--table", endless, self.filter), 2, table),
                     (("decide", "--calls-from", endless, self.filter), 2, "has more than 65536 bytes"),
-                    (("run", "--nr=0", endless), 3, too_long), (("run", "--table", endless, self.filter), 2, table),
+                    (("run", "--nr=0", endless), 2, too_long), (("run", "--table", endless, self.filter), 2, table),
                     (("run", "--calls-from", endless, self.filter), 2, "has more than 65536 bytes"),
-                    (("check", self.filter, endless), 3, too_long), (("list", endless), 3, too_long),
+                    (("check", self.filter, endless), 2, too_long), (("list", endless), 2, too_long),
                     (("list", "--table", endless, self.filter), 2, table),
-                    (("compile", endless), 1, "fault profile TooMany\n"),
+                    (("compile", endless), 2, "fault profile TooMany\n"),
                     (("compile", "--table", endless, self.profile), 2, table),
                     (("explain", "--table", endless, "same"), 2, table),
                     (("bundle", "filter", endless), 2, f"has more than {FILTER} bytes"),
-                    (("surface", endless), 3, too_long), (("surface", "--table", endless, self.filter), 2, table),
-                    (("surface", self.filter, "--beside", endless), 3, too_long),
-                    (("compare-profiles", self.profile, endless), 3, "fault profile TooLong\n"),
+                    (("surface", endless), 2, too_long), (("surface", "--table", endless, self.filter), 2, table),
+                    (("surface", self.filter, "--beside", endless), 2, too_long),
+                    (("compare-profiles", self.profile, endless), 2, "fault profile TooLong\n"),
                     (("compare-profiles", "--caps=none", endless, self.profile), 2, table),
                     (("compare-profiles", "--table", endless, self.profile, self.profile), 2, table),
                     (("bundle", "profile", endless), 2, table), (("bundle", "table", endless), 2, table)):
@@ -74,15 +74,15 @@ class Limits(Measured):
                     self.ends(words, status, says)
 
     def test_endless_standard_input(self):
-        for words, status in ((("compare", "-", self.profile), 3), (("list", "-"), 3), (("check", "-"), 3),
-                              (("compile", "-"), 1), (("check",), 3), (("decide",), 3), (("asm", "-"), 3), (("dis", "-"), 3),
+        for words, status in ((("compare", "-", self.profile), 2), (("list", "-"), 2), (("check", "-"), 2),
+                              (("compile", "-"), 2), (("check",), 3), (("decide",), 3), (("asm", "-"), 3), (("dis", "-"), 3),
                               (("explain",), 2)):
             self.assertEqual(self.run_measured(words, "/dev/zero")[0], status, words)
 
     def test_many_long_filters(self):
         """Of more filters than scf reads no more are kept than show it."""
         long = self.file("long.bpf", bytes(FILTER + 1))
-        self.ends(("decide", "--nr=0", *[long] * 1500), 3, "fault input TooLong\n")
+        self.ends(("decide", "--nr=0", *[long] * 1500), 2, "fault input TooLong\n")
 
     def test_names_as_long_as_a_profile(self):
         long = self.file("long.json", profile_of("read", "r" * (TEXT - 500), *map(str, range(20))))

@@ -149,7 +149,7 @@ class Filters(Case):
             done = subprocess.run(words, input=spelled, stdout=subprocess.PIPE, check=False)
             self.assertEqual((done.returncode, done.stdout), (0, text))
         status, out, err = self.run_tool("asm", self.file("text", "LD"))
-        self.assertEqual((status, out), (1, ""))
+        self.assertEqual((status, out), (2, ""))
         self.assertTrue(err.startswith("asm: fault text Mnemonic line 1\nasm: 'LD' is no mnemonic"), err)
 
 
@@ -190,7 +190,7 @@ class Failing(Case):
     def test_a_full_output(self):
         for words in self.each():
             status, _, err = self.closed_output(*words)
-            self.assertEqual(status, 3, words)
+            self.assertEqual(status, 2, words)
             self.assertIn(f"{words[0]}: the output failed: No space left on device\n", err)
 
     def test_a_closed_output(self):
@@ -201,7 +201,7 @@ class Failing(Case):
             done = subprocess.run(["sh", "-c", '"$@" >&-', "sh", tool(words[0]), *words[1:]], stdin=subprocess.DEVNULL,
                                   stderr=subprocess.PIPE, check=False)
             message = done.stderr.decode()
-            self.assertEqual(done.returncode, 3, (words, message))
+            self.assertEqual(done.returncode, 2, (words, message))
             self.assertIn(f"{words[0]}: the output failed: ", message)
             self.assertNotIn("Traceback", message)
 
@@ -228,12 +228,12 @@ class Failing(Case):
         for name in ("compare", "bundle"):
             for closing in (">&-", ">/dev/full"):
                 status, out, err = self.run_words(["sh", "-c", f'exec "$@" {closing}', *PYTHON, tool(name), "--help"])
-                self.assertEqual((status, out), (3, ""))
+                self.assertEqual((status, out), (2, ""))
                 self.assertRegex(err, rf"^{name}: the output failed: .*\n$")
 
     def test_what_fails_beside_the_output_is_not_said_of_it(self):
         done = self.run_words(["sh", "-c", 'ulimit -n 4; exec "$@"', *PYTHON, tool("check"), self.same])
-        self.assertEqual(done, (3, "", "check: Too many open files\n"))
+        self.assertEqual(done, (2, "", "check: Too many open files\n"))
 
     def test_standard_error_that_fails(self):
         with open("/dev/full", "wb") as full:

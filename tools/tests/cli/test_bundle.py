@@ -90,7 +90,7 @@ class Bundle(Case):
 
     def test_output_that_fails(self):
         status, _, err = self.closed_output("bundle", "filter", self.file("a", b"x"))
-        self.assertEqual((status, err), (3, "bundle: the output failed: No space left on device\n"))
+        self.assertEqual((status, err), (2, "bundle: the output failed: No space left on device\n"))
 
     def test_nothing_is_left_behind(self):
         room = os.path.join(self.folder, "room")

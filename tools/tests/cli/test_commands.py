@@ -182,7 +182,7 @@ class Help(Case):
         for words in (["help"], ["--help"], ["-h"], ["help", "help"]):
             self.assertEqual(self.scf(*words), (0, LIST, ""))
         with open("/dev/full", "wb") as full:
-            self.assertEqual(self.run_words([SCF, "help"], stdout=full)[0], 3)
+            self.assertEqual(self.run_words([SCF, "help"], stdout=full)[0], 2)
 
     def test_each_tool_stands_in_the_list_once_in_its_group(self):
         names = [name for name, _ in COMMANDS]

@@ -47,7 +47,7 @@ class Check(Case):
         self.assertEqual((status, err), (1, ""))
         self.assertTrue(out.startswith(f"{good}: accepted 1\n{bad}: fault filter Jump at 0\n# This jump"), out)
         self.assertEqual(self.run_tool("check", bad, cut)[0], 1)
-        self.assertEqual(self.run_tool("check", good, cut)[0], 3)
+        self.assertEqual(self.run_tool("check", good, cut)[0], 2)
 
 
 class Compile(Case):
@@ -95,8 +95,8 @@ class Compile(Case):
             self.assertEqual(self.compiled(self.file("p.json", json.dumps(given)))[2], says)
 
     def test_refusals_go_to_standard_error(self):
-        for profile, status, says in ((b"{", 1, "fault profile Json\ncompile: the JSON is malformed at line 1"),
-                                      (b'{"defaultAction":"ALLOW"}', 1, "fault profile Action\ncompile: An action")):
+        for profile, status, says in ((b"{", 2, "fault profile Json\ncompile: the JSON is malformed at line 1"),
+                                      (b'{"defaultAction":"ALLOW"}', 2, "fault profile Action\ncompile: An action")):
             actual, out, err = self.compiled(self.file("p.json", profile))
             self.assertEqual((actual, out), (status, b""))
             self.assertTrue(err.startswith(f"compile: {says}"), err)
@@ -229,7 +229,7 @@ class WhichFilter(Case):
         bad = self.file("bad.bpf", jeq(0, 9, 0) + ret(ALLOW))
         for words in (("compare", self.allow, bad, self.one, self.profile), ("decide", "--nr=0", self.allow, bad, self.one)):
             status, out, _ = self.run_tool(*words)
-            self.assertEqual(status, 1)
+            self.assertEqual(status, 2)
             self.assertTrue(out.startswith("fault filter Jump at 0\n# This jump"), out)
             self.assertTrue(out.endswith(f"# the filter is {bad}\n"), out)
         self.assertNotIn("bad.bpf", self.run_tool("compare", bad, self.profile)[1])
@@ -238,7 +238,7 @@ class WhichFilter(Case):
         long = [self.file(f"{at}.bpf", ret(ALLOW) * 4096) for at in range(8)]
         for words in (("decide", "--nr=0", *long), ("compare", *long, self.profile)):
             status, out, _ = self.run_tool(*words)
-            self.assertEqual((status, out.split("\n")[0]), (1, "fault stack TooMany total 32796"))
+            self.assertEqual((status, out.split("\n")[0]), (2, "fault stack TooMany total 32796"))
             self.assertTrue(out.endswith(f"# the filter is {long[7]}\n"), out)
 
     def test_an_undecided_place(self):
@@ -328,11 +328,11 @@ class Json(Case):
                            (b'{"a": "\\ud800"}', "a has an unpaired surrogate")):
             profile = self.file("p.json", text)
             status, out, _ = self.run_tool("compare", same, profile)
-            self.assertEqual((status, out.split("\n")[0]), (1, "fault profile Json"), text)
+            self.assertEqual((status, out.split("\n")[0]), (2, "fault profile Json"), text)
             self.assertIn(says, out)
             done = subprocess.run([tool("compile"), profile], stdout=subprocess.PIPE, stderr=subprocess.PIPE,
                                   check=False)
-            self.assertEqual((done.returncode, done.stdout), (1, b""))
+            self.assertEqual((done.returncode, done.stdout), (2, b""))
             self.assertIn(says, done.stderr.decode())
 
 

@@ -205,7 +205,7 @@ class Texts(Case):
                            ("ld [0]\nend: jeq #41, end2", "the statement is 'jeq #41, end2'")):
             status, out, err = self.run_tool("asm", self.file("f.s", text))
             # (behind it stand the two sentences of the fault)
-            self.assertEqual((status, out, err.split("\n")[1:-3]), (1, "", [f"asm: {says}"] if says else []))
+            self.assertEqual((status, out, err.split("\n")[1:-3]), (2, "", [f"asm: {says}"] if says else []))
 
     def test_two_readings_are_refused(self):
         """This is hexadecimal digits in pairs, and a count with rows of decimals."""

@@ -82,4 +82,4 @@ class Commands(Case):
             self.assertEqual((status, [line.split()[1] for line in out.splitlines() if line[0] != "#"]),
                              (1, ["write", "socket", "exit_group"]), (out, err))
         status, _, err = self.run_tool("needs", self.file("o.json", json.dumps({**OBJECT, "kind": "Pod"})), profile)
-        self.assertEqual((status, "it is a Kubernetes object of the kind Pod" in err), (3, True))
+        self.assertEqual((status, "it is a Kubernetes object of the kind Pod" in err), (2, True))

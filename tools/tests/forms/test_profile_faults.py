@@ -10,7 +10,7 @@ class Places(Case):
 
     def said(self, text):
         status, out, _ = self.run_tool("compare", self.file("f.bpf", filter_of([0])), self.file("p.json", text))
-        self.assertEqual(status, 1)
+        self.assertEqual(status, 2)
         return out
 
     def test_each_kind(self):
@@ -89,7 +89,7 @@ class Places(Case):
             profile = self.file("long.json", text)
             for words in (("compare", self.file("f.bpf", filter_of([0])), profile), ("ask", profile)):
                 status, out, err = self.run_tool(*words)
-                self.assertIn((status, out.split("\n")[0]), ((3, "fault profile TooLong"), (1, "fault profile TooMany")))
+                self.assertIn((status, out.split("\n")[0]), ((2, "fault profile TooLong"), (2, "fault profile TooMany")))
                 self.assertIn("\n# the profile has more than 4194304 bytes\n", out)
                 self.assertNotIn("malformed", out + err)
 

@@ -65,7 +65,7 @@ class Unread(Case):
             for words in (("ask",), ("compare", allows), ("compile",), ("verify-process", "1"),
                           ("verify-process", "--runtime=runc", "1")):
                 status, out, err = self.run_tool(words[0], "--strict", *words[1:], "p.json")
-                self.assertEqual((status, out, err), (1, "", words[0] + remark), words)
+                self.assertEqual((status, out, err), (2, "", words[0] + remark), words)
 
     def test_what_is_read_is_not_told(self):
         """Nor a comment, nor what engines and a container's other settings have."""
@@ -149,7 +149,7 @@ class Kubernetes(Case):
                                ("profile1", "[" * 3000, "nested too deep")):
             self.assertIn(old, YAML)
             status, out, err = self.run_tool("ask", self.file("object.yaml", YAML.replace(old, new, 1)))
-            self.assertEqual((status, out, err.count("\n")), (1, "", 1), new[:30])
+            self.assertEqual((status, out, err.count("\n")), (2, "", 1), new[:30])
             self.assertIn(says, err)
         many = YAML + "".join(f"  - {{action: SCMP_ACT_ALLOW, names: [a{at}]}}\n" for at in range(7000))
         self.assertIn("the YAML has more than 262144 bytes", self.run_tool("ask", self.file("many.yaml", many))[2])
@@ -244,7 +244,7 @@ class Caps(Case):
 
     def test_what_is_refused(self):
         for words, status, says in ((("--caps=SYS_ADMINN",), 2, "'SYS_ADMINN' isn't a capability"),
-                                    (("--caps=",), 0, ""), ((), 1, "fault profile EngineForm\n")):
+                                    (("--caps=",), 0, ""), ((), 2, "fault profile EngineForm\n")):
             done = self.run_tool("ask", "--nr=0", *words, self.engine)
             self.assertEqual(done[0], status)
             self.assertIn(says, done[1] + done[2])

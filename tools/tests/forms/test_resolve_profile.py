@@ -28,7 +28,7 @@ class ResolveProfile(Case):
     def refused(self, profile, says, *words):
         given = profile if isinstance(profile, bytes) else json.dumps(profile).encode()
         status, out, err = self.run_tool("resolve-profile", *words, "-", given=given)
-        self.assertEqual((status, out), (1, ""))
+        self.assertEqual((status, out), (2, ""))
         self.assertTrue(err.endswith("\n") and err.count("resolve-profile: ") >= 1 and says in err, err)
         self.assertNotIn("Traceback", err)
 
@@ -241,7 +241,7 @@ class ResolveProfile(Case):
             self.assertEqual((status, out), (2, ""))
             self.assertIn(says, err)
         status, _, err = self.closed_output("resolve-profile", path)
-        self.assertEqual(status, 3)
+        self.assertEqual(status, 2)
         self.assertIn("the output failed", err)
 
     def test_the_engine_says_which_members_count(self):
@@ -323,7 +323,7 @@ class ErrnoByName(Case):
                     status, out, err = self.run_tool(name, *words)
                     is_runtimes = name in ("compare-profiles", "verify-process")
                     hint = "--runtime podman takes it" if is_runtimes else "scf resolve-profile resolves it"
-                    self.assertEqual((status, out, err), (1, "", f"{name}: {says}, which only podman reads: {hint}\n"))
+                    self.assertEqual((status, out, err), (2, "", f"{name}: {says}, which only podman reads: {hint}\n"))
                 found, _ = self.resolved("p.json")
                 self.assertEqual(self.run_tool("ask", "--nr=mkdir", self.file("r.json", found))[0], 0)
 

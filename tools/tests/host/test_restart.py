@@ -346,7 +346,7 @@ class Supervised(Confined):
         child, supervisor, call = self.waiting()
         profile = self.file("p", profile_of())
         status, out, err = self.run_tool("verify-process", "--json", str(child.pid), profile)
-        self.assertEqual(status, program.IO_ERROR)
+        self.assertEqual(status, program.TROUBLE)
         self.assertTrue(err.endswith(" (--force stops it)\n"), err)
         self.assertEqual(json.loads(out), {"status": 3, "verdict": None, "stacks": [],
                                            "why": err.partition(": ")[2].rstrip("\n"), "schema": 3})

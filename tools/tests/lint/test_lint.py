@@ -114,9 +114,9 @@ class Usage(Linted):
         self.assertEqual((status, out), (2, ""))
         self.assertIn("only one input can be '-'", err)
         status, out, _ = self.run_tool("lint", "/dev/zero")
-        self.assertEqual((status, out.split("\n")[0]), (1, "fault profile TooMany"))
+        self.assertEqual((status, out.split("\n")[0]), (2, "fault profile TooMany"))
         status, _, err = self.closed_output("lint", self.file("p.json", given))
-        self.assertEqual((status, err), (3, "lint: the output failed: No space left on device\n"))
+        self.assertEqual((status, err), (2, "lint: the output failed: No space left on device\n"))
 
     def test_refusals_are_those_of_compile(self):
         for text in (b"{", b"", b"[]", b'{"defaultAction":"ALLOW"}', json.dumps(profile(entry())).encode(),
@@ -128,7 +128,7 @@ class Usage(Linted):
             self.assertEqual([line.replace("compile: ", "# ", 1) for line in expected[2].split("\n")[1:-1]],
                              [line for line in out.split("\n")[1:-2] if not line.startswith("error unknown-action: ")])
             self.assertEqual(f"compile: {out.split(chr(10))[0]}", expected[2].split("\n")[0])
-            self.assertEqual(self.report(text, status=1)["fault"]["source"], "profile")
+            self.assertEqual(self.report(text, status=2)["fault"]["source"], "profile")
         bad = self.file("bad.table", b"read\n")
         status, out, _ = self.run_lint(profile(), "--table", bad)
         self.assertEqual((status, out.split("\n")[0]), (1, "fault table Form line 1"))
@@ -143,7 +143,7 @@ class Usage(Linted):
                 (json.dumps(profile(entry("reed"), entry("read"), entry("read", action=ERRNO, errnoRet=2))).encode(),
                  "the profile is refused; findings that need no comparison: 2")):
             status, out, _ = self.run_lint(text)
-            self.assertEqual((status, out.split("\n")[-2]), (1, f"# {last}"))
+            self.assertEqual((status, out.split("\n")[-2]), (2, f"# {last}"))
             status, out, _ = self.run_lint(text, *(f"--except={kind}" for kind in ("conflict", "unknown-name")))
             self.assertEqual((status, out.split("\n")[-2]), (1, "# the profile is refused; nothing else was checked"))
         status, out, _ = self.run_lint(profile(), "--table", self.file("bad.table", b"read\n"))
@@ -153,7 +153,7 @@ class Usage(Linted):
         """scf names the entry of the first; all of them are found, each with what is like it."""
         given = profile(entry("read", action="SCMP_ACT_ALOW"), entry("write", action="allow"),
                         entry("open", args=[(0, "MASK_EQ", 1)]), entry("close", action="DENY"))
-        found = self.found(given, kinds=("unknown-action", "unknown-operator"), status=1)
+        found = self.found(given, kinds=("unknown-action", "unknown-operator"), status=2)
         self.assertEqual([(it["where"], it["name"], it["nearest"]) for it in found],
                          [("entry 0", "SCMP_ACT_ALOW", ALLOW), ("entry 1", "allow", ALLOW),
                           ("entry 2, condition 0", "SCMP_CMP_MASK_EQ", "SCMP_CMP_MASKED_EQ"),
@@ -167,7 +167,7 @@ class Usage(Linted):
     def test_a_filter_that_would_be_too_large(self):
         entries = [entry("socket", args=[(0, "GT", it), (1, "GT", it)]) for it in range(2**40, 2**40 + 1000)]
         status, out, _ = self.run_lint(profile(entry("reed"), *entries))
-        self.assertEqual((status, out.split("\n")[0]), (1, "fault compile TooLarge"))
+        self.assertEqual((status, out.split("\n")[0]), (2, "fault compile TooLarge"))
         self.assertIn("\nerror unknown-name: entry 0: no known syscall is named reed; the nearest name in the "
                       "table is read\n", out)
 
@@ -264,7 +264,7 @@ class Members(Linted):
                          [("the profile", "\u017fyscalls"), ("the profile", "Syscalls")])
         # where it is why scf refuses the profile, too
         status, out, _ = self.run_lint({"defaultAction": ERRNO, "syscalls": [{"names": ["read"], "Action": ALLOW}]})
-        self.assertEqual((status, out.split("\n")[0]), (1, "fault profile Missing entry 0"))
+        self.assertEqual((status, out.split("\n")[0]), (2, "fault profile Missing entry 0"))
         self.assertIn("folded-member: entry 0 has a member 'Action'", out)
 
     def test_the_second_value_is_that_of_masks(self):
@@ -916,7 +916,7 @@ class Conflicts(Linted):
         status, out, _ = self.run_lint(profile(*entries), "--json")
         report = json.loads(out)
         found = [it for it in report["findings"] if it["kind"] == "conflict"]
-        self.assertEqual((status, "fault" in report), (1, True) if found else (0, False))
+        self.assertEqual((status, "fault" in report), (2, True) if found else (0, False))
         if not found:
             return None
         self.assertEqual(report["fault"]["numbers"], {"number": 41, "first": 0, "second": 2})
@@ -942,7 +942,7 @@ class Conflicts(Linted):
         given = profile(entry("socket", "umont2"), entry("socket", action=ERRNO, errnoRet=2))
         status, out, _ = self.run_lint(given)
         lines = out.split("\n")
-        self.assertEqual((status, lines[0]), (1, "fault profile Conflict number 41 first 0 second 1"))
+        self.assertEqual((status, lines[0]), (2, "fault profile Conflict number 41 first 0 second 1"))
         self.assertTrue(lines[1].startswith("# Two entries"), lines[1])
         self.assertIn("error conflict: entries 0 and 1 answer socket (41) by ALLOW and by ERRNO 2: arguments 0x0 0x0 "
                       "0x0 0x0 0x0 0x0 meet both", lines)
@@ -951,7 +951,7 @@ class Conflicts(Linted):
     def test_several(self):
         entries = [entry("read"), entry("read", action="SCMP_ACT_LOG"), entry("read", "write", action="SCMP_ACT_TRAP"),
                    entry("write")]
-        found = self.found(profile(*entries), kinds=("conflict",), status=1)
+        found = self.found(profile(*entries), kinds=("conflict",), status=2)
         self.assertEqual([(it["first"], it["second"]) for it in found], [(0, 1), (0, 2), (1, 2), (2, 3)])
 
 
@@ -1111,12 +1111,12 @@ class Several(Linted):
                 (values, [AARCH64, ARM], "personality (92) of aarch64", 92, "0x100000007 0x0 0x0 0x0 0x0 0x0")):
             status, out, _ = self.run_lint(profile(*entries, architectures=architectures))
             self.assertEqual((status, out.split("\n")[0]), (
-                1, f"fault profile Conflict number {number} first 1 second 2"))
+                2, f"fault profile Conflict number {number} first 1 second 2"))
             self.assertIn(f"\nerror conflict: entries 1 and 2 answer {called} by ALLOW and by LOG: arguments "
                           f"{arguments} meet both\n", out)
         for entries, architectures in ((names, [NATIVE, X32]), (values, [I386, X32, ARM])):
             self.assertEqual(self.found(profile(*entries, architectures=architectures), kinds=("conflict",)), [])
-        found, = self.found(profile(*names, architectures=ENGINES), kinds=("conflict",), status=1)
+        found, = self.found(profile(*names, architectures=ENGINES), kinds=("conflict",), status=2)
         self.assertEqual((found["call"]["number"], found["call"]["architecture"], found["architectures"]),
                          (7, "0x40000003", ["i386"]))
         found, = self.found(profile(entry("read"), entry("read", **log), architectures=ENGINES), kinds=("conflict",),
@@ -1276,7 +1276,7 @@ class Hostile(Linted):
                      b'{"defaultAction":"SCMP_ACT_ALLOW","x":%s}' % (b"[" * 120 + b"]" * 120),
                      b'{"defaultAction":"SCMP_ACT_ALLOW","x":%s}' % (b"[" * 5000 + b"]" * 5000), b"\xff" * 100):
             status, out, err = self.run_lint(text, "--except=dangerous-call")
-            self.assertIn(status, (0, 1))
+            self.assertIn(status, (0, 2))
             self.assertEqual(err, "")
             self.assertTrue(all(line.isprintable() for line in out.split("\n")))
 
@@ -1317,7 +1317,7 @@ class Runtimes(Linted):
                  [(0, "instead", [2]), (1, "instead", [2])]),
                 ((entry("dup", action=ERRNO), entry("dup")), [(0, "default", [])]),
                 ((entry("dup", action=ERRNO), entry("dup", args=equal)), [(0, "default", [])])):
-            self.assertEqual(self.report(profile(*entries), status=1)["fault"]["kind"], "Conflict")
+            self.assertEqual(self.report(profile(*entries), status=2)["fault"]["kind"], "Conflict")
             for runtime in ("runc", "crun"):
                 findings, err = self.of_runtime(profile(*entries, entry("dup3")), runtime)
                 self.assertEqual([(it["entry"], it["why"], it["others"]) for it in findings], needless, entries)
@@ -1332,15 +1332,15 @@ class Runtimes(Linted):
         given = profile(entry("dup", args=[(0, "LE", 7)]), entry("dup", action="SCMP_ACT_LOG", args=[(0, "GE", 7)]),
                         entry("dup2"), entry("dup2", action="SCMP_ACT_LOG", args=[(0, "GE", 7)]),
                         entry("dup", action=ERRNO, args=[(0, "EQ", 7)]))
-        findings, _ = self.of_runtime(given, "crun", kinds=("conflict",), status=1)
+        findings, _ = self.of_runtime(given, "crun", kinds=("conflict",), status=2)
         self.assertEqual([(it["first"], it["second"], it["call"]["arguments"][0]) for it in findings], [(0, 1, "0x7")])
-        self.assertGreater(len(self.found(given, kinds=("conflict",), status=1)), 1)
+        self.assertGreater(len(self.found(given, kinds=("conflict",), status=2)), 1)
 
     def test_two_conditions_on_one_argument(self):
         """They are alternatives: another entry with one of them is covered, and `not 2` beside `not 3` holds always."""
         given = profile(entry("dup", args=[(0, "EQ", 2), (0, "EQ", 3)]), entry("dup", args=[(0, "EQ", 3)]),
                         entry("dup2", args=[(0, "NE", 2), (0, "NE", 3)]), entry("dup2", args=[(1, "EQ", 3)]))
-        self.assertEqual(self.report(given, status=1)["fault"]["kind"], "RepeatedIndex")
+        self.assertEqual(self.report(given, status=2)["fault"]["kind"], "RepeatedIndex")
         findings, _ = self.of_runtime(given, "runc")
         self.assertEqual([(it["entry"], it["by"]) for it in findings], [(1, 0), (3, 2)])
 
@@ -1363,7 +1363,7 @@ class Runtimes(Linted):
 
     def test_what_a_runtime_refuses(self):
         given = profile(entry("dup", errnoRet=5))
-        self.assertEqual(self.report(given, status=1)["fault"]["kind"], "Errno")
+        self.assertEqual(self.report(given, status=2)["fault"]["kind"], "Errno")
         self.assertEqual(self.of_runtime(given, "runc")[0], [])
         status, out, err = self.run_lint(given, "--runtime", "crun")
         self.assertEqual((status, out), (1, ""))
@@ -1427,7 +1427,7 @@ class Runtimes(Linted):
             config = {"ociVersion": "1.0.2", "linux": {"seccomp": resolved}}
             findings, _ = self.of_runtime(config, runtime)
             if engine == "podman":
-                self.assertEqual(self.report(config, status=1)["fault"]["kind"], "Conflict")
+                self.assertEqual(self.report(config, status=2)["fault"]["kind"], "Conflict")
                 self.assertIn((["setns"], "instead"), [(it["names"], it.get("why")) for it in findings])
             gone = {(it["entry"], name) for it in findings for name in it["names"]}
             kept = [{**each, "names": [name for name in each["names"] if (at, name) not in gone]}
@@ -1499,10 +1499,10 @@ class Gate(Linted):
         status, out, _ = self.run_tool("lint", "--fail-on=error", *names[:2])
         self.assertEqual((status, out), (1, "".join(f"# {name}\n{printed}" for name, (_, printed)
                                                     in zip(names, single[:2]))))
-        self.assertEqual([status for status, _ in single], [0, 1, 1])
+        self.assertEqual([status for status, _ in single], [0, 1, 2])
         report = json.loads(self.run_tool("lint", "--json", "--fail-on=error", *names)[1])
         self.assertEqual((report["status"], [(it["file"], it["status"]) for it in report["profiles"]]),
-                         (1, [*zip(names, (0, 1, 1))]))
+                         (1, [*zip(names, (0, 1, 2))]))
         run, = json.loads(self.run_tool("lint", "--sarif", *names)[1])["runs"]
         uris = [os.path.basename(name) for name in names]
         result, = run["results"]

@@ -404,7 +404,7 @@ class Cores(Causes):
         name = self.file("hostile", data)
         status, out, err = self.run_tool("why", "--core", name)
         if status != 0:
-            self.assertEqual((status, out), (3, ""), (out, err))
+            self.assertEqual((status, out), (2, ""), (out, err))
             self.assertIn(says, err)
             self.assertTrue(err.startswith("why: the core "), err)
 
@@ -658,7 +658,7 @@ class Lines(Causes):
                                ("ip=0x7fc36f3ffdc7", "ip=0x17fc36f3ffdc712345", "isn't an address"),
                                (" code=0x80000000", "", "the record is cut"), (" sig=", "\0sig=", "the record is cut")):
             status, out, err = self.run_tool("why", "-", given=WRITTEN.replace(old, new).encode())
-            self.assertEqual((status, err), (3, ""), new)
+            self.assertEqual((status, err), (2, ""), new)
             self.assertTrue(out.startswith("# line 1 isn't judged: "), out)
             self.assertIn(says, out)
             self.assertTrue(out[:-1].isprintable(), out)
@@ -682,7 +682,7 @@ class Lines(Causes):
                 "si_arch=AUDIT_ARCH_X86_64, si_errno=%s} ---")
         for number, data in (("012", "1"), ("00", "1"), ("012", "01")):
             status, out, err = self.run_tool("why", "-", given=(line % (number, data)).encode())
-            self.assertEqual((status, err), (3, ""))
+            self.assertEqual((status, err), (2, ""))
             self.assertIn(f"si_syscall={number}: the table has no such name", out)
         (event,), _ = self.event(line % ("41", "077"))
         self.assertEqual((event.call.number, event.outcome.data), (41, None))
@@ -692,7 +692,7 @@ class Lines(Causes):
         pieces = WRITTEN.split(" ")
         text = "\n".join(" ".join(pieces[:at] + pieces[at + 1:]) for at in range(len(pieces)))
         status, out, err = self.run_tool("why", "-", given=text.encode())
-        self.assertEqual((status, err), (3, ""))
+        self.assertEqual((status, err), (2, ""))
         self.assertTrue(all(line.startswith("# ") for line in out.split("\n")[:-1]), out)
 
     def test_no_record(self):
@@ -778,7 +778,7 @@ class Journals(Causes):
     def test_what_cannot_be_read(self):
         for text in (entry(WRITTEN)[:-1], '{"MESSAGE": ' + "[" * 5000, '[{"pid": 1', "[\n{", '{"'):
             status, out, err = self.run_tool("why", "-", given=text.encode())
-            self.assertEqual((status, err), (3, ""), text[:40])
+            self.assertEqual((status, err), (2, ""), text[:40])
             self.assertIn("# line 1 isn't judged: it isn't a", out)
 
     def test_cores(self):
@@ -829,7 +829,7 @@ class Words(Causes):
         for name, data, line in (("q.json", b"{", "fault profile Json"), ("f.bpf", jeq(0, 9, 0) + ret(ALLOW),
                                                                          "fault filter Jump at 0")):
             status, out, err = self.run_tool("why", WRITTEN, self.file(name, data))
-            self.assertEqual((status, err), (1, ""))
+            self.assertEqual((status, err), (2, ""))
             self.assertIn(f"{line}\n# ", out)
         status, out, err = self.run_tool("why", WRITTEN, "none")
         self.assertEqual((status, out, err), (2, "", "why: there is no file 'none'\n"))

@@ -106,7 +106,7 @@ class Changes(Denials):
             self.assertEqual(self.changes(line, "--runtime", runtime, profile=profile), ["every chroot"])
         status, lines = self.why(f"{LOAD}\n{line}\n", profile=profile)
         self.assertEqual((status, [each for each in lines if each.startswith("fault ")]),
-                         (1, ["fault profile Conflict number 308 first 0 second 1"]))
+                         (2, ["fault profile Conflict number 308 first 0 second 1"]))
 
 
 @unittest.skipUnless(shutil.which("strace"), "there is no strace here")
@@ -285,7 +285,7 @@ class Logs(Denials):
     def test_a_profile_that_is_refused(self):
         log = f'7  {DENIED}\n7  read(0, "", 1) = 0\n'
         status, lines = self.why(log, profile={**PROFILE, "defaultAction": "SCMP_ACT"})
-        self.assertEqual((status, [line for line in lines if line[:2] != "# "]), (1, ["fault profile Action"]))
+        self.assertEqual((status, [line for line in lines if line[:2] != "# "]), (2, ["fault profile Action"]))
 
     def test_what_scf_leaves_undecided(self):
         status, lines = self.why(f"7  {DENIED}\n7  acct(NULL) = -1 EPERM (Operation not permitted)\n", "--limit=1")

@@ -463,7 +463,7 @@ class Needs(Judgement):
         self.assertEqual((status, out.split("\n")[0]), (2, "fault number limit"))
         for text, fault in (("{", "fault profile Json"), ('{"defaultAction":"ALLOW"}', "fault profile Action")):
             status, out, err = self.run_tool("needs", self.file("log", "read(1) = 1"), self.file("q.json", text))
-            self.assertEqual((status, out.split("\n")[0], err), (1, fault, ""))
+            self.assertEqual((status, out.split("\n")[0], err), (2, fault, ""))
             self.assertTrue(out.split("\n")[1].startswith("# "), out)
         status, out, err = self.run_tool("needs", self.file("log", "x"), "none")
         self.assertEqual((status, out, err), (2, "", "needs: there is no file 'none'\n"))
@@ -471,7 +471,7 @@ class Needs(Judgement):
         self.assertEqual((status, out), (2, ""))
         self.assertIn("is a folder", err)
         status, _, err = self.closed_output("needs", self.file("log", "x"), self.file("p.json", profile_of("read")))
-        self.assertEqual((status, err), (3, "needs: the output failed: No space left on device\n"))
+        self.assertEqual((status, err), (2, "needs: the output failed: No space left on device\n"))
 
     def test_inputs(self):
         config = self.file("c.json", json.dumps({"linux": {"seccomp": self.PROFILE}}))
@@ -608,7 +608,7 @@ class InArchitectures(Judgement):
             {"names": ["mmap2"], "action": action} for action in (ALLOW, "SCMP_ACT_LOG"))]}
         self.assertEqual(self.needs("read(3) = 1", profile=odd)[0], 0)
         status, out, _ = self.needs(f"{self.MODE}read(3) = 1", profile=odd)
-        self.assertEqual((status, out.split("\n")[0]), (1, "fault profile Conflict number 192 first 1 second 2"))
+        self.assertEqual((status, out.split("\n")[0]), (2, "fault profile Conflict number 192 first 1 second 2"))
         self.assertIn("# the syscall is mmap2 (192) of the architecture i386\n", out)
 
 

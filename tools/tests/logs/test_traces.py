@@ -263,7 +263,7 @@ class Words(Case):
             self.assertEqual(out.split("\n")[0], "257 openat ERRNO 1 default")
             self.assertIn("allowed 1, not allowed 1, depends 0\n", out)
         status, out, err = self.run_tool("needs", self.file("x.json", '{"a\x1b": '), self.file("p.json", profile_of()))
-        self.assertEqual((status, out), (3, ""))
+        self.assertEqual((status, out), (2, ""))
         self.assertTrue(err.endswith("x.json' is a profile that can't be read\n"), err)
 
     def test_several_logs(self):

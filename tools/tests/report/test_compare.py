@@ -117,7 +117,7 @@ class Compare(Case):
 
     def test_faults_have_their_sentence(self):
         status, out, _ = self.run_tool("compare", self.file("jump.bpf", jeq(0, 9, 0) + ret(ALLOW)), self.profile)
-        self.assertEqual(status, 1)
+        self.assertEqual(status, 2)
         self.assertTrue(out.startswith("fault filter Jump at 0\n# This jump leaves the filter"), out)
         status, out, _ = self.run_tool("compare", self.file("cut.bpf", b"\6\0\0"), self.profile)
         self.assertEqual(status, 3)
@@ -570,7 +570,7 @@ class Decide(Case):
 
     def test_faults_and_wrong_words(self):
         status, out, _ = self.run_tool("decide", "--nr=0", self.file("e.bpf", b""))
-        self.assertEqual(status, 1)
+        self.assertEqual(status, 2)
         self.assertTrue(out.startswith("fault filter Empty\n# The filter has no instruction"), out)
         status, out, _ = self.run_tool("decide", "--nr", "4294967296", self.filter)
         self.assertEqual(status, 2)
@@ -594,8 +594,8 @@ class Explain(Case):
         status, out, err = self.run_tool("explain", "--help")
         self.assertEqual((status, err), (0, ""))
         self.assertIn("usage: explain ", out)
-        for words, status in ((["no", "such", "line"], 1), (["a page fault in kernel mode"], 1), (["fault x Y"], 1),
-                              (["299"], 1), (["--no-such"], 2)):
+        for words, status in ((["no", "such", "line"], 2), (["a page fault in kernel mode"], 2), (["fault x Y"], 2),
+                              (["299"], 2), (["--no-such"], 2)):
             exit_status, out, err = self.run_tool("explain", *words)
             self.assertEqual((exit_status, out), (status, ""), words)
             self.assertIn("explain: ", err)
@@ -628,7 +628,7 @@ class Explain(Case):
             self.assertEqual([line for line in out if line[0] != "#"], printed.split("\n")[:-1])
             for line in printed.split("\n")[:-1]:
                 self.assertEqual(out[out.index(line) + 1][:2], "# ", line)
-        self.assertEqual(self.run_tool("explain", given=b"hello\n"), (1, "hello\n", ""))
+        self.assertEqual(self.run_tool("explain", given=b"hello\n"), (2, "hello\n", ""))
 
     def test_each_word_of_the_objects(self):
         """Each verdict, disposition, reason and action that docs/scf.schema.json has is a word that tools print."""

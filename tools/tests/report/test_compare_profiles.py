@@ -206,7 +206,7 @@ class Program(Case):
                             "fault profile Conflict number 0 first 0 second 1")):
             for old, new, side in ((text, READ_WRITE, "old"), (READ_WRITE, text, "new")):
                 status, lines = self.compared(old, new)
-                self.assertEqual((status, lines[0], lines[-1]), (1, line, f"# it is the {side} profile"))
+                self.assertEqual((status, lines[0], lines[-1]), (2, line, f"# it is the {side} profile"))
                 self.assertTrue(all(line.startswith("# ") for line in lines[1:]), lines)
                 report = json.loads(self.compared(old, new, "--json")[1][0])
                 self.assertEqual((report["status"], report["verdict"], report["fault"]["side"]), (1, None, side))
@@ -277,7 +277,7 @@ class Engines(Case):
 
     def test_without_an_option_scf_refuses_an_engines_form(self):
         status, out, err = self.run_tool("compare-profiles", *[self.file("old.json", json.dumps(self.OLD))] * 2)
-        self.assertEqual((status, err, out.split("\n")[0]), (1, "", "fault profile EngineForm"))
+        self.assertEqual((status, err, out.split("\n")[0]), (2, "", "fault profile EngineForm"))
         self.assertTrue(out.endswith("# it is the old profile\n# --caps and the like resolve both profiles as an "
                                      "engine does\n"), out)
 
@@ -298,7 +298,7 @@ class Engines(Case):
 
     def test_what_the_engines_refuse(self):
         status, exit_status, err = self.compared("--caps", "none", new={"defaultAction": ERRNO, "syscalls": 1})
-        self.assertEqual((status, exit_status), (1, []))
+        self.assertEqual((status, exit_status), (2, []))
         self.assertRegex(err, r"\Acompare-profiles: [^\n]*new\.json: [^\n]+\n\Z")
 
 
@@ -332,7 +332,7 @@ class Runtimes(Case):
             self.assertEqual((status, lines[0], err), (0, "same", [
                 f"compare-profiles: new: {runtime} leaves out entry 0 (mkdir): its answer is the default's"]))
         self.assertEqual(self.lines(given, two)[1][0], "fault profile Conflict number 83 first 0 second 1")
-        self.assertEqual(self.lines(given, {**given, "archMap": Engines.MAP}, "--runtime", "crun")[0], 1)
+        self.assertEqual(self.lines(given, {**given, "archMap": Engines.MAP}, "--runtime", "crun")[0], 2)
 
     def test_entries_that_conflict_are_called_as_in_the_file(self):
         """What libseccomp makes of two answers by conditions isn't said."""
@@ -343,7 +343,7 @@ class Runtimes(Case):
         good = {**old, "syscalls": old["syscalls"][:2]}
         for old_path, new_path, side in ((old, good, "old"), (good, old, "new")):
             status, lines, _ = self.lines(old_path, new_path, "--runtime", "runc")
-            self.assertEqual((status, lines[0], lines[-2:]), (1, "fault profile Conflict number 83 first 2 second 3", [
+            self.assertEqual((status, lines[0], lines[-2:]), (2, "fault profile Conflict number 83 first 2 second 3", [
                 "# in the original file that is entry 2 (mkdir) and entry 3 (mkdir)",
                 f"# it is the {side} profile"]))
         if os.geteuid():

@@ -192,7 +192,7 @@ class List(Case):
 
     def test_wrong_files(self):
         status, out, _ = self.run_tool("list", "-", given=b"\6\0\0\0")
-        self.assertEqual(status, 3)
+        self.assertEqual(status, 2)
         self.assertTrue(out.startswith("fault filter Truncated offset 0\n# "), out)
         for words in (("none",), (self.folder,), ("--table", "none", "-")):
             status, out, err = self.run_tool("list", *words)
@@ -201,7 +201,7 @@ class List(Case):
 
     def test_output_that_fails(self):
         status, _, err = self.closed_output("list", "-", given=GATE)
-        self.assertEqual(status, 3)
+        self.assertEqual(status, 2)
         self.assertIn("the output failed", err)
 
 

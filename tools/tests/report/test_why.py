@@ -100,7 +100,7 @@ class Path(Case):
 
     def test_a_fault_has_no_path(self):
         path = listing.path_of(jeq(0, 9, 0) + ret(ALLOW), Call(0).words())
-        self.assertEqual((path.status, path.indexes, path.decision.fault.kind), (1, (), "Jump"))
+        self.assertEqual((path.status, path.indexes, path.decision.fault.kind), (2, (), "Jump"))
 
     def test_without_the_flag_nothing_changes(self):
         data = filter_of([0, 1])
@@ -149,7 +149,7 @@ class List(Case):
 
     def test_what_cannot_be_run(self):
         status, out, err = self.listed(jeq(0, 9, 0) + ret(ALLOW), "--nr=0")
-        self.assertEqual((status, err), (1, ""))
+        self.assertEqual((status, err), (2, ""))
         self.assertTrue(out.startswith("fault filter Jump at 0\n# This jump leaves the filter"), out)
         status, out, _ = self.listed(ret(ALLOW), "--nr=99999999999")
         self.assertEqual((status, out.split("\n")[0]), (2, "fault number nr"))
@@ -243,7 +243,7 @@ class Ask(Case):
         self.assertEqual(lines[:2], ["ALLOW 0 entry 0", "# the syscall is look (7)"])
 
     def test_inputs_without_an_end(self):
-        for words, status, says in ((("/dev/zero",), 1, "fault profile TooMany"),
+        for words, status, says in ((("/dev/zero",), 2, "fault profile TooMany"),
                                     (("--table=/dev/zero", self.profile), 2, "has more than 4194304 bytes"),
                                     (("--calls-from=/dev/zero", self.profile), 2, "has more than 65536 bytes")):
             found, out, err = self.run_tool("ask", "--nr=0", *words)
@@ -252,13 +252,13 @@ class Ask(Case):
 
     def test_output_that_fails(self):
         status, _, err = self.closed_output("ask", "--nr=read", self.profile)
-        self.assertEqual((status, err), (3, "ask: the output failed: No space left on device\n"))
+        self.assertEqual((status, err), (2, "ask: the output failed: No space left on device\n"))
 
     def test_refusals(self):
         for text, says in ((b"{", ["fault profile Json", "the JSON is malformed at line 1, column 2"]),
                            (b'{"defaultAction":"ALLOW"}', ["fault profile Action"])):
             status, lines = self.asked("--nr=0", profile=self.file("bad.json", text))
-            self.assertEqual((status, lines[0]), (1, says[0]))
+            self.assertEqual((status, lines[0]), (2, says[0]))
             self.assertTrue(all(line.startswith("# ") for line in lines[1:]) and says[-1] in "\n".join(lines), lines)
         status, lines = self.asked("--nr=99999999999")
         self.assertEqual((status, lines[0]), (2, "fault number nr"))

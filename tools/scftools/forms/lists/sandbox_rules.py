@@ -26,7 +26,7 @@ Knows = Callable[[str, str], "int | None"]
 class ListError(Exception):
     """The sandbox refuses the list, or it has a rule that no profile can state."""
 
-    status = program.NEGATIVE
+    status = program.TROUBLE
 
 
 class UnknownRules(ListError):

@@ -25,7 +25,7 @@ class Sandbox:
             policy = self.read(data)
             return policy.data(), list(policy.notes())
         except (ListError, Refused) as why:
-            status = why.status if isinstance(why, ListError) else program.NEGATIVE
+            status = why.status if isinstance(why, ListError) else program.TROUBLE
             raise program.ToolError(f"{label}, {self.kind}: {why}", status) from why
 
 
