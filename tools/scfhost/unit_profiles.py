@@ -5,13 +5,16 @@ Settings may deny something else on i386 than on x86-64 and x32, which one profi
 from __future__ import annotations
 
 import json
-from collections.abc import Iterator, Sequence
+from collections.abc import Callable, Iterator, Sequence
 
+from scftools.base import program
 from scftools.model import multiplexed
 from scftools.model.answers import Answer
 from scftools.model.architectures import I386
+from scftools.model.profiles import DerivedProfile
 from scftools.forms.lists import unit_restrictions
 from scftools.forms.lists.unit_restrictions import Alternative, Restriction
+from . import units
 from .units import UnitSettings
 
 
@@ -66,3 +69,27 @@ def profile_of(settings: UnitSettings, architectures: Sequence[str]) -> str:
         entries.append({"names": names, **answer.members(), **args})
     top = {**default.default(), "architectures": list(architectures), "syscalls": entries}
     return json.dumps(top, indent=4) + "\n"
+
+
+def settings_of_unit(name: str, say: Callable[[str], None]) -> UnitSettings:
+    """The settings of a unit, as systemctl shows them."""
+    if not name or set(name) & set("*?[\0"):
+        raise program.ToolError(f"'{name}' isn't the name of a unit")
+    reader = units.ListReader(units.all_groups, say)
+    settings = units.settings_in(units.shown_by_systemctl([name])[0], name, reader)
+    reader.tell_unknown()
+    return settings
+
+
+def profile_of_unit(name: str, say: Callable[[str], None]) -> DerivedProfile:
+    """The profile of a unit; its `others` are those for architectures on which the unit denies something else."""
+    try:
+        settings = settings_of_unit(name, say)
+        first, *others = (profile_of(settings, group).encode() for group in groups_of(settings))
+    except units.SettingError as why:
+        raise program.ToolError(str(why), program.NEGATIVE) from why
+    if settings.doubt is not None:
+        say(settings.doubt)
+    profile = DerivedProfile(first)
+    profile.others = tuple(others)
+    return profile

@@ -3,18 +3,17 @@
     scf surface [--arch ARCH] [--machine NAME] [--conditions | --examples] [--limit N]
                 [--splits N] [--table FILE] [--caps LIST] [--json] [--html FILE] FILTER..
                 [--beside OTHER..]
-    scf surface [--arch ARCH] [--conditions | --examples] [--limit N] [--splits N]
-                [--table FILE] [--json] [--html FILE] [--force] --pid PID [--beside OTHER..]
+    scf surface .. [--force] pid:PID|--pid PID [--beside OTHER..]
 
-The FILTERs form one stack, oldest first; with --pid it is that of a running process, as the kernel keeps it, and each
-distinct stack of its threads has a block of its own. A profile, as `scf ask` takes it, stands for the filter that scf
-compiles of it. Each syscall in the table is always allowed, always denied, always delegated (to a supervisor or
-tracer), or it depends on the arguments; then an example of each is shown. The first line counts them; a line before it
-names a filter that is for another machine. The next lines say whether any syscall of another ABI of the machine is
-allowed, with the same counts of an ABI of which one is, and how many numbers that the table doesn't name are allowed.
-With --machine arm64 all this is said of aarch64 and arm, with --arch of that architecture alone. Then come the syscalls
-by purpose (tables/calls.groups), on a terminal as a table, otherwise a line each: the group, the disposition, the
-number, the names, and an answer. --beside shows the syscalls that differ under another stack of filters; it stands
+The FILTERs form one stack, oldest first; pid:PID is that of a running process, as the kernel keeps it, and each
+distinct stack of its threads has a block of its own. A profile, as `scf ask` takes it, or a unit's (unit:NAME), stands
+for the filter that scf compiles of it. Each syscall in the table is always allowed, always denied, always delegated (to
+a supervisor or tracer), or it depends on the arguments; then an example of each is shown. The first line counts them; a
+line before it names a filter that is for another machine. The next lines say whether any syscall of another ABI of the
+machine is allowed, with the same counts of an ABI of which one is, and how many numbers that the table doesn't name are
+allowed. With --machine arm64 all this is said of aarch64 and arm, with --arch of that architecture alone. Then come the
+syscalls by purpose (tables/calls.groups), on a terminal as a table, otherwise a line each: the group, the disposition,
+the number, the names, and an answer. --beside shows the syscalls that differ under another stack of filters; it stands
 last. --html writes the same as a page without scripts, which replaces FILE at once.
 
 With --conditions a syscall with several answers has them all instead of examples, with the conditions on its arguments:
@@ -43,22 +42,23 @@ Examples:
     scf surface old.bpf --beside new.bpf
     scf surface --caps docker --machine arm64 engine.json
 """
-from ..base import inputs, output, program
+from ..base import output
 from ..model import architectures, tables
 from ..ask import client, other_abis
 from ..cli import words
-from ..forms import engines, filters, profile_inputs, refusals
+from ..forms import engines, operands
+from ..forms.stacks import Inspection
 from ..report import stack_surfaces, surface_output
 from scfhost import processes
 
 
 def read_words():
-    parser = words.Parser(__doc__, processes.NEEDS.replace("This needs", "--pid needs", 1))
+    parser = words.Parser(__doc__, processes.NEEDS.replace("This needs", "A process needs", 1))
     parser.add_argument("--conditions", action="store_true",
                         help="say which arguments get which answer, instead of examples")
     parser.add_argument("--beside", metavar="OTHER", nargs="+", default=[],
                         help="show the syscalls that differ under these filters, oldest first; stands last")
-    parser.add_argument("--pid", metavar="PID", help="the filters of a process instead of files")
+    parser.add_argument("--pid", metavar="PID", help="the filters of this process, as pid:PID names them")
     parser.add("--arch")
     parser.add("--machine", help="the machine whose syscalls are looked at, and for whose containers an engine's "
                                  "profile is resolved [default: this one]")
@@ -67,55 +67,33 @@ def read_words():
     parser.add("--table", help=words.OWN_TABLE)
     parser.add("--caps", "--json", "--html")
     parser.add_argument("filters", metavar="FILTER", nargs="*",
-                        help="a filter, of several the oldest first, or a profile; - is standard input")
+                        help="a filter, of several the oldest first, a profile, or pid:PID; - is standard input")
     options = parser.parse_args()
-    if options.pid is None and not options.filters:
-        parser.error("give a FILTER or --pid")
-    if options.pid is not None and options.filters:
-        parser.error("give FILTERs or --pid, not both")
+    if options.pid is not None:
+        options.filters.append(f"pid:{processes.number_in(options.pid, parser)}")
+    if not options.filters:
+        parser.error("give a FILTER or pid:PID")
     if options.beside and (options.arch is not None or options.machine not in (None, "amd64")):
         parser.error("give either --arch or --beside, which compares the syscalls of all architectures of this machine")
     if options.conditions and options.examples:
         parser.error("give either --conditions or --examples")
-    if options.force and options.pid is None:
-        parser.error("--force needs --pid")
-    options.pid = None if options.pid is None else processes.number_in(options.pid, parser)
+    if options.force and not any(map(operands.is_process, options.filters)):
+        parser.error("--force needs a process")
     parser.one_standard_input([*options.filters, *options.beside, options.table])
     return options
-
-
-def looked_at(options):
-    """The stacks of a process's threads."""
-    kernel = processes.Kernel()
-    return processes.read_or_end(lambda: processes.look_at_process(
-        kernel, processes.process_of(kernel, options.pid), is_forced=options.force), True, options.json)
-
-
-def filter_in(name, options):
-    """The filter of a file, or the one that scf compiles of a profile."""
-    data = inputs.read_input(name, "profile")
-    if not profile_inputs.looks_like_profile(data):
-        return filters.filter_in(name, data)
-    profile = profile_inputs.profile_in(data, name, options.caps, machine=options.machine)
-    judged = profile.judged(tables.read_table(None), False)
-    try:
-        return filters.Filter(name, client.compile_profile(profile.data, judged))
-    except client.Refusal as why:
-        sentences = refusals.sentences(why.fault, profile.data, judged, profile.origins) if why.fault else ()
-        raise program.ToolError(" ".join([f"{inputs.label(name)}: {why.line}.", *sentences]), why.status) from why
 
 
 def main():
     options = read_words()
     machine = engines.MACHINE_NAMES[options.machine or engines.machine_here()]
     architecture = architectures.judged_in(options.arch or machine)
-    stack, beside = (filters.read_stack(names, lambda name: filter_in(name, options))
-                     for names in (options.filters, options.beside))
+    given = operands.read_stacks(options.filters, options, compiles=True)
+    beside = operands.read_stack(options.beside, options, compiles=True)
     settings = stack_surfaces.Settings(tables.read_table(options.table, architecture), beside, architecture,
                                        architecture.oci == machine and machine in other_abis.OF_MACHINES,
                                        options.conditions, options.examples)
-    inspection = None if options.pid is None else looked_at(options)
-    blocks = [stack_surfaces.surface_of_stack(stack, settings)] if inspection is None else \
+    inspection = given if isinstance(given, Inspection) else None
+    blocks = [stack_surfaces.surface_of_stack(given, settings)] if inspection is None else \
         stack_surfaces.surfaces_of_process(inspection, settings)
     if options.html is not None:
         from ..report import pages  # pylint: disable=import-outside-toplevel

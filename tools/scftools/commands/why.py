@@ -17,16 +17,16 @@ LINE is what was logged when it happened, and `-` is standard input, with any nu
 --pid takes the records of a process from this machine's kernel log and auditd's; while it runs, and no file is given,
 also its filters. --core takes a core that SIGSYS left, which has the arguments; `-` is standard input.
 
-PROFILE is a profile as `scf ask` takes it; with --caps its entries are numbered as in the resolved one. --runtime reads
-it as that container runtime does (RUNTIMES.md), so that a container's config.json is no conflict. The FILTERs are those
-of the process, oldest first, as `scf filters-of` takes them. One profile and any number of filters may be given, in any
-order; each may be a pipe. For each syscall there are lines marked by `# `: the process, the syscall, the action, and
-what isn't known of them; scf's answer for the profile (`scf ask`) with the entry, and that for the filters (`scf
-decide`) with the last tests on the path; and whether either answers so. If not, another filter of the process gave the
-answer, since the strictest of all counts, or it isn't under this profile. At the end stand changes of the profile that
-allow the syscall: with the arguments that are known, but for addresses, and with all that the entry denies. scf has
-proved of each that no other answer to an x86-64 syscall changes. With --native the profile is judged for x86-64 alone,
-otherwise for each architecture that it names.
+PROFILE is a profile as `scf ask` takes it, or a unit's (unit:NAME); with --caps its entries are numbered as in the
+resolved one. --runtime reads it as that container runtime does (RUNTIMES.md), so that a container's config.json is no
+conflict. The FILTERs are those of the process, oldest first, as `scf filters-of` takes them, or pid:PID for those of
+one that runs. One profile and any number of filters may be given, in any order; each may be a pipe. For each syscall
+there are lines marked by `# `: the process, the syscall, the action, and what isn't known of them; scf's answer for the
+profile (`scf ask`) with the entry, and that for the filters (`scf decide`) with the last tests on the path; and whether
+either answers so. If not, another filter of the process gave the answer, since the strictest of all counts, or it isn't
+under this profile. At the end stand changes of the profile that allow the syscall: with the arguments that are known,
+but for addresses, and with all that the entry denies. scf has proved of each that no other answer to an x86-64 syscall
+changes. With --native the profile is judged for x86-64 alone, otherwise for each architecture that it names.
 
 Of what strace wrote each SIGSYS is judged, and each syscall that failed as PROFILE, or else the FILTERs, answer to it.
 The failed ones are counted by syscall and entry, and the most telling stand first: the last one of a process that ended
@@ -58,13 +58,15 @@ Examples:
 """
 import os
 import re
+import types
 
-from ..base import inputs, output, program
+from ..base import output, program
 from ..base.values import replace
 from ..model import profiles, tables
 from ..ask import trials
 from ..cli import words
-from ..forms import filters, profile_inputs, runtimes, strace
+from ..forms import operands, runtimes, strace
+from ..forms.profile_inputs import ProfileInput
 from ..logs import audit_records, cause_report, causes, events
 
 # By how many seconds the clock may differ between a record and the start of a process.
@@ -104,13 +106,14 @@ def read_files(names, table, options):
     profile, stack = None, []
     reading = runtimes.reading_of(options.runtime)
     for name in names:
-        data = inputs.read_input(name, "profile")
-        if not profile_inputs.looks_like_profile(data):
-            stack.append(filters.filter_in(name, data))
+        given = operands.read_stack([name]) if operands.is_process(name) else \
+            operands.read(name, types.SimpleNamespace(caps=options.caps))
+        if not isinstance(given, ProfileInput):
+            stack += given if isinstance(given, list) else [given]
         elif profile is not None:
             raise program.ToolError(f"'{name}' is a second profile: give one, and filters")
         else:
-            profile = profiles.read_as(profile_inputs.profile_in(data, name, options.caps).data, reading)
+            profile = profiles.read_as(given.data, reading)
     trial = trials.Trial(replace(tables.native_alone(table.data), reading=reading))
     return causes.Inputs(trial, profile, stack, options.native)
 
@@ -142,17 +145,6 @@ def records():
         yield from strace.log_lines(audit_records.AUDITD_LOG)
 
 
-def filters_of(process):
-    """The filters of a process that runs."""
-    from scfhost import processes  # pylint: disable=import-outside-toplevel
-
-    stacks = processes.read_or_end(lambda: processes.look_at_process(processes.Kernel(), process)).stacks
-    if len(stacks) > 1:
-        raise program.ToolError(f"the threads of process {process} have different filters: `scf filters-of` takes "
-                              "those of each", program.UNKNOWN)
-    return stacks[0].named
-
-
 def of_process(options, files, table):
     """The records of a process, those of an earlier one with its number left out, and files; without any the filters
     that it has, if it runs."""
@@ -160,7 +152,8 @@ def of_process(options, files, table):
     since = None if begun is None else begun - TOLERANCE
     log = events.read_events((line for line in records() if audit_records.is_of(line, options.pid, since)), table)
     if not options.words:
-        files = causes.Inputs(files.trial, None, filters_of(options.pid) if begun is not None and log.events else [])
+        is_wanted = begun is not None and log.events
+        files = causes.Inputs(files.trial, None, operands.read_stack([f"pid:{options.pid}"]) if is_wanted else [])
     return log, files
 
 

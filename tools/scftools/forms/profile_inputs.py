@@ -28,6 +28,8 @@ INSPECTIONS = (
     ("docker inspect", (b'"HostConfig"',), "/run/containerd/io.containerd.runtime.v2.task/moby/ID/config.json, as long "
                                            "as the container runs"))
 ID = Pattern(rb'"Id":\s*"([0-9a-f]{64})"')
+# How words begin that aren't files: the number of a process, the name of a unit.
+PROCESS, UNIT = "pid:", "unit:"
 # Members of a SeccompProfile's spec that aren't a profile's.
 OF_SPEC_ALONE = ("baseProfileName", "disabled")
 
@@ -173,15 +175,27 @@ def _resolved(data: bytes, name: str, caps: str, machine: str | None) -> Profile
     return ProfileInput(profile, origins)
 
 
+def read_text(name: str, kind: str | None = None) -> bytes:
+    """The text of a profile: of a file, a pipe or standard input, or what a unit's settings describe. What is too long
+    is refused if a kind of inputs is given, and else by scf."""
+    if name.startswith(UNIT):
+        from scfhost import unit_profiles  # pylint: disable=import-outside-toplevel
+
+        return unit_profiles.profile_of_unit(name.removeprefix(UNIT), program.say)
+    if name.startswith(PROCESS):
+        raise program.ToolError(f"'{name}' is a process, not a profile: `scf profile-of {name}` prints the profile of "
+                                "its filters")
+    return inputs.read_input(name, "profile") if kind is None else inputs.read_whole(name, kind)
+
+
 def read_engines(name: str) -> bytes:
     """A profile that an engine may have made for itself."""
-    return plain(inputs.read_whole(name, "engine's profile"), name)
+    return plain(read_text(name, "engine's profile"), name)
 
 
 def read_profile(name: str, caps: str | None = None, is_runtimes: bool = False) -> ProfileInput:
-    """The profile in a file, a pipe or standard input."""
-    data = inputs.read_input(name, "profile") if caps is None else inputs.read_whole(name, "engine's profile")
-    return profile_in(data, name, caps, is_runtimes)
+    """The profile that a word names."""
+    return profile_in(read_text(name, None if caps is None else "engine's profile"), name, caps, is_runtimes)
 
 
 def tell_unread(data: bytes, path: str, is_strict: bool) -> None:

@@ -12,7 +12,7 @@ import os
 import types
 from collections.abc import Iterator, Sequence
 
-from ..base import inputs, program
+from ..base import program
 from ..base.values import Any, dataclass, replace
 from ..model import architectures, libseccomp, multiplexed, profiles, tables
 from ..model.answers import MAX_ERRNO, Answer
@@ -422,7 +422,7 @@ def text_of(options: Any) -> bytes:
             f": `scf resolve-profile --runtime {runtime.name} --engine .. --caps ..` makes it"
         raise program.ToolError("--caps resolves an engine's profile, and --runtime "
                                 f"{options.runtime} takes a resolved one{how}")
-    return (inputs.read_whole if is_made(options) else inputs.read_input)(options.profile, "profile")
+    return profile_inputs.read_text(options.profile, "profile" if is_made(options) else None)
 
 
 def input_in(data: bytes, options: Any, is_strict: bool | None = False) -> ProfileInput:

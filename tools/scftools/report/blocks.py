@@ -1,11 +1,12 @@
 """Blocks of a report on processes: one for each distinct stack of filters, and the threads that have it."""
 from __future__ import annotations
 
-from collections.abc import Callable, Iterator
+from collections.abc import Callable, Iterator, Sequence
 
 from ..base import output, program
-from ..base.values import Any
+from ..base.values import Any, dataclass, replace
 from ..ask import client
+from ..forms.filters import Filter
 from ..forms.stacks import Inspection, Stack, threads_text
 
 # The sources of faults that no stack causes.
@@ -39,3 +40,46 @@ def of_threads(stack: Stack, inspection: Inspection) -> Iterator[str]:
             line += ": they aren't confined" if len(threads) > 1 else ": it isn't confined"
             line += ", and every syscall is allowed"
         yield line
+
+
+def confined_by(stack: Stack) -> str:
+    """What confines the threads that have a stack, as objects say it."""
+    return "by filters" if stack.filters else "strict" if stack.is_strict else "not"
+
+
+@dataclass(frozen=True)
+class Block:
+    """What a command says of a stack of filters: its status, its lines, and the members of its object."""
+
+    status: int
+    lines: Sequence[str]
+    members: dict[str, object]
+    # whether every stack would have this fault
+    is_of_all: bool = False
+    # the stack, if it is a process's
+    stack: Stack | None = None
+
+
+def put_blocks(given: Sequence[Filter] | Inspection, judge: Callable[[Sequence[Filter]], Block], is_json: bool) -> int:
+    """Prints what a command says of filters, or of each stack of a process: a block each, the worst first, and the
+    threads that have it; returns the worst status."""
+    if not isinstance(given, Inspection):
+        block = judge(given)
+        if is_json:
+            output.put_json({"status": block.status, **block.members})
+        else:
+            output.put_lines(block.lines)
+        return block.status
+    blocks = blocks_of(given, lambda stack: replace(judge(stack.named), stack=stack), lambda stack, status: Block(
+        status, ["strict" if stack.is_strict else "unconfined"], {}, stack=stack))
+    status = client.worst(block.status for block in blocks)
+    if is_json:
+        output.put_json({"status": status, "stacks": [
+            {"status": block.status, **block.members, "confined": confined_by(block.stack),
+             **block.stack.as_json(given.names)} for block in blocks],
+            "asked_again": [{"process": process, "thread": thread} for process, thread in given.asked_again]})
+        return status
+    for at, block in enumerate(blocks):
+        output.put_lines([*[""] * bool(at), *block.lines, *output.notes(of_threads(block.stack, given))])
+    output.put_lines(output.notes(given.notes))
+    return status

@@ -14,7 +14,7 @@ from ..forms.filters import Filter
 from ..forms.refusals import faulty_filters
 from ..forms.stacks import Inspection, Stack
 from . import surface_output, surfaces
-from .blocks import OF_ALL, blocks_of, of_threads
+from .blocks import OF_ALL, blocks_of, confined_by, of_threads
 from .surface_output import Groups
 from .surface_pairs import Beside, are_same, compared_surfaces, lines_beside, pair_json
 from .surfaces import Surface
@@ -129,7 +129,7 @@ def _json_of(block: StackSurface, inspection: Inspection | None, groups: Groups)
                           "foreign_differ": block.beside.foreign_differ,
                           "unnamed_differ": block.beside.unnamed_differ}
     if block.threads is not None and inspection is not None:
-        members["confined"] = "by filters" if block.filters else "strict" if block.threads.is_strict else "not"
+        members["confined"] = confined_by(block.threads)
         members.update(block.threads.as_json(inspection.names))
     return members
 

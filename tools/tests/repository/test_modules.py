@@ -20,13 +20,14 @@ TOOLS = os.path.join(TOP, "tools")
 DEAR = {"dataclasses", "inspect", "typing"}
 LATE = {"ast", "ctypes", "difflib", "glob", "hashlib", "importlib", "json", "pickle", "resource", "shlex", "signal",
         "subprocess", "syslog", "tempfile", "threading",
-        "scfhost.audit_page", "scfhost.processes", "scfhost.ptrace", "scftools.forms.lists.sandboxes",
+        "scfhost.audit_page", "scfhost.processes", "scfhost.ptrace", "scfhost.unit_profiles", "scftools.forms.lists.sandboxes",
         "scftools.forms.filter_loads", "scftools.lint.sarif", "scftools.logs.cores", "scftools.report.pages",
         "scftools.report.row_conditions", "scftools.report.stack_comparison"}
 
-# The packages of scftools in their order, and the commands that look at a process.
+# The packages of scftools in their order, and what looks at a process or a unit.
 ROOMS = "base model ask cli forms report lint logs commands".split()
-ASKING_HOST = ("scftools.commands.surface", "scftools.commands.why")
+ASKING_HOST = ("scftools.commands.surface", "scftools.commands.why", "scftools.forms.operands",
+               "scftools.forms.profile_inputs")
 
 
 @functools.cache

@@ -1,0 +1,77 @@
+"""What a word of a command line names: a filter or a profile in any form, the filters of a process (`pid:N`), or the
+profile of a unit (`unit:NAME`). These two are never files: `./pid:1` is one."""
+from __future__ import annotations
+
+import types
+from collections.abc import Sequence
+
+from ..base import inputs, program
+from ..base.values import Any
+from ..model import tables
+from ..ask import client
+from . import filters, profile_inputs, refusals, runtimes
+from .filters import Filter
+from .profile_inputs import PROCESS, UNIT, ProfileInput
+from .stacks import Inspection
+
+
+def is_process(word: str) -> bool:
+    return word.startswith(PROCESS)
+
+
+def process_of(word: str, is_forced: bool = False, has_force: bool = False, is_json: bool = False) -> Inspection:
+    """The stacks of the process that `pid:N` names, each with its threads. Ends the tool where they can't be read."""
+    from scfhost import processes  # pylint: disable=import-outside-toplevel
+
+    kernel, number = processes.Kernel(), processes.number_in(word.removeprefix(PROCESS))
+    return processes.read_or_end(lambda: processes.look_at_process(
+        kernel, processes.process_of(kernel, number), is_forced=is_forced), has_force, is_json)
+
+
+def read(word: str, options: Any = None) -> Filter | ProfileInput | Inspection:
+    """What a word names, by its beginning and else by the contents of the file. `options` say how a profile is read
+    (`runtime`, `caps`, `machine`, `strict`) and whether threads are stopped by force (`force`), as far as the command
+    has that."""
+    if is_process(word):
+        return process_of(word, getattr(options, "force", False), hasattr(options, "force"))
+    data = profile_inputs.read_text(word)
+    if not word.startswith(UNIT) and not profile_inputs.looks_like_profile(data):
+        return filters.filter_in(word, data)
+    given = {"runtime": None, "caps": None, "machine": None, "strict": False, **(vars(options) if options else {})}
+    return runtimes.input_in(data, types.SimpleNamespace(**{**given, "profile": word}), given["strict"])
+
+
+def read_stacks(words: Sequence[str], options: Any = None, compiles: bool = False) -> list[Filter] | Inspection:
+    """The stack that words name, oldest filter first; or the stacks of the one process. On request a profile stands for
+    the filter that scf compiles of it."""
+    if len(words) == 1 and is_process(words[0]):
+        return read(words[0], options)  # type: ignore
+    if any(map(is_process, words)):
+        raise program.ToolError("a process stands alone, since its filters are a whole stack")
+    return filters.read_stack(words, (lambda word: _filter_of(word, options)) if compiles else filters.read_filter)
+
+
+def read_stack(words: Sequence[str], options: Any = None, compiles: bool = False) -> list[Filter]:
+    """The stack that words name; of a process the one that all of its threads have."""
+    given = read_stacks(words, options, compiles)
+    if isinstance(given, list):
+        return given
+    if len(given.stacks) > 1:
+        raise program.ToolError(f"the threads of process {next(iter(given.names))} have different filters: `scf "
+                                "filters-of` takes those of each", program.UNKNOWN)
+    return given.stacks[0].named
+
+
+def _filter_of(word: str, options: Any) -> Filter:
+    given = read(word, options)
+    return compiled(word, given) if isinstance(given, ProfileInput) else given  # type: ignore
+
+
+def compiled(word: str, profile: ProfileInput) -> Filter:
+    """The filter that scf compiles of a profile; ends the tool where it refuses to."""
+    judged = profile.judged(tables.read_table(None), False)
+    try:
+        return Filter(word, client.compile_profile(profile.data, judged))
+    except client.Refusal as why:
+        sentences = refusals.sentences(why.fault, profile.data, judged, profile.origins) if why.fault else ()
+        raise program.ToolError(" ".join([f"{inputs.label(word)}: {why.line}.", *sentences]), why.status) from why

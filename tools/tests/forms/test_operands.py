@@ -1,0 +1,84 @@
+"""What a word of a command line names: a file, the filters of a process, or a unit's profile."""
+import os
+from unittest import mock
+
+from support.common import TABLE, Case, filter_of, profile_of
+from support.confined import NEWEST, OLDEST, Confined, here
+from scftools.base import program
+from scftools.forms import filters, operands, profile_inputs
+
+# What `systemctl show` prints of a unit that denies ptrace, and of one that denies memory that can be executed on
+# x86-64 alone.
+SHOWN = "Id=box.service\nLoadState=loaded\nSystemCallFilter=~ptrace:EPERM\nSystemCallErrorNumber=1\nSystemCallLog=~\n"
+
+
+class Files(Case):
+    def test_the_contents_of_a_file_say_what_it_is(self):
+        for name, data, kind in (("a", filter_of([0]), filters.Filter), ("b", b"ret #0x7fff0000\n", filters.Filter),
+                                 ("c", profile_of("read"), profile_inputs.ProfileInput),
+                                 ("d", b"2\nallowlist\nread\n", profile_inputs.ProfileInput),
+                                 ("pid:1", filter_of([0]), filters.Filter),
+                                 ("unit:a", profile_of("read"), profile_inputs.ProfileInput)):
+            with self.subTest(name), mock.patch.object(program, "say"):
+                self.assertIs(type(operands.read(self.file(name, data))), kind)
+
+    def test_a_profile_stands_for_its_filter_where_that_is_wanted(self):
+        profile, filter_ = self.file("p.json", profile_of("read")), self.file("f.bpf", filter_of([0]))
+        of_profile, of_file = operands.read_stacks([profile, filter_], compiles=True)
+        self.assertEqual((of_profile.name, of_file.data), (profile, filter_of([0])))
+        made = self.file("made.bpf", of_profile.data)
+        self.assertEqual(self.run_tool("compare", "--table", TABLE, made, profile)[0], 0)
+        with self.assertRaises(program.ToolError):
+            operands.read_stacks([profile])
+
+    def test_what_is_refused(self):
+        filter_, profile = self.file("f.bpf", filter_of([0])), self.file("p.json", profile_of("read"))
+        no_unit = "isn't the name of a unit"
+        for words, says in ((["surface", "pid:x"], "'x' isn't a process ID"), (["surface", "pid:"], "'' isn't a"),
+                            (["surface", "pid:0"], "'0' isn't a process"),
+                            (["surface", "pid:1", filter_], "stands alone"), (["lint", "unit:"], no_unit),
+                            (["lint", "pid:1"], "scf profile-of pid:1"), (["surface", "unit:*"], no_unit),
+                            (["why", "type=1326", profile, "pid:"], "isn't a process")):
+            with self.subTest(words):
+                status, out, err = self.run_tool(*words)
+                self.assertEqual((status, out), (2, ""))
+                self.assertIn(says, err)
+
+
+class Processes(Confined):
+    @here
+    def test_the_stacks_of_a_process(self):
+        child = self.child([OLDEST, NEWEST], [])
+        inspection = operands.read(f"pid:{child.pid}")
+        self.assertEqual([(stack.filters, stack.threads) for stack in inspection.stacks],
+                         [((OLDEST, NEWEST), {child.pid: child.threads[:1]}), ((), {child.pid: child.threads[1:]})])
+        named = self.run_tool("surface", f"pid:{child.pid}")
+        self.assertEqual(named, self.run_tool("surface", "--pid", str(child.pid)))
+        self.assertEqual(named[0], 1)
+        self.file(f"pid:{child.pid}", OLDEST)
+        self.assertEqual(self.run_tool("surface", f"./pid:{child.pid}"),
+                         self.run_tool("surface", self.file("f", OLDEST)))
+
+    @here
+    def test_the_only_stack_of_a_process(self):
+        child, of_two = self.child([OLDEST]), self.child([OLDEST], [NEWEST])
+        self.assertEqual([item.data for item in operands.read_stack([f"pid:{child.pid}"])], [OLDEST])
+        with self.assertRaises(program.ToolError) as raised:
+            operands.read_stack([f"pid:{of_two.pid}"])
+        self.assertEqual(raised.exception.status, program.UNKNOWN)
+
+
+class Units(Case):
+    def setUp(self):
+        super().setUp()
+        os.chmod(self.file("bin/systemctl", f"#!/bin/sh\ncat <<'END'\n{SHOWN}END\n"), 0o755)
+        self.env = {**os.environ, "PATH": f"{self.folder}/bin:{os.environ['PATH']}"}
+
+    def test_a_unit_stands_where_a_profile_does(self):
+        for words, says in ((["ask", "--nr", "ptrace", "unit:box.service"], "ERRNO 1 entry 0\n"),
+                            (["lint", "unit:box.service"], "# findings"),
+                            (["surface", "unit:box.service"], "denied 1")):
+            with self.subTest(words):
+                status, out, _ = self.run_tool(*words, env=self.env)
+                self.assertEqual(status, 0)
+                self.assertIn(says, out)
