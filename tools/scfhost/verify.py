@@ -15,10 +15,9 @@ from scftools.forms import engines, filters, runtimes
 from scftools.forms.filters import Filter
 from scftools.forms.profile_inputs import ProfileInput
 from scftools.forms.stacks import Inspection, Stack
-from scftools.report import compare, compare_output, stack_comparison
+from scftools.report import compare, compare_output
 from scftools.report.blocks import OF_ALL, blocks_of, of_threads
-from scftools.report.compare import Comparison
-from scftools.report.stack_comparison import StackComparison
+from scftools.report.compare import Comparison, StackComparison
 from .configurations import ContainerError
 
 # What is compared with if nothing is configured: every syscall is allowed.
@@ -165,10 +164,10 @@ class SavedRequest:
 
     def notes(self, block: Block) -> Iterator[str]:
         """What is added to scf's lines."""
-        return stack_comparison.added(block.comparison, block.report, block.scope)
+        return compare_output.comparison_notes(block.comparison, block.report, block.scope)
 
     def as_json(self, block: Block) -> dict[str, object]:
-        return stack_comparison.stack_comparison_json(block.comparison, block.report, block.scope, block.status)
+        return compare_output.comparison_json(block.comparison, block.report, block.scope, block.status)
 
 
 def blocks(inspection: Inspection, request: Request | SavedRequest) -> list[Block]:

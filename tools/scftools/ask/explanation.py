@@ -8,10 +8,9 @@ from collections.abc import Iterator, Sequence
 
 from ..base import output, program
 from ..model import architectures, tables
-from ..model.answers import DELEGATED, X86_64, Answer
+from ..model.answers import X86_64, Answer
 from ..model.calls import Call
 from ..model.tables import Table, Tables
-from . import verdicts
 from .verdicts import Fault, Report
 
 
@@ -72,33 +71,6 @@ def explain_call(call: Call, table: Table, is_native: bool | None = None) -> Ite
     if is_native is False and not call.is_native:
         what = "other architectures" if call.architecture != X86_64 else "numbers from 0x40000000 on"
         yield f"--native leaves out {what}"
-
-
-def explain_differing(verdict: verdicts.Verdict, table: Table, is_native: bool, count: int) -> Iterator[str]:
-    """The syscall that differs, and what both answers do; for `more` and `less` also both dispositions."""
-    if verdict.call is None:
-        return
-    yield from explain_call(verdict.call, table, is_native)
-    if verdict.filters:
-        yield f"{'the filters answer' if count > 1 else 'the filter answers'} {verdict.filters.describe()}"
-    if verdict.profile:
-        yield f"the profile answers {verdict.profile.describe()}"
-    if verdict.word != verdicts.DIFFERS and verdict.filters and verdict.profile:
-        filters, profile = (answer.disposition + " to a supervisor or tracer" * (answer.disposition == DELEGATED)
-                            for answer in (verdict.filters, verdict.profile))
-        yield f"the syscall is {filters} by the filter{'s' * (count > 1)}, and {profile} by the profile"
-
-
-def explain_verdict(report: Report, table: Table, is_native: bool, count: int) -> Iterator[str]:
-    """The explanation of a verdict on `count` filters, except for what was left out of the profile."""
-    verdict = report.verdict
-    if verdict is None:
-        return
-    if verdict.fails or verdict.word == verdicts.UNDETERMINED:
-        yield from explain_differing(verdict, table, is_native, count)
-    elif not verdict.holds:
-        when, *what_to_do = what_a_row_says(report.lines[0])
-        yield from (when, *([MORE_SPLITS] if verdict.word == verdicts.UNDECIDED else what_to_do))
 
 
 def explain_skipped(report: Report, judged: Tables, default_lets_through: bool) -> Iterator[str]:

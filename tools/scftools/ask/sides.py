@@ -6,11 +6,10 @@ import itertools
 from collections.abc import Sequence
 
 from ..base import program
-from ..base.values import replace
 from ..model import bundles
 from ..model.architectures import JUDGED
 from ..model.bpf import looks_at_pointer
-from ..model.tables import Tables
+from ..model.tables import Table, Tables
 from . import client, regions, verdicts
 from .client import Refusal
 from .differences import EVERY_RECORD, Differences, span_of
@@ -32,6 +31,11 @@ class Sides:
     stacks: Sequence[Sequence[bytes]]
     # what scf calls the second side
     beside = "profile"
+
+    @property
+    def named(self) -> dict[str, Table]:
+        """The tables of the architectures whose syscalls are compared by name, by their OCI names."""
+        return self.tables.of
 
     def words(self, judged: Tables) -> list[str]:
         """The options by which scf takes both sides with these tables."""
@@ -94,8 +98,7 @@ class Sides:
             if results[-1][1].verdict is None:
                 return results[-1]
         status, first = min(results, key=lambda result: result[1].verdict.order)
-        calls = tuple(call for _, report in results for call in report.calls)
-        return status, replace(first, lines=(first.lines[0], *(call.line for call in calls)), calls=calls)
+        return status, Report.by_call(first.verdict, [call for _, report in results for call in report.calls])
 
     # What follows is told by the differences; scf is asked where these don't tell.
 
@@ -103,26 +106,26 @@ class Sides:
         """The verdict over a scope, without an example if it is call by call; None if the differences don't tell."""
         if scope != CALLS:
             return self.differences.verdict(relation, EVERY_RECORD if scope == ALL else map(span_of, self.tables.of))
-        calls = [self.differences.calls(name, table, relation) for name, table in self.tables.of.items()]
+        calls = [self.differences.calls(name, table, relation) for name, table in self.named.items()]
         return None if None in calls else Verdict(FAILING_WORDS[relation] if any(calls) else relation)
 
     def verdict(self, scope: str, relation: str) -> Verdict | None:
         """The verdict over a scope."""
         return self.known_verdict(scope, relation) or self.run(scope, relation)[1].verdict
 
-    def calls_of(self, name: str) -> list[NamedCall]:
+    def calls_of(self, name: str, relation: str | None = None) -> list[NamedCall]:
         """The syscalls in the table of an architecture of which the relation isn't proved, by scf's lines. Raises
         Refusal."""
         has_numbers = bool(self.tables.of[name].numbers())
-        return [*checked(*self.asked(SCOPES[CALLS], self.relation, name), True).calls] if has_numbers else []
+        return [*checked(*self.asked(SCOPES[CALLS], relation or self.relation, name), True).calls] if has_numbers else []
 
-    def of_calls(self) -> list[NamedCall]:
+    def of_calls(self, relation: str | None = None) -> list[NamedCall]:
         """The syscalls in the tables of all architectures of which the relation isn't proved. Raises Refusal."""
         calls: list[NamedCall] = []
-        for name, table in self.tables.of.items():
-            known = self.differences.calls(name, table, self.relation)
+        for name, table in self.named.items():
+            known = self.differences.calls(name, table, relation or self.relation)
             if known is None:
-                known = self.calls_of(name)
+                known = self.calls_of(name, relation)
                 self.check(Report((), calls=tuple(known)))
             calls += known
         return calls

@@ -171,6 +171,12 @@ class Report:
         return cls((verdict.word, verdict.call.line, f"filter {verdict.filters.line}",
                     f"{beside} {verdict.profile.line}"), verdict)
 
+    @classmethod
+    def by_call(cls, verdict: Verdict, calls: Sequence[NamedCall]) -> Report:
+        """The report on syscalls one by one, of whose verdicts this one speaks for all."""
+        whole = cls.of(replace(verdict, call=None, filters=None, profile=None))
+        return replace(whole, lines=(*whole.lines, *(call.line for call in calls)), calls=tuple(calls))
+
     @property
     def printed(self) -> list[str]:
         """scf's lines, where a name with newlines in it is one line."""

@@ -1,46 +1,45 @@
-"""Says whether filters answer every syscall as a profile says, and if not, which differ and why.
+"""Says whether filters or a profile answer every syscall as wanted, and if not, which differ and why.
 
     scf compare [--native|--all|--calls] [--no-more|--no-less|--disposition] [--limit N]
                 [--splits N] [--strict] [--runtime runc|crun|docker|podman|sandbox]
-                [--table FILE] [--caps LIST] [--machine NAME] [--verbose] [--json] [--html FILE]
-                [--also PROFILE ..] FILTER.. PROFILE
-    scf compare [--native|--all|--calls] [--no-more|--no-less|--disposition] [--limit N]
-                [--splits N] [--table FILE] [--json] FILTER.. --beside FILTER..
+                [--table FILE] [--caps LIST] [--machine NAME] [--force] [--verbose] [--json]
+                [--html FILE] [--also PROFILE ..] ACTUAL.. WANTED
+    scf compare [OPTION ..] ACTUAL.. --beside FILTER..
 
-FILTER is a filter as `scf check` takes it; several form a stack, oldest first. PROFILE is a resolved
-OCI seccomp profile, or another one as `scf ask` takes it. Each may be a file or a pipe, and one of them `-` for
-standard input. The first lines are scf's; the lines after them are marked by `# `. If the filters and the profile
-differ, these show the syscall, the profile's entry that decides it and which of the entry's conditions it meets, and
-the last tests on its path through the filter, at most 12, each with the value that was loaded and the branch that was
-taken; then each syscall in the tables that differs, as with --calls, with its architecture before it if that isn't
-x86-64. With --json one object is printed instead, which says the same; --html also writes it as a page without scripts,
-which replaces FILE at once.
+The last word is WANTED, and all before it are ACTUAL. Each is filters or a profile: a filter as `scf check` takes it,
+several of which form a stack, oldest first; pid:N, the filters of a process; a resolved OCI seccomp profile, or another
+one as `scf ask` takes it; or unit:NAME, the profile of a unit. One file may be `-` for standard input. A WANTED of
+several filters stands behind --beside: an old release beside a new one, a filter made by hand beside a generated one.
 
-The syscalls of each architecture that the profile names are compared, as far as scf has a table of it
-(`scf call-table -h` names those). A profile without a list is for x86-64. A runtime kills a program that makes a
-syscall of another ABI of the machine, such as i386 or x32 on x86-64, that the profile doesn't name: the filters must
-deny all of these, by whatever answer, or they differ (with --no-more, allow more). --also gives another profile of the
-same unit, for other architectures, and all are judged. --native compares x86-64's syscalls alone, whatever the profile
-names, and --calls each syscall that a table names by itself. --all compares each possible record, also for
-architectures and numbers that no kernel has. If it finds a difference on an architecture that the profile names and scf
-has no table of, the first line is `undetermined: the profile is for this architecture, too`. --table FILE takes the
-place of x86-64's table.
+The first lines are scf's; the lines after them are marked by `# `. If the sides differ, these show the syscall, the
+entry of a profile that decides it and which of the entry's conditions it meets, and the last tests on its path through
+a filter, at most 12, each with the value that was loaded and the branch that was taken; then each syscall in the tables
+that differs, as with --calls, with its architecture before it if that isn't x86-64. With --json one object is printed
+instead, which says the same; --html also writes it as a page without scripts, which replaces FILE at once. Of a process
+each distinct stack of its threads has a block; a thread without a filter is `unconfined`.
+
+Beside a profile, the syscalls of each architecture that it names are compared, as far as scf has a table of it (`scf
+call-table -h` names those); of two profiles, those of either. A profile without a list is for x86-64. A runtime kills a
+program that makes a syscall of another ABI of the machine, such as i386 or x32 on x86-64, that the profile doesn't
+name: the filters must deny all of these, by whatever answer, or they differ (with --no-more, allow more). --also gives
+another profile of the same unit, for other architectures, and all are judged. --native compares x86-64's syscalls
+alone, whatever the profile names, and --calls each syscall that a table names by itself. --all compares each possible
+record, also for architectures and numbers that no kernel has, as filters beside filters are compared. If it finds a
+difference on an architecture that the profile names and scf has no table of, the first line is `undetermined: the
+profile is for this architecture, too`. --table FILE takes the place of x86-64's table.
 
 Without --limit all comparisons together have 6 seconds of CPU time. What isn't decided by then is `unfinished`. What
 tests leave `undecided` takes more splits: --splits N.
 
 KILL_PROCESS, KILL_THREAD, TRAP and ERRNO deny a syscall, USER_NOTIF and TRACE delegate it to a supervisor or tracer,
-LOG and ALLOW allow it. Denied < delegated < allowed: --no-more asks whether the filters are nowhere more permissive
-than the profile, --no-less whether they are nowhere stricter, --disposition whether both sides deny, delegate and
-allow the same, whatever the errno or other data. Without any, if they differ but are nowhere more permissive, the first
-added line says so.
+LOG and ALLOW allow it. Denied < delegated < allowed: --no-more asks whether ACTUAL is nowhere more permissive than
+WANTED, --no-less whether it is nowhere stricter, --disposition whether both sides deny, delegate and allow the same,
+whatever the errno or other data. Without any, if they differ but ACTUAL is nowhere more permissive, the first added
+line says so.
 
-With --runtime the profile is read as that runtime reads it (RUNTIMES.md). runc's filters also fail syscalls whose
-numbers are above all that the profile names with ENOSYS, which no profile says: if these do so at the first of them,
-all are expected to.
-
-With --beside the filters are compared with other filters, a stack too, over each possible record unless --native: an
-old release beside a new one, a filter made by hand beside a generated one. The added lines show the tests of both.
+With --runtime a profile is read as that runtime reads it (RUNTIMES.md). runc's filters also fail syscalls whose numbers
+are above all that the profile names with ENOSYS, which no profile says: if these do so at the first of them, all are
+expected to.
 
 Without files scf answers a bundle on standard input (see `scf bundle` and scf(1)), and nothing is added to its lines.
 Then all records are compared unless --native or --calls, or --architectures, which takes the tables in the bundle.
@@ -59,71 +58,99 @@ from ..base import output, program
 from ..model import profiles, tables
 from ..ask import verdicts
 from ..cli import words
-from ..forms import filters, runtimes
-from ..report import compare, compare_output
+from ..forms import operands, runtimes
+from ..forms.filters import Filter
+from ..forms.profile_inputs import ProfileInput
+from ..report import blocks, compare
+from ..report.compare_output import Judgement, comparison_notes
+
+ACTUAL = f"{words.FILTER_HELP}; of several the oldest first; or a profile, pid:N or unit:NAME; - is standard input"
 
 
 def read_words():
     parser = words.Parser(__doc__, command="compare")
-    parser.scope("x86-64 syscalls alone, whatever architectures the profile names",
-                 "all syscalls, also those of other ABIs [default with --beside]")
-    parser.relation(of_disposition=words.OF_DISPOSITION)
-    parser.add("--limit", "--splits", "--strict", "--table", "--verbose", "--caps", "--machine", "--json", "--html")
+    parser.scope("x86-64 syscalls alone, whatever architectures a profile names",
+                 "all syscalls, also those of other ABIs [default without a profile]")
+    parser.relation("only check that ACTUAL is nowhere {} than WANTED", words.OF_DISPOSITION)
+    parser.add("--limit", "--splits", "--strict", "--table", "--verbose", "--caps", "--machine", "--force", "--json",
+               "--html")
     parser.add("--architectures", "--reading", "--total-limit", "--nr-from", "--nr-to")
     runtimes.add_option(parser, is_sandboxes=True)
     parser.add_argument("--beside", metavar="FILTER", nargs="*",
-                        help="compare with these filters, oldest first, and not with a profile")
-    parser.add("--also", "filters")
+                        help="these filters are WANTED, oldest first, and all others ACTUAL")
+    parser.add("--also")
+    parser.add("filters", metavar="ACTUAL", help=ACTUAL)
     if not any(word.partition("=")[0] == "--beside" for word in sys.argv):
-        parser.add_argument("profile", metavar="PROFILE",
-                            help="a resolved profile, or a config.json; - is standard input; none with --beside")
+        parser.add_argument("profile", metavar="WANTED", help="a profile or a filter, pid:N or unit:NAME; - is "
+                                                              "standard input")
     options = parser.parse_args()
     if options.beside == []:
         parser.error("argument --beside: expected at least one argument")
-    for name, value in (("--caps", options.caps), ("--verbose", options.verbose), ("--html", options.html),
-                        ("--strict", options.strict), ("--runtime", options.runtime),
-                        ("--machine", options.machine), ("--also", options.also)):
-        if options.beside is not None and value:
-            parser.error(f"{name} speaks of a profile, and --beside has none")
     if options.also and options.scope in (verdicts.NATIVE_SCOPE, verdicts.ALL):
         parser.error("--also is for other architectures' profiles, and --native and --all take one alone")
+    if options.force and not any(map(operands.is_process, options.filters)):
+        parser.error("--force needs a process")
+    if options.html and any(map(operands.is_process, options.filters)):
+        parser.error("--html shows one comparison, and a process may have several stacks")
     others = [options.profile, *options.also] if options.beside is None else options.beside
     parser.one_standard_input([*options.filters, *others, options.table])
-    return options
+    runtimes.check_words(options)
+    return parser, options
 
 
-def write_page(options, comparison, report, scope):
+def actual_of(options):
+    """What is judged: filters, a process or a profile."""
+    if len(options.filters) > 1:
+        return operands.read_stacks(options.filters, options)
+    given = operands.read(options.filters[0], options)
+    return [given] if isinstance(given, Filter) else given
+
+
+def wanted_of(options):
+    """What judges it: filters, or the profiles of a unit."""
+    if options.beside is not None or operands.is_process(options.profile):
+        return [operands.read_stack(options.beside or [options.profile])]
+    given = operands.read(options.profile, options)
+    if isinstance(given, Filter):
+        return [[given]]
+    return [part for profile in (given, *(operands.read(name, options) for name in options.also))
+            for part in profile.parts]
+
+
+def judge(side, wanted, options, table):
+    """The judgement of one side by those that are wanted."""
+    elsewhere = profiles.elsewhere_of([each.data for each in wanted if isinstance(each, ProfileInput)]) or [()]
+    return Judgement.of([
+        compare.pair_of(side, each, table, options.relation, options.scope == verdicts.NATIVE_SCOPE, elsewhere=names)
+        for each, names in zip(wanted, elsewhere)], options.scope)
+
+
+def write_page(options, judgement):
     """Writes the page of --html."""
     import shlex  # pylint: disable=import-outside-toplevel
 
     from ..report import pages  # pylint: disable=import-outside-toplevel
 
-    added = [*compare_output.comparison_notes(comparison, report, scope)]
+    comparison, report = judgement.comparison, judgement.comparison.printed(judgement.report)
     words_of_record = [word for at, word in enumerate(sys.argv[1:]) if word not in ("--json", "--html")
                        and sys.argv[at] != "--html"]
-    page = pages.comparison_page(comparison, report, added, shlex.join([program.name(), *words_of_record]))
+    page = pages.comparison_page(comparison, report, [*comparison_notes(comparison, judgement.report, judgement.scope)],
+                                 shlex.join([program.name(), *words_of_record]))
     output.replace_file(options.html, page)
 
 
 def main():
-    options = read_words()
-    if options.beside is not None:
-        from ..report import stack_comparison  # pylint: disable=import-outside-toplevel
+    parser, options = read_words()
+    actual, wanted, table = actual_of(options), wanted_of(options), tables.read_table(options.table)
+    if not any(isinstance(side, ProfileInput) for side in (actual, *wanted)):
+        for name in ("--caps", "--verbose", "--strict", "--runtime", "--machine", "--also"):
+            if getattr(options, name[2:]):
+                parser.error(f"{name} speaks of a profile, and no side is one")
 
-        return stack_comparison.tell(options)
-    stack, unit = filters.read_stack(options.filters), runtimes.unit_of_options(options)
-    table = tables.read_table(options.table)
-    comparison, status, report = compare.compare_unit([
-        compare.Comparison(stack, given.data, table, options.relation, given.origins, given.stub,
-                           is_native=options.scope == verdicts.NATIVE_SCOPE, elsewhere=elsewhere)
-        for given, elsewhere in zip(unit, profiles.elsewhere_of([given.data for given in unit]))], options.scope)
-    scope = options.scope or comparison.scope
-    report = verdicts.most_telling(report, comparison.table, comparison.of_calls)
-    if options.html is not None:
-        write_page(options, comparison, report, scope)
-    if options.json:
-        output.put_json(compare_output.comparison_json(comparison, report, scope, status))
-        return status
-    output.put_explained(report.printed if options.verbose else report.brief,
-                         compare_output.comparison_notes(comparison, report, scope))
-    return status
+    def block_of(side):
+        judgement = judge(side, wanted, options, table)
+        if options.html is not None:
+            write_page(options, judgement)
+        return judgement.block(options.json, options.verbose)
+
+    return blocks.put_blocks(actual, block_of, options.json)

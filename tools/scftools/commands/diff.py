@@ -1,34 +1,143 @@
-"""Says whether two filters answer every syscall alike, and if not, which differ.
+"""Says whether an old and a new filter or profile answer every syscall alike, and if not, which differ.
 
-    scf diff [--native|--calls] [--no-more|--no-less|--disposition] [--limit N] [--splits N]
-             [--table FILE] [--json] OLD NEW
+    scf diff [--native|--calls] [--no-more|--no-less|--disposition]
+             [--runtime runc|crun|docker|podman|sandbox] [--engine docker|docker-20.10|podman]
+             [--caps LIST] [--kernel X.Y] [--machine NAME] [--arch-map native|all]
+             [--ignore MEMBER ..] [--keep-first] [--limit N] [--splits N] [--table FILE] [--force]
+             [--json] OLD NEW
 
-Each is a filter as `scf check` takes it, and one of them may be `-` for standard input; `scf compare NEW.. --beside
-OLD..` takes several filters on each side. Every possible record is compared: the verdict is scf's, and holds for all of
-them. If they differ, the lines show a syscall and what OLD (`old`) and NEW (`new`) answer, and those marked by `# ` the
-last tests on the path of each, and the syscalls in the table that differ. NEW is judged by OLD, as by
-`scf compare-profiles`: --no-more asks whether NEW is nowhere more permissive than OLD, --no-less whether it is nowhere
-stricter.
+OLD and NEW are each a filter as `scf check` takes it, a profile as `scf compare` takes it, pid:N, which stands for the
+filters of a process, or unit:NAME, the profile of a unit; one of them may be `-` for standard input. NEW is judged by
+OLD: --no-more asks whether NEW is nowhere more permissive than OLD, --no-less whether it is nowhere stricter.
+
+Beside a filter each possible record is compared, or if the other side is a profile the syscalls of the architectures
+that it names. If they differ, the lines show a syscall and what OLD (`old`) and NEW (`new`) answer, and those marked by
+`# ` what gives each answer (the last tests on the path of a filter, the entry of a profile), and the syscalls in the
+table that differ.
+
+Two profiles are compared syscall by syscall. First comes the verdict over the syscalls of each architecture that a
+profile names and scf has a table of, or with --native of x86-64's alone, `same` or `differs`, and the number of changes
+of each kind; a profile kills for the syscalls of an architecture that it doesn't name. Then the changes: those where
+NEW is more permissive (`more`), those where it is stricter (`less`; some are both), and those that only get another
+answer (`otherwise`). Each has a line: the architecture if it isn't x86-64, the number, the names, the kind, the
+arguments of an example, and for both profiles the answer to it and what gives it, as `scf ask` says. Lines marked by
+`# ` add the conditions that the example meets, and at the end the entries.
+
+With --engine, --caps, --kernel, --machine, --arch-map, --ignore or --keep-first profiles are an engine's own, and are
+resolved for one container as by `scf resolve-profile`. With --runtime they are read as that runtime reads them, and the
+numbers that runc answers with ENOSYS, above all that a profile names, count too; they are called `stub`. What is left
+out of one profile alone goes to standard error. Entries are always numbered by their index in OLD and NEW.
 
 Exit status: 0 same, no more or no less; 1 differs, more or less; 4 undecided or unfinished.
 
 Examples:
 
     scf diff old.bpf new.bpf
-    scf diff --no-more old.bpf new.bpf
-    scf diff --json old.bpf new.bpf
+    scf diff --no-more old.json new.json
+    scf diff --runtime podman --json old.json new.json
 """
+from ..base import output, program
+from ..base.values import replace
+from ..model import profiles, tables
+from ..ask import verdicts
 from ..cli import words
-from ..report import stack_comparison
+from ..forms import engines, filters, operands, profile_inputs, runtimes
+from ..forms.profile_inputs import ProfileInput
+from ..report import blocks, changes, compare
+from ..report.compare_output import Judgement
+
+# The members of an object on two profiles that scf doesn't compare.
+OF_FAULT = "status", "relation", "verdict", "fault"
+OPERAND = "a filter or a profile, pid:N or unit:NAME; - is standard input"
 
 
-def main():
-    parser = words.Parser(__doc__)
-    parser.scope("only x86-64 syscalls")
+def read_words(doc):
+    parser = words.Parser(doc)
+    parser.scope("x86-64 syscalls alone, whatever architectures a profile names")
     parser.relation("only check that NEW is nowhere {} than OLD", words.OF_DISPOSITION)
-    parser.add("--limit", "--splits", "--table", "--json")
-    parser.add_argument("beside", metavar="OLD", nargs=1, help=f"{words.FILTER_HELP}; - is standard input")
-    parser.add_argument("filters", metavar="NEW", nargs=1, help="the filter that is judged by it")
+    runtimes.add_options(parser, is_sandboxes=True)
+    parser.add_argument("--keep-first", action="store_true",
+                        help="OLD and NEW are an engine's own: if two entries without conditions answer a syscall, "
+                             "keep the first")
+    parser.add("--machine", "--limit", "--splits", "--table", "--force", "--json")
+    parser.add_argument("old", metavar="OLD", help=OPERAND)
+    parser.add_argument("new", metavar="NEW", help="what is judged by it")
     options = parser.parse_args()
-    parser.one_standard_input([*options.filters, *options.beside, options.table])
-    return stack_comparison.tell(options, stack_comparison.Diff)
+    if options.runtime == profiles.SANDBOX and (options.keep_first or runtimes.is_engines(options)):
+        parser.error("--runtime sandbox reads no engine's profile")
+    if options.force and not operands.is_process(options.new):
+        parser.error("--force needs a process as NEW")
+    parser.one_standard_input([options.old, options.new, options.table])
+    options.is_made = options.runtime in runtimes.RUNTIMES or options.keep_first or runtimes.is_engines(options)
+    options.setting = runtimes.setting_of_words(options, parser)
+    return parser, options
+
+
+def resolved(data, path, options):
+    """The profile that an engine makes of its own, or as a runtime applies it, and what is left out of it."""
+    notes = []
+    try:
+        value = engines.parse_json(profile_inputs.plain(data, path))
+        if options.runtime is not None:
+            given = runtimes.applied(value, options.runtime, options.setting)
+            return given, [*engines.at_most(given.notes), *given.remarks]
+        profile, origins = engines.resolve(value, options.setting, notes.append, options.keep_first)
+        return profile_inputs.ProfileInput(engines.to_bytes(profile), origins), notes
+    except profiles.Refused as why:
+        raise program.ToolError(f"{path}: {why}") from why
+
+
+def side_of(path, options, are_profiles):
+    """What a word names, a process's filters, a filter or a profile; and what is left out of the profile."""
+    if operands.is_process(path) and not are_profiles:
+        return operands.read_stacks([path], options), []
+    data = profile_inputs.read_text(path, "engine's profile" if options.is_made else None)
+    is_profile = are_profiles or path.startswith(profile_inputs.UNIT) or profile_inputs.looks_like_profile(data)
+    if not is_profile:
+        return [filters.filter_in(path, data)], []
+    if options.is_made:
+        return resolved(data, path, options)
+    return profile_inputs.profile_in(data, path, is_runtimes=True).read_by(options.runtime), []
+
+
+def tell_left_out(of_old, of_new):
+    """Says what is left out of one side alone."""
+    for side, notes, others in ((changes.OLD, of_old, set(of_new)), (changes.NEW, of_new, set(of_old))):
+        for note in notes:
+            if note not in others:
+                program.say(f"{side}: {note}")
+
+
+def tell_changes(judgement, is_json):
+    """Prints all changes between two profiles; the status."""
+    found = changes.changes_of(judgement.comparison, judgement.report)
+    if is_json:
+        output.put_json(changes.changes_json(found))
+    else:
+        output.put_lines(changes.change_lines(found))
+    return found.status
+
+
+def main(doc_of_profiles=None):
+    """Runs the command; given the manual of the one that takes profiles alone, that one."""
+    parser, options = read_words(doc_of_profiles or __doc__)
+    are_profiles = doc_of_profiles is not None
+    (old, of_old), (new, of_new) = (side_of(path, options, are_profiles) for path in (options.old, options.new))
+    tell_left_out(of_old, of_new)
+    old = old if isinstance(old, (list, ProfileInput)) else operands.the_stack(old)
+    table, is_native = tables.read_table(options.table), options.scope == verdicts.NATIVE_SCOPE
+    if options.is_made and not any(isinstance(side, ProfileInput) for side in (old, new)):
+        parser.error("neither OLD nor NEW is a profile, of which an option speaks")
+
+    def judge(side):
+        return Judgement.of([compare.pair_of(side, old, table, options.relation, is_native, is_diff=True)],
+                            options.scope)
+
+    if isinstance(old, ProfileInput) and isinstance(new, ProfileInput) and options.scope != verdicts.CALLS:
+        judgement = judge(new)
+        if judgement.report.verdict is not None:
+            return tell_changes(judgement, options.json)
+        block = judgement.block(options.json)
+        members = {name: value for name, value in block.members.items() if name in OF_FAULT}
+        return blocks.put_blocks([], lambda _: replace(block, members=members), options.json)
+    return blocks.put_blocks(new, lambda side: judge(side).block(options.json), options.json)

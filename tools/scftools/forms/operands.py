@@ -54,8 +54,11 @@ def read_stacks(words: Sequence[str], options: Any = None, compiles: bool = Fals
 def read_stack(words: Sequence[str], options: Any = None, compiles: bool = False) -> list[Filter]:
     """The stack that words name; of a process the one that all of its threads have."""
     given = read_stacks(words, options, compiles)
-    if isinstance(given, list):
-        return given
+    return given if isinstance(given, list) else the_stack(given)
+
+
+def the_stack(given: Inspection) -> list[Filter]:
+    """The stack that all threads of a process have."""
     if len(given.stacks) > 1:
         raise program.ToolError(f"the threads of process {next(iter(given.names))} have different filters: `scf "
                                 "filters-of` takes those of each", program.UNKNOWN)

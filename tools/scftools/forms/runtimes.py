@@ -410,9 +410,8 @@ def is_made(options: Any) -> bool:
     return options.runtime in RUNTIMES or options.caps is not None
 
 
-def text_of(options: Any) -> bytes:
-    """The text of the profile that a command line names; words that don't go together are refused. Of a text that is
-    too long scf says so, if it gets it."""
+def check_words(options: Any) -> None:
+    """Refuses words on a profile that don't go together."""
     runtime = RUNTIMES.get(options.runtime)
     if options.machine is not None and options.caps is None and (runtime is None or runtime.engine is None):
         raise program.ToolError("--machine goes with an engine's profile: give --caps, or --runtime docker or podman, "
@@ -422,6 +421,12 @@ def text_of(options: Any) -> bytes:
             f": `scf resolve-profile --runtime {runtime.name} --engine .. --caps ..` makes it"
         raise program.ToolError("--caps resolves an engine's profile, and --runtime "
                                 f"{options.runtime} takes a resolved one{how}")
+
+
+def text_of(options: Any) -> bytes:
+    """The text of the profile that a command line names; words that don't go together are refused. Of a text that is
+    too long scf says so, if it gets it."""
+    check_words(options)
     return profile_inputs.read_text(options.profile, "profile" if is_made(options) else None)
 
 
@@ -441,9 +446,3 @@ def input_in(data: bytes, options: Any, is_strict: bool | None = False) -> Profi
 def profile_of_options(options: Any) -> ProfileInput:
     """The profile that a command line names."""
     return input_in(text_of(options), options, options.strict)
-
-
-def unit_of_options(options: Any) -> list[ProfileInput]:
-    """All profiles that a command line names of a unit, each for its architectures."""
-    named = [types.SimpleNamespace(**{**vars(options), "profile": name}) for name in (options.profile, *options.also)]
-    return [part for given in map(profile_of_options, named) for part in given.parts]

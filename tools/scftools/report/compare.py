@@ -1,24 +1,33 @@
-"""Runs of `scf compare` on filters and a profile, over each scope."""
+"""Comparisons of two sides, each filters or a profile: what scf says over each scope, and how both sides are called."""
 from __future__ import annotations
 
 import functools
 from collections.abc import Sequence
 
-from ..base.values import dataclass, field, replace
+from ..base import program
+from ..base.values import Any, Pattern, dataclass, field, replace
 from ..model import architectures, bundles, entries, profiles, tables
 from ..model.answers import Answer
+from ..model.architectures import JUDGED, Architecture
 from ..model.calls import SKIPPED, Call
 from ..model.profiles import Origin, Profile
 from ..model.tables import Table, Tables
-from ..ask import other_abis, reasons, regions
-from ..ask.client import Refusal
-from ..ask.differences import beyond
+from ..ask import client, other_abis, reasons, regions, verdicts
+from ..ask.client import Fault, Refusal
+from ..ask.differences import EVERY_RECORD, Differences, beyond
 from ..ask.other_abis import AbiAccess
 from ..ask.reasons import Reason
 from ..ask.sides import Sides
-from ..ask.verdicts import (ALL, CALLS, FOR_OTHER_ABI, LISTED, NATIVE_SCOPE, NO_LESS, SAME, SCOPES, UNDETERMINED,
-                            UNFINISHED, NamedCall, Report, Verdict)
+from ..ask.verdicts import (ALL, CALLS, FOR_OTHER_ABI, LESS, LISTED, MORE, NATIVE_SCOPE, NO_LESS, NO_MORE, RELATIONS,
+                            SAME, SCOPES, UNDETERMINED, UNFINISHED, NamedCall, Report, Verdict, checked)
 from ..forms.filters import Filter
+from ..forms.profile_inputs import ProfileInput
+
+# Both answers, in scf's lines of a difference or in its line of a syscall; and the words that depend on which side is
+# judged, with those where it is the other one.
+ANSWERS = Pattern(r"(?:filter|profile) (\w+ \w+)([\n ])(?:profile|beside) (\w+ \w+)")
+TURNING = Pattern(r"(?m)(^| )(no more|no less|more|less)(?= args|$)")
+TURNED = {NO_MORE: NO_LESS, NO_LESS: NO_MORE, MORE: LESS, LESS: MORE}
 
 
 def default_of(profile: bytes) -> Answer | None:
@@ -27,8 +36,85 @@ def default_of(profile: bytes) -> Answer | None:
     return entries.default_of(top) if top is not None and "defaultAction" in top else None
 
 
+@dataclass(frozen=True)
+class Side:
+    """Filters, oldest first, or a profile, of a resolved one with where its entries come from."""
+
+    filters: Sequence[Filter] = ()
+    profile: bytes | None = None
+    origins: Sequence[Origin] | None = None
+
+    @property
+    def noun(self) -> str:
+        return "profile" if self.profile is not None else "filter" + "s" * (len(self.filters) > 1)
+
+
+class Pair(Sides):
+    """Two sides as they are shown. The relation and all verdicts are scf's, of the left side to the right one. The left
+    one is judged by the right one, or in a turned pair the right one; in a diff the new side is judged by the old
+    one."""
+
+    is_turned = is_diff = False
+    # scf's words for both sides
+    kinds = "filter", "profile"
+    sides: tuple[Side, Side]
+
+    @property
+    def names(self) -> tuple[str, str]:
+        """The words for both sides in lines and objects, the left one first."""
+        return self.kinds if not self.is_diff else ("old", "new") if self.is_turned else ("new", "old")
+
+    @property
+    def judging(self) -> int:
+        """Which side judges: 0 for the left one."""
+        return 0 if self.is_turned else 1
+
+    def in_order(self, left: Any, right: Any) -> tuple[Any, Any]:
+        """What belongs to both sides, in the order in which they are shown: the judged side is the first, and in a
+        diff the last."""
+        return (right, left) if self.is_turned != self.is_diff else (left, right)
+
+    def title(self, at: int) -> str:
+        """What a side is called in sentences."""
+        is_other = at == self.judging and (self.sides[0].profile is None) == (self.sides[1].profile is None)
+        kind = self.names[at] if self.is_diff else "other" if is_other else ""
+        return " ".join(filter(None, ["the", kind, self.sides[at].noun]))
+
+    def word(self, word: str) -> str:
+        """A relation or the word of a verdict, as it is of the judged side to the other one; or scf's word for that."""
+        return TURNED.get(word, word) if self.is_turned else word
+
+    def texts(self, lines: Sequence[str]) -> list[str]:
+        """Lines of scf, or of syscalls, as they are printed."""
+        if self.names == ("filter", self.beside) and not self.is_turned:
+            return list(lines)
+        (first, answer), (second, other) = self.in_order(*zip(self.names, (r"\1", r"\3")))
+        text = ANSWERS.sub(rf"{first} {answer}\2{second} {other}", "\n".join(lines))
+        return TURNING.sub(lambda match: match[1] + self.word(match[2]), text).split("\n")
+
+    def fault(self, fault: Fault) -> Fault:
+        """A fault of scf, as it is printed."""
+        return fault
+
+    def printed(self, report: Report) -> Report:
+        """A report with its lines as they are printed."""
+        lines = self.texts(report.lines) if report.fault is None else [self.fault(report.fault).line]
+        return replace(report, lines=tuple(lines))
+
+    def run_by_stub(self, scope: str | None = None) -> tuple[Any, int, Report]:
+        """The comparison, which a runtime's stub may change, and scf's status and report over a scope."""
+        return (self, *self.run(scope))
+
+    def named_calls(self) -> list[NamedCall] | None:
+        """The syscalls in the tables of which the relation isn't proved; None if scf refuses to say."""
+        try:
+            return self.of_calls()
+        except Refusal:
+            return None
+
+
 @dataclass
-class Comparison(Sides):
+class Comparison(Pair):
     """Filters, oldest first, a profile and x86-64's table; a relation; of a resolved profile the index of each entry in
     the user's, and for each architecture the least number of a record that runc answers with ENOSYS; whether x86-64
     alone is judged, whatever the profile names; the OCI name of the table's architecture, if that isn't x86-64; and the
@@ -43,6 +129,12 @@ class Comparison(Sides):
     is_native: bool = False
     architecture: str = architectures.NATIVE
     elsewhere: Sequence[str] = ()
+    is_turned: bool = False
+    is_diff: bool = False
+
+    @property
+    def sides(self) -> tuple[Side, Side]:  # type: ignore
+        return Side(self.filters), Side((), self.profile, self.origins)
 
     @property
     def tables(self) -> Tables:
@@ -76,8 +168,8 @@ class Comparison(Sides):
         return status, report
 
     def run_by_stub(self, scope: str | None = None) -> tuple[Comparison, int, Report]:
-        """The comparison, and scf's status and report: without runc's stub if that differs and the filters answer its
-        first number on no architecture as it does."""
+        """The same without runc's stub if that differs and the filters answer its first number on no architecture as it
+        does."""
         comparison, (status, report) = self, self.run_unchecked(scope)
         if self.stub and report.verdict is not None and not report.verdict.holds and \
                 not any(self.of_numbers(name, first, first).holds for name, first in self.stub.items()):
@@ -89,7 +181,13 @@ class Comparison(Sides):
     def run_unchecked(self, scope: str | None = None, relation: str | None = None) -> tuple[int, Report]:
         """The same without a second look at the record that is shown."""
         scope, relation = scope or self.scope, relation or self.relation
-        status, report = self.by_call(relation) if scope == CALLS else self.asked(SCOPES[scope], relation)
+        # (other ABIs are told by the differences alone, which also tell whether all holds)
+        known = self.known_verdict(scope, relation) if scope != ALL and self.abis and "splits" not in client.limits \
+            else None
+        if known is not None and known.holds:
+            status, report = known.status, Report.of(known)
+        else:
+            status, report = self.by_call(relation) if scope == CALLS else self.asked(SCOPES[scope], relation)
         if report.verdict is None:
             return status, report
         beside = left_out(self.profile, self.tables)
@@ -123,8 +221,7 @@ class Comparison(Sides):
             return report if worst is report.verdict else Report.of(worst)
         calls = [*report.calls, *(NamedCall.of(verdict, access.abi, access.names)
                                   for access, verdict in zip(self.accesses, others) if verdict.call is not None)]
-        whole = Report.of(replace(worst, call=None, filters=None, profile=None))
-        return replace(whole, lines=(*whole.lines, *(call.line for call in calls)), calls=tuple(calls))
+        return Report.by_call(worst, calls)
 
     def known_verdict(self, scope: str, relation: str) -> Verdict | None:
         known = super().known_verdict(scope, relation)
@@ -134,26 +231,31 @@ class Comparison(Sides):
         others = [] if known.fails else self.of_other_abis(scope, relation)
         return min((known, *others), key=lambda verdict: verdict.order)
 
-    def reason_of(self, call: Call) -> Reason:
+    def reason_of(self, at: int, call: Call) -> Reason:
         """The profile's reason for its answer to a syscall."""
         region = self.differences.of(call)
         return reasons.profile_reason(self.profile, self.tables, call.words()) if region is None else \
             reasons.region_reason(region.beside.line)
 
     @functools.cached_property
-    def accesses(self) -> list[AbiAccess]:
-        """The access of each other ABI of a machine whose own ABI the profile is for, which neither the profile nor
-        another one names: a runtime kills for its syscalls, by all numbers but -1, which skips one and which
-        libseccomp's filters leave to the default."""
-        judged, filters = self.tables.of, self.stacks[0]
+    def abis(self) -> list[Architecture]:
+        """The other ABIs of a machine whose own ABI the profile is for, which neither the profile nor another one
+        names: a runtime kills for their syscalls."""
+        judged = self.tables.of
         named = {*judged, *self.elsewhere, *profiles.not_compared_of(self.profile)}
-        abis = [abi for machine in judged for abi in other_abis.OF_MACHINES.get(machine, ()) if abi.oci not in named]
+        return [abi for machine in judged for abi in other_abis.OF_MACHINES.get(machine, ()) if abi.oci not in named]
+
+    @functools.cached_property
+    def accesses(self) -> list[AbiAccess]:
+        """The access of each of them, by all numbers but -1, which skips one and which libseccomp's filters leave to
+        the default."""
+        filters = self.stacks[0]
         try:
-            listed = self.differences.regions if abis else []
+            listed = self.differences.regions if self.abis else []
             listed = regions.regions_of_filters(filters) if listed is None else listed
-            return [other_abis.abi_access(filters, listed, abi, SKIPPED - 1) for abi in abis]
+            return [other_abis.abi_access(filters, listed, abi, SKIPPED - 1) for abi in self.abis]
         except Refusal:
-            return [AbiAccess(abi, Verdict(UNFINISHED)) for abi in abis]
+            return [AbiAccess(abi, Verdict(UNFINISHED)) for abi in self.abis]
 
     def asked_accesses(self, scope: str, relation: str | None = None) -> list[AbiAccess]:
         """Those that a relation over a scope asks about: whether a filter is stricter on them isn't asked, and nor are
@@ -166,16 +268,223 @@ class Comparison(Sides):
         return [access.verdict.of_relation(relation) for access in self.asked_accesses(scope, relation)]
 
 
-def compare_unit(comparisons: Sequence[Comparison], scope: str | None) -> tuple[Comparison, int, Report]:
-    """Of the comparisons of a stack with each profile of a unit the one that speaks for all, with scf's status and
-    report: that of a fault, else the first that fails, else the first that doesn't hold."""
-    results = [comparison.run_by_stub(scope) for comparison in comparisons]
-    return min(results, key=lambda result: () if result[2].verdict is None else result[2].verdict.order)
-
-
 def left_out(profile: bytes, judged: Tables) -> Report:
     """A report on what scf leaves out of a profile that it takes: names that no table has, and architectures without
     one."""
     facts = profiles.parse_profile(profile)
     return Report((), skipped=tuple(name for name in facts.names if not judged.has(name)) if facts is not None else (),
                   architectures=tuple(name for name in profiles.architectures_of(profile) if name not in judged.of))
+
+
+@dataclass(frozen=True)
+class StackComparison(Pair):
+    """Two stacks of filters, each oldest first, a table, and a relation."""
+
+    left: Sequence[Filter]
+    right: Sequence[Filter]
+    table: Table
+    relation: str = SAME
+    is_diff: bool = False
+
+    kinds, beside, scope = ("filter", bundles.BESIDE), bundles.BESIDE, ALL
+
+    @property
+    def sides(self) -> tuple[Side, Side]:  # type: ignore
+        return Side(self.left), Side(self.right)
+
+    @property
+    def tables(self) -> Tables:
+        return Tables({architectures.NATIVE: self.table})
+
+    @property
+    def stacks(self) -> list[list[bytes]]:
+        return [[bpf_filter.data for bpf_filter in side] for side in (self.left, self.right)]
+
+    @property
+    def found(self) -> Differences:
+        left, right = self.stacks
+        return Differences([], self.beside) if left == right else super().found
+
+    def words(self, judged: Tables) -> list[str]:
+        return ["--beside"]
+
+    def bundle(self, judged: Tables, is_by_call: bool = False) -> bytes:
+        return bundles.stacks_bundle(*self.stacks, self.table.data if is_by_call else None)
+
+    def run(self, scope: str | None = None, relation: str | None = None) -> tuple[int, Report]:
+        """scf's exit status and report, for this relation or the comparison's own. Two stacks of the same bytes need no
+        step: if scf takes them, each relation holds."""
+        scope, relation = scope or ALL, relation or self.relation
+        left, right = self.stacks
+        if left != right:
+            status, report = self.by_call(relation) if scope == CALLS else self.asked(SCOPES[scope], relation)
+            self.check(report)
+            return status, report
+        limits = [f"--{name}={text}" for name, text in {"limit": "0", **client.limits}.items()]
+        words = ["compare", "--beside", *SCOPES[scope], *RELATIONS[relation], *limits]
+        done = client.run_scf(words, self.bundle(self.tables, scope == CALLS))
+        report = verdicts.report(done.text)
+        return (done.status, report) if report.verdict is None else (program.SUCCESS, Report.of(Verdict(relation)))
+
+
+@dataclass(frozen=True)
+class ProfileComparison(Pair):
+    """Two profiles, of which scf has the left one as its filter where they aren't judged alike; x86-64's table, a
+    relation, and whether x86-64 alone is judged. All records are compared: of an architecture that neither names both
+    kill for each syscall."""
+
+    left: ProfileInput
+    right: ProfileInput
+    table: Table
+    relation: str = SAME
+    is_native: bool = False
+    is_turned: bool = False
+    is_diff: bool = False
+
+    kinds, beside = ("profile", bundles.BESIDE), bundles.BESIDE
+
+    @property
+    def sources(self) -> tuple[ProfileInput, ProfileInput]:
+        return self.left, self.right
+
+    @functools.cached_property
+    def judged(self) -> list[Tables]:
+        """The tables by which each is judged."""
+        return [source.judged(self.table, self.is_native) for source in self.sources]
+
+    @property
+    def sides(self) -> tuple[Side, Side]:  # type: ignore
+        left, right = (Side((), source.data, source.origins) for source in self.sources)
+        return left, right
+
+    @property
+    def scope(self) -> str:
+        return NATIVE_SCOPE if self.is_native else LISTED
+
+    @property
+    def tables(self) -> Tables:
+        return self.judged[1]
+
+    @functools.cached_property
+    def are_judged_alike(self) -> bool:
+        """Whether scf takes both with the same tables, stubs and reading."""
+        left, right = self.judged
+        return (left.words, left.parts) == (right.words, right.parts)
+
+    @functools.cached_property
+    def stacks(self) -> list[list[bytes]]:
+        """The left profile's filter, if scf needs it. Raises Refusal."""
+        return [] if self.are_judged_alike else [[client.compile_profile(self.left.data, self.judged[0])]]
+
+    def bundle(self, judged: Tables, is_by_call: bool = False) -> bytes:
+        return bundles.comparison_bundle(self.stacks[0], self.right.data, judged) if self.stacks else \
+            bundles.profiles_bundle(self.left.data, self.right.data, judged)
+
+    @property
+    def named(self) -> dict[str, Table]:
+        """The tables of the architectures that one of them is judged for: the other one kills for their syscalls."""
+        either = {name: table for side in self.judged for name, table in side.of.items()}
+        return {name: either[name] for name in JUDGED if name in either}
+
+    @property
+    def both(self) -> list[tuple[Architecture, Table]]:
+        """The architectures that both are judged for, with their tables."""
+        left, right = (side.of for side in self.judged)
+        return [(JUDGED[name], table) for name, table in left.items() if name in right]
+
+    @property
+    def alone(self) -> list[list[str]]:
+        """The OCI names of the architectures that only one side is judged for."""
+        both = {architecture.oci for architecture, _ in self.both}
+        return [[oci for oci in side.of if oci not in both] for side in self.judged]
+
+    @property
+    def left_out(self) -> list[Report]:
+        """What scf leaves out of each."""
+        return [left_out(source.data, judged) for source, judged in zip(self.sources, self.judged)]
+
+    def fault(self, fault: Fault) -> Fault:
+        return Fault.read(fault.line.replace(self.beside, "profile", 1)) or fault
+
+    def _found_verdict(self, relation: str) -> Verdict:
+        """The verdict over all records. Raises Refusal."""
+        known = self.found.verdict(relation, EVERY_RECORD)
+        if known is not None and "splits" not in client.limits:
+            return known
+        of_tables = checked(*self.asked([], relation)).verdict
+        return self.differences.unknown if of_tables.holds and self.alone[0] else of_tables
+
+    def known_verdict(self, scope: str, relation: str) -> Verdict | None:
+        return self.differences.verdict(relation, EVERY_RECORD) if scope != CALLS else \
+            super().known_verdict(scope, relation)
+
+    def calls_of(self, name: str, relation: str | None = None) -> list[NamedCall]:
+        if name in self.tables.of:
+            return super().calls_of(name, relation)
+        # scf compares by the right profile's tables
+        architecture, table = JUDGED[name], self.named[name]
+        return [NamedCall(architecture.marked(f"{number} {','.join(table.names_of(number))} {UNFINISHED}"), number,
+                          tuple(table.names_of(number)), Verdict(UNFINISHED), architecture)
+                for number in sorted(table.numbers())]
+
+    def run(self, scope: str | None = None, relation: str | None = None) -> tuple[int, Report]:
+        """The exit status and the report, for this relation or the comparison's own. A fault of the right profile is
+        called `beside` in both cases."""
+        stacks: list[list[bytes]] = []
+        try:
+            stacks, relation = self.stacks, relation or self.relation
+            report = Report.of(self._found_verdict(relation), self.beside)
+            if scope == CALLS:
+                calls = self.of_calls(relation)
+                worst = min((call.verdict for call in calls), key=lambda verdict: verdict.order, default=Verdict(relation))
+                report = Report.by_call(worst, calls)
+        except Refusal as why:
+            line = why.line.replace("profile", self.beside, 1) if stacks else why.line
+            if why.fault is None:
+                raise program.ToolError(f"scf ended with status {why.status} on {self.title(0)}") from why
+            return why.status, Report((line,), fault=Fault.read(line))
+        skipped, others = ([name for side in self.left_out for name in names(side)]
+                           for names in (lambda side: side.skipped, lambda side: side.architectures))
+        return report.verdict.status, replace(report, skipped=tuple(dict.fromkeys(skipped)),
+                                              architectures=tuple(dict.fromkeys(others)))
+
+    @functools.cached_property
+    def _lookups(self) -> dict[int, regions.Lookup]:
+        """The regions of a side, where the differences don't tell."""
+        return {}
+
+    def reason_of(self, at: int, call: Call) -> Reason:
+        """A profile's answer to a syscall and its reason: by the differences, by its own regions, or else by `ask`."""
+        region = self.differences.of(call)
+        if region is not None and (at == 1 or self.are_judged_alike):
+            return reasons.region_reason((region.beside if at else region).line)
+        source, judged = self.sources[at], self.judged[at]
+        if at not in self._lookups:
+            self._lookups[at] = regions.Lookup(regions.regions_of_profile(source.data, judged))
+        region = self._lookups[at].of(call)
+        return reasons.profile_reason(source.data, judged, call.words()) if region is None else \
+            reasons.region_reason(region.line)
+
+
+def compare_unit(comparisons: Sequence[Pair], scope: str | None) -> tuple[Any, int, Report]:
+    """Of the comparisons of a side with each profile of a unit the one that speaks for all, with scf's status and
+    report: that of a fault, else the first that fails, else the first that doesn't hold."""
+    results = [comparison.run_by_stub(scope) for comparison in comparisons]
+    return min(results, key=lambda result: () if result[2].verdict is None else result[2].verdict.order)
+
+
+def pair_of(judged: Sequence[Filter] | ProfileInput, by: Sequence[Filter] | ProfileInput, table: Table, relation: str,
+            is_native: bool = False, is_diff: bool = False, elsewhere: Sequence[str] = ()) -> Pair:
+    """The comparison of a side with the one by which it is judged."""
+    turned = TURNED.get(relation, relation)
+    if isinstance(by, ProfileInput) and isinstance(judged, ProfileInput):
+        # (what changes is told by the old profile's regions)
+        return ProfileComparison(by, judged, table, turned, is_native, True, True) if is_diff else \
+            ProfileComparison(judged, by, table, relation, is_native)
+    if isinstance(by, ProfileInput):
+        return Comparison(judged, by.data, table, relation, by.origins, by.stub,  # type: ignore
+                          is_native=is_native, elsewhere=elsewhere, is_diff=is_diff)
+    if isinstance(judged, ProfileInput):
+        return Comparison(by, judged.data, table, turned, judged.origins, judged.stub, is_native=is_native,
+                          is_turned=True, is_diff=is_diff)
+    return StackComparison(judged, by, table, relation, is_diff)

@@ -1,54 +1,42 @@
-"""The lines and the object that explain a comparison of filters with a profile."""
+"""The lines and the object that explain a comparison, in blocks: whether one side is only stricter, the syscalls that
+differ, the example with what gives each answer, what was left out, and what is at fault."""
 from __future__ import annotations
 
 from collections.abc import Iterator, Sequence
 
-from ..base.values import Any, replace
+from ..base import output
+from ..base.values import Any, dataclass, replace
 from ..model import profiles, tables
-from ..model.answers import DENIED, Answer
+from ..model.answers import DELEGATED, DENIED
 from ..model.architectures import JUDGED
-from ..model.calls import Call
-from ..ask import explanation, reasons
-from ..ask.client import Refusal
+from ..ask import explanation, reasons, verdicts
 from ..ask.verdicts import (ALL, CALLS, DIFFERS, LESS, LISTED, MORE, NATIVE_SCOPE, NO_LESS, NO_MORE, SAME, UNDECIDED,
-                            Fault, NamedCall, Report, Verdict, relation_json)
+                            UNDETERMINED, Fault, NamedCall, Report, Verdict, relation_json)
 from ..forms import refusals
 from . import listing, newer
-from .compare import Comparison
+from .blocks import Block
+from .compare import Comparison, Pair, ProfileComparison, StackComparison, compare_unit
 from .listing import Giver
 
 # What is printed of syscalls that fail a relation.
 FAILED_RELATIONS = {DIFFERS: "that differ", MORE: "answered more permissively than by {}",
-          LESS: "answered more strictly than by {}"}
-PROFILE = "the profile"
+                    LESS: "answered more strictly than by {}"}
 # At most so many syscalls without a verdict are listed.
 MOST_UNDECIDED = 20
 
 
-def responsible_files(comparison: Comparison, report: Report, scope: str) -> Iterator[tuple[str, str]]:
-    """The files of the filters in a stack that cause a fault or are undecided by themselves, each with a line.
-
-    The index that scf prints for an undecided stack may belong to another filter, which only the undecided syscalls
-    reach.
-    """
-    if len(comparison.filters) < 2:
-        return
-    if report.fault:
-        faulty = refusals.faulty_filters(comparison.filters, report.fault)
-        yield from ((name, f"the filter is {name}") for name in faulty)
-    elif report.verdict and report.verdict.word == UNDECIDED:
-        for each in comparison.filters:
-            verdict = replace(comparison, filters=[each]).run(scope)[1].verdict
-            if verdict and verdict.word == UNDECIDED:
-                yield each.name, f"alone, {each.name} is undecided at {verdict.at}"
+def _failed(comparison: Pair, word: str) -> str:
+    return FAILED_RELATIONS[comparison.word(word)].format(comparison.title(comparison.judging))
 
 
-def count_lines(calls: Sequence[NamedCall], side: str = PROFILE) -> Iterator[str]:
-    """The count and the lines of the syscalls that differ from another side, and of those without a verdict."""
+# The syscalls that differ.
+
+def count_lines(comparison: Pair, calls: Sequence[NamedCall]) -> Iterator[str]:
+    """The count and the lines of the syscalls that fail the relation, and of those without a verdict."""
     differing = [call for call in calls if call.verdict.fails]
     if differing:
-        yield f"syscalls in the table {FAILED_RELATIONS[differing[0].verdict.word].format(side)}: {len(differing)}"
-        yield from (call.line for call in differing)
+        yield f"syscalls in the table {_failed(comparison, differing[0].verdict.word)}: {len(differing)}"
+        yield from comparison.texts([call.line for call in differing])
     if len(differing) < len(calls):
         undecided = [call.line for call in calls if not call.verdict.fails]
         yield f"syscalls in the table without a verdict: {len(undecided)}"
@@ -57,163 +45,286 @@ def count_lines(calls: Sequence[NamedCall], side: str = PROFILE) -> Iterator[str
         yield from [explanation.MORE_SPLITS] * any(call.verdict.word == UNDECIDED for call in calls)
 
 
-def call_lines(comparison: Comparison, report: Report) -> tuple[list[str], list[str]]:
+def _newer(comparison: Pair, scope: str) -> newer.Newer | None:
+    """The syscalls that are only newer than a profile, where they can be all that differ."""
+    is_asked = isinstance(comparison, Comparison) and scope in (NATIVE_SCOPE, LISTED)
+    return newer.calls_of(comparison) if is_asked else None  # type: ignore
+
+
+def _call_lines(comparison: Any, report: Report, scope: str) -> tuple[list[str], list[str]]:
     """The lines before and after the explanation of scf's example, if syscalls differ.
 
     Syscalls that are only newer than the profile are reported apart: first if there are no others, else last.
     """
-    try:
-        calls = comparison.of_calls()
-    except Refusal:
+    calls = comparison.named_calls()
+    if calls is None or report.verdict is None or report.verdict.call is None:
         return [], []
-    if report.verdict is None or report.verdict.call is None:
-        return [], []
-    all_named = [f"no syscall in the table is among those {FAILED_RELATIONS[report.verdict.word].format(PROFILE)}"]
-    if comparison.relation == SAME:
-        all_named = ["each syscall in the table is answered as the profile says"]
-    above = newer.calls_of(comparison)
+    none_named = ["each syscall in the table gets the same answer from both sides" if comparison.relation == SAME else
+                  f"no syscall in the table is among those {_failed(comparison, report.verdict.word)}"]
+    above = _newer(comparison, scope)
     if above is None:
-        return [], list(count_lines(calls)) or all_named
+        return [], list(count_lines(comparison, calls)) or none_named
     others = [call for call in calls if not above.has(call.record)]
     count, others_differ = len(calls) - len(others), newer.another_call(comparison, above)
     newer_lines = [above.describe(others_differ is None, comparison.table)]
     if count:
         newer_lines.append(f"syscalls in the table among these: {count}")
     if others_differ is None:
-        return newer_lines, [] if count else all_named
-    lines = list(count_lines(others)) or list(
-        explanation.explain_differing(others_differ, comparison.table, True, len(comparison.filters)))
+        return newer_lines, [] if count else none_named
+    lines = list(count_lines(comparison, others)) or list(_example_lines(comparison, others_differ, True))
     return (lines + newer_lines, []) if above.has(report.verdict.call) else ([], lines + newer_lines)
 
 
-def dispositions(comparison: Any, scope: str) -> list[Verdict | None]:
-    """The verdicts on whether filters are nowhere more permissive than the other side, and whether nowhere stricter."""
-    return [comparison.verdict(scope, relation) for relation in (NO_MORE, NO_LESS)]
+# Whether a side is only stricter.
+
+def _dispositions(comparison: Pair, scope: str) -> list[Verdict | None]:
+    """The verdicts on whether the judged side is nowhere more permissive than the other one, and whether nowhere
+    stricter."""
+    return [comparison.verdict(scope, comparison.word(relation)) for relation in (NO_MORE, NO_LESS)]
 
 
-def strictness_lines(comparison: Any, scope: str, count: int, side: str = PROFILE) -> Iterator[str]:
-    """A line if filters, so many of them, that differ from another side are never more permissive."""
-    no_more, no_less = dispositions(comparison, scope)
-    they, are, s = ("they", "are", "") if count > 1 else ("it", "is", "s")
+def _strictness_lines(comparison: Pair, scope: str) -> Iterator[str]:
+    """A line if the sides differ, and the judged one is never more permissive."""
+    no_more, no_less = _dispositions(comparison, scope)
+    judged, other = comparison.sides[1 - comparison.judging], comparison.title(comparison.judging)
+    they, are, s = ("they", "are", "") if len(judged.filters) > 1 else ("it", "is", "s")
     they = f"over the syscalls in the table: {they}" if scope == CALLS else they
     if no_more is None or not no_more.holds:
-        if side != PROFILE and no_less is not None and no_less.holds:
-            yield f"{they} {are} more permissive, and never stricter than {side}"
+        is_of_profile = isinstance(comparison, Comparison) and not comparison.is_diff
+        if not is_of_profile and no_less is not None and no_less.holds:
+            yield f"{they} {are} more permissive, and never stricter than {other}"
     elif no_less is not None and no_less.holds:
-        yield f"{they} {are} neither more permissive nor stricter than {side}: only the answers differ"
+        yield f"{they} {are} neither more permissive nor stricter than {other}: only the answers differ"
     elif no_less is not None and no_less.fails:
-        is_denied = no_less.call is None or no_less.filters is None or no_less.filters.disposition == DENIED
+        answer = no_less.profile if comparison.is_turned else no_less.filters
+        is_denied = no_less.call is None or answer is None or answer.disposition == DENIED
         less = f"{are} stricter, and" if is_denied else f"delegate{s} more to a supervisor or tracer, and {are}"
-        yield f"{they} {less} never more permissive than {side}"
+        yield f"{they} {less} never more permissive than {other}"
     else:
-        yield f"{they} {are} never more permissive than {side}"
+        yield f"{they} {are} never more permissive than {other}"
 
 
-def strictness_json(comparison: Any, scope: str) -> dict[str, object]:
-    """The same verdicts as members of an object."""
-    return dict(zip(("no_more", "no_less"), (verdict.word if verdict is not None else None
-                                             for verdict in dispositions(comparison, scope))))
+# The example, and what gives each answer.
+
+def _example_lines(comparison: Pair, verdict: Verdict, is_native: bool) -> Iterator[str]:
+    """The syscall that differs, and what both answers do; for `more` and `less` also both dispositions."""
+    if verdict.call is None:
+        return
+    yield from explanation.explain_call(verdict.call, comparison.table, is_native)
+    titles = [comparison.title(at) for at in (0, 1)]
+    answered = [(title, answer) for title, answer in comparison.in_order(*zip(titles, (verdict.filters, verdict.profile)))
+                if answer is not None]
+    for title, answer in answered:
+        yield f"{title} {'answer' if title.endswith('filters') else 'answers'} {answer.describe()}"
+    if verdict.word != DIFFERS and len(answered) == 2:
+        first, second = (answer.disposition + " to a supervisor or tracer" * (answer.disposition == DELEGATED)
+                         + f" by {title}" for title, answer in answered)
+        yield f"the syscall is {first}, and {second}"
 
 
-def fault_sentences(comparison: Comparison, fault: Fault) -> Iterator[str]:
-    """The lines about a fault of a comparison."""
-    yield from refusals.sentences(fault, comparison.profile, comparison.tables, comparison.origins)
+def _verdict_lines(comparison: Pair, report: Report, scope: str) -> Iterator[str]:
+    """The explanation of a verdict."""
+    verdict = report.verdict
+    if verdict is None or verdict.holds:
+        return
+    if verdict.fails or verdict.word == UNDETERMINED:
+        yield from _example_lines(comparison, verdict, scope != ALL)
+    else:
+        when, *what_to_do = explanation.what_a_row_says(report.lines[0])
+        yield from (when, *([explanation.MORE_SPLITS] if verdict.word == UNDECIDED else what_to_do))
 
 
-def left_out_lines(comparison: Comparison, report: Report) -> Iterator[str]:
-    """Lines on what was left out of the profile: skipped names, and architectures that aren't judged."""
+def _reasons(comparison: Any, verdict: Verdict) -> list[tuple[int, Any]]:
+    """What gives each side's answer to the example, in the order in which they are shown: a profile's reason, or the
+    filter whose path is shown, None if there is none."""
+    if verdict.call is None or verdict.filters is None or verdict.profile is None:
+        return []
+    order = comparison.in_order(*zip((0, 1), comparison.sides, (verdict.filters, verdict.profile)))
+    stacks = [(side.filters, answer) for _, side, answer in order if side.profile is None]
+    givers = map(listing.to_show, listing.deciding_on_sides(stacks, verdict.call.words()) if stacks else ())
+    return [(at, next(givers) if side.profile is None else comparison.reason_of(at, verdict.call))
+            for at, side, _ in order]
+
+
+def difference_lines(comparison: Any, verdict: Verdict) -> Iterator[str]:
+    """The lines after a syscall that differs: a profile's reason, and the last tests on a filter's path."""
+    found = _reasons(comparison, verdict)
+    of_profiles = [(at, given) for at, given in found if comparison.sides[at].profile is not None]
+    for at, reason in of_profiles:
+        side = comparison.sides[at]
+        before = f"{comparison.title(at)}: " * (len(of_profiles) > 1)
+        yield from (before + line for line in reasons.describe_reason(reason, side.profile, verdict.call, side.origins))
+    for _, giver in found:
+        if isinstance(giver, Giver):
+            name = giver.filter.name if not of_profiles else ""
+            yield from giver.last_tests(verdict.call, comparison.table, name)
+
+
+def _difference_json(comparison: Any, verdict: Verdict) -> dict[str, object]:
+    """The same as members of an object: a profile's reason stands in its answer, but beside filters that it judges."""
+    members = verdict.as_json(comparison.table, comparison.names)
+    for at, given in _reasons(comparison, verdict):
+        name, side = comparison.names[at], comparison.sides[at]
+        if side.profile is None:
+            path = f"path_{name}" if comparison.is_diff else "path_beside" if at else "path"
+            members[path] = None if given is None else given.as_json()
+        else:
+            of_reason = reasons.reason_json(given, side.profile, verdict.call, side.origins)
+            holder: Any = members if name == "profile" and isinstance(comparison, Comparison) else members[name]
+            holder.update(of_reason)
+    return members
+
+
+# What was left out, and what is at fault.
+
+def _left_out_lines(comparison: Any, report: Report) -> Iterator[str]:
+    """Lines on what was left out of a profile: skipped names, and architectures that aren't judged."""
     if report.skipped:
-        facts = comparison.facts
+        facts = comparison.facts if isinstance(comparison, Comparison) else None
         yield from explanation.explain_skipped(report, comparison.tables, bool(facts and facts.allows_by_default))
     yield from explanation.explain_architectures(report)
 
 
-def other_abi_lines(comparison: Comparison, scope: str) -> Iterator[str]:
+def _other_abi_lines(comparison: Pair, scope: str) -> Iterator[str]:
     """A line for each other ABI that isn't proved to be denied, or of which it isn't known what is configured."""
-    yield from (f"{access.describe()}; the profile doesn't name {access.abi.oci}"
-                for access in comparison.asked_accesses(scope) if not access.are_denied)
-    yield from (f"{JUDGED[oci].name}: not compared, since its rules aren't known"
-                for oci in profiles.not_compared_of(comparison.profile))
+    if isinstance(comparison, Comparison):
+        yield from (f"{access.describe()}; the profile doesn't name {access.abi.oci}"
+                    for access in comparison.asked_accesses(scope) if not access.are_denied)
+        yield from (f"{JUDGED[oci].name}: not compared, since its rules aren't known"
+                    for oci in profiles.not_compared_of(comparison.profile))
 
 
-def _giver(comparison: Comparison, call: Call, answer: Answer) -> Giver | None:
-    """The filter that gives this answer to a syscall, whose path is shown."""
-    return listing.to_show(listing.deciding_filters(comparison.filters, call.words(), answer))
+def faulty_side(comparison: Pair, fault: Fault) -> int:
+    """The side that has a fault."""
+    if fault.source == comparison.beside or isinstance(comparison, Comparison) and fault.source == "profile":
+        return 1
+    return 0
 
 
-def difference_lines(comparison: Comparison, verdict: Verdict) -> Iterator[str]:
-    """The lines after a syscall that differs: the profile's reason, and the last tests on the filter's path."""
-    call, answer = verdict.call, verdict.filters
-    if call is not None and answer is not None and verdict.profile is not None:
-        yield from reasons.describe_reason(comparison.reason_of(call), comparison.profile, call, comparison.origins)
-        giver = _giver(comparison, call, answer)
-        yield from giver.last_tests(call, comparison.table) if giver is not None else ()
+def fault_sentences(comparison: Any, fault: Fault) -> Iterator[str]:
+    """The lines about a fault of a comparison."""
+    if isinstance(comparison, StackComparison):
+        yield from explanation.explain_fault(fault)
+        return
+    at = faulty_side(comparison, fault)
+    side, is_pair = comparison.sides[at], isinstance(comparison, ProfileComparison)
+    shown, judged = comparison.fault(fault), comparison.judged[at] if is_pair else comparison.tables
+    yield from refusals.sentences(shown, side.profile or b"", judged, side.origins)
+    if is_pair and shown.source in ("profile", "compile"):
+        yield f"it is {comparison.title(at)}"
+        if comparison.is_diff and fault.kind == "EngineForm":
+            yield "--caps and the like resolve both profiles as an engine does"
 
 
-def _difference_json(comparison: Comparison, verdict: Verdict) -> dict[str, object]:
-    """The same as members of an object."""
-    call, answer = verdict.call, verdict.filters
-    if call is None or answer is None or verdict.profile is None:
-        return {}
-    reason = reasons.reason_json(comparison.reason_of(call), comparison.profile, call, comparison.origins)
-    giver = _giver(comparison, call, answer)
-    return {**reason, "path": giver.as_json()} if giver is not None else reason
+def _responsible_files(comparison: Any, report: Report, scope: str) -> Iterator[tuple[str, str]]:
+    """The files of the filters that cause a fault or are undecided by themselves, each with a line, where there are
+    several filters.
+
+    The index that scf prints for an undecided stack may belong to another filter, which only the undecided syscalls
+    reach.
+    """
+    stacks = [side.filters for side in comparison.sides]
+    if sum(map(len, stacks)) < 2:
+        return
+    fault = report.fault
+    if fault is not None and not isinstance(comparison, ProfileComparison):
+        if isinstance(comparison, StackComparison) and fault.source == comparison.beside:
+            # what scf says of one of the first stack
+            source = "stack" if fault.kind == "TooMany" else "filter"
+            stacks, fault = stacks[1:], Fault.read(fault.line.replace(comparison.beside, source, 1)) or fault
+        yield from ((name, f"the filter is {name}") for name in refusals.faulty_filters(stacks[0], fault))
+    elif isinstance(comparison, Comparison) and report.verdict and report.verdict.word == UNDECIDED:
+        for each in comparison.filters:
+            verdict = replace(comparison, filters=[each]).run(scope)[1].verdict
+            if verdict and verdict.word == UNDECIDED:
+                yield each.name, f"alone, {each.name} is undecided at {verdict.at}"
 
 
-def comparison_notes(comparison: Comparison, report: Report, scope: str) -> Iterator[str]:
+# The whole.
+
+def comparison_notes(comparison: Any, report: Report, scope: str) -> Iterator[str]:
     """The lines after scf's."""
-    table, count = comparison.table, len(comparison.filters)
+    verdict, before, after = report.verdict, [], []  # type: ignore
     if report.fault:
         yield from fault_sentences(comparison, report.fault)
-    before: list[str] = []
-    after: list[str] = []
-    if report.verdict and report.verdict.word == DIFFERS:
-        yield from strictness_lines(comparison, scope, count)
-    if report.verdict and report.verdict.fails:
-        if scope in (NATIVE_SCOPE, LISTED):
-            before, after = call_lines(comparison, report)
-        elif scope == CALLS and comparison.relation == SAME:
-            before = list(newer.of_named_calls(comparison, report.calls))
+    if verdict and verdict.word == DIFFERS:
+        yield from _strictness_lines(comparison, scope)
+    if verdict and verdict.fails and scope != CALLS:
+        before, after = _call_lines(comparison, report, scope)
+    elif verdict and verdict.fails and isinstance(comparison, Comparison) and comparison.relation == SAME:
+        before = list(newer.of_named_calls(comparison, report.calls))
     yield from before
-    if report.verdict:
-        yield from explanation.explain_verdict(report, table, scope != ALL, count)
-        yield from difference_lines(comparison, report.verdict)
-        yield from left_out_lines(comparison, report)
-        yield from other_abi_lines(comparison, scope)
+    if verdict:
+        yield from _verdict_lines(comparison, report, scope)
+        yield from difference_lines(comparison, verdict)
+        yield from _left_out_lines(comparison, report)
+        yield from _other_abi_lines(comparison, scope)
     yield from after
-    yield from (line for _, line in responsible_files(comparison, report, scope))
+    yield from (line for _, line in _responsible_files(comparison, report, scope))
 
 
-def comparison_json(comparison: Comparison, report: Report, scope: str, status: int) -> dict[str, object]:
+def comparison_json(comparison: Any, report: Report, scope: str, status: int) -> dict[str, object]:
     """The object with everything that `comparison_notes` prints."""
-    members: dict[str, object] = {"status": status, "scope": scope,
-                                  "verdict": report.verdict.word if report.verdict else None}
+    verdict, is_of_stacks = report.verdict, isinstance(comparison, StackComparison)
+    members: dict[str, object] = {"status": status, "scope": scope, **relation_json(comparison.word(comparison.relation)),
+                                  "verdict": comparison.word(verdict.word) if verdict else None}
     if scope == LISTED:
-        members["architectures"] = list(comparison.tables.of)
-    members.update(relation_json(comparison.relation))
+        members["architectures"] = list(comparison.named)
     if report.fault:
-        members["fault"] = report.fault.as_json(fault_sentences(comparison, report.fault))
-    if report.verdict:
-        members.update(report.verdict.as_json(comparison.table))
-        members.update(_difference_json(comparison, report.verdict))
-    calls = report.calls
-    if report.verdict and report.verdict.word == DIFFERS:
-        members.update(strictness_json(comparison, scope))
-    if scope in (NATIVE_SCOPE, LISTED) and report.verdict and report.verdict.fails:
-        calls = comparison.of_calls()
-        above = newer.calls_of(comparison)
+        side = {} if not comparison.is_diff else {"side": comparison.names[faulty_side(comparison, report.fault)]}
+        members["fault"] = {**comparison.fault(report.fault).as_json(fault_sentences(comparison, report.fault)), **side}
+    calls: Sequence[NamedCall] = report.calls
+    if verdict:
+        members.update(_difference_json(comparison, verdict))
+    if verdict and verdict.word == DIFFERS:
+        members.update(zip(("no_more", "no_less"), (known and comparison.word(known.word)
+                                                    for known in _dispositions(comparison, scope))))
+    if verdict and verdict.fails and scope != CALLS:
+        calls, above = comparison.named_calls() or (), _newer(comparison, scope)
         if above:
             members["newer"] = {**above.as_json(), "are_all": newer.another_call(comparison, above) is None}
-    members["calls"] = [{**call.as_json(), **call.verdict.as_json(comparison.table)} for call in calls]
-    members["skipped"], members["other_architectures"] = list(report.skipped), list(report.architectures)
+    members["calls"] = [{**call.as_json(), "verdict": comparison.word(call.verdict.word),
+                         **call.verdict.as_json(comparison.table, comparison.names)} for call in calls]
+    if not is_of_stacks:
+        members["skipped"], members["other_architectures"] = list(report.skipped), list(report.architectures)
     if report.skipped:
         members["unknown"] = [{"name": name, "nearest": near}
                               for name, near in tables.classify(report.skipped, comparison.tables).unknown]
-    if scope != ALL and report.verdict is not None:
-        members["foreign"] = [access.as_json() for access in comparison.asked_accesses(scope)]
-    if profiles.not_compared_of(comparison.profile):
-        members["not_compared"] = list(profiles.not_compared_of(comparison.profile))
-    files = [name for name, _ in responsible_files(comparison, report, scope)]
+    if isinstance(comparison, Comparison):
+        if scope != ALL and verdict is not None:
+            members["foreign"] = [access.as_json() for access in comparison.asked_accesses(scope)]
+        if profiles.not_compared_of(comparison.profile):
+            members["not_compared"] = list(profiles.not_compared_of(comparison.profile))
+    files = [name for name, _ in _responsible_files(comparison, report, scope)]
     if files:
         members["files"] = files
     return members
+
+
+@dataclass(frozen=True)
+class Judgement:
+    """A comparison, with scf's status and report over a scope."""
+
+    comparison: Any
+    status: int
+    report: Report
+    scope: str
+
+    @classmethod
+    def of(cls, pairs: Sequence[Pair], scope: str | None) -> Judgement:
+        """That of a side by those that it is compared with, each for its architectures; with the most telling
+        example."""
+        pair, status, report = compare_unit(pairs, scope)
+        report = verdicts.most_telling(report, pair.table, lambda: pair.named_calls() or ())
+        return cls(pair, status, report, scope or pair.scope)
+
+    def block(self, is_json: bool, is_verbose: bool = False) -> Block:
+        """What a command says of it; the verdict doesn't wait for what explains it."""
+        def lines() -> Iterator[str]:
+            printed = self.comparison.printed(self.report)
+            yield from printed.printed if is_verbose else printed.brief
+            output.flush()
+            yield from output.notes(comparison_notes(self.comparison, self.report, self.scope))
+
+        members = comparison_json(self.comparison, self.report, self.scope, self.status) if is_json else {}
+        return Block(self.status, lines(), members)  # type: ignore

@@ -22,7 +22,7 @@ from ..model.tables import Table
 from ..ask import client
 from ..ask.verdicts import Report
 from . import surface_output, surfaces
-from .compare import Comparison
+from .compare import Pair
 from .stack_surfaces import StackSurface
 from .surface_output import Groups
 from .surfaces import Surface
@@ -144,14 +144,15 @@ def c_call(call: Call, table: Table) -> str:
     return f"syscall({f'SYS_{names[0]}' if names else call.number}, {arguments});"
 
 
-def comparison_page(comparison: Comparison, report: Report, added: Sequence[str], command: str) -> str:
+def comparison_page(comparison: Pair, report: Report, added: Sequence[str], command: str) -> str:
     """The page of a comparison, with the lines that `scf compare` adds, and the command that made it."""
     verdict = report.verdict
-    word = verdict.word if verdict is not None else report.lines[0] if report.lines else "nothing"
+    word = comparison.word(verdict.word) if verdict is not None else report.lines[0] if report.lines else "nothing"
     colour = "good" if verdict is not None and verdict.holds else "bad"
     shown = [preformatted([c_call(verdict.call, comparison.table)])] if verdict is not None and verdict.call else []
     return document(f"comparison: {word}", tag("h1", tag("span", word, class_=colour)), _made_by(),
-                    listed(f"{each.name}: {each.count} instructions" for each in comparison.filters), *shown,
+                    listed(f"{each.name}: {each.count} instructions" for side in comparison.sides
+                           for each in side.filters), *shown,
                     preformatted([*report.brief, *(f"# {line}" for line in added)]), tag("p", "To repeat it:"),
                     preformatted([command]), tag("p", OF_COMPARISON, class_="faint"))
 

@@ -16,7 +16,7 @@ from ..ask import client, other_abis, questions
 from ..ask.differences import span_of
 from ..ask.verdicts import SAME, NamedCall, Verdict
 from ..forms.filters import Filter
-from .stack_comparison import StackComparison
+from .compare import StackComparison
 from .surface_output import LEAST_WIDTH, Groups, details, fitted, grouped, row_json, whole_lines, wrapped
 from .surfaces import Row, Surface
 

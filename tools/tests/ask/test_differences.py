@@ -15,8 +15,7 @@ from scftools.ask import differences, regions
 from scftools.ask.differences import EVERY_RECORD, Differences, span_of
 from scftools.ask.verdicts import ALL, CALLS, NATIVE_SCOPE, NO_LESS, NO_MORE, SAME, SAME_DISPOSITION, UNDECIDED, Verdict
 from scftools.forms.filters import Filter
-from scftools.report.compare import Comparison
-from scftools.report.stack_comparison import StackComparison
+from scftools.report.compare import Comparison, StackComparison
 
 NATIVE, HOLDS = architectures.NATIVE, {
     SAME: lambda left, right: left == right, NO_MORE: lambda left, right: degree(left) <= degree(right),

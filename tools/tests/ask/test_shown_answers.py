@@ -14,7 +14,7 @@ from scftools.ask import client
 from scftools.ask.client import Run
 from scftools.forms.filters import Filter
 from scftools.forms.stacks import Stack
-from scftools.report import stack_comparison
+from scftools.report import compare
 from scfhost import audit_judge, audit_rows
 from scfhost.verify import Request
 
@@ -86,7 +86,7 @@ class Modules(Case):
             text = f"{lines}filter {filters}\nbeside {beside}\n".encode()
             with mock.patch.object(client, "run_scf", lambda words, *more_words, text=text, **more: Run(1, text)
                                    if words[0] == "compare" else run(words, *more_words, **more)):
-                comparison = stack_comparison.StackComparison(left, right, table)
+                comparison = compare.StackComparison(left, right, table)
                 if is_true:
                     self.assertEqual(comparison.run()[1].verdict.word, "differs")
                 else:

@@ -67,7 +67,7 @@ class Programs(Confined):
         child.wait()
         profile = self.file("p", ALLOWS_ALL)
         self.assertEqual(self.run_tool("filters-of", str(child.pid), "out"),
-                         (3, "", f"filters-of: {NO_PROCESS.format(child.pid)}\n"))
+                         (2, "", f"filters-of: {NO_PROCESS.format(child.pid)}\n"))
         for words in ((), ("--all",)):
             self.assertEqual(self.run_tool("verify-process", *words, str(child.pid), profile),
                              (3, "", f"verify-process: {NO_PROCESS.format(child.pid)}\n"))
@@ -85,7 +85,7 @@ class Programs(Confined):
                          (zombie.pid, f"process {zombie.pid} is a zombie: it has ended, and waits for its parent")):
             for name, words in (("verify-process", (str(pid), profile)), ("surface", ("--pid", str(pid)))):
                 status, out, err = self.run_tool(name, "--json", *words)
-                self.assertEqual((status, err), (3, f"{name}: {why}\n"))
+                self.assertEqual((status, err), (2, f"{name}: {why}\n"))
                 self.assertEqual(json.loads(out), {"status": 3, "verdict": None, "stacks": [], "why": why, "schema": 3})
 
     @here
@@ -95,7 +95,7 @@ class Programs(Confined):
         self.wait_for(child.pid, "Z")
         for name, last in (("filters-of", "out"), ("verify-process", self.file("p", ALLOWS_ALL))):
             self.assertEqual(self.run_tool(name, str(child.pid), last),
-                             (3, "", f"{name}: process {child.pid} is a zombie: it has ended, and waits for its "
+                             (2, "", f"{name}: process {child.pid} is a zombie: it has ended, and waits for its "
                                      f"parent\n"))
 
     @here
@@ -109,7 +109,7 @@ class Programs(Confined):
         if err.startswith("unshare:"):
             self.skipTest(err)
         self.assertEqual(out, "# process 1 (sh) has no filter: it isn't confined, and every syscall is allowed\nstatus 1\n")
-        self.assertEqual((status, err), (3, "filters-of: process 1 has no filter\n"))
+        self.assertEqual((status, err), (1, "filters-of: process 1 has no filter\n"))
 
     def beside(self):
         """The tools where every user may read them."""
@@ -127,7 +127,7 @@ class Programs(Confined):
                               extra_groups=[], env={"PATH": "/usr/bin:/bin"}, stdout=subprocess.PIPE,
                               stderr=subprocess.PIPE, text=True, check=False, cwd=self.folder)
         self.assertEqual((done.returncode, done.stdout, done.stderr),
-                         (3, "", "filters-of: the kernel shows filters only to a process with CAP_SYS_ADMIN: run this "
+                         (2, "", "filters-of: the kernel shows filters only to a process with CAP_SYS_ADMIN: run this "
                                  "as root, outside of containers\n"))
 
     @here
@@ -137,7 +137,7 @@ class Programs(Confined):
         done = subprocess.run([sys.executable, "-c", script, self.file("own", OLDEST), tool("filters-of"),
                                str(child.pid), "out"], stdout=subprocess.PIPE, stderr=subprocess.PIPE, text=True,
                               check=False, cwd=self.folder)
-        self.assertEqual((done.returncode, done.stdout), (3, ""))
+        self.assertEqual((done.returncode, done.stdout), (2, ""))
         self.assertIn("this tool runs under a filter itself", done.stderr)
 
     def traced(self, child):
@@ -177,7 +177,7 @@ class Programs(Confined):
         profile = self.file("p", ALLOWS_ALL)
         for name, last in (("filters-of", "full"), ("verify-process", profile)):
             status, _, err = self.closed_output(name, str(child.pid), last)
-            self.assertEqual((status, err), (3, f"{name}: the output failed: No space left on device\n"))
+            self.assertEqual((status, err), (2, f"{name}: the output failed: No space left on device\n"))
         read, write = os.pipe()
         os.close(read)
         for name, last in (("filters-of", "closed"), ("verify-process", profile)):
@@ -217,7 +217,7 @@ class FiltersOf(Confined):
         stacks = "; ".join(f"thread {thread}: {'no filter' if thread == free else '2 filters, of 1, 4 instructions'}"
                            for thread in sorted(child.threads))
         self.assertEqual(self.filters_of(child), (
-            3, "", f"filters-of: the threads of process {main} don't have the same filters; {stacks}; --thread takes "
+            2, "", f"filters-of: the threads of process {main} don't have the same filters; {stacks}; --thread takes "
                    f"those of one thread\n"))
         self.assertFalse(os.path.exists(os.path.join(self.folder, "out")))
         self.assertEqual(self.filters_of(child, "--thread", str(second)), (0, "out/0.bpf\nout/1.bpf\n", ""))
@@ -231,12 +231,12 @@ class FiltersOf(Confined):
     @here
     def test_a_thread_stands_for_its_process(self):
         child = self.child([OLDEST], [NEWEST])
-        self.assertEqual(self.run_tool("filters-of", str(child.threads[1]), "out")[0], 3)
+        self.assertEqual(self.run_tool("filters-of", str(child.threads[1]), "out")[0], 2)
 
     @here
     def test_a_process_without_filters(self):
         child = self.child([], [])
-        self.assertEqual(self.filters_of(child), (3, "", f"filters-of: process {child.pid} has no filter\n"))
+        self.assertEqual(self.filters_of(child), (1, "", f"filters-of: process {child.pid} has no filter\n"))
         self.assertFalse(os.path.exists(os.path.join(self.folder, "out")))
         self.runs_on(child)
 
@@ -251,7 +251,7 @@ class FiltersOf(Confined):
             self.assertEqual((status, out), (2, ""))
             self.assertIn(folder, err)
         status, _, err = self.run_tool("filters-of", pid, "/proc/nothing/is/made/here")
-        self.assertEqual(status, 3)
+        self.assertEqual(status, 2)
         self.assertTrue(err.startswith("filters-of: '/proc/nothing"), err)
         self.runs_on(child)
 
@@ -388,7 +388,7 @@ class VerifyProcess(Confined):
         child = self.strict_child()
         self.assertEqual(self.verify(child, ALLOWS_ALL),
                          (4, f"# {self.called(child)} has no filter, but seccomp's strict mode\n"))
-        self.assertEqual(self.run_tool("filters-of", str(child.pid), "out")[0], 3)
+        self.assertEqual(self.run_tool("filters-of", str(child.pid), "out")[0], 1)
 
     @here
     def test_other_abis(self):
@@ -495,7 +495,7 @@ class Containers(Confined):
         child = self.child([OLDEST])
         self.skip_in_a_group(child.pid)
         status, out, err = self.verify(child.pid, ALLOWS_ALL, "--all")
-        self.assertEqual((status, out), (3, ""))
+        self.assertEqual((status, out), (2, ""))
         self.assertIn(f"process {child.pid} is in no container", err)
 
     @here

@@ -49,7 +49,7 @@ class Hook(Confined):
 
     def fails(self, given, says, *words, at=1):
         status, out, err = self.run_tool("oci-hook", *words, given=given)
-        self.assertEqual((status, out), (3, ""), err)
+        self.assertEqual((status, out), (2, ""), err)
         lines = self.lines(err)
         self.assertTrue(lines[0].endswith(": unknown whether it is confined as configured"), lines)
         self.assertIn(says, lines[at])
@@ -94,7 +94,7 @@ class OfStates(Hook):
             child = subprocess.Popen(["sleep", "1000"])
             self.addCleanup(child.kill)
             status, _, err = self.run_tool("oci-hook", "--kill", given=self.state(child.pid, bundle, id="a\udfff"))
-            self.assertEqual((status, child.wait()), (3, -signal.SIGKILL), err)
+            self.assertEqual((status, child.wait()), (2, -signal.SIGKILL), err)
             self.assertIn("container a\\xed\\xbf\\xbf", err)
             self.assertIn(says, err)
         actual = hooks.run_safely(lambda: {}["none"])
@@ -138,7 +138,7 @@ class OfStates(Hook):
         self.assertEqual(set(value), {"version", "when", "stages", "hook"})
         done = subprocess.run([value["hook"]["path"], *value["hook"]["args"][1:]], input=b"{}", check=False,
                               stderr=subprocess.PIPE, env=dict(item.split("=", 1) for item in value["hook"]["env"]))
-        self.assertEqual(done.returncode, 3, done.stderr)
+        self.assertEqual(done.returncode, 2, done.stderr)
         read, write = os.pipe()
         for file in (read, write):
             self.addCleanup(os.close, file)
@@ -247,7 +247,7 @@ class OfProcesses(Hook):
                 (refuses("mount"), ("--kill",), "not confined as configured (differs)",
                  "without --dry-run the status would be 1, and the container would be killed"),
                 (b"{", ("--kill",), "unknown whether it is confined as configured",
-                 "without --dry-run the status would be 3, and the container would be killed")):
+                 "without --dry-run the status would be 2, and the container would be killed")):
             status, lines = self.hook(child, profile, "--dry-run", *words)
             self.assertEqual((status, lines[0], lines[-1]), (0, f"container box: {first}", f"dry run: {last}"))
         given = self.state(child.pid, self.bundle(refuses("mount")))
@@ -262,8 +262,8 @@ class OfProcesses(Hook):
     def test_statuses(self):
         child = self.child([refusing(MOUNT)])
         for profile, words, status in ((refuses("mount"), (), 0), (refuses("umount2"), (), 1),
-                                       (refuses("mount"), ("--limit=0",), 4), (b'{"linux":{"seccomp":{}}}', (), 1),
-                                       (b"{", (), 3), (b"[]", (), 3), (b'{"linux":7}', (), 3),
+                                       (refuses("mount"), ("--limit=0",), 4), (b'{"linux":{"seccomp":{}}}', (), 2),
+                                       (b"{", (), 2), (b"[]", (), 2), (b'{"linux":7}', (), 2),
                                        (b'{"ociVersion":"1.0.2"}', (), 1), (None, (), 1),
                                        (None, ("--allow-unconfined",), 0), (refuses("umount2"), (
                                            "--allow-unconfined",), 1)):
@@ -312,7 +312,7 @@ class OfProcesses(Hook):
         for config in ({"linux": {"seccomp": value}, "Linux": {}}, {"linux": {"seccomp": value, "\u017feccomp": value}},
                        {"LINUX": {"seccomp": value}}):
             status, lines = self.hook(self.child([refusing(MOUNT)]), json.dumps(config).encode())
-            self.assertEqual(status, 3)
+            self.assertEqual(status, 2)
             self.assertIn("which runc reads as", lines[1])
 
     def test_a_profile_beside_the_one_that_runtimes_read(self):
@@ -372,7 +372,7 @@ class OfProcesses(Hook):
         child = self.child([refusing(MOUNT)])
         status, lines = self.hook(child, profile)
         self.assertEqual((status, lines[:2]), (
-            1, ["container box: unknown whether it is confined as configured",
+            2, ["container box: unknown whether it is confined as configured",
                 "fault profile Conflict number 165 first 0 second 1"]))
         for words in (["--keep-first"], ["--runtime=runc"], ["--runtime=crun"]):
             self.assertEqual(self.hook(child, profile, *words)[0], 0, words)
@@ -380,7 +380,7 @@ class OfProcesses(Hook):
     def test_json(self):
         child = self.child([refusing(UMOUNT2)])
         for profile, words, verdict, status in ((refuses("umount2"), (), "same", 0), (refuses("mount"), (), "differs",
-                                                1), (None, (), "unstated", 1), (b"{", ("--kill",), None, 3)):
+                                                1), (None, (), "unstated", 1), (b"{", ("--kill",), None, 2)):
             actual, out, err = self.run_tool("oci-hook", "--json", *words,
                                              given=self.state(child.pid, self.bundle(profile)))
             value = json.loads(out)
@@ -493,7 +493,7 @@ class OfTime(Hook):
         hook = self.begin(child, "--kill", "--wait=60")
         self.is_watched(hook)
         os.kill(self.children(hook)[1], signal.SIGKILL)
-        self.assertEqual(hook.wait(PATIENCE), 3)
+        self.assertEqual(hook.wait(PATIENCE), 2)
         self.is_killed(child, 20)
         self.assertIn("the check ended with signal 9", hook.stderr.read().decode())
 
@@ -532,7 +532,7 @@ class OfTime(Hook):
         for given, says in ((read, "didn't come on standard input within 0.2 seconds"),
                             (os.open("/dev/zero", os.O_RDONLY), "has more than 1048576 bytes")):
             status, _, err = self.run_tool("oci-hook", "--kill", "--deadline=0.2", "--wait=0", given=given)
-            self.assertEqual(status, 3)
+            self.assertEqual(status, 2)
             self.assertIn(says, err)
         done = subprocess.run(["sh", "-c", 'exec "$0" "$@" <&-', tool("oci-hook"), "--kill"], stderr=subprocess.PIPE,
                               check=False)
@@ -583,7 +583,7 @@ class Inside(Hook):
                             (processes.Unreadable("it can't"), "it can't"),
                             (processes.Interrupted(15), "the check was ended by SIGTERM")):
             result = hooks.run_safely(mock.Mock(side_effect=error))
-            status = 125 if says == "no scf" else 3
+            status = 125 if says == "no scf" else 2
             self.assertEqual((result.status, result.lines(), result.value()["verdict"]), (status, [says], None))
 
     def test_the_log(self):

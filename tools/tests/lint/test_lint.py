@@ -131,7 +131,7 @@ class Usage(Linted):
             self.assertEqual(self.report(text, status=2)["fault"]["source"], "profile")
         bad = self.file("bad.table", b"read\n")
         status, out, _ = self.run_lint(profile(), "--table", bad)
-        self.assertEqual((status, out.split("\n")[0]), (1, "fault table Form line 1"))
+        self.assertEqual((status, out.split("\n")[0]), (2, "fault table Form line 1"))
         status, out, _ = self.run_lint(profile(), "--limit", "x")
         self.assertEqual((status, out.split("\n")[0]), (2, "fault number limit"))
 
@@ -145,7 +145,7 @@ class Usage(Linted):
             status, out, _ = self.run_lint(text)
             self.assertEqual((status, out.split("\n")[-2]), (2, f"# {last}"))
             status, out, _ = self.run_lint(text, *(f"--except={kind}" for kind in ("conflict", "unknown-name")))
-            self.assertEqual((status, out.split("\n")[-2]), (1, "# the profile is refused; nothing else was checked"))
+            self.assertEqual((status, out.split("\n")[-2]), (2, "# the profile is refused; nothing else was checked"))
         status, out, _ = self.run_lint(profile(), "--table", self.file("bad.table", b"read\n"))
         self.assertEqual((status, out.split("\n")[-2]), (1, "# the table is refused; nothing else was checked"))
 
@@ -162,7 +162,7 @@ class Usage(Linted):
                          "# the profile is refused; findings that need no comparison: 4")
         for odd in ([], [[]], [5], 5, [{"action": 5}], [{"action": "x", "args": 5}], [{"args": [5, {"op": 6}]}]):
             status, _, err = self.run_lint({"defaultAction": "x", "syscalls": odd})
-            self.assertEqual((status, err), (1, ""))
+            self.assertEqual((status, err), (2, ""))
 
     def test_a_filter_that_would_be_too_large(self):
         entries = [entry("socket", args=[(0, "GT", it), (1, "GT", it)]) for it in range(2**40, 2**40 + 1000)]
@@ -1120,7 +1120,7 @@ class Several(Linted):
         self.assertEqual((found["call"]["number"], found["call"]["architecture"], found["architectures"]),
                          (7, "0x40000003", ["i386"]))
         found, = self.found(profile(entry("read"), entry("read", **log), architectures=ENGINES), kinds=("conflict",),
-                            status=1)
+                            status=2)
         self.assertEqual(found["architectures"], ["x86-64", "i386", "x32"])
         self.assertIn("answer read (0) by ALLOW and by LOG: ", found["text"])
 
@@ -1366,7 +1366,7 @@ class Runtimes(Linted):
         self.assertEqual(self.report(given, status=2)["fault"]["kind"], "Errno")
         self.assertEqual(self.of_runtime(given, "runc")[0], [])
         status, out, err = self.run_lint(given, "--runtime", "crun")
-        self.assertEqual((status, out), (1, ""))
+        self.assertEqual((status, out), (2, ""))
         self.assertIn("crun refuses the profile: entry 0 has an errno beside SCMP_ACT_ALLOW", err)
         for words in (("--runtime=runc", "--caps=docker"), ("--runtime=crun", "--machine=arm64"), ("--machine=arm64",)):
             self.assertEqual(self.run_lint(given, *words)[:2], (2, ""))

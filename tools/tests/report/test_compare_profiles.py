@@ -12,7 +12,7 @@ from kernel_profiles import answer_of
 from scftools.model import tables
 from scftools.model.calls import Call
 from scftools.forms.profile_inputs import ProfileInput
-from scftools.report import changes
+from scftools.report import changes, compare
 
 ALLOW, ERRNO = "SCMP_ACT_ALLOW", "SCMP_ACT_ERRNO"
 NOT_40 = [{"index": 0, "value": 40, "op": "SCMP_CMP_NE"}]
@@ -408,7 +408,8 @@ class RandomProfiles(unittest.TestCase):
             new = self.changed(random_of, old)
             if random_of.random() < 0.2:
                 new = kernel_profiles.random_profile(random_of)
-            profile_changes = changes.changes_of_profiles(ProfileInput(old), ProfileInput(new), table, "same")
+            pair = compare.pair_of(ProfileInput(new), ProfileInput(old), table, "same", is_diff=True)
+            profile_changes = changes.changes_of(pair, pair.run()[1])
             kinds = {}
             for change in profile_changes.calls:
                 kinds.setdefault(change.number, set()).add(change.kind)

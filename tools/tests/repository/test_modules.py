@@ -22,7 +22,7 @@ LATE = {"ast", "ctypes", "difflib", "glob", "hashlib", "importlib", "json", "pic
         "subprocess", "syslog", "tempfile", "threading",
         "scfhost.audit_page", "scfhost.processes", "scfhost.ptrace", "scfhost.unit_profiles", "scftools.forms.lists.sandboxes",
         "scftools.forms.filter_loads", "scftools.lint.sarif", "scftools.logs.cores", "scftools.report.pages",
-        "scftools.report.row_conditions", "scftools.report.stack_comparison"}
+        "scftools.report.row_conditions"}
 
 # The packages of scftools in their order, and what looks at a process or a unit.
 ROOMS = "base model ask cli forms report lint logs commands".split()
