@@ -39,7 +39,8 @@ class Tools(Confined):
         self.tree = self.made_tree(LIES)
         self.filter = self.file("f.bpf", refusing(MOUNT))
         self.other = self.file("others/f.bpf", refusing(MOUNT, MOUNT + 1))
-        self.profile = self.file("p.json", refuses("mount"))
+        # (where all is the same, no record is shown)
+        self.profile = self.file("p.json", refuses("mount", "swapon"))
 
     def run_lying(self, name, *words, given=b"", side="profile"):
         path = os.path.join(self.tree, "tools", name)
@@ -63,7 +64,7 @@ class Tools(Confined):
         for words in ((), ("--json",), ("--calls",)):
             self.fails("verify-process", *words, str(child.pid), self.profile)
         self.fails("verify-process", str(child.pid), "--beside", f"{self.folder}/others", side="beside")
-        config = {"ociVersion": "1.0.2", "linux": {"seccomp": json.loads(refuses("mount"))}}
+        config = {"ociVersion": "1.0.2", "linux": {"seccomp": json.loads(refuses("mount", "swapon"))}}
         self.file("box/config.json", json.dumps(config))
         state = {"ociVersion": "1.0.2", "id": "box", "status": "running", "pid": child.pid,
                  "bundle": f"{self.folder}/box"}
@@ -100,6 +101,6 @@ class Modules(Case):
         run, judge = client.run_scf, audit_judge.StackJudge(tables.read_table(None))
         with mock.patch.object(client, "run_scf", lambda words, *more_words, **more: Run(1, text)
                                if words[0] == "compare" else run(words, *more_words, **more)):
-            block = judge.judge(stack, Request(profile_of("read"), judge.table))
+            block = judge.judge(stack, Request(profile_of("read", "write"), judge.table))
         self.assertEqual((block.verdict, block.why[:42]),
                          (audit_rows.NOT_KNOWN, "internal error: the filters answer ERRNO 1"))

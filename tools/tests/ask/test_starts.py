@@ -124,7 +124,7 @@ class Starts(Counting):
             name = self.file("f.bpf", data)
             for words in ([], ["--json"], ["--native"], ["--all"], ["--no-more"]):
                 self.assertEqual(self.starts("compare", *words, name, given, status=1), 3, words)
-        self.assertEqual(self.starts("compare", self.file("f.bpf", filter_of(numbers)), given), 2)
+        self.assertEqual(self.starts("compare", self.file("f.bpf", filter_of(numbers)), given), 1)
 
     def test_compare_by_runtime(self):
         """With runc's stub as without a runtime; twice more where the filter has none, which is told by the first number
@@ -134,8 +134,8 @@ class Starts(Counting):
         given, says = self.file("p.json", json.dumps(profile)), (
             "compare: not in the profile: runc answers the numbers from 438 on, above all that the profile names, with "
             "ENOSYS\n")
-        for data, status, starts in ((stub(438) + filter_of([0, 437]), 0, 2), (stub(438) + filter_of([0]), 1, 3),
-                                     (filter_of([0, 437]), 0, 4), (filter_of([0]), 1, 5)):
+        for data, status, starts in ((stub(438) + filter_of([0, 437]), 0, 1), (stub(438) + filter_of([0]), 1, 3),
+                                     (filter_of([0, 437]), 0, 3), (filter_of([0]), 1, 5)):
             name = self.file("f.bpf", data)
             self.assertEqual(self.starts("compare", "--runtime", "runc", name, given, status=status, said=says), starts)
 
@@ -158,7 +158,7 @@ class OfProcesses(Confined, Counting):
         data, path = self.compiled(json.dumps({"defaultAction": "SCMP_ACT_ALLOW", "syscalls": [
             {"names": ["mount"], "action": "SCMP_ACT_ERRNO"}]}))
         child = self.child([data])
-        self.assertEqual(self.starts("verify-process", str(child.pid), path), 3)
+        self.assertEqual(self.starts("verify-process", str(child.pid), path), 2)
 
     @here
     def test_one_of_runc(self):
@@ -171,4 +171,4 @@ class OfProcesses(Confined, Counting):
             "defaultAction": "SCMP_ACT_ERRNO", "architectures": ["SCMP_ARCH_X86_64"],
             "syscalls": [{"names": names, "action": "SCMP_ACT_ALLOW"}]}))
         child = self.child([stub(436) + insn(0, 0) + data])
-        self.assertEqual(self.starts("verify-process", "--runtime", "runc", str(child.pid), path), 3)
+        self.assertEqual(self.starts("verify-process", "--runtime", "runc", str(child.pid), path), 2)

@@ -114,7 +114,7 @@ class Configurations(Confined):
             path = self.file("config.json", json.dumps(given))
             for words in RUNTIMES:
                 status, out, err = self.run_tool("verify-process", *words, str(child.pid), path)
-                self.assertEqual((status, out), (1, ""), given)
+                self.assertEqual((status, out), (2, ""), given)
                 self.assertIn(says, err)
 
     def test_a_profile_that_is_refused(self):
@@ -126,7 +126,7 @@ class Configurations(Confined):
             self.assertEqual((status, out), (1, f"# process {child.pid} (python3) has no filter: it isn't confined, and "
                                                 "every syscall is allowed\n"), err)
             for words in RUNTIMES[1:]:
-                self.assertEqual(self.run_tool("verify-process", *words, str(child.pid), path)[:2], (1, ""))
+                self.assertEqual(self.run_tool("verify-process", *words, str(child.pid), path)[:2], (2, ""))
 
     def test_a_filter_that_the_configuration_of_a_hook_lacks(self):
         """The hook doesn't say that it isn't there."""

@@ -341,7 +341,7 @@ class Podman(Containers):
         self.assertEqual([row["verdict"] for row in rows if row.get("id") == identifier], [expected])
         actual, out, err = self.run_tool("filters-of", pid, f"filters-{identifier}")
         self.assertEqual((actual, len(out.splitlines()), err), (0, 1, "") if word == "same" else
-                         (3, 0, f"filters-of: process {pid} has no filter\n"))
+                         (1, 0, f"filters-of: process {pid} has no filter\n"))
         state = json.dumps({"ociVersion": "1.0.2", "id": identifier, "status": "running", "pid": int(pid),
                             "bundle": os.path.dirname(path)})
         actual, _, err = self.run_tool("oci-hook", "--runtime", runtime, "--wait=0", given=state.encode())

@@ -230,7 +230,7 @@ class UnitProfile(Case):
             self.assertEqual(self.printed("--set", f"~read:{text}")[1], {(ERRNO, number): {"read"}}, text)
         self.assertEqual(self.printed("--set", "~read", "--errno", "010")[1], {(ERRNO, 8): {"read"}})
         for text in ("08", "0x", "1_0", "0b2", "-1", "4096", "9" * 5000, "EHWPOISON1", "\u0663"):
-            self.refused(1, "isn't an errno", "--set", f"~read:{text}")
+            self.refused(2, "isn't an errno", "--set", f"~read:{text}")
 
     @unittest.skipUnless(ctypes.util.find_library("seccomp"), "there is no libseccomp here")
     def test_names_that_libseccomp_does_not_know(self):
@@ -375,7 +375,7 @@ class UnitProfile(Case):
             # where its syscalls aren't permitted
             self.with_setting(name, text, SystemCallArchitectures="native")
             self.assertEqual(self.answered("box.service")[1], NATIVE)
-            self.refused(1, "the unit permits no i386 syscalls", "--arch", "i386", "box.service")
+            self.refused(2, "the unit permits no i386 syscalls", "--arch", "i386", "box.service")
         self.with_setting("RestrictNamespaces", "yes")
         self.assertEqual(self.answered("--arch", "i386", "box.service")[1], ALL)
 
@@ -447,9 +447,9 @@ class UnitProfile(Case):
                                  ("RestrictAddressFamilies", "~PROT_READ", "'~PROT_READ' aren't address families"),
                                  ("ProtectHostname", "private", "ProtectHostname=private isn't yes or no")):
             self.with_setting(name, text)
-            self.refused(1, says, "box.service")
+            self.refused(2, says, "box.service")
         self.with_setting("LockPersonality", "yes", Personality="s390x \x1b[2J")
-        self.refused(1, "'s390x \\x1b[2J' isn't a personality of x86-64", "box.service")
+        self.refused(2, "'s390x \\x1b[2J' isn't a personality of x86-64", "box.service")
 
     def test_what_systemd_ignores(self):
         for lists, says in (("read @none", "@none left out: systemd knows no such group"),
@@ -466,17 +466,17 @@ class UnitProfile(Case):
                             (("--set", "read", "--errno=-1"), "'-1' isn't an errno"),
                             (("--set", "read", "--architectures", "x86 \x1b[2J"), "'\\x1b[2J' isn't an architecture"),
                             (("--set", "@round"), "the group @round is nested too deep")):
-            self.refused(1, says, *words)
+            self.refused(2, says, *words)
 
     def test_units_that_are_not_there(self):
         self.shows(LoadState="not-found")
-        self.refused(3, "the unit box isn't loaded: not-found", "box")
+        self.refused(2, "the unit box isn't loaded: not-found", "box")
         self.shows(SystemCallFilter=None)
-        self.refused(3, "the unit box.target runs no processes of its own", "box.target")
+        self.refused(2, "the unit box.target runs no processes of its own", "box.target")
         self.stand_in("systemctl", "echo 'Failed to \033[2Jconnect to bus' >&2; exit 1")
-        self.refused(3, "systemctl ended with status 1: Failed to \\x1b[2Jconnect to bus", "box")
+        self.refused(2, "systemctl ended with status 1: Failed to \\x1b[2Jconnect to bus", "box")
         self.stand_in("systemctl", "yes LoadState=loaded | head -c 2000000")
-        self.refused(3, "printed more than", "box")
+        self.refused(2, "printed more than", "box")
         self.env["PATH"] = f"{self.folder}/none"
         path = self.run_words(["/usr/bin/python3", "-IS", "-c", "1"])[0]
         if path == 0:
@@ -520,7 +520,7 @@ class UnitProfile(Case):
         self.shows(SystemCallFilter="read")
         with open("/dev/full", "wb") as full:
             status, _, err = self.run_tool("unit-profile", "box", env=self.env, stdout=full)
-        self.assertEqual((status, err), (3, "unit-profile: the output failed: No space left on device\n"))
+        self.assertEqual((status, err), (2, "unit-profile: the output failed: No space left on device\n"))
 
 
 ALLOWING = """[Unit]
@@ -645,7 +645,7 @@ class OtherSettings(Audited, OwnUnits):
             for name in ("x86-64", "i386", "x32"):
                 status, out, err = self.on(tool("unit-profile"), "--arch", name, unit)
                 if unit == "scf-native.service" and name != "x86-64":
-                    self.assertEqual((status, out), (1, ""), err)
+                    self.assertEqual((status, out), (2, ""), err)
                     continue
                 self.assertEqual(status, 0, err)
                 profiles.setdefault(out, self.file(f"{name}.json", out))
