@@ -12,7 +12,7 @@
 PREFIX = /usr/local
 DESTDIR =
 
-TOOLS := $(filter-out scftools scfhost tests __pycache__,$(notdir $(wildcard tools/*)))
+TOOLS := $(filter-out start scftools scfhost tests __pycache__,$(notdir $(wildcard tools/*)))
 PACKAGES := $(patsubst tools/%/__init__.py,%,$(wildcard $(foreach depth,* */* */*/*,tools/scf$(depth)/__init__.py)))
 PROGRAM = crates/scf/out/scf
 TO = $(DESTDIR)$(PREFIX)
@@ -58,7 +58,8 @@ install: $(PROGRAM) uninstall
 	install -d "$(BIN)" "$(LIB)/program" "$(LIB)/tools" "$(LIB)/tables" "$(LIB)/docs" "$(MAN)" "$(DOC)" \
 	    "$(BASH)" "$(ZSH)" "$(FISH)" "$(UNITS)" "$(SHARE)/hooks.d" "$(SHARE)/prometheus"
 	install $(PROGRAM) "$(LIB)/program"
-	install $(TOOLS:%=tools/%) "$(LIB)/tools"
+	install tools/start "$(LIB)/tools"
+	for tool in $(TOOLS); do ln -sf start "$(LIB)/tools/$$tool" || exit 1; done
 	for package in $(PACKAGES); do install -d "$(LIB)/tools/$$package" && \
 	    install -m 644 tools/$$package/*.py "$(LIB)/tools/$$package" || exit 1; done
 	install -m 644 tables/* "$(LIB)/tables"

@@ -1,4 +1,4 @@
-"""Starts a tool: each program tools/NAME is the same few lines, which start the module of the command NAME.
+"""Starts a tool: each program tools/NAME is a link to the same few lines, which start the module of the command NAME.
 
 The tools run as root, so nothing is imported from the user's environment, folders or site packages: Python's options -I
 and -S see to that, and the import path gets the tools' own folder by its real name.
@@ -15,15 +15,17 @@ if sys.version_info < (3, 9):
 gc.disable()
 from .base import program  # noqa: E402 pylint: disable=wrong-import-position
 from .base.values import NoReturn  # noqa: E402 pylint: disable=wrong-import-position
-from .cli.commands import module_of  # noqa: E402 pylint: disable=wrong-import-position
+from .cli import commands  # noqa: E402 pylint: disable=wrong-import-position
 
 
 def start(file: str) -> NoReturn:
-    """Runs the tool whose program is this file, or a link to it, and exits with its status."""
-    module = module_of(os.path.basename(os.path.realpath(file)))
+    """Runs the tool that this program, or a link to it, is named by, and exits with its status."""
 
     def run() -> int:
-        main = __import__(module, fromlist=["main"]).main
+        command = commands.name_at(file)
+        if command is None:
+            raise program.ToolError("this isn't the name of a command: see scf help")
+        main = __import__(commands.module_of(command), fromlist=["main"]).main
         gc.enable()
         return main()
 

@@ -12,10 +12,10 @@ those that `systemctl show` prints. With --set each LIST is an assignment of Sys
 '@system-service' or '~@mount ptrace:EPERM', and the groups are those of `systemd-analyze syscall-filter`. What is left
 out, and why, goes to standard error.
 
-`scf verify-process` tells whether a unit's main process is confined so. On i386 systemd applies
+`scf verify` tells whether a unit's main process is confined so. On i386 systemd applies
 RestrictAddressFamilies= not at all, and MemoryDenyWriteExecute= to other syscalls. One profile can't say that of a unit
 that permits i386 syscalls: the one that is printed leaves i386 out, and --arch i386 prints the profile for it, which
-`scf compare` and `scf verify-process` take by --also.
+`scf compare` and `scf verify` take by --also.
 
 The rules of RestrictNamespaces= and of the settings after it are those of systemd 252.39 and 257.13, and of later ones
 of these series; if another version runs, a line on standard error says so. From 254 on MemoryDenyWriteExecute= adds no

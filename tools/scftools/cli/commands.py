@@ -1,11 +1,69 @@
-"""Which module has a command."""
+"""The commands, their other names, and which module has each; tables/commands is what `scf help` prints of them."""
 from __future__ import annotations
 
+import os
+import re
+
+from ..base import program
+
+# The commands, and those that few need.
+COMMANDS = ("compare", "diff", "surface", "decide", "list", "check", "lint", "compile", "profile-of", "needs", "record",
+            "why", "filters-of", "verify", "audit", "oci-hook", "help")
+OTHERS = {"bundle": "several files as one input, for standard input",
+          "call-table": "a syscall table from kernel headers",
+          "compare-profiles": "which syscalls differ between an old and a new profile",
+          "answers": "everything that filters answer: sets of syscalls, each with its answer",
+          "run": "what one filter answers to a syscall, in how many instructions",
+          "dis": "a plain listing of any filter, as `asm` takes it",
+          "ask": "what a profile answers to a syscall, and which entry gives the answer",
+          "resolve-profile": "the profile that a container engine makes of its own for one container",
+          "unit-profile": "the profile that a systemd unit's syscall settings describe",
+          "asm": "the filter that a text in scf's assembler spells"}
+# Commands by the names that they had before, and the words that each stands for.
+ALIASES = {"explain": "help", "verify-process": "verify"}
+NAMES = (*COMMANDS, *ALIASES, *OTHERS)
 # The commands of scfhost; scftools has all others.
-OF_HOST = ("audit", "filters-of", "oci-hook", "unit-profile", "verify-process")
+OF_HOST = ("audit", "filters-of", "oci-hook", "unit-profile", "verify")
+# What people type in place of a command.
+SLIPS = {"validate": "lint", "disassemble": "list", "show": "list", "dump": "filters-of", "generate": "needs",
+         "trace": "record", "unit": "profile-of", "test": "decide"}
 
 
-def module_of(command: str) -> str:
+def module_of(name: str) -> str:
     """The name of the module whose docstring is the command's manual, and whose `main` runs it."""
-    package = "scfhost" if command in OF_HOST else "scftools"
-    return f"{package}.commands.{command.replace('-', '_')}"
+    command = ALIASES.get(name, name).split()[0]
+    return f"{'scfhost' if command in OF_HOST else 'scftools'}.commands.{command.replace('-', '_')}"
+
+
+def name_at(path: str) -> str | None:
+    """The command that a program, or the link by which it is called, is named by; links to links are followed."""
+    while os.path.basename(path).removeprefix("scf-") not in NAMES:
+        if not os.path.islink(path):
+            return None
+        path = os.path.join(os.path.dirname(path), os.readlink(path))
+    return os.path.basename(path).removeprefix("scf-")
+
+
+def summaries() -> dict[str, str]:
+    """What each command is for, in a line."""
+    with open(os.path.join(program.TOP, "tables", "commands"), encoding="ascii") as file:
+        listed = dict(re.findall(r"(?m)^  ([a-z-]+) +(\S.*)$", file.read()))
+    return {**{name: listed[name] for name in COMMANDS}, **{name: same_as(name) for name in ALIASES}, **OTHERS}
+
+
+def same_as(name: str) -> str:
+    """What a command by another name is."""
+    return f"the same as scf {ALIASES[name]}"
+
+
+def words_before(name: str | None) -> list[str]:
+    """The words that a command by another name has before its own."""
+    return ALIASES.get(name or "", "").split()[1:]
+
+
+def nearest(word: str) -> str | None:
+    """The command that a word is likely to mean."""
+    from difflib import get_close_matches  # pylint: disable=import-outside-toplevel
+
+    word = word.lower()
+    return SLIPS.get(word) or next(iter(get_close_matches(word, (*NAMES, "core"), 1, 0.5)), None)

@@ -11,7 +11,7 @@ from ..base.values import Any, NoReturn, Pattern
 from ..model import architectures, tables
 from ..model.architectures import JUDGED
 from ..ask import client, verdicts
-from . import standard_input
+from . import commands, standard_input
 
 # argparse imports gettext, and looks for translations of its messages at each start: the tools have none.
 sys.modules.setdefault("gettext", types.SimpleNamespace(  # type: ignore
@@ -132,13 +132,18 @@ class Parser(argparse.ArgumentParser):
 
     def __init__(self, doc: str, needs: str = "", command: str | None = None):
         self.command, self.record_words = command, lambda options: []
+        self.called = commands.name_at(sys.argv[0])
         text, _, examples = doc.partition("\nExamples:\n")
         (summary, usage, *paragraphs), name = text.split("\n\n"), output.escaped(program.name())
+        if self.called in commands.ALIASES:
+            summary = f"{commands.same_as(self.called).capitalize()}. {summary}"
         statuses = [f"{text} {OTHER_STATUSES}" for text in paragraphs
                     if text.startswith(("Exit status:", "The exit status is"))]
         # (a percent sign would be argparse's)
         usage = re.sub(r"(?m)^    (?:scf )?[\w/-]+", lambda _: f"    {name}", usage)
-        usage = re.sub("(?m)^   ", " " * len("usage:"), usage)
+        command = commands.ALIASES.get(self.called or "", "").split()[:1]
+        longer = " " * sum(len(self.called or "") - len(word) for word in command)
+        usage = re.sub("(?m)^   (?=( {5})?)", lambda match: " " * len("usage:") + longer * (match[1] is not None), usage)
         # (with a fixed width no tool asks the terminal for it at the start)
         super().__init__(prog=name, usage=usage.strip().replace("%", "%%"), description=summary,
                          epilog="\n\n".join([*filter(None, [needs]), *statuses]), allow_abbrev=False, add_help=False,
@@ -150,11 +155,12 @@ class Parser(argparse.ArgumentParser):
         self.add_argument("--color", choices=("auto", "always", "never"), default="auto",
                           help="whether verdicts are coloured [default: auto, at a terminal unless NO_COLOR is set]")
 
-    def parse_args(self, *given: Any, **named: Any) -> Any:
+    def parse_args(self, given: Any = None, namespace: Any = None) -> Any:
+        given = [*commands.words_before(self.called), *(sys.argv[1:] if given is None else given)]
         for argument in self._actions if self.command is not None else ():
             # (argparse would ask for files)
             argument.required = argument.required and bool(argument.option_strings)
-        options = super().parse_args(*given, **named)
+        options = super().parse_args(given, namespace)
         output.color = options.color
         texts = {name: getattr(options, name, None) for name in client.LIMIT_OPTIONS}
         client.limits = {name: text for name, text in texts.items() if text is not None}

@@ -15,7 +15,7 @@ from ..ask.client import FAULT, Fault
 from ..lint import kinds
 
 RANKS = "denied < delegated < allowed"
-# What verdicts mean: those of comparisons, and of `audit` and `verify-process`.
+# What verdicts mean: those of comparisons, and of `audit` and `verify`.
 VERDICTS = {
     "same": "every syscall that was compared gets the same answer from both sides, action and data: status 0",
     "differs": "some syscall gets another answer; the next lines are such a call, and both answers to it: status 1",

@@ -1,10 +1,7 @@
 """scftools/launch.py: a tool that fails by an error of its own ends with no verdict's status, and says so in a line."""
 import os
 
-from support.common import TOP, Case, source_of
-
-TOOLS = sorted(name for name in os.listdir(os.path.join(TOP, "tools"))
-               if os.path.isfile(os.path.join(TOP, "tools", name)))
+from support.common import TOOLS, TOP, Case, module_of, source_of
 
 
 class Failing(Case):
@@ -25,7 +22,7 @@ class Failing(Case):
     def test_each_tool(self):
         for name in TOOLS:
             _, err = self.fails(name, "def main():\n    {}['a\\nsame\\x1b[2J']\n")
-            self.assertIn(f", at {name.replace('-', '_')}.py, line 2; please report it", err)
+            self.assertIn(f", at {module_of(name).rpartition('.')[2]}.py, line 2; please report it", err)
 
     def test_wherever_it_fails(self):
         for text, says in (("raise ValueError('x' * 10 ** 6)\n", "ValueError: xxx"), ("def main(:\n", "SyntaxError: "),

@@ -10,12 +10,11 @@ import subprocess
 import unittest
 import unittest.mock
 
-from support.common import (CORE, PROGRAM, SCF, TABLE, TOP, Case, filter_of, for_developers, part, profile_of, ret,
-                            source_of)
+from support.common import (CORE, PROGRAM, SCF, TABLE, TOOLS, TOP, Case, filter_of, for_developers, part, profile_of,
+                            ret, source_of)
 from support.confined import OLDEST, Confined, here
+from scftools.cli import commands
 
-TOOLS = {name for name in os.listdir(os.path.join(TOP, "tools")) if os.path.isfile(os.path.join(TOP, "tools", name))}
-GROUPS = ["Look at a filter", "Look at a profile", "Look at a process", "Compare", "Make"]
 
 
 def text_of(*path):
@@ -24,6 +23,9 @@ def text_of(*path):
 
 
 LIST = text_of("tables", "commands")
+# What people type who know other programs, and the command that they mean.
+SLIPS = (("COMPARE", "compare"), ("validate", "lint"), ("disassemble", "list"), ("show", "list"), ("dump", "filters-of"),
+         ("generate", "needs"), ("trace", "record"), ("unit", "profile-of"), ("test", "decide"))
 COMMANDS = re.findall(r"(?m)^  ([a-z-]+) +(\S.*)$", LIST)
 
 
@@ -184,14 +186,18 @@ class Help(Case):
         with open("/dev/full", "wb") as full:
             self.assertEqual(self.run_words([SCF, "help"], stdout=full)[0], 2)
 
-    def test_each_tool_stands_in_the_list_once_in_its_group(self):
-        names = [name for name, _ in COMMANDS]
-        self.assertEqual(sorted(names), sorted(TOOLS))
-        self.assertEqual(re.findall(r"(?m)^([A-Z][a-z ]+)$", LIST), GROUPS)
-        self.assertLessEqual(max(map(len, LIST.split("\n"))), 100)
+    def test_each_command_stands_in_the_list_once_which_fits_a_screen(self):
+        self.assertEqual([name for name, _ in COMMANDS], [*commands.COMMANDS, "core"])
+        self.assertEqual(sorted(re.findall(r"[a-z-]+(?= |\n)", LIST.partition("Other names: ")[2].replace(
+            "; rarely needed:", ""))), sorted([*commands.ALIASES, *commands.OTHERS]))
+        self.assertLessEqual(LIST.count("\n"), 24)
+        self.assertLessEqual(max(map(len, LIST.split("\n"))), 80)
+        links = [name for name in os.listdir(os.path.join(TOP, "tools"))
+                 if os.path.islink(os.path.join(TOP, "tools", name))]
+        self.assertEqual(sorted(links), TOOLS)
 
     def test_each_command_has_help_that_names_it(self):
-        for name, _ in COMMANDS:
+        for name in sorted({*TOOLS} - {"help"}):
             with self.subTest(name):
                 status, out, err = self.scf("help", name)
                 self.assertEqual((status, err), (0, ""))
@@ -201,7 +207,7 @@ class Help(Case):
     def test_the_usage_has_each_option(self):
         """In it `--a0 N .. --a5 N` stands for those between, too."""
         between = {f"--a{at}" for at in range(1, 5)}
-        for name in sorted(TOOLS - {"bundle"}):
+        for name in sorted({*TOOLS} - {"bundle", "help"}):
             usage, _, remaining = self.scf("help", name)[1].partition("\n\n")
             options = set(re.findall(r"(?m)^  (?:-h, )?(--[a-z0-9-]+)", remaining)) - {"--help", "--version", "--color"}
             self.assertEqual(set(re.findall(r"--[a-z0-9-]+", usage)), options - between, name)
@@ -227,11 +233,14 @@ class Help(Case):
         self.assertTrue(self.scf("run", "--zzz")[2].endswith("unrecognized arguments: --zzz\n"))
 
     def test_a_wrong_word_names_the_nearest(self):
-        for word, near in (("comapre", "compare"), ("compare-profile", "compare-profiles"), ("verify", "verify-process"),
-                           ("List", "list"), ("filters_of", "filters-of"), ("surfaces", "surface")):
-            for words in ([word], ["help", word], [word, "x"]):
+        for word, near in (("comapre", "compare"), ("compare-profile", "compare-profiles"), ("verfy", "verify"),
+                           ("List", "list"), ("filters_of", "filters-of"), ("surfaces", "surface"), *SLIPS):
+            for words in ([word], [word, "x"]):
                 self.assertEqual(self.scf(*words),
                                  (2, "", f"scf: '{word}' isn't a command; the nearest is '{near}': see scf help\n"))
+            self.assertEqual(self.scf("help", word), (
+                2, "", f"scf help: '{word}' isn't a command, nor a line or status of scf; the nearest command is "
+                f"'{near}': see scf help\n"))
         self.assertEqual(self.scf("\x1b[2J"), (2, "", "scf: that word isn't a command: see scf help\n"))
         for word in ("qqq", "scftools", "tests", "../scf", "plain_profile"):
             self.assertEqual(self.scf(word)[:2], (2, ""))
@@ -268,7 +277,7 @@ class Examples(Confined):
                 self.assertNotRegex(out, r"(?m)^fault ")
 
     def test_those_of_files(self):
-        for name in sorted(TOOLS - {"audit", "filters-of", "verify-process", "unit-profile"}):
+        for name in sorted({*TOOLS} - {"audit", "verify", "filters-of", "verify-process", "unit-profile"}):
             self.run_examples(name)
 
     @here
@@ -329,7 +338,7 @@ class Completion(Case):
         return set(self.run_words(["bash", "-c", script, "bash", self.paths[0], *words])[1].split())
 
     def test_bash(self):
-        self.assertEqual(self.completed("scf", ""), {name for name, _ in COMMANDS} | {"help"})
+        self.assertEqual(self.completed("scf", ""), {*TOOLS})
         self.assertEqual(self.completed("scf", "help", "compa"), {"compare", "compare-profiles"})
         self.assertEqual(self.completed("scf", "compare", "--no"), {"--no-more", "--no-less"})
         for words in (["--nr", "renameat"], ["--nr", "=", "renameat"]):
@@ -369,7 +378,7 @@ class Completion(Case):
             self.assertIn("\nrenameat2\n", out.partition(f"# {name}\n")[2].partition("\n# ")[0])
 
     def test_every_option_of_a_tool(self):
-        for name in sorted(TOOLS - {"bundle"}):
+        for name in sorted({*TOOLS} - {"bundle", "help"}):
             out = self.run_words([SCF, "help", name])[1]
             options = set(re.findall(r"(?m)^  (?:-h, )?(--[a-z0-9-]+)", out))
             self.assertEqual(self.completed("scf", name, "--"), options, name)

@@ -9,6 +9,7 @@ import sys
 
 from support.common import (ALLOW, CORE, EPERM, I386, KILL_PROCESS, TABLE, TOP, UNKNOWN_ZERO, X86_64, Case, filter_of,
                             insn, jeq, jge, load, part, profile_of, ret, tool)
+from scftools.cli.commands import NAMES
 from scftools.model import tables
 
 TOOLS = ("ask", "bundle", "check", "compare", "compare-profiles", "compile", "decide", "explain", "lint", "list",
@@ -479,11 +480,7 @@ class Python(Case):
 
     def test_python3_minimal(self):
         starts = self.file("lacking.py", LACKING)
-        with open(os.path.join(TOP, "tables", "commands"), encoding="utf-8") as file:
-            words = re.findall(r"(?m)^  ([a-z-]+) ", file.read())
-        names = [word for word in words if os.path.exists(tool(word))]
-        self.assertIn("verify-process", names)
-        for name in names:
+        for name in NAMES:
             self.assertEqual(self.run_words([sys.executable, "-IS", starts, tool(name), "x", "y"]), (
                 125, "", f"{name}: the tools need Python's whole standard library, and this Python lacks json: install "
                 "the package python3 (python3-minimal isn't enough)\n"))

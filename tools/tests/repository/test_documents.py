@@ -9,11 +9,9 @@ import shutil
 import subprocess
 import unittest
 
-from support.common import (ALLOW, CORE, PATIENCE, PROGRAM, SCF, TABLE, TOP, Case, filter_of, for_developers, insn, jeq,
-                            load, module, part, profile_of, ret)
+from support.common import (ALLOW, CORE, PATIENCE, PROGRAM, SCF, TABLE, TOOLS, TOP, Case, filter_of, for_developers,
+                            insn, jeq, load, module, part, profile_of, ret)
 from program.test_texts import CODES
-
-TOOLS = sorted(entry.name for entry in os.scandir(os.path.join(TOP, "tools")) if entry.is_file())
 
 # Of a row of faults: a source or a kind with its number in scf.h, and a kind between its status and its numbers.
 NAME, KIND = r'\(codes "(\w+)", (\d+)\)', r'\(\s*(\w+),\s+\(codes "(\w+)", (\d+)\),\s+([^=]*?),?\s*\)'

@@ -9,10 +9,8 @@ import subprocess
 import tempfile
 import unittest
 
-from support.common import TOP, Case, filter_of, profile_of
+from support.common import TOOLS, TOP, Case, filter_of, profile_of
 
-TOOLS = sorted(name for name in os.listdir(os.path.join(TOP, "tools"))
-               if os.path.isfile(os.path.join(TOP, "tools", name)))
 MODULES = sorted(os.path.relpath(path, os.path.join(TOP, "tools"))
                  for path in glob.glob(os.path.join(TOP, "tools", "scf*", "**", "*.py"), recursive=True))
 TABLES = os.listdir(os.path.join(TOP, "tables"))
@@ -52,7 +50,7 @@ class Install(Case):
                        *(f"share/bash-completion/completions/scf{name}" for name in ["", *map("-{}".format, TOOLS)]),
                        *(f"share/fish/vendor_completions.d/scf{name}.fish" for name in ["", *map("-{}".format, TOOLS)]),
                        f"share/zsh/{zsh}/_scf",
-                       *(f"lib/scf/tools/{name}" for name in TOOLS),
+                       *(f"lib/scf/tools/{name}" for name in ["start", *TOOLS]),
                        *(f"lib/scf/tools/{name}" for name in MODULES),
                        *(f"lib/scf/tables/{name}" for name in TABLES), "lib/scf/docs/FAULTS.md",
                        *(f"share/doc/scf/{item}" for item in DOCUMENTS), "share/man/man1/scf.1",

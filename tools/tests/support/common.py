@@ -20,9 +20,11 @@ TOP = os.path.abspath(os.path.join(os.path.dirname(__file__), "..", "..", ".."))
 # (some tests read profiles a second way, as those of the kernel do)
 sys.path[:0] = [os.path.join(TOP, "tools"), os.path.join(TOP, "conformance")]
 
-from scftools.cli.commands import module_of  # noqa: E402
+from scftools.cli.commands import NAMES, module_of  # noqa: E402
 
 SCF = os.path.join(TOP, "scf")
+# The commands, by all of their names.
+TOOLS = sorted(NAMES)
 # The proved program alone, which is built if it never was.
 CORE = [SCF, "core"]
 PROGRAM = os.path.join(TOP, "crates", "scf", "out", "scf")

@@ -1,12 +1,12 @@
 """Says whether a running process's filters answer syscalls as a profile does.
 
-    scf verify-process [--native|--calls] [--no-more|--no-less] [--all] [--force]
-                       [--runtime runc|crun|docker|podman] [--engine docker|docker-20.10|podman]
-                       [--caps LIST] [--kernel X.Y] [--arch-map native|all] [--ignore MEMBER ..]
-                       [--limit N] [--splits N] [--strict] [--table FILE] [--verbose] [--json]
-                       [--also PROFILE ..] PID PROFILE
-    scf verify-process [--native|--calls] [--no-more|--no-less] [--all] [--force] [--limit N]
-                       [--splits N] [--table FILE] [--json] PID --beside FOLDER
+    scf verify [--native|--calls] [--no-more|--no-less] [--all] [--force]
+               [--runtime runc|crun|docker|podman] [--engine docker|docker-20.10|podman]
+               [--caps LIST] [--kernel X.Y] [--arch-map native|all] [--ignore MEMBER ..]
+               [--limit N] [--splits N] [--strict] [--table FILE] [--verbose] [--json]
+               [--also PROFILE ..] PID PROFILE
+    scf verify [--native|--calls] [--no-more|--no-less] [--all] [--force] [--limit N]
+               [--splits N] [--table FILE] [--json] PID --beside FOLDER
 
 The filters are read from the kernel as by `scf filters-of`, for all threads of the process, and compared with the
 profile as by `scf compare`, which shows why a syscall differs. Filters belong to threads. Each distinct stack has a
@@ -45,9 +45,9 @@ less or not confined, 4 undecided or unfinished.
 
 Examples:
 
-    scf verify-process "$PID" profile.json
-    scf verify-process --no-more --json "$PID" profile.json
-    scf verify-process "$PID" --beside filters
+    scf verify "$PID" profile.json
+    scf verify --no-more --json "$PID" profile.json
+    scf verify "$PID" --beside filters
 """
 import os
 import sys

@@ -1,5 +1,7 @@
-"""Says what a line of scf or an exit status means, and what to do about it.
+"""Shows the page of a command, or says what a line of scf or an exit status means, and what to do about it.
 
+    scf help [COMMAND]
+    scf help [--table FILE] LINE ..
     scf explain [--table FILE] [LINE ..]
 
 LINE is a fault, a verdict, an answer or what gives it, whether a syscall is allowed, delegated or denied, the syscall
@@ -13,15 +15,15 @@ Exit status: 0 a line is explained, 2 none is.
 
 Examples:
 
-    scf explain fault filter Empty
-    scf explain "no more"
-    scf explain unfinished
+    scf help fault filter Empty
+    scf help "no more"
+    scf help 4
 """
 import os
 
 from ..base import inputs, output, program
 from ..model import tables
-from ..cli import words
+from ..cli import commands, words
 from ..logs import meanings
 
 
@@ -33,6 +35,10 @@ def main():
     table = tables.read_table(options.table)
     if options.line:
         sentences = meanings.meaning_of(" ".join(options.line), table)
+        if not sentences and parser.called == "help" and len(options.line) == 1:
+            near = commands.nearest(options.line[0])
+            raise program.ToolError(f"'{options.line[0]}' isn't a command, nor a line or status of scf"
+                                    + (f"; the nearest command is '{near}'" if near else "") + ": see scf help")
         if not sentences:
             raise program.ToolError("scf prints no such line, and has no such exit status: see scf help")
         output.put_lines(sentences)
