@@ -11,7 +11,6 @@ COMMANDS = ("compare", "diff", "surface", "decide", "list", "check", "lint", "co
             "why", "filters-of", "verify", "audit", "oci-hook", "help")
 OTHERS = {"bundle": "several files as one input, for standard input",
           "call-table": "a syscall table from kernel headers",
-          "compare-profiles": "which syscalls differ between an old and a new profile",
           "answers": "everything that filters answer: sets of syscalls, each with its answer",
           "run": "what one filter answers to a syscall, in how many instructions",
           "dis": "a plain listing of any filter, as `asm` takes it",
@@ -20,7 +19,7 @@ OTHERS = {"bundle": "several files as one input, for standard input",
           "unit-profile": "the profile that a systemd unit's syscall settings describe",
           "asm": "the filter that a text in scf's assembler spells"}
 # Commands by the names that they had before, and the words that each stands for.
-ALIASES = {"explain": "help", "verify-process": "verify"}
+ALIASES = {"explain": "help", "verify-process": "verify", "compare-profiles": "diff --profiles"}
 NAMES = (*COMMANDS, *ALIASES, *OTHERS)
 # The commands of scfhost; scftools has all others.
 OF_HOST = ("audit", "filters-of", "oci-hook", "unit-profile", "verify")

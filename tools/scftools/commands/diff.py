@@ -3,8 +3,8 @@
     scf diff [--native|--calls] [--no-more|--no-less|--disposition]
              [--runtime runc|crun|docker|podman|sandbox] [--engine docker|docker-20.10|podman]
              [--caps LIST] [--kernel X.Y] [--machine NAME] [--arch-map native|all]
-             [--ignore MEMBER ..] [--keep-first] [--limit N] [--splits N] [--table FILE] [--force]
-             [--json] OLD NEW
+             [--ignore MEMBER ..] [--keep-first] [--profiles] [--limit N] [--splits N]
+             [--table FILE] [--force] [--json] OLD NEW
 
 OLD and NEW are each a filter as `scf check` takes it, a profile as `scf compare` takes it, pid:N, which stands for the
 filters of a process, or unit:NAME, the profile of a unit; one of them may be `-` for standard input. NEW is judged by
@@ -51,14 +51,15 @@ OF_FAULT = "status", "relation", "verdict", "fault"
 OPERAND = "a filter or a profile, pid:N or unit:NAME; - is standard input"
 
 
-def read_words(doc):
-    parser = words.Parser(doc)
+def read_words():
+    parser = words.Parser(__doc__)
     parser.scope("x86-64 syscalls alone, whatever architectures a profile names")
     parser.relation("only check that NEW is nowhere {} than OLD", words.OF_DISPOSITION)
     runtimes.add_options(parser, is_sandboxes=True)
     parser.add_argument("--keep-first", action="store_true",
                         help="OLD and NEW are an engine's own: if two entries without conditions answer a syscall, "
                              "keep the first")
+    parser.add_argument("--profiles", action="store_true", help="read both as profiles, whatever they look like")
     parser.add("--machine", "--limit", "--splits", "--table", "--force", "--json")
     parser.add_argument("old", metavar="OLD", help=OPERAND)
     parser.add_argument("new", metavar="NEW", help="what is judged by it")
@@ -87,13 +88,13 @@ def resolved(data, path, options):
         raise program.ToolError(f"{path}: {why}") from why
 
 
-def side_of(path, options, are_profiles):
+def side_of(path, options):
     """What a word names, a process's filters, a filter or a profile; and what is left out of the profile."""
-    if operands.is_process(path) and not are_profiles:
+    if operands.is_process(path) and not options.profiles:
         return operands.read_stacks([path], options), []
     data = profile_inputs.read_text(path, "engine's profile" if options.is_made else None)
-    is_profile = are_profiles or path.startswith(profile_inputs.UNIT) or profile_inputs.looks_like_profile(data)
-    if not is_profile:
+    if not options.profiles and not path.startswith(profile_inputs.UNIT) and \
+            not profile_inputs.looks_like_profile(data):
         return [filters.filter_in(path, data)], []
     if options.is_made:
         return resolved(data, path, options)
@@ -118,11 +119,9 @@ def tell_changes(judgement, is_json):
     return found.status
 
 
-def main(doc_of_profiles=None):
-    """Runs the command; given the manual of the one that takes profiles alone, that one."""
-    parser, options = read_words(doc_of_profiles or __doc__)
-    are_profiles = doc_of_profiles is not None
-    (old, of_old), (new, of_new) = (side_of(path, options, are_profiles) for path in (options.old, options.new))
+def main():
+    parser, options = read_words()
+    (old, of_old), (new, of_new) = (side_of(path, options) for path in (options.old, options.new))
     tell_left_out(of_old, of_new)
     old = old if isinstance(old, (list, ProfileInput)) else operands.the_stack(old)
     table, is_native = tables.read_table(options.table), options.scope == verdicts.NATIVE_SCOPE
