@@ -1,11 +1,11 @@
 """Says whether a running process's filters answer syscalls as a profile does.
 
-    scf verify [--native|--calls] [--no-more|--no-less] [--all] [--force]
+    scf verify [--native|--calls] [--no-more|--no-less] [--container] [--force]
                [--runtime runc|crun|docker|podman] [--engine docker|docker-20.10|podman]
                [--caps LIST] [--kernel X.Y] [--arch-map native|all] [--ignore MEMBER ..]
                [--limit N] [--splits N] [--strict] [--table FILE] [--verbose] [--json]
                [--also PROFILE ..] PID PROFILE
-    scf verify [--native|--calls] [--no-more|--no-less] [--all] [--force] [--limit N]
+    scf verify [--native|--calls] [--no-more|--no-less] [--container] [--force] [--limit N]
                [--splits N] [--table FILE] [--json] PID --beside FOLDER
 
 The filters are read from the kernel as by `scf filters-of`, for all threads of the process, and compared with the
@@ -13,8 +13,8 @@ profile as by `scf compare`, which shows why a syscall differs. Filters belong t
 block of its own, with the threads that have it, the worst first; a thread without a filter isn't confined, and counts
 as one that differs.
 
-With --all these are the threads of all processes in the container of PID: those of the container's control group and of
-the groups in it, in any hierarchy of cgroups, or, if PID is in the root group, those of its PID namespace. The
+With --container these are the threads of all processes in the container of PID: those of the container's control group
+and of the groups in it, in any hierarchy of cgroups, or, if PID is in the root group, those of its PID namespace. The
 container's group is that of PID or one above: the one that a runtime mounts or names for it, or that in which systemd
 makes init.scope and system.slice. If other processes of the PID namespace are in groups that can't be known to be a
 container's, status 0 becomes 4. In a cgroup namespace other than the initial one only a group below the namespace's
@@ -64,7 +64,8 @@ from .. import configurations, containers, processes, verify
 def read_words():
     parser = words.Parser(__doc__, processes.NEEDS)
     parser.scope("x86-64 syscalls alone, whatever architectures the profile names")
-    parser.add_argument("--all", action="store_true", help="all processes in the container of PID")
+    parser.add_argument("--container", action="store_true", help="all processes in the container of PID")
+    parser.add_argument("--all", dest="container", action="store_true", help=words.ITS_OLD_NAME)
     parser.add("--force")
     parser.relation()
     runtimes.add_options(parser, without_caps="the bounding set of PID")
@@ -171,7 +172,7 @@ def main():
 
     def read():
         process = processes.process_of(kernel, options.pid)
-        if not options.all:
+        if not options.container:
             return None, processes.look_at_process(kernel, process, is_forced=options.force)
         container = processes.container_of(kernel, process)
         return container, processes.look_at_container(kernel, container, is_forced=options.force)

@@ -24,8 +24,9 @@ SECONDS, ALL_SECONDS, FEW_STEPS = 6, 8, "1000"
 # The options of `scf compare` by which a tool's command line limits each comparison, with their texts.
 LIMIT_OPTIONS = {
     "limit": f"at most N steps for each comparison [default: 1000000, and {SECONDS} s of CPU time for all together]",
-    "splits": "at most N splits for each comparison that tests leave undecided; 18446744073709551615 is no limit "
-              "[default: 10000]"}
+    "splits": "how hard to try before `undecided`; none is no limit [default: 10000]"}
+# The greatest limit, which scf never reaches.
+NO_LIMIT = str((1 << 64) - 1)
 limits: dict[str, str] = {}
 SPENT = (f"all comparisons together took {SECONDS} s of CPU time, the most without --limit: what {FEW_STEPS} steps "
          f"don't decide is unfinished")
@@ -39,6 +40,11 @@ keeps_statuses = False
 # The CPU time of scf's comparisons since the limits began to count, in seconds; None if they count from the start of
 # the tool on, with its own time.
 _seconds_of_scf: float | None = None
+
+
+def limit_in(text: str) -> str:
+    """The number that an option has, for which scf says if it is none."""
+    return NO_LIMIT if text == "none" else text
 
 
 def lines_of(text: str) -> list[str]:

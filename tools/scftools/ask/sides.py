@@ -116,8 +116,9 @@ class Sides:
     def calls_of(self, name: str, relation: str | None = None) -> list[NamedCall]:
         """The syscalls in the table of an architecture of which the relation isn't proved, by scf's lines. Raises
         Refusal."""
-        has_numbers = bool(self.tables.of[name].numbers())
-        return [*checked(*self.asked(SCOPES[CALLS], relation or self.relation, name), True).calls] if has_numbers else []
+        if not self.tables.of[name].numbers():
+            return []
+        return [*checked(*self.asked(SCOPES[CALLS], relation or self.relation, name), True).calls]
 
     def of_calls(self, relation: str | None = None) -> list[NamedCall]:
         """The syscalls in the tables of all architectures of which the relation isn't proved. Raises Refusal."""

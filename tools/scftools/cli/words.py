@@ -31,6 +31,8 @@ OBJECT_NAME, LONGEST_OBJECT_NAME = Pattern(r"[a-z0-9]([-a-z0-9]*[a-z0-9])?(\.[a-
 # What the statuses of each tool have in common.
 OTHER_STATUSES = ("It is 2 if anything can't be read, is refused or is misspelt, or the output can't be written; 70 "
                   "after an internal error; 125 if scf can't be run.")
+# The help of an option that stays for scripts: none.
+ITS_OLD_NAME = argparse.SUPPRESS
 OF_DISPOSITION = "only check that both sides deny, delegate and allow the same"
 
 
@@ -67,7 +69,8 @@ SHARED: dict[str, dict[str, Any]] = {
     "--keep-first": {"action": "store_true",
                      "help": "if two entries without conditions answer a syscall, keep the first whose answer isn't "
                              "the default's, as runc and crun do"},
-    **{f"--{name}": {"metavar": "N", "help": text} for name, text in client.LIMIT_OPTIONS.items()},
+    **{f"--{name}": {"metavar": "N", "help": text, "type": client.limit_in}
+       for name, text in client.LIMIT_OPTIONS.items()},
     "--machine": {"choices": tuple(row.machine for row in JUDGED.values() if row.machine), "metavar": "NAME",
                   "help": "resolve an engine's profile for this machine, by Go's name of it: "
                           f"{', '.join(row.machine for row in JUDGED.values() if row.machine)} [default: this one]"},

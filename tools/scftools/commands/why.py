@@ -1,7 +1,7 @@
 """Says why a syscall was denied, delegated or logged: by which entry of a profile, and which tests of a filter.
 
     scf why [--native] [--runtime runc|crun|docker|podman|sandbox] [--limit N] [--splits N]
-            [--table FILE] [--caps LIST] [--all] [--json] LINE|- [PROFILE|FILTER ..]
+            [--table FILE] [--caps LIST] [--every] [--json] LINE|- [PROFILE|FILTER ..]
     scf why .. --pid PID [PROFILE|FILTER ..]
     scf why .. --core FILE [PROFILE|FILTER ..]
 
@@ -31,7 +31,7 @@ changes. With --native the profile is judged for x86-64 alone, otherwise for eac
 Of what strace wrote each SIGSYS is judged, and each syscall that failed as PROFILE, or else the FILTERs, answer to it.
 The failed ones are counted by syscall and entry, and the most telling stand first: the last one of a process that ended
 with a failure, then those that were tried least often, since libraries try some again and again and ignore the failure.
-Five are shown, and the others counted; --all shows every one. The changes of the profile are then those that allow what
+Five are shown, and the others counted; --every shows each. The changes of the profile are then those that allow what
 all of a count have in common. If the log shows a filter being loaded (seccomp, prctl), only processes and threads that
 loaded it, or were made by one that did, are judged, and from then on. What failed with EPERM though PROFILE allows it
 is named at the end: the kernel itself answers so if a process lacks a capability. If none is answered so, the last
@@ -46,7 +46,7 @@ the filter was loaded with SECCOMP_FILTER_FLAG_LOG (`flags` of a profile); and e
 
     scf why "$(dmesg | grep type=1326 | tail -n 1)" profile.json
     ulimit -c unlimited; ./program; scf why --core core profile.json
-    strace -f -o log ./program; scf why --all - profile.json <log
+    strace -f -o log ./program; scf why --every - profile.json <log
 
 Exit status: 0 each syscall is answered as it was logged; 1 one isn't; 4 it isn't known, or no syscall was logged.
 
@@ -54,7 +54,7 @@ Examples:
 
     scf why "$(dmesg | grep type=1326 | tail -n 1)" profile.json
     scf why - profile.json filter.bpf <log
-    scf why --all - profile.json <log
+    scf why --every - profile.json <log
 """
 import os
 import re
@@ -78,8 +78,9 @@ def read_words():
     group = parser.add_mutually_exclusive_group()
     group.add_argument("--pid", metavar="PID", help="take this process's records from the kernel's log and auditd's")
     group.add_argument("--core", metavar="FILE", help="take the syscall from a core; - is standard input")
-    parser.add_argument("--all", action="store_true",
+    parser.add_argument("--every", action="store_true",
                         help="show every denied syscall of a strace log, not the most telling ones alone")
+    parser.add_argument("--all", dest="every", action="store_true", help=words.ITS_OLD_NAME)
     parser.add("--limit", "--splits", "--native", "--table", "--caps", "--json")
     runtimes.add_option(parser, is_sandboxes=True)
     parser.add_argument("words", metavar="LINE|PROFILE|FILTER", nargs="*",
@@ -176,7 +177,7 @@ def main():
     table = tables.read_table(options.table)
     files = read_files(options.words, table, options)
     log, files = read_log(options, files, table)
-    report = cause_report.log_report(log, files, options.all)
+    report = cause_report.log_report(log, files, options.every)
     if options.pid is not None:
         report.lacking = lacking(options.pid)
     if options.json:

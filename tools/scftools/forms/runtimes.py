@@ -105,10 +105,8 @@ OWN_CALLS = {
 RUNTIMES = {runtime.name: runtime
             for runtime in (Runtime(RUNC, RUNC), Runtime(CRUN, CRUN), Runtime("docker", RUNC, "docker"),
                             Runtime("podman", CRUN, "podman"))}
-RUNTIME_HELP = ("read a profile as this container runtime does: runc and crun take a resolved one; docker (moby with "
-                "runc) and podman (with crun) also resolve an engine's own. An entry whose answer is the default's is "
-                "ignored, of two entries without conditions the first counts, and names that this machine's libseccomp "
-                "doesn't know are left out")
+RUNTIME_HELP = ("read the profile as this runtime does (RUNTIMES.md): runc, crun: a container's config.json; docker, "
+                "podman: also the engine's own list")
 
 
 def reading_of(name: str | None) -> str:
@@ -118,9 +116,7 @@ def reading_of(name: str | None) -> str:
 
 def add_option(parser: Parser, is_sandboxes: bool = False) -> None:
     """Adds `--runtime`; with the reading of a profile that says what a program's own sandbox answers."""
-    also = ((SANDBOX,), "; sandbox goes by the words, with errnoRet beside SCMP_ACT_TRAP as its data") if is_sandboxes \
-        else ((), "")
-    parser.add_argument("--runtime", choices=(*RUNTIMES, *also[0]), help=RUNTIME_HELP + also[1])
+    parser.add_argument("--runtime", choices=(*RUNTIMES, *[SANDBOX] * is_sandboxes), help=RUNTIME_HELP)
 
 
 def add_options(parser: Parser, without_caps: str = "podman for podman, or docker", is_sandboxes: bool = False) -> None:

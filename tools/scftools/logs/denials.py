@@ -112,7 +112,7 @@ def denial_lines(denials: Denials, shown: int, given: Inputs) -> Iterator[str]:
         yield f"syscalls that failed: {failures.count}; to which {name} answer{s} so: {denials.count}"
     hidden = _counted([(denial.failure.event, denial.count) for denial in denials.of[shown:]], table)
     if hidden:
-        yield f"of these aren't shown, since they tell less (--all shows them): {hidden}"
+        yield f"of these aren't shown, since they tell less (--every shows them): {hidden}"
     others = _counted([(failure.event, failure.count) for failure in denials.by_other_cause], table)
     if others:
         yield (f"with EPERM, but not by {name}: {others}: the kernel itself answers so, for example if the process "

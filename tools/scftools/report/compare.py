@@ -436,8 +436,8 @@ class ProfileComparison(Pair):
             report = Report.of(self._found_verdict(relation), self.beside)
             if scope == CALLS:
                 calls = self.of_calls(relation)
-                worst = min((call.verdict for call in calls), key=lambda verdict: verdict.order, default=Verdict(relation))
-                report = Report.by_call(worst, calls)
+                report = Report.by_call(min((call.verdict for call in calls), key=lambda verdict: verdict.order,
+                                            default=Verdict(relation)), calls)
         except Refusal as why:
             line = why.line.replace("profile", self.beside, 1) if stacks else why.line
             if why.fault is None:

@@ -112,8 +112,8 @@ def _example_lines(comparison: Pair, verdict: Verdict, is_native: bool) -> Itera
         return
     yield from explanation.explain_call(verdict.call, comparison.table, is_native)
     titles = [comparison.title(at) for at in (0, 1)]
-    answered = [(title, answer) for title, answer in comparison.in_order(*zip(titles, (verdict.filters, verdict.profile)))
-                if answer is not None]
+    both = comparison.in_order(*zip(titles, (verdict.filters, verdict.profile)))
+    answered = [(title, answer) for title, answer in both if answer is not None]
     for title, answer in answered:
         yield f"{title} {'answer' if title.endswith('filters') else 'answers'} {answer.describe()}"
     if verdict.word != DIFFERS and len(answered) == 2:
@@ -266,8 +266,9 @@ def comparison_notes(comparison: Any, report: Report, scope: str) -> Iterator[st
 def comparison_json(comparison: Any, report: Report, scope: str, status: int) -> dict[str, object]:
     """The object with everything that `comparison_notes` prints."""
     verdict, is_of_stacks = report.verdict, isinstance(comparison, StackComparison)
-    members: dict[str, object] = {"status": status, "scope": scope, **relation_json(comparison.word(comparison.relation)),
-                                  "verdict": comparison.word(verdict.word) if verdict else None}
+    members: dict[str, object] = {"status": status, "scope": scope,
+                                  "verdict": comparison.word(verdict.word) if verdict else None,
+                                  **relation_json(comparison.word(comparison.relation))}
     if scope == LISTED:
         members["architectures"] = list(comparison.named)
     if report.fault:

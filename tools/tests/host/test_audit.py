@@ -797,7 +797,7 @@ class Service(Audited, Systemd):
         for words in (("daemon-reload",), ("start", "scf-same.service")):
             self.assertEqual(self.on("systemctl", *words)[0], 0, words)
         # without node_exporter's folder the tool says so, and not systemd
-        self.assertEqual(sorted(self.started()), ["ExecMainStatus=3", "Result=exit-code"])
+        self.assertEqual(sorted(self.started()), ["ExecMainStatus=2", "Result=exit-code"])
         os.mkdir(where)
         # (what has ended well isn't remembered)
         self.assertIn("Result=success", self.started())
@@ -1405,14 +1405,14 @@ class Words(Case):
                 for words in (("resolve-profile", "--runtime", runtime, name),
                               ("verify-process", "--runtime", runtime, str(os.getpid()), name)):
                     status, out, err = self.run_tool(*words)
-                    self.assertEqual((status, out, err.count("\n")), (1, "", 1), words)
+                    self.assertEqual((status, out, err.count("\n")), (2, "", 1), words)
                     self.assertIn("syscalls isn't a list", err)
 
     def test_an_earlier_object(self):
         for text in ("{", "[]", "{}", '{"rows": [{}]}', '{"rows": [{"kind": 1}]}'):
             for words in ((), ("--html", "x"), ("--json",)):
                 status, out, err = self.run_tool("audit", *words, "--since", self.file("a.json", text))
-                self.assertEqual((status, out), (3, ""), text)
+                self.assertEqual((status, out), (2, ""), text)
                 self.assertIn("a.json' isn't an object that --json printed", err)
 
     def test_what_scf_refuses(self):
@@ -1422,7 +1422,7 @@ class Words(Case):
             name = self.file("p.json", text)
             for words in (("--expect", name), ("--baseline", f"no-more:{name}")):
                 status, out, err = self.run_tool("audit", *words)
-                self.assertEqual((status, out), (3, ""), words)
+                self.assertEqual((status, out), (2, ""), words)
                 self.assertRegex(err, f"\\Aaudit: '{name}': {says}")
         status, out, err = self.run_tool("audit", "--limit", "x")
         self.assertEqual((status, out, err.split(":")[1]), (2, "", " fault number limit"))
@@ -1437,7 +1437,7 @@ class Words(Case):
 
     def test_places_that_are_not_there(self):
         status, out, err = self.run_tool("audit", "--html", self.folder)
-        self.assertEqual((status, out, err), (3, "", f"audit: '{self.folder}': Is a directory\n"))
+        self.assertEqual((status, out, err), (2, "", f"audit: '{self.folder}': Is a directory\n"))
         self.assertEqual(os.listdir(self.folder), [])
         out = self.run_tool("audit", "--runtime-root", f"{self.folder}/no*")[1]
         self.assertTrue(out.endswith(f"# no folder is --runtime-root {self.folder}/no*\n"), out)

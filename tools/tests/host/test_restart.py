@@ -348,7 +348,7 @@ class Supervised(Confined):
         status, out, err = self.run_tool("verify-process", "--json", str(child.pid), profile)
         self.assertEqual(status, program.TROUBLE)
         self.assertTrue(err.endswith(" (--force stops it)\n"), err)
-        self.assertEqual(json.loads(out), {"status": 3, "verdict": None, "stacks": [],
+        self.assertEqual(json.loads(out), {"status": 2, "verdict": None, "stacks": [],
                                            "why": err.partition(": ")[2].rstrip("\n"), "schema": 3})
         self.is_made_once(child, supervisor, call)
 

@@ -270,7 +270,7 @@ class Logs(Denials):
         self.assertEqual(self.denied(log, profile=profile), (0, counted[:5]))
         self.assertEqual(self.why(log, profile=profile)[1][-2:], [
             "# syscalls that failed: 28; to which the profile answers so: 28",
-            "# of these aren't shown, since they tell less (--all shows them): rmdir (84) 6 times, "
+            "# of these aren't shown, since they tell less (--every shows them): rmdir (84) 6 times, "
             "unlink (87) 7 times"])
 
     def test_what_another_cause_denied(self):

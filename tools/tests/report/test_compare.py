@@ -164,8 +164,8 @@ class Compare(Case):
         product = load(16) + insn(0x07, 0) + insn(0x04, 1) + insn(0x2C, 0)
         for words in self.of_each(product + insn(0x45, 1, 0, 1) + ret(EPERM) + ret(ALLOW)):
             self.assertEqual(self.run_tool(*words, "--splits=x")[1].split("\n")[0], "fault number splits")
-            for more, status, word in (["--splits=0"], 4, "undecided"), ([], 0, "same"), (["--splits", str(2**64 - 1)],
-                                                                                       0, "same"):
+            for more, status, word in ((["--splits=0"], 4, "undecided"), ([], 0, "same"),
+                                       (["--splits", str(2**64 - 1)], 0, "same"), (["--splits=none"], 0, "same")):
                 status_of, out, _ = self.run_tool(*words, *more)
                 self.assertEqual((status_of, out.split("\n")[0].split(" ")[0]), (status, word), more)
 

@@ -77,11 +77,14 @@ class Sides(Case):
     def test_what_is_refused(self):
         few, bad = self.path("few", "bpf"), self.file("bad.json", b'{"defaultAction": "ALLOW"}')
         profile = self.path("few", "json")
-        for words, says in ((("compare", few, bad), "fault profile Action\n"), (("compare", bad, few), "fault profile Action\n"),
+        for words, says in ((("compare", few, bad), "fault profile Action\n"),
+                            (("compare", bad, few), "fault profile Action\n"),
                             (("compare", profile, bad), "# it is the other profile\n"),
-                            (("diff", bad, few), "fault profile Action\n"), (("diff", bad, profile), "# it is the old profile\n"),
+                            (("diff", bad, few), "fault profile Action\n"),
+                            (("diff", bad, profile), "# it is the old profile\n"),
                             (("compare", "--runtime=runc", few, few), "speaks of a profile"),
-                            (("compare", profile, few, few), "not a filter"), (("compare", few), "are required: WANTED"),
+                            (("compare", profile, few, few), "not a filter"),
+                            (("compare", few), "are required: WANTED"),
                             (("compare", few, "none"), "there is no file 'none'"),
                             (("diff", "--caps=none", few, few), "neither OLD nor NEW is a profile")):
             with self.subTest(words=words):
