@@ -9,24 +9,22 @@
 The last word is WANTED, and all before it are ACTUAL. Each is filters or a profile: a filter as `scf check` takes it,
 several of which form a stack, oldest first; pid:N, the filters of a process; a resolved OCI seccomp profile, or another
 one as `scf ask` takes it; or unit:NAME, the profile of a unit. One file may be `-` for standard input. A WANTED of
-several filters stands behind --beside: an old release beside a new one, a filter made by hand beside a generated one.
+several filters stands behind --beside.
 
 The first lines are scf's; the lines after them are marked by `# `. If the sides differ, these show the syscall, the
-entry of a profile that decides it and which of the entry's conditions it meets, and the last tests on its path through
-a filter, at most 12, each with the value that was loaded and the branch that was taken; then each syscall in the tables
-that differs, as with --calls, with its architecture before it if that isn't x86-64. With --json one object is printed
-instead, which says the same; --html also writes it as a page without scripts, which replaces FILE at once. Of a process
-each distinct stack of its threads has a block; a thread without a filter is `unconfined`.
+entry of a profile that decides it with the conditions that it meets, and the last tests on its path through a filter,
+at most 12; then each syscall in the tables that differs, as with --calls, with its architecture before it if that isn't
+x86-64. With --json one object says the same; --html also writes it as a page without scripts, which replaces FILE at
+once. Each distinct stack of a process has a block; a thread without a filter is `unconfined`.
 
 Beside a profile, the syscalls of each architecture that it names are compared, as far as scf has a table of it (`scf
 call-table -h` names those); of two profiles, those of either. A profile without a list is for x86-64. A runtime kills a
 program that makes a syscall of another ABI of the machine, such as i386 or x32 on x86-64, that the profile doesn't
 name: the filters must deny all of these, by whatever answer, or they differ (with --no-more, allow more). --also gives
 another profile of the same unit, for other architectures, and all are judged. --native compares x86-64's syscalls
-alone, whatever the profile names, and --calls each syscall that a table names by itself. --all compares each possible
-record, also for architectures and numbers that no kernel has, as filters beside filters are compared. If it finds a
-difference on an architecture that the profile names and scf has no table of, the first line is `undetermined: the
-profile is for this architecture, too`. --table FILE takes the place of x86-64's table.
+alone, and --calls each syscall that a table names by itself. --all compares each possible record, as filters beside
+filters are compared; if one differs on an architecture that the profile names and scf has no table of, the first line
+is `undetermined: the profile is for this architecture, too`. --table FILE takes the place of x86-64's table.
 
 Without --limit all comparisons together have 6 seconds of CPU time. What isn't decided by then is `unfinished`. What
 tests leave `undecided` takes more splits: --splits N.
@@ -34,12 +32,10 @@ tests leave `undecided` takes more splits: --splits N.
 KILL_PROCESS, KILL_THREAD, TRAP and ERRNO deny a syscall, USER_NOTIF and TRACE delegate it to a supervisor or tracer,
 LOG and ALLOW allow it. Denied < delegated < allowed: --no-more asks whether ACTUAL is nowhere more permissive than
 WANTED, --no-less whether it is nowhere stricter, --disposition whether both sides deny, delegate and allow the same,
-whatever the errno or other data. Without any, if they differ but ACTUAL is nowhere more permissive, the first added
-line says so.
+whatever the errno or other data. Without any, the first added line says if ACTUAL is nowhere more permissive.
 
 With --runtime a profile is read as that runtime reads it (RUNTIMES.md). runc's filters also fail syscalls whose numbers
-are above all that the profile names with ENOSYS, which no profile says: if these do so at the first of them, all are
-expected to.
+are above all that the profile names with ENOSYS: if these do so at the first of them, all are expected to.
 
 Without files scf answers a bundle on standard input (see `scf bundle` and scf(1)), and nothing is added to its lines.
 Then all records are compared unless --native or --calls, or --architectures, which takes the tables in the bundle.

@@ -10,18 +10,15 @@ OLD and NEW are each a filter as `scf check` takes it, a profile as `scf compare
 filters of a process, or unit:NAME, the profile of a unit; one of them may be `-` for standard input. NEW is judged by
 OLD: --no-more asks whether NEW is nowhere more permissive than OLD, --no-less whether it is nowhere stricter.
 
-Beside a filter each possible record is compared, or if the other side is a profile the syscalls of the architectures
-that it names. If they differ, the lines show a syscall and what OLD (`old`) and NEW (`new`) answer, and those marked by
-`# ` what gives each answer (the last tests on the path of a filter, the entry of a profile), and the syscalls in the
-table that differ.
+Filters and a filter beside a profile are compared as by `scf compare`: if they differ, the lines show a syscall and
+what OLD (`old`) and NEW (`new`) answer, and those marked by `# ` what gives each answer and the syscalls that differ.
 
-Two profiles are compared syscall by syscall. First comes the verdict over the syscalls of each architecture that a
-profile names and scf has a table of, or with --native of x86-64's alone, `same` or `differs`, and the number of changes
-of each kind; a profile kills for the syscalls of an architecture that it doesn't name. Then the changes: those where
-NEW is more permissive (`more`), those where it is stricter (`less`; some are both), and those that only get another
-answer (`otherwise`). Each has a line: the architecture if it isn't x86-64, the number, the names, the kind, the
-arguments of an example, and for both profiles the answer to it and what gives it, as `scf ask` says. Lines marked by
-`# ` add the conditions that the example meets, and at the end the entries.
+Two profiles are compared syscall by syscall, in each architecture that one of them names; the other one kills there.
+First comes the verdict, and the number of changes of each kind. Then the changes: those where NEW is more permissive
+(`more`), those where it is stricter (`less`; some are both), and those that only get another answer (`otherwise`). Each
+has a line: the architecture if it isn't x86-64, the number, the names, the kind, the arguments of an example, and for
+both profiles the answer to it and what gives it, as `scf ask` says. Lines marked by `# ` add the conditions that the
+example meets, and at the end the entries.
 
 With --engine, --caps, --kernel, --machine, --arch-map, --ignore or --keep-first profiles are an engine's own, and are
 resolved for one container as by `scf resolve-profile`. With --runtime they are read as that runtime reads them, and the
@@ -91,10 +88,9 @@ def resolved(data, path, options):
 def side_of(path, options):
     """What a word names, a process's filters, a filter or a profile; and what is left out of the profile."""
     if operands.is_process(path) and not options.profiles:
-        return operands.read_stacks([path], options), []
+        return operands.read(path, options), []
     data = profile_inputs.read_text(path, "engine's profile" if options.is_made else None)
-    if not options.profiles and not path.startswith(profile_inputs.UNIT) and \
-            not profile_inputs.looks_like_profile(data):
+    if not options.profiles and not profile_inputs.looks_like_profile(data):
         return [filters.filter_in(path, data)], []
     if options.is_made:
         return resolved(data, path, options)

@@ -29,8 +29,6 @@ def _failed(comparison: Pair, word: str) -> str:
     return FAILED_RELATIONS[comparison.word(word)].format(comparison.title(comparison.judging))
 
 
-# The syscalls that differ.
-
 def count_lines(comparison: Pair, calls: Sequence[NamedCall]) -> Iterator[str]:
     """The count and the lines of the syscalls that fail the relation, and of those without a verdict."""
     differing = [call for call in calls if call.verdict.fails]
@@ -47,35 +45,35 @@ def count_lines(comparison: Pair, calls: Sequence[NamedCall]) -> Iterator[str]:
 
 def _newer(comparison: Pair, scope: str) -> newer.Newer | None:
     """The syscalls that are only newer than a profile, where they can be all that differ."""
-    is_asked = isinstance(comparison, Comparison) and scope in (NATIVE_SCOPE, LISTED)
+    is_asked = isinstance(comparison, Comparison) and scope != ALL
     return newer.calls_of(comparison) if is_asked else None  # type: ignore
 
 
 def _call_lines(comparison: Any, report: Report, scope: str) -> tuple[list[str], list[str]]:
-    """The lines before and after the explanation of scf's example, if syscalls differ.
+    """The lines before and after the explanation of scf's example, if syscalls differ; call by call they are scf's.
 
     Syscalls that are only newer than the profile are reported apart: first if there are no others, else last.
     """
-    calls = comparison.named_calls()
-    if calls is None or report.verdict is None or report.verdict.call is None:
+    calls = comparison.named_calls() if scope != CALLS else report.calls
+    if calls is None or report.verdict is None or report.verdict.call is None and scope != CALLS:
         return [], []
     none_named = ["each syscall in the table gets the same answer from both sides" if comparison.relation == SAME else
                   f"no syscall in the table is among those {_failed(comparison, report.verdict.word)}"]
     above = _newer(comparison, scope)
     if above is None:
-        return [], list(count_lines(comparison, calls)) or none_named
+        return [], [] if scope == CALLS else list(count_lines(comparison, calls)) or none_named
     others = [call for call in calls if not above.has(call.record)]
     count, others_differ = len(calls) - len(others), newer.another_call(comparison, above)
     newer_lines = [above.describe(others_differ is None, comparison.table)]
     if count:
         newer_lines.append(f"syscalls in the table among these: {count}")
+    if scope == CALLS:
+        return newer_lines, []
     if others_differ is None:
         return newer_lines, [] if count else none_named
     lines = list(count_lines(comparison, others)) or list(_example_lines(comparison, others_differ, True))
     return (lines + newer_lines, []) if above.has(report.verdict.call) else ([], lines + newer_lines)
 
-
-# Whether a side is only stricter.
 
 def _dispositions(comparison: Pair, scope: str) -> list[Verdict | None]:
     """The verdicts on whether the judged side is nowhere more permissive than the other one, and whether nowhere
@@ -103,8 +101,6 @@ def _strictness_lines(comparison: Pair, scope: str) -> Iterator[str]:
     else:
         yield f"{they} {are} never more permissive than {other}"
 
-
-# The example, and what gives each answer.
 
 def _example_lines(comparison: Pair, verdict: Verdict, is_native: bool) -> Iterator[str]:
     """The syscall that differs, and what both answers do; for `more` and `less` also both dispositions."""
@@ -175,8 +171,6 @@ def _difference_json(comparison: Any, verdict: Verdict) -> dict[str, object]:
     return members
 
 
-# What was left out, and what is at fault.
-
 def _left_out_lines(comparison: Any, report: Report) -> Iterator[str]:
     """Lines on what was left out of a profile: skipped names, and architectures that aren't judged."""
     if report.skipped:
@@ -240,8 +234,6 @@ def _responsible_files(comparison: Any, report: Report, scope: str) -> Iterator[
                 yield each.name, f"alone, {each.name} is undecided at {verdict.at}"
 
 
-# The whole.
-
 def comparison_notes(comparison: Any, report: Report, scope: str) -> Iterator[str]:
     """The lines after scf's."""
     verdict, before, after = report.verdict, [], []  # type: ignore
@@ -249,10 +241,8 @@ def comparison_notes(comparison: Any, report: Report, scope: str) -> Iterator[st
         yield from fault_sentences(comparison, report.fault)
     if verdict and verdict.word == DIFFERS:
         yield from _strictness_lines(comparison, scope)
-    if verdict and verdict.fails and scope != CALLS:
+    if verdict and verdict.fails:
         before, after = _call_lines(comparison, report, scope)
-    elif verdict and verdict.fails and isinstance(comparison, Comparison) and comparison.relation == SAME:
-        before = list(newer.of_named_calls(comparison, report.calls))
     yield from before
     if verdict:
         yield from _verdict_lines(comparison, report, scope)
@@ -280,8 +270,8 @@ def comparison_json(comparison: Any, report: Report, scope: str, status: int) ->
     if verdict and verdict.word == DIFFERS:
         members.update(zip(("no_more", "no_less"), (known and comparison.word(known.word)
                                                     for known in _dispositions(comparison, scope))))
-    if verdict and verdict.fails and scope != CALLS:
-        calls, above = comparison.named_calls() or (), _newer(comparison, scope)
+    if verdict and verdict.fails:
+        calls, above = calls if scope == CALLS else comparison.named_calls() or (), _newer(comparison, scope)
         if above:
             members["newer"] = {**above.as_json(), "are_all": newer.another_call(comparison, above) is None}
     members["calls"] = [{**call.as_json(), "verdict": comparison.word(call.verdict.word),

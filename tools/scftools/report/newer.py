@@ -5,7 +5,7 @@ The results hold for every such syscall: they are looked up in the differences.
 from __future__ import annotations
 
 import itertools
-from collections.abc import Iterator, Sequence
+from collections.abc import Sequence
 
 from ..base.values import dataclass
 from ..model.answers import Answer
@@ -14,7 +14,7 @@ from ..model.calls import ARCHITECTURE, NUMBER, Call
 from ..model.tables import Table
 from ..ask.explanation import join_names
 from ..ask.regions import Numbers, Region
-from ..ask.verdicts import DIFFERS, LISTED, SAME, NamedCall, Verdict
+from ..ask.verdicts import LISTED, SAME, Verdict
 from .compare import Comparison, default_of
 
 
@@ -26,12 +26,6 @@ def _bounds_of(comparison: Comparison) -> dict[str, int]:
         if numbers:
             bounds[name] = JUDGED[name].first + max(numbers) + 1
     return bounds
-
-
-def _difference_above(what: str, are_all: bool, firsts: Sequence[Call], table: Table) -> str:
-    named = join_names([call.describe(table) for call in firsts])
-    return (f"{'only ' if are_all else ''}{what} with numbers above all that the profile names differ, the first "
-            f"{'is' if len(firsts) == 1 else 'are'} {named}; both sides deny them")
 
 
 @dataclass(frozen=True)
@@ -46,9 +40,10 @@ class Newer:
         return call.abi in self.bounds and call.number >= self.bounds[call.abi]
 
     def describe(self, are_all: bool, table: Table) -> str:
-        firsts = [Call(first, JUDGED[name].number) for name, first in self.bounds.items()]
-        return (f"{_difference_above('syscalls', are_all, firsts, table)}, the filter with {self.filters.named()} and "
-                f"the profile with {self.profile.named()}")
+        firsts = [Call(first, JUDGED[name].number).describe(table) for name, first in self.bounds.items()]
+        return (f"{'only ' * are_all}syscalls with numbers above all that the profile names differ, the first "
+                f"{'is' if len(firsts) == 1 else 'are'} {join_names(firsts)}; both sides deny them, the filter with "
+                f"{self.filters.named()} and the profile with {self.profile.named()}")
 
     def as_json(self) -> dict[str, object]:
         return {"first": next(iter(self.bounds.values())), "firsts": self.bounds, "filter": self.filters.as_json(),
@@ -86,18 +81,3 @@ def another_call(comparison: Comparison, above: Newer) -> Verdict | None:
                  for name in comparison.tables.of)
     of_others = itertools.chain(of_others, comparison.of_other_abis(LISTED, comparison.relation))
     return next((verdict for verdict in of_others if not verdict.holds), None)
-
-
-def of_named_calls(comparison: Comparison, calls: Sequence[NamedCall]) -> Iterator[str]:
-    """The lines about syscalls of the tables that differ: those above all that the profile names apart, if both sides
-    deny them."""
-    bounds = _bounds_of(comparison)
-    above = [call for call in calls
-             if call.verdict.both_deny and call.record.number >= bounds.get(call.record.abi or "", 1 << 32)]
-    if not above:
-        return
-    others = [call.verdict.word for call in calls if call not in above]
-    for word in dict.fromkeys(others):
-        yield f"other syscalls that {'differ' if word == DIFFERS else f'are {word}'}: {others.count(word)}"
-    yield (f"{_difference_above('syscalls in the table', not others, [above[0].record], comparison.table)}: "
-           f"{len(above)}")

@@ -103,13 +103,11 @@ class Newer(Case):
 
     def test_calls_by_name(self):
         _, added = self.added(stub(450) + filter_of(self.rules), scope="--calls")
-        heading = SAID.replace("syscalls", "syscalls in the table", 1)
-        self.assertEqual(added, [
-            f"over the syscalls in the table: {ONLY_ANSWERS}",
-            f"only {heading} set_mempolicy_home_node (450); both sides deny them: {COUNT_FROM_450}"])
+        newer = [f"{SAID} set_mempolicy_home_node (450); both sides deny them, the filter with ERRNO 38 (ENOSYS) and the "
+                 "profile with ERRNO 1 (EPERM)", f"syscalls in the table among these: {COUNT_FROM_450}"]
+        self.assertEqual(added, [f"over the syscalls in the table: {ONLY_ANSWERS}", f"only {newer[0]}", newer[1]])
         _, added = self.added(stub(450) + filter_of([*self.rules, 41, 42]), scope="--calls")
-        self.assertEqual(added, ["other syscalls that differ: 2",
-                                 f"{heading} set_mempolicy_home_node (450); both sides deny them: {COUNT_FROM_450}"])
+        self.assertEqual(added, newer)
 
     def test_a_long_filter(self):
         """They are told apart by their numbers alone, also of the longest filter that a kernel takes."""

@@ -401,7 +401,7 @@ class Program(Case):
         self.assertEqual((status, out.splitlines()[0].split(",")[0]), (0, "aarch64: allowed 1"))
         self.assertTrue(out.splitlines()[2].startswith("arm: allowed 1, "), out)
         status, out, err = self.run_tool("surface", self.file("p.json", json.dumps(engines)))
-        self.assertEqual((status, out), (1, ""))
+        self.assertEqual((status, out), (2, ""))
         self.assertIn("surface: 'p.json': fault profile EngineForm", err.replace(f"{self.folder}/", ""))
 
     def test_the_filter_of_libseccomp(self):
@@ -505,7 +505,7 @@ class Program(Case):
         good = filter_of([READ])
         bad = self.file("bad\x1b[2J.bpf", jeq(0, 9, 0) + ret(ALLOW))
         status, lines = self.said([good], bad)
-        self.assertEqual((status, lines[0]), (1, "fault filter Jump at 0"))
+        self.assertEqual((status, lines[0]), (2, "fault filter Jump at 0"))
         self.assertTrue(all(line.startswith("# ") and line.isprintable() for line in lines[1:]), lines)
         self.assertTrue(lines[-1].startswith("# the filter is ") and lines[-1].endswith("bad\\x1b[2J.bpf"), lines)
         status, lines = self.said([good], "--beside", bad)
@@ -532,7 +532,7 @@ class Program(Case):
                                 ("more\\nwhat", 1), ("undecided at 1", 0)):
             tree = self.made_tree(f"#!/bin/sh\ncat >/dev/null\nprintf '{printed}\\n'\nexit {status}\n")
             done = self.run_words([os.path.join(tree, "tools", "surface"), self.file("f", ret(ALLOW))])
-            self.assertEqual(done, (3, "", f"surface: scf ended with status {status} and unexpected "
+            self.assertEqual(done, (2, "", f"surface: scf ended with status {status} and unexpected "
                                            "output\n"), printed)
 
     def test_standard_input(self):
@@ -756,11 +756,11 @@ class Process(Confined):
     def test_a_fault_of_the_table_is_said_once(self):
         child = self.child([OLDEST], [OLDEST, NEWEST])
         status, out, _ = self.run_tool("surface", "--table", self.file("t", b"read\n"), "--pid", str(child.pid))
-        self.assertEqual((status, out.count("fault table Form line 1\n"), out.count("# process")), (1, 1, 0))
+        self.assertEqual((status, out.count("fault table Form line 1\n"), out.count("# process")), (2, 1, 0))
 
     def test_no_process(self):
         status, out, err = self.run_tool("surface", "--pid", str(2**31 - 1))
-        self.assertEqual((status, out), (3, ""))
+        self.assertEqual((status, out), (2, ""))
         self.assertIn("surface: ", err)
 
 
