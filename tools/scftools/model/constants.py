@@ -161,12 +161,12 @@ class Family:
         kept."""
         rank_of = {}
         for rank, (_, pattern) in enumerate(self.patterns):
-            prefix = pattern.partition("*")[0]
-            form = re.compile(re.escape(pattern).replace(r"\*", r"\w*"))
+            prefix, star, behind = pattern.partition("*")
+            form = re.compile(re.escape(pattern).replace(r"\*", r"\w*")) if behind else None
             for name in itertools.islice(ordered, bisect.bisect_left(ordered, prefix), None):
-                if not name.startswith(prefix):
+                if not name.startswith(prefix) or not star and name != prefix:
                     break
-                if form.fullmatch(name):
+                if form is None or form.fullmatch(name):
                     rank_of[name] = rank
         for name, number in numbers_by_name.items():
             rank = rank_of.get(name)
@@ -206,22 +206,26 @@ class Family:
 
 
 @functools.lru_cache(None)
-def _families(architecture: str = architectures.NATIVE) -> tuple[dict[str, Family], dict[str, list[str]]]:
-    """The families by their names, of constants that are on an architecture what they are on x86-64; and the family of
-    each argument by the syscall, `-` for none."""
-    families: dict[str, Family] = {}
+def _families() -> tuple[dict[str, list[str]], dict[str, list[str]]]:
+    """The words of each family by its name; and the family of each argument by the syscall, `-` for none."""
+    families: dict[str, list[str]] = {}
     calls: dict[str, list[str]] = {}
     for first, *words in map(str.split, program.table_lines("x86_64.constants")):
         if first == "=":
-            for word in words[1:]:
-                families.setdefault(words[0], Family()).add(word)
+            families.setdefault(words[0], []).extend(words[1:])
         else:
             calls[first] = words
-    numbers_by_name = numbers_on(architecture)
-    ordered = sorted(numbers_by_name)
-    for family in families.values():
-        family.fill(numbers_by_name, ordered)
     return families, calls
+
+
+@functools.lru_cache(None)
+def _family(name: str, architecture: str) -> Family:
+    """A family by its name, of the constants that are on an architecture what they are on x86-64."""
+    family, numbers_by_name = Family(), numbers_on(architecture)
+    for word in _families()[0][name]:
+        family.add(word)
+    family.fill(numbers_by_name, sorted(numbers_by_name))
+    return family
 
 
 def _number_text(value: int, kind: str) -> str:
@@ -245,12 +249,12 @@ def family_of(name: str, index: int, values: Mapping[int, int],
               architecture: str = architectures.NATIVE) -> Family | None:
     """The constants of an argument on the architecture of this OCI name, given the arguments that are known, by their
     indices."""
-    families, calls = _families(architecture)
+    families, calls = _families()
     words = calls.get(name, [])
     first = next((at for at, word in enumerate(words) if word in families), index)
     if first != index and values.get(first, WORD_VALUES) < WORD_VALUES:
-        words = calls.get(f"{name}[{families[words[first]].describe(values[first])}]", words)
-    return families.get(words[index]) if index < len(words) else None
+        words = calls.get(f"{name}[{_family(words[first], architecture).describe(values[first])}]", words)
+    return _family(words[index], architecture) if index < len(words) and words[index] in families else None
 
 
 def call_text(name: str, values: Sequence[int]) -> str:
