@@ -124,7 +124,7 @@ class Dispatch(Case):
         ours, theirs = pty.openpty()
         self.addCleanup(os.close, ours)
         self.addCleanup(os.close, theirs)
-        for command, names in (("compare", "FILTER, PROFILE"), ("check", "FILTER"), ("run", "FILTER"), ("dis", "FILE"),
+        for command, names in (("compare", "ACTUAL, WANTED"), ("check", "FILTER"), ("run", "FILTER"), ("dis", "FILE"),
                                ("decide", "FILTER"), ("ask", "PROFILE"), ("compile", "PROFILE")):
             status, out, err = self.scf(command, given=theirs)
             self.assertEqual((status, out), (2, ""), command)

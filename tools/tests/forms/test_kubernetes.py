@@ -70,7 +70,7 @@ class Commands(Case):
     def test_what_no_object_states(self):
         profile = self.file("p.json", json.dumps({**READS, "defaultErrnoRet": 38}))
         status, out, err = self.run_tool("resolve-profile", "--kubernetes", "a", profile)
-        self.assertEqual((status, out), (1, ""))
+        self.assertEqual((status, out), (2, ""))
         self.assertIn("the default has the errno 38", err)
 
     def test_recordings(self):

@@ -52,7 +52,7 @@ class Lists(Case):
     def are_refused(self, texts):
         for text, why in texts.items():
             status, out, err = self.run_tool("ask", self.file("list", text))
-            self.assertEqual((status, out), (1, ""), text)
+            self.assertEqual((status, out), (2, ""), text)
             self.assertIn(f": {why}\n", err, text)
 
     def loads(self, text, filters):

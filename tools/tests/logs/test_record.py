@@ -76,7 +76,7 @@ os.waitpid(child, 0)
 load(THIRD)
 print(child)"""
         status, out, err = self.run_python("filters-of", script, "out")
-        self.assertEqual(status, 3)
+        self.assertEqual(status, 2)
         self.assertIn("the processes in the program end with different filters", err)
         self.assertIn("--thread takes those of one", err)
         child = out.strip()
@@ -115,7 +115,7 @@ sys.exit(5)""", "out")
         self.assertEqual((status, out), (5, "out/0.bpf\n"))
         for words, whose in ((("none",), ""), (("--thread", "7", "none"), " by 7")):
             self.assertEqual(self.run_tool("filters-of", *words, "--", "true"),
-                             (3, "", f"filters-of: no filter is loaded{whose} in the program\n"))
+                             (1, "", f"filters-of: no filter is loaded{whose} in the program\n"))
         self.assertFalse(os.path.exists(self.path("none")))
 
     def test_without_a_folder(self):
@@ -199,7 +199,7 @@ class Recorded(Traced):
                          (127, "", "record: there is no program 'nosuch'\n"))
         self.assertEqual(self.run_tool("record", "log", "--", self.file("text", b"")),
                          (126, "", f"record: '{self.path('text')}' isn't executable\n"))
-        self.assertEqual(self.run_tool("record", "a/b", "--", "true")[0], 3)
+        self.assertEqual(self.run_tool("record", "a/b", "--", "true")[0], 2)
         for words in (("log",), ("log", "--"), ("--",), ("a", "b", "--", "true")):
             self.assertEqual(self.run_tool("record", *words)[:2], (2, ""))
 
@@ -268,4 +268,4 @@ class Recorded(Traced):
         self.assertEqual(entries[("personality",)], [{"index": 0, "value": 0xFFFFFFFF, "op": "SCMP_CMP_EQ"}])
         self.assertEqual(least["defaultAction"], "SCMP_ACT_ERRNO")
         status, out, _ = self.run_python("record", "print('ran')", "--profile", self.file("bad", b"{}"), "least.json")
-        self.assertEqual((status, out.split("\n")[0]), (1, "fault profile Missing"))
+        self.assertEqual((status, out.split("\n")[0]), (2, "fault profile Missing"))

@@ -187,7 +187,7 @@ class CallTable(Case):
 
     def test_output_that_fails(self):
         status, _, err = self.closed_output("call-table", given=HEADER.encode())
-        self.assertEqual(status, 3)
+        self.assertEqual(status, 2)
         self.assertIn("call-table: the output failed", err)
 
     @unittest.skipUnless(ctypes.util.find_library("seccomp"), "there is no libseccomp here")

@@ -77,6 +77,6 @@ class Expectations(Counting):
             self.assertIn(says, err)
         self.assertEqual(self.decided("read = ALLOW", "--nr=0")[0], 2)
         status, lines, err = self.decided("read = ALLOW", data=jeq(0, 9, 0) + ret(ALLOW))
-        self.assertEqual((status, lines[0], err), (1, "fault filter Jump at 0", ""))
+        self.assertEqual((status, lines[0], err), (2, "fault filter Jump at 0", ""))
         status, lines, err = self.decided("read = ALLOW", "--json", data=jeq(0, 9, 0) + ret(ALLOW))
         self.assertEqual((status, json.loads(lines[0])["calls"][0]["fault"]["kind"]), (1, "Jump"))

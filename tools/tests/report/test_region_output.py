@@ -144,7 +144,7 @@ class Lines(Case):
 
     def test_refused_filters_and_tables(self):
         status, out, _ = self.said([filter_of([0]), jeq(0, 9, 0) + ret(ALLOW)])
-        self.assertEqual((status, out.split("\n")[0]), (1, "fault filter Jump at 0"))
+        self.assertEqual((status, out.split("\n")[0]), (2, "fault filter Jump at 0"))
         self.assertIn("1.bpf", out)
         status, out, _ = self.said([filter_of([0])], "--table", self.file("t", b"read\n"))
         self.assertEqual((status, out.split("\n")[0]), (1, "fault table Form line 1"))
