@@ -3,9 +3,9 @@
     scf diff [--native|--calls] [--no-more|--no-less|--disposition]
              [--runtime runc|crun|docker|podman|sandbox]
              [--engine docker|docker-20.10|podman] [--caps LIST] [--kernel X.Y]
-             [--machine NAME] [--arch-map native|all] [--ignore MEMBER ..] [--keep-first]
-             [--profiles] [--limit N] [--splits N] [--table FILE] [--force] [--json]
-             OLD NEW
+             [--machine NAME] [--arch-map native|all] [--ignore MEMBER ..]
+             [--keep-first] [--profiles] [--limit N] [--splits N] [--table FILE]
+             [--force] [--json] OLD NEW
 
 OLD and NEW are each a filter as `scf check` takes it, a profile as `scf compare` takes it, pid:N, which stands for the
 filters of a process, or unit:NAME, the profile of a unit; one of them may be `-` for standard input. NEW is judged by

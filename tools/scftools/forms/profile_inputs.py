@@ -30,6 +30,9 @@ INSPECTIONS = (
 ID = Pattern(rb'"Id":\s*"([0-9a-f]{64})"')
 # How words begin that aren't files: the number of a process, the name of a unit.
 PROCESS, UNIT = "pid:", "unit:"
+# A mark, blanks and comments before an object; and how what isn't an object begins that is meant as a profile.
+BEFORE_JSON = Pattern(rb"\A(?:\xef\xbb\xbf|\s|#[^\n]*\n|//[^\n]*\n|/\*.*?\*/)*", re.S)
+IN_OTHER_FORMS = Pattern(rb'\[\s*\{\s*"|(?:defaultAction|architectures|syscalls):\s')
 # Members of a SeccompProfile's spec that aren't a profile's.
 OF_SPEC_ALONE = ("baseProfileName", "disabled")
 
@@ -124,10 +127,12 @@ def _sandbox_of(data: bytes) -> Sandbox | None:
 
 
 def looks_like_profile(data: bytes) -> bool:
-    """Whether an input is meant to be a profile, and not a filter: an object, which no C array is, YAML, or a sandbox's
-    list."""
-    is_object = data.lstrip(b" \t\r\n")[:1] == b"{" and not re.match(rb"\s*\{\s*(?:[{(0-9]|BPF_)", data)
-    return is_object or kubernetes.is_yaml(data) or _sandbox_of(data) is not None
+    """Whether an input is meant to be a profile, and not a filter: an object, which no C array is, if only behind what
+    JSON doesn't allow; YAML, or a sandbox's list."""
+    text = BEFORE_JSON.sub(b"", data, 1)
+    is_object = text[:1] == b"{" and not re.match(rb"\{\s*(?:[{(0-9]|BPF_)", text)
+    return is_object or IN_OTHER_FORMS.match(text) is not None or kubernetes.is_yaml(data) or \
+        _sandbox_of(data) is not None
 
 
 def plain(data: bytes, name: str) -> bytes:

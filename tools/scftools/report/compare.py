@@ -105,6 +105,7 @@ class Pair(Sides):
         """The comparison, which a runtime's stub may change, and scf's status and report over a scope."""
         return (self, *self.run(scope))
 
+    @functools.cached_property
     def named_calls(self) -> list[NamedCall] | None:
         """The syscalls in the tables of which the relation isn't proved; None if scf refuses to say."""
         try:

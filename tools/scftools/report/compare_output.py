@@ -54,7 +54,7 @@ def _call_lines(comparison: Any, report: Report, scope: str) -> tuple[list[str],
 
     Syscalls that are only newer than the profile are reported apart: first if there are no others, else last.
     """
-    calls = comparison.named_calls() if scope != CALLS else report.calls
+    calls = comparison.named_calls if scope != CALLS else report.calls
     if calls is None or report.verdict is None or report.verdict.call is None and scope != CALLS:
         return [], []
     none_named = ["each syscall in the table gets the same answer from both sides" if comparison.relation == SAME else
@@ -271,7 +271,7 @@ def comparison_json(comparison: Any, report: Report, scope: str, status: int) ->
         members.update(zip(("no_more", "no_less"), (known and comparison.word(known.word)
                                                     for known in _dispositions(comparison, scope))))
     if verdict and verdict.fails:
-        calls, above = calls if scope == CALLS else comparison.named_calls() or (), _newer(comparison, scope)
+        calls, above = calls if scope == CALLS else comparison.named_calls or (), _newer(comparison, scope)
         if above:
             members["newer"] = {**above.as_json(), "are_all": newer.another_call(comparison, above) is None}
     members["calls"] = [{**call.as_json(), "verdict": comparison.word(call.verdict.word),
@@ -306,7 +306,7 @@ class Judgement:
         """That of a side by those that it is compared with, each for its architectures; with the most telling
         example."""
         pair, status, report = compare_unit(pairs, scope)
-        report = verdicts.most_telling(report, pair.table, lambda: pair.named_calls() or ())
+        report = verdicts.most_telling(report, pair.table, lambda: pair.named_calls or ())
         return cls(pair, status, report, scope or pair.scope)
 
     def block(self, is_json: bool, is_verbose: bool = False) -> Block:

@@ -3,7 +3,7 @@ instructions run on a syscall, by `scf run --path` and `scf decide --path`, and 
 from __future__ import annotations
 
 import itertools
-from collections.abc import Iterator, Sequence
+from collections.abc import Iterable, Iterator, Sequence
 
 from ..base import output
 from ..base.values import Pattern, dataclass, replace
@@ -183,9 +183,14 @@ def meanings(data: bytes, table: Table) -> list[str | None]:
 
 def listing_lines(data: bytes, lines: Sequence[str], table: Table) -> Iterator[str]:
     """The lines of `scf dis`, each after its index and before its comment."""
-    index_width, line_width = len(str(len(lines) - 1)), max(map(len, lines), default=0)
-    for index, (line, meaning) in enumerate(zip(lines, meanings(data, table))):
-        yield f"{index:{index_width}}  " + (f"{line:{line_width}}  // {meaning}" if meaning else line)
+    return _lines(enumerate(zip(lines, meanings(data, table))), len(lines), max(map(len, lines), default=0))
+
+
+def _lines(listed: Iterable[tuple[int, tuple[str, str | None]]], count: int, width: int) -> Iterator[str]:
+    """Lines of a listing of so many, given the index of each and its meaning, by their width."""
+    index_width = len(str(count - 1))
+    for index, (line, meaning) in listed:
+        yield f"{index:{index_width}}  " + (f"{line:{width}}  // {meaning}" if meaning else line)
 
 
 @dataclass(frozen=True)
@@ -318,6 +323,8 @@ def _tests(insns: Sequence[Instruction], indexes: Sequence[int], call: Call) -> 
 def last_tests(data: bytes, path: Path, call: Call, table: Table) -> tuple[int, list[str]]:
     """The last tests on a path and its end, as lines of the listing; and the number of tests before them."""
     insns = instructions(data)
-    lines = list(listing_lines(data, [insn.text for insn in insns], table))
-    lines_of_tests = [f"{lines[index]}{way}" for index, way in _tests(insns, path.indexes, call)]
-    return max(len(lines_of_tests) - MOST_TESTS, 0), lines_of_tests[-MOST_TESTS:]
+    tests, facts = list(_tests(insns, path.indexes, call)), known_facts(insns)
+    shown = {index: (insns[index].text, _meaning(index, insns[index], facts[index], table, len(insns)))
+             for index, _ in tests[-MOST_TESTS:]}
+    lines = _lines(shown.items(), len(insns), max((len(text) for text, _ in shown.values()), default=0))
+    return len(tests) - len(shown), [line + way for line, (_, way) in zip(lines, tests[-MOST_TESTS:])]

@@ -287,7 +287,7 @@ class Tools(Case):
                            (b"0  ld [4]  // the architecture\n", "is a listing of `scf list`"),
                            (b">  0  ld [4]  // the architecture\n", "is a listing of `scf list`")):
             path = self.file("x", data)
-            for words in (("check", path), ("compare", path, self.profile), ("decide", path), ("list", path)):
+            for words in (("check", path), ("compare", path, path, self.profile), ("decide", path), ("list", path)):
                 status, out, err = self.run_tool(*words)
                 self.assertEqual((status, out, err.count("\n")), (2, "", 1), words)
                 self.assertIn(f"{words[0]}: '{path}' ", err)

@@ -93,8 +93,9 @@ class Others(Case):
                            (docker, f"is what `docker inspect` prints: take {task}/{'0a' * 32}/config.json"),
                            (podman, "is what `podman inspect` prints: take the file that `podman inspect -f "
                                     "'{{.OCIConfigPath}}' NAME` names"), (cri, "take its .info.runtimeSpec")):
-            for words in (("compare", raw, path), ("ask", path), ("compile", path), ("lint", path),
-                          ("resolve-profile", path), ("compare-profiles", profile, path)):
+            # (a filter may also be what is wanted)
+            for words in (*[("compare", raw, path)] * (path not in (raw, elf)), ("ask", path), ("compile", path),
+                          ("lint", path), ("resolve-profile", path), ("compare-profiles", profile, path)):
                 status, out, err = self.run_tool(*words, stdout=subprocess.PIPE)
                 self.assertEqual((status, out, err.count("\n")), (2, "", 1), (words, out, err))
                 self.assertIn(says, err)

@@ -125,12 +125,12 @@ class Compare(Case):
                         out)
         status, out, _ = self.run_tool("compare", self.same, self.file("p",
             b'{"defaultAction":"SCMP_ACT_ALLOW","syscalls":[{"action":"SCMP_ACT_LOG"}]}'))
-        self.assertEqual(status, 1)
+        self.assertEqual(status, 2)
         self.assertTrue(out.startswith("fault profile Missing entry 0\n# A member is missing"), out)
         entries = b'{"names":["socket"],"action":"SCMP_ACT_LOG"},{"names":["socket"],"action":"SCMP_ACT_ERRNO"}'
         conflict = b'{"defaultAction":"SCMP_ACT_ALLOW","syscalls":[%s]}' % entries
         status, out, _ = self.run_tool("compare", self.same, self.file("c", conflict))
-        self.assertEqual(status, 1)
+        self.assertEqual(status, 2)
         self.assertTrue(out.startswith("fault profile Conflict number 41 first 0 second 1\n# Two entries"), out)
         columns = [match.start() + 1 for match in re.finditer(rb'\{"names"', conflict)]
         self.assertTrue(out.endswith("# the syscall is socket (41)\n# the entries begin at line 1, column "
@@ -265,7 +265,7 @@ class Compare(Case):
                                        self.file("stub.bpf", stub + filter_of([READ, WRITE])), self.profile)
         self.assertEqual(status, 1)
         self.assertTrue(out.endswith("# each syscall in the table gets the same answer from both sides\n"), out)
-        self.assertNotIn(heading, self.run_tool("compare", "--all", self.wrong, self.profile)[1])
+        self.assertIn(f"# {heading}: 1\n# {line}\n", self.run_tool("compare", "--all", self.wrong, self.profile)[1])
 
     @needs("--native")
     def test_several_filters(self):

@@ -209,7 +209,7 @@ class Program(Case):
                 self.assertEqual((status, lines[0], lines[-1]), (2, line, f"# it is the {side} profile"))
                 self.assertTrue(all(line.startswith("# ") for line in lines[1:]), lines)
                 report = json.loads(self.compared(old, new, "--json")[1][0])
-                self.assertEqual((report["status"], report["verdict"], report["fault"]["side"]), (1, None, side))
+                self.assertEqual((report["status"], report["verdict"], report["fault"]["side"]), (2, None, side))
         self.assertEqual(self.compared(READ_WRITE, READ_WRITE, "--table", self.file("t", b"read\n"))[1][0],
                          "fault table Form line 1")
         status, lines = self.compared(READ_WRITE, READ_WRITE, "--limit", "x")

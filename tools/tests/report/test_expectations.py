@@ -79,4 +79,4 @@ class Expectations(Counting):
         status, lines, err = self.decided("read = ALLOW", data=jeq(0, 9, 0) + ret(ALLOW))
         self.assertEqual((status, lines[0], err), (2, "fault filter Jump at 0", ""))
         status, lines, err = self.decided("read = ALLOW", "--json", data=jeq(0, 9, 0) + ret(ALLOW))
-        self.assertEqual((status, json.loads(lines[0])["calls"][0]["fault"]["kind"]), (1, "Jump"))
+        self.assertEqual((status, json.loads(lines[0])["calls"][0]["fault"]["kind"]), (2, "Jump"))

@@ -147,7 +147,7 @@ class Lines(Case):
         self.assertEqual((status, out.split("\n")[0]), (2, "fault filter Jump at 0"))
         self.assertIn("1.bpf", out)
         status, out, _ = self.said([filter_of([0])], "--table", self.file("t", b"read\n"))
-        self.assertEqual((status, out.split("\n")[0]), (1, "fault table Form line 1"))
+        self.assertEqual((status, out.split("\n")[0]), (2, "fault table Form line 1"))
 
 
 class Reader(unittest.TestCase):
