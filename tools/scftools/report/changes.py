@@ -3,7 +3,7 @@ and as JSON."""
 from __future__ import annotations
 
 import math
-from collections.abc import Iterator, Sequence
+from collections.abc import Iterable, Iterator, Sequence
 
 from ..base import output, program
 from ..base.values import Any, dataclass, field
@@ -58,18 +58,13 @@ class Changes:
     # the least number without a name, if the defaults differ, which answer all such numbers
     unnamed: Change | None = None
 
-    def of_sides(self, of_left: object, of_right: object) -> dict[str, Any]:
-        """What belongs to each profile."""
-        return dict(zip(self.pair.names, (of_left, of_right)))
+    def by_age(self, of_sides: Iterable[Any]) -> dict[str, Any]:
+        """What belongs to each profile, scf's left one first."""
+        return dict(zip(self.pair.names, of_sides))
 
     @property
     def sides(self) -> dict[str, Side]:
-        return self.of_sides(*self.pair.sides)
-
-    @property
-    def left_out(self) -> dict[str, Report]:
-        """scf's reports on what it leaves out of each profile."""
-        return self.of_sides(*self.pair.left_out)
+        return self.by_age(self.pair.sides)
 
     @property
     def all(self) -> list[Change]:
@@ -221,8 +216,8 @@ def _apart(subject: str, of_sides: dict[str, Sequence[str]]) -> Iterator[str]:
 
 def change_lines(changes: Changes) -> Iterator[str]:
     """The verdict, the counts, and the changes; added lines are marked by `# `."""
-    sides, unnamed, left_out = changes.sides, changes.unnamed, changes.left_out
-    alone = changes.of_sides(*changes.pair.alone)
+    sides, unnamed, left_out = changes.sides, changes.unnamed, changes.by_age(changes.pair.left_out)
+    alone = changes.by_age(changes.pair.alone)
     yield changes.verdict
     yield ", ".join(f"{kind} {count}" for kind, count in changes.counts.items()
                     if count or kind not in (UNDECIDED, UNFINISHED))
@@ -263,10 +258,10 @@ def _change_json(changes: Changes, change: Change) -> dict[str, object]:
 
 def changes_json(changes: Changes) -> dict[str, object]:
     """The object with everything that `change_lines` prints."""
-    unnamed = changes.unnamed
+    unnamed, left_out = changes.unnamed, changes.by_age(changes.pair.left_out)
     return {"status": changes.status, **relation_json(changes.relation), "verdict": changes.verdict,
             "counts": changes.counts, "changes": [_change_json(changes, change) for change in changes.calls],
             "unnamed": None if unnamed is None else _change_json(changes, unnamed),
-            "skipped": {side: list(report.skipped) for side, report in changes.left_out.items()},
-            "alone": changes.of_sides(*changes.pair.alone),
-            "other_architectures": {side: list(report.architectures) for side, report in changes.left_out.items()}}
+            "skipped": {side: list(report.skipped) for side, report in left_out.items()},
+            "alone": changes.by_age(changes.pair.alone),
+            "other_architectures": {side: list(report.architectures) for side, report in left_out.items()}}

@@ -1,4 +1,5 @@
 """How often a tool starts scf where all is well."""
+import itertools
 import json
 import os
 from unittest import mock
@@ -125,6 +126,17 @@ class Starts(Counting):
             for words in ([], ["--json"], ["--native"], ["--all"], ["--no-more"]):
                 self.assertEqual(self.starts("compare", *words, name, given, status=1), 3, words)
         self.assertEqual(self.starts("compare", self.file("f.bpf", filter_of(numbers)), given), 1)
+
+    def test_each_kind_of_side(self):
+        """What is the same is one answer; where profiles are involved, their entries are part of it."""
+        few, many = ({"bpf": self.file(f"{at}.bpf", filter_of(numbers)), "json": self.file(f"{at}.json", profile_of(*names))}
+                     for at, (numbers, names) in enumerate((([0], ["read"]), ([0, 1], ["read", "write"]))))
+        for command in ("compare", "diff"):
+            for kinds in itertools.product(("bpf", "json"), repeat=2):
+                with self.subTest(command=command, kinds=kinds):
+                    first, second = kinds
+                    self.assertEqual(self.starts(command, few[first], few[second]), 1)
+                    self.assertLessEqual(self.starts(command, few[first], many[second], status=1), 3)
 
     def test_compare_by_runtime(self):
         """With runc's stub as without a runtime; twice more where the filter has none, which is told by the first number
