@@ -7,11 +7,13 @@ from __future__ import annotations
 import json
 from collections.abc import Callable, Iterator, Sequence
 
-from scftools.base import program
-from scftools.model import multiplexed
+from scftools.base import inputs, program
+from scftools.base.values import Any
+from scftools.model import architectures, libseccomp, multiplexed
 from scftools.model.answers import Answer
-from scftools.model.architectures import I386
+from scftools.model.architectures import I386, Architecture
 from scftools.model.profiles import DerivedProfile
+from scftools.ask.explanation import join_names
 from scftools.forms.lists import unit_restrictions
 from scftools.forms.lists.unit_restrictions import Alternative, Restriction
 from . import units
@@ -53,10 +55,10 @@ def _of_multiplexer(settings: UnitSettings, name: str) -> Iterator[tuple[Answer,
     yield from ((answer, conditions) for conditions in (unit_restrictions.outside(0, others) if others else [()]))
 
 
-def profile_of(settings: UnitSettings, architectures: Sequence[str]) -> str:
+def profile_of(settings: UnitSettings, group: Sequence[str]) -> str:
     """The text of the profile that the settings describe, for architectures of one group."""
-    default, rules = settings.answer_of(None), unit_restrictions.rules_of(settings.restrictions, architectures[0])
-    multiplexers = [*multiplexed.CALL_NUMBERS] if I386 in architectures else []
+    default, rules = settings.answer_of(None), unit_restrictions.rules_of(settings.restrictions, group[0])
+    multiplexers = [*multiplexed.CALL_NUMBERS] if I386 in group else []
     named: dict[tuple[Answer, Alternative], list[str]] = {}
     for name in dict.fromkeys([*settings.names(), *rules, *multiplexers]):
         answers = _of_multiplexer(settings, name) if name in multiplexers else _of_call(settings, name, rules.get(name))
@@ -67,7 +69,7 @@ def profile_of(settings: UnitSettings, architectures: Sequence[str]) -> str:
     for (answer, conditions), names in named.items():
         args = {"args": [condition.as_json() for condition in conditions]} if conditions else {}
         entries.append({"names": names, **answer.members(), **args})
-    top = {**default.default(), "architectures": list(architectures), "syscalls": entries}
+    top = {**default.default(), "architectures": list(group), "syscalls": entries}
     return json.dumps(top, indent=4) + "\n"
 
 
@@ -79,6 +81,50 @@ def settings_of_unit(name: str, say: Callable[[str], None]) -> UnitSettings:
     settings = units.settings_in(units.shown_by_systemctl([name])[0], name, reader)
     reader.tell_unknown()
     return settings
+
+
+def settings_of_lists(options: Any, say: Callable[[str], None]) -> UnitSettings:
+    """The settings that the words of a command line say."""
+    reader = units.ListReader(units.all_groups, say)
+    try:
+        reader.is_call = libseccomp.Library().knows
+    except program.ToolError as why:
+        say(f"names that libseccomp doesn't know can't be left out, as systemd may do: {why}")
+    settings = UnitSettings(reader.assigned(options.set), units.refusal_of(options.errno or ""),
+                            units.architectures_of(options.unit_architectures or ""),
+                            reader.assigned(options.log or (), None))
+    reader.tell_unknown()
+    return settings
+
+
+def group_of(settings: UnitSettings, wanted: Architecture, say: Callable[[str], None]) -> Sequence[str]:
+    """The architectures for which a profile is printed, among them this one; says which others there are."""
+    group = next((group for group in groups_of(settings) if wanted.oci in group), None)
+    if group is None:
+        raise program.ToolError(f"the unit permits no {wanted.name} syscalls", program.NEGATIVE)
+    alike, others = (architectures.names_of([oci for oci in units.LOCAL if oci in settings.architectures
+                                             and (oci in group) == is_alike]) for is_alike in (True, False))
+    if others:
+        say(f"the profile is only for {join_names(alike)}: the unit denies other syscalls on {join_names(others)} "
+            f"(--arch {others[0]})")
+    return group
+
+
+def described(options: Any, say: Callable[[str], None]) -> str:
+    """The text of the profile that the words of a command line describe."""
+    wanted = architectures.judged_in(options.arch or architectures.NATIVE)
+    try:
+        settings = settings_of_lists(options, say) if options.set is not None else \
+            settings_of_unit(options.inputs[0].removeprefix(inputs.UNIT), say)
+        text = profile_of(settings, group_of(settings, wanted, say))
+    except units.SettingError as why:
+        raise program.ToolError(str(why), program.NEGATIVE) from why
+    if settings.filter is None:
+        say("there is no SystemCallFilter: every syscall is allowed"
+            + (" that no other setting denies" if settings.restrictions else ""))
+    if settings.doubt is not None:
+        say(settings.doubt)
+    return text
 
 
 def profile_of_unit(name: str, say: Callable[[str], None]) -> DerivedProfile:

@@ -21,6 +21,8 @@ LIMITS = {"bundle": 1 << 24, "filter": 1 << 15, "profile": 1 << 22, "table": 1 <
           "core": 1 << 24,
           # only for oci-hook: a container's state
           "state": 1 << 20}
+# How words begin that aren't files: the number of a process, the name of a unit.
+PROCESS, UNIT = "pid:", "unit:"
 # The most bytes that are read of a line of a log or of rows.
 LONGEST_LINE = 1 << 16
 
@@ -47,6 +49,9 @@ def read_input(name: str, kind: str, most: int | None = None) -> bytes:
 
 def input_pieces(name: str, kind: str, room: int) -> Iterator[bytes]:
     """The first bytes of an input, so many, piece by piece."""
+    if name.startswith((PROCESS, UNIT)):
+        raise program.ToolError(f"here the {kind} must be a file, and {label(name)} is none: ./{output.escaped(name)} "
+                                "is one", status)
     try:
         file = os.dup(0) if name == "-" else os.open(name, os.O_RDONLY | os.O_CLOEXEC | os.O_NOCTTY)
         try:
@@ -67,7 +72,11 @@ def input_pieces(name: str, kind: str, room: int) -> Iterator[bytes]:
 
 def read_whole(name: str, kind: str) -> bytes:
     """The bytes of an input that scf doesn't see; raises ToolError if there are too many."""
-    data = read_input(name, kind)
+    return whole(read_input(name, kind), name, kind)
+
+
+def whole(data: bytes, name: str, kind: str) -> bytes:
+    """What was read of an input; raises ToolError if that is cut."""
     if len(data) > LIMITS[kind]:
         raise program.ToolError(f"the {kind} {label(name)} has more than {LIMITS[kind]} bytes")
     return data

@@ -10,19 +10,15 @@ from ..base import program
 COMMANDS = ("compare", "diff", "surface", "decide", "list", "check", "lint", "compile", "profile-of", "needs", "record",
             "why", "filters-of", "verify", "audit", "oci-hook", "help")
 OTHERS = {"bundle": "several files as one input, for standard input",
-          "call-table": "a syscall table from kernel headers",
-          "answers": "everything that filters answer: sets of syscalls, each with its answer",
-          "run": "what one filter answers to a syscall, in how many instructions",
-          "dis": "a plain listing of any filter, as `asm` takes it",
-          "ask": "what a profile answers to a syscall, and which entry gives the answer",
-          "resolve-profile": "the profile that a container engine makes of its own for one container",
-          "unit-profile": "the profile that a systemd unit's syscall settings describe",
-          "asm": "the filter that a text in scf's assembler spells"}
-# Commands by the names that they had before, and the words that each stands for.
-ALIASES = {"explain": "help", "verify-process": "verify", "compare-profiles": "diff --profiles"}
+          "call-table": "a syscall table from kernel headers"}
+# Commands by the names that they had before, and the words that each stands for: a last one with a colon is put before
+# the names of inputs.
+ALIASES = {"answers": "surface --regions", "ask": "decide --as profile", "asm": "compile --as assembler",
+           "compare-profiles": "diff --profiles", "dis": "list --plain", "explain": "help",
+           "resolve-profile": "profile-of --as profile", "run": "decide --steps", "unit-profile": "profile-of unit:", "verify-process": "verify"}
 NAMES = (*COMMANDS, *ALIASES, *OTHERS)
 # The commands of scfhost; scftools has all others.
-OF_HOST = ("audit", "filters-of", "oci-hook", "unit-profile", "verify")
+OF_HOST = ("audit", "filters-of", "oci-hook", "verify")
 # What people type in place of a command.
 SLIPS = {"validate": "lint", "disassemble": "list", "show": "list", "dump": "filters-of", "generate": "needs",
          "trace": "record", "unit": "profile-of", "test": "decide"}
@@ -57,7 +53,13 @@ def same_as(name: str) -> str:
 
 def words_before(name: str | None) -> list[str]:
     """The words that a command by another name has before its own."""
-    return ALIASES.get(name or "", "").split()[1:]
+    return [word for word in ALIASES.get(name or "", "").split()[1:] if not word.endswith(":")]
+
+
+def before_inputs(name: str | None) -> str:
+    """What a command by another name puts before the names of its inputs."""
+    last = ALIASES.get(name or "", "").rpartition(" ")[2]
+    return last if last.endswith(":") else ""
 
 
 def nearest(word: str) -> str | None:

@@ -19,10 +19,12 @@ OF_BUNDLES = ("--architectures", "--reading", "--total-limit", "--nr-from", "--n
 # The options of the program's commands, but for those that give a record.
 OF_PROGRAM = {
     "answers": ("--native", "--examples", "--limit", "--architectures", "--reading", "--nr-from", "--nr-to"),
-    "ask": ("--architectures", "--reading"), "check": (), "decide": (), "run": ("--path",),
+    "ask": ("--architectures", "--reading"), "asm": (), "check": (), "dis": (), "decide": (), "run": ("--path",),
     "compile": ("--architectures", "--reading", "--left-out"),
     "compare": ("--native", "--calls", "--no-more", "--no-less", "--disposition", "--limit", "--splits", "--beside",
                 *OF_BUNDLES[:-1])}
+# Options of tools that say which of the program's commands it is, or have no part in it.
+WITHOUT_WORDS = ("--all", "--as", "--color", "--plain", "--regions", "--steps", "--table")
 # The commands that also take one of the files of a bundle alone.
 OF_ONE_FILE = ("answers", "ask", "compile", "decide")
 
@@ -44,7 +46,7 @@ def _words(parser: Any, options: Any) -> list[str] | None:
     for flag, values in _given(parser, options).items():
         if flag in OF_PROGRAM[parser.command] and len(values) < 2:
             words += [f"{flag}={values[0]}" if values else flag]
-        elif flag not in (*RECORD_OPTIONS, "--all", "--color", "--table"):
+        elif flag not in (*RECORD_OPTIONS, *WITHOUT_WORDS):
             return None
     record = parser.record_words(options)
     return None if record is None else [*words, *record]
@@ -71,12 +73,13 @@ def take(parser: Any, options: Any) -> None:
             if flag in OF_BUNDLES:
                 parser.error(f"{flag} goes with a bundle on standard input, and not with files")
         return
-    words = _words(parser, options) if len(missing) == len(files) and not os.isatty(0) else None
+    takes_input = parser.command is not None and not os.isatty(0)
+    words = _words(parser, options) if takes_input and len(missing) == len(files) else None
     if words is not None and (parser.command not in OF_ONE_FILE or _is_bundle()):
-        if parser.command == "compile":
+        if parser.command in ("asm", "compile"):
             parser.keep_off_terminal()
         client.become([parser.command, *words])
-    if len(files) > 1 or os.isatty(0):
+    if len(files) > 1 or not takes_input:
         parser.error(f"the following arguments are required: {', '.join(action.metavar for action in missing)}")
     setattr(options, files[0].dest, "-" if files[0].nargs is None else ["-"])
     output.has_notes, client.keeps_statuses = False, True

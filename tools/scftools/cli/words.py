@@ -4,7 +4,7 @@ from __future__ import annotations
 import re
 import sys
 import types
-from collections.abc import Iterable
+from collections.abc import Callable, Iterable
 
 from ..base import output, program
 from ..base.values import Any, NoReturn, Pattern
@@ -54,6 +54,7 @@ SHARED: dict[str, dict[str, Any]] = {
     **{name: {"action": "store_true", "help": argparse.SUPPRESS} for name in ("--architectures", "--left-out")},
     **{name: {"metavar": "N", "help": argparse.SUPPRESS}
        for name in ("--nr-from", "--nr-to", "--reading", "--total-limit")},
+    "--as": {"dest": "kind", "help": "what the input is, whatever it looks like"},
     "--also": {"metavar": "PROFILE", "action": "append", "default": [],
                "help": "another profile of the same unit, for other architectures; may be given several times"},
     "--caps": {"metavar": "LIST",
@@ -131,9 +132,9 @@ class Formatter(argparse.HelpFormatter):
 class Parser(argparse.ArgumentParser):
     """The command line of a tool, whose docstring has what it does, its usage, its statuses and its examples. `needs`
     says what it needs beside its words; `command` is the program's command that answers standard input if no file is
-    given, `record_words` that command's options for the record that the words give."""
+    given, by the options, `record_words` that command's options for the record that the words give."""
 
-    def __init__(self, doc: str, needs: str = "", command: str | None = None):
+    def __init__(self, doc: str, needs: str = "", command: str | Callable[[Any], str | None] | None = None):
         self.command, self.record_words = command, lambda options: []
         self.called = commands.name_at(sys.argv[0])
         text, _, examples = doc.partition("\nExamples:\n")
@@ -146,7 +147,7 @@ class Parser(argparse.ArgumentParser):
         usage = re.sub(r"(?m)^    (?:scf )?[\w/-]+", lambda _: f"    {name}", usage)
         command = commands.ALIASES.get(self.called or "", "").split()[:1]
         longer = " " * sum(len(self.called or "") - len(word) for word in command)
-        usage = re.sub("(?m)^   (?=( {5})?)", lambda match: " " * len("usage:") + longer * (match[1] is not None), usage)
+        usage = re.sub("(?m)^   (?=( {5})?)", lambda match: " " * len("usage:") + longer * bool(match[1]), usage)
         # (with a fixed width no tool asks the terminal for it at the start)
         super().__init__(prog=name, usage=usage.strip().replace("%", "%%"), description=summary,
                          epilog="\n\n".join([*filter(None, [needs]), *statuses]), allow_abbrev=False, add_help=False,
@@ -164,10 +165,15 @@ class Parser(argparse.ArgumentParser):
             # (argparse would ask for files)
             argument.required = argument.required and bool(argument.option_strings)
         options = super().parse_args(given, namespace)
+        prefix = commands.before_inputs(self.called)
+        for argument in self._actions if prefix else ():
+            if not argument.option_strings:
+                setattr(options, argument.dest, [prefix + name for name in getattr(options, argument.dest)])
         output.color = options.color
         texts = {name: getattr(options, name, None) for name in client.LIMIT_OPTIONS}
         client.limits = {name: text for name, text in texts.items() if text is not None}
-        if self.command is not None:
+        if self.command is not None and getattr(options, "pid", None) is None:
+            self.command = self.command if isinstance(self.command, str) else self.command(options)
             standard_input.take(self, options)
         return options
 

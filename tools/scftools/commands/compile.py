@@ -1,40 +1,89 @@
-"""Prints a filter that answers every syscall as a profile says, and says what was left out.
+"""Prints a filter that answers every syscall as a profile says, or that a text in scf's assembler spells.
 
     scf compile [--native] [--strict] [--runtime runc|crun|docker|podman|sandbox] [--json]
                 [--hot FILE] [--table FILE] [--caps LIST] [--machine NAME] PROFILE >FILTER
+    scf compile [--as assembler] [--json] TEXT >FILTER
 
-PROFILE is a resolved OCI seccomp profile, or another one as `scf ask` takes it: a file, a pipe, or `-` for standard
-input. The filter answers the syscalls of each architecture that the profile names, as far as scf has a table of it,
-with --native x86-64's alone, and kills a process that makes any other. Standard output is the raw filter alone; what
-was left out of the profile, and what a refusal means, go to standard error. So does a line on members that nothing
-reads, such as "arg" in place of "args", without which an entry has no conditions; with --strict such a profile is
-refused. With --runtime the filter answers as the profile that this runtime reads (RUNTIMES.md); with runc it fails
-syscalls whose numbers are above all that the profile names with ENOSYS, as runc's own filter does. Without a PROFILE
-standard input is read: a profile, or a bundle, to whose filter or fault nothing is added.
+PROFILE is a resolved OCI seccomp profile, or another one as `scf decide` takes it: a file, a pipe, or `-` for standard
+input, or a unit's (unit:NAME). The filter answers the syscalls of each architecture that the profile names, as far as
+scf has a table of it, with --native x86-64's alone, and kills a process that makes any other. Standard output is the
+raw filter alone; what was left out of the profile, and what a refusal means, go to standard error. So does a line on
+members that nothing reads, such as "arg" in place of "args", without which an entry has no conditions; with --strict
+such a profile is refused. With --runtime the filter answers as the profile that this runtime reads (RUNTIMES.md); with
+runc it fails syscalls whose numbers are above all that the profile names with ENOSYS, as runc's own filter does.
+Without a PROFILE standard input is read: a profile, or a bundle, to whose filter or fault nothing is added.
 
 With --hot the syscalls that FILE counts take fewer steps; the answers, and the bounds on the filter's size and steps,
 stay the same. FILE has lines NAME COUNT, as `scf needs --counts` prints them, and for another architecture than x86-64,
 or than the first that PROFILE lists, ARCH NAME COUNT.
+
+TEXT is known by its first word; with --as assembler it is one whatever it begins with. It is ASCII. A newline or `;`
+ends a statement, and `//` begins a comment, which ends with the line. A statement is an instruction, a label with `:`
+behind it, or both. Mnemonics are in small letters, and numbers decimal, or hexadecimal after 0x. The filter isn't
+checked: use `scf check`. These are the instructions, with the accumulator A, the index register X and the scratch words
+M[0] to M[15]:
+
+    ld [0]                load the word at this offset of struct seccomp_data into A
+    ld #1, ldx #1         load a constant into A; into X
+    ld len, ldx len       load the length of struct seccomp_data, 64, into A; into X
+    ld M[1], ldx M[1]     load a scratch word into A; into X
+    st M[1], stx M[1]     store A; store X
+    add #1, add x         add a constant to A; add X to A
+                          (sub, mul, div, or, and, lsh, rsh and xor alike)
+    neg                   negate A
+    tax, txa              copy A to X; copy X to A
+    jeq #41, yes, no      go to the label yes if A equals a constant, else to the label no
+                          (jgt, jge and jset, for a common bit, alike, and each also with x)
+    ja end                go to the label end
+    ret #0x7fff0000       return a constant, here ALLOW
+    ret a                 return A
+    raw 0x6, 0, 0, 0x0    any instruction, by its code, jt, jf and k
+
+All jumps go forwards. In place of a label a number says how many instructions are skipped.
 
 Exit status: 0 success.
 
 Examples:
 
     scf compile profile.json >filter.bpf
-    scf compile --hot counts profile.json >filter.bpf
     scf compile --caps docker --machine arm64 engine.json >arm64.bpf
+    scf compile filter.s | scf surface -
 """
-from ..base import output, program
+from ..base import inputs, output, program
 from ..model import bundles, profiles, tables
 from ..ask import client, explanation, verdicts
 from ..ask.client import Fault
 from ..cli import words
-from ..forms import counts, refusals, runtimes
+from ..forms import assembler, counts, refusals, runtimes
+
+OF_PROFILES = ("native", "strict", "runtime", "caps", "machine", "hot")
+
+
+def assembled(text, options):
+    """Prints the filter that a text spells."""
+    for name in OF_PROFILES:
+        if getattr(options, name):
+            raise program.ToolError(f"--{name} speaks of a profile, and '{options.profile}' is an assembler's text")
+    done = client.run_scf(["asm"], text)
+    if done.status == program.SUCCESS:
+        if options.json:
+            output.put_json({"status": done.status, "instructions": len(done.out) // 8, "hex": done.out.hex()})
+        else:
+            output.put(done.out)
+        return done.status
+    fault = Fault.read(done.line)
+    sentences = [*assembler.wrong_word(text.decode("latin-1"), fault), *explanation.explain_line(done.line)]
+    if options.json and fault:
+        output.put_json({"status": done.status, "fault": fault.as_json(sentences)})
+    else:
+        program.say(done.line, *sentences)
+    return done.status
 
 
 def main():
-    parser = words.Parser(__doc__, command="compile")
+    parser = words.Parser(__doc__, command=lambda options: "compile" if options.kind is None else "asm")
     parser.add("--native", "--strict", "--json", "--table", "--caps", "--machine")
+    parser.add("--as", choices=("assembler",))
     parser.add_argument("--hot", metavar="FILE",
                         help="how often syscalls are called, as `scf needs --counts` prints it; - is standard input")
     parser.add("--architectures", "--reading", "--left-out", "profile")
@@ -43,7 +92,10 @@ def main():
     parser.one_standard_input([options.profile, options.table, options.hot])
     if not options.json:
         parser.keep_off_terminal()
-    profile = runtimes.profile_of_options(options)
+    data = inputs.read_input(options.profile, "text") if options.kind else runtimes.text_of(options)
+    if options.kind or assembler.is_text(data):
+        return assembled(data, options)
+    profile = runtimes.input_in(data, options, options.strict)
     judged = profile.judged(tables.read_table(options.table), options.native)
     hot = [] if options.hot is None else counts.read_counts(options.hot, judged)
     done = client.run_scf(["compile", "--left-out", *judged.words],

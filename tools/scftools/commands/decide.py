@@ -1,31 +1,45 @@
-"""Says what a stack of filters answers to syscalls, what the answers mean, and which filter gives them.
+"""Says what happens to a syscall under filters, a profile or a process, and what gives the answer.
 
+    scf decide [OPTIONS] X CALL [ARGUMENT ..]
     scf decide [--nr NUMBER|NAME] .. [--calls-from FILE] [--arch ARCH] [--ip N] [--a0 N] ..
-               [--a5 N] [--table FILE] [--json] FILTER..
-    scf decide --expect ROWS [--arch ARCH] [--ip N] [--a0 N] .. [--table FILE] [--json] FILTER..
+               [--a5 N] [--table FILE] [--json] [--steps [--path]] [--force] X [FILTER ..]
+    scf decide .. [--native] [--strict] [--runtime runc|crun|docker|podman|sandbox] [--caps LIST]
+               [--machine NAME] [--as profile] PROFILE [CALL ..]
+    scf decide --expect ROWS .. X [FILTER ..]
 
-The filters stand oldest first; each may be a file or a pipe, and one input `-` for standard input. A syscall is given
-by its number, or by its name in the table; with --arch by its name in that architecture's. An argument is a number,
-which may be negative, or constants of C joined by `|`, such as CLONE_NEWUSER|SIGCHLD. A line of --calls-from is a
-number or a name, followed by any arguments from the first on; a line that begins with `#` is a comment. For each
-syscall scf's line comes first; the lines after it are marked by `# `: the syscall, what the answer does, which of
-several filters gives it, and the path through that filter, the indexes of the instructions that ran, from 0 on (3-7
+X is a filter, a profile, pid:N for the filters of a process, each distinct stack of its threads a block, or unit:NAME
+for the profile of a unit; a file may be a pipe, and one input `-` for standard input. CALL is a syscall by its number,
+or by its name in the table; with --arch by its name in that architecture's. An ARGUMENT, from the first on, is a
+number, which may be negative, or constants of C joined by `|`, such as CLONE_NEWUSER|SIGCHLD. More FILTERs, the oldest
+first, go with --nr, --calls-from or --expect. A line of --calls-from is a CALL with its ARGUMENTs; a line that begins
+with `#` is a comment. So it is in ROWS, where `=` and an answer follow, and only the rows that get another one are
+printed.
+
+For each syscall scf's line comes first; the lines after it are marked by `# `: the syscall, what the answer does, which
+of several filters gives it, and the path through that filter, the indexes of the instructions that ran, from 0 on (3-7
 stands for three or more in a row). If several filters give the answer, it is the path through the newest of them, whose
-answer the kernel takes; if all of them allow the syscall, through the one that runs the most instructions. With --json
-one object is printed instead. Without a FILTER standard input is read, one filter or a bundle, and nothing is added to
+answer the kernel takes; if all of them allow the syscall, through the one that runs the most instructions. With --steps
+scf's line says how many instructions of one filter ran; with --path scf's next line has their indexes.
+
+A profile is a resolved OCI seccomp profile, a config.json that holds one, a SeccompProfile of Kubernetes (JSON or
+YAML), or a list of LXC, snapd or firejail. With --caps it is an engine's own, which is resolved as by `scf profile-of
+--keep-first`, with --machine for another machine. All tools that take profiles take them so. With --runtime it is read
+as that runtime reads it (RUNTIMES.md), and with runc's ENOSYS for newer syscalls. scf's line has the answer, and
+`entry N`, `default`, `foreign` or `stub`, runc's ENOSYS; then come the entry as JSON on one line (N is its index in
+`syscalls`, from 0 on; at most 400 characters are shown), and which of its conditions the syscall meets, with the values
+of its arguments. Syscalls of each architecture that the profile names are answered, as far as scf has a table of it;
+with --native x86-64's alone. For another one that the profile names the answer is `undetermined`. With --steps or
+--expect a profile stands for the filter that scf compiles of it.
+
+Without an X standard input is read, one filter or a bundle, of a profile with --as profile, and nothing is added to
 scf's lines.
 
-With --expect each line of ROWS, a file of any length, is a syscall as in --calls-from, `=`, and the answer that is
-expected, such as `socket AF_NETLINK SOCK_RAW = ERRNO EPERM`, `read = ALLOW`; an action alone is met with any data. Each
-row with another answer is printed, and how many rows there are. All are judged by one start of scf, which proves for
-each region of records that all of them get its answer; a record of an undecided region is answered by a start of its
-own.
-
-The exit status is the worst of all syscalls: 0 success, 1 a row is answered otherwise.
+The exit status is the worst of all syscalls: 0 success, 1 with --expect a row is answered otherwise, or a thread has no
+filter, 4 undetermined.
 
 Examples:
 
-    scf decide --nr socket --a0 40 filter.bpf
+    scf decide filter.bpf socket AF_INET
     scf decide --nr openat --nr 435 old.bpf new.bpf
     scf decide --expect rows filter.bpf
 """
@@ -34,13 +48,60 @@ from ..model import tables
 from ..ask import explanation
 from ..ask.client import Refusal
 from ..cli import words
-from ..forms import filters, refusals
+from ..forms import operands, refusals, runtimes
+from ..forms.profile_inputs import ProfileInput
 from ..report import decisions, expectations
+from ..report.blocks import Block, put_blocks
 from ..report.decisions import Numbering
 
+OF_PROFILES = ("native", "strict", "runtime", "caps", "machine")
 
-def put_unmet(options, table, stack):
-    """Prints the rows that are answered otherwise than they expect, and their number; the status."""
+
+def read_words():
+    parser = words.Parser(__doc__, command=lambda options: "run" if options.steps else
+                          "ask" if options.kind is not None else "decide")
+    decisions.add_options(parser)
+    parser.add_argument("--expect", metavar="ROWS",
+                        help="check rows of syscalls, each with `=` and its answer; - is standard input")
+    parser.add_argument("--steps", action="store_true", help="say how many instructions of one filter ran")
+    parser.add_argument("--path", action="store_true", help="with --steps, print the indexes of these instructions")
+    parser.add("--as", choices=("profile",))
+    parser.add("--native", "--strict", "--caps", "--machine", "--force", "--architectures", "--reading")
+    runtimes.add_option(parser, is_sandboxes=True)
+    parser.add_argument("words", metavar="X", nargs="+",
+                        help="a filter, a profile, pid:N or unit:NAME; - is standard input; then the syscall and its "
+                             "arguments, or more filters")
+    options = parser.parse_args()
+    if options.expect is not None and (options.nr or options.calls_from):
+        parser.error("--expect takes the syscalls from its rows: leave out --nr and --calls-from")
+    if options.path and not options.steps:
+        parser.error("--path goes with --steps")
+    if not options.nr and options.calls_from is None and options.expect is None:
+        options.words, options.call = options.words[:1], options.words[1:]
+    if options.steps and len(options.words) > 1:
+        parser.error("--steps counts the instructions of one filter")
+    parser.one_standard_input([*options.words, options.table, options.calls_from, options.expect])
+    return options
+
+
+def read_input(options):
+    """The stack of filters, the profile or the process that a command line names."""
+    if options.kind is not None:
+        return runtimes.profile_of_options(runtimes.with_profile(options, options.words[0]))
+    if len(options.words) > 1:
+        given = operands.read_stacks(options.words)
+    else:
+        given = operands.read(options.words[0], options)
+    for name in OF_PROFILES if not isinstance(given, ProfileInput) else ():
+        if getattr(options, name):
+            raise program.ToolError(f"--{name} speaks of a profile, and '{options.words[0]}' is none")
+    if isinstance(given, ProfileInput) and (options.steps or options.expect is not None):
+        return [operands.compiled(options.words[0], given)]
+    return [given] if isinstance(given, operands.Filter) else given
+
+
+def unmet_block(options, table, stack):
+    """The rows that are answered otherwise than they expect, and their number."""
     numbering = Numbering(table, options.arch)
     rows = list(expectations.read_expectations(options.expect, numbering, dict(decisions.rest_of(options, numbering))))
     try:
@@ -48,36 +109,33 @@ def put_unmet(options, table, stack):
     except Refusal as why:
         fault = why.fault
         sentences = [*explanation.explain_fault(fault), *refusals.stack_refusals(stack, fault)] if fault else []
-        if options.json:
-            output.put_json({"status": why.status, "calls": [{"status": why.status,
-                                                              "fault": why.fault.as_json(sentences)}]})
-        else:
-            output.put_lines([why.line, *output.notes(sentences)])
-        return why.status
+        return Block(why.status, [why.line, *output.notes(sentences)],
+                     {"calls": [{"status": why.status, "fault": fault.as_json(sentences)}]} if options.json else {})
     pairs = ((row, answers.of(row.call)) for row in rows)
     unmet = [expectations.Unmet(row, answer) for row, answer in pairs if not row.is_met_by(answer)]
-    status = program.NEGATIVE if unmet else program.SUCCESS
-    if options.json:
-        output.put_json({"status": status, "calls": [row.as_json(table) for row in unmet], "rows": len(rows)})
-    else:
-        output.put_lines(row.describe() for row in unmet)
-        output.put_lines(output.notes([f"rows: {len(rows)}; answered otherwise than expected: {len(unmet)}"]))
-    return status
+    counted = f"rows: {len(rows)}; answered otherwise than expected: {len(unmet)}"
+    return Block(program.NEGATIVE if unmet else program.SUCCESS,
+                 [*(row.describe() for row in unmet), *output.notes([counted])],
+                 {"calls": [row.as_json(table) for row in unmet], "rows": len(rows)})
 
 
 def main():
-    parser = words.Parser(__doc__, command="decide")
-    decisions.add_options(parser)
-    parser.add_argument("--expect", metavar="ROWS",
-                        help="check rows of syscalls, each with `=` and its answer; - is standard input")
-    parser.add("filters")
-    options = parser.parse_args()
-    if options.expect is not None and (options.nr or options.calls_from):
-        parser.error("--expect takes the syscalls from its rows: leave out --nr and --calls-from")
-    parser.one_standard_input([*options.filters, options.table, options.calls_from, options.expect])
+    options = read_words()
     table = tables.read_table(options.table)
-    stack = filters.read_stack(options.filters)
-    if options.expect is not None:
-        return put_unmet(options, table, stack)
-    decisions.want_a_call(options)
-    return decisions.print_replies(options, table, lambda call: decisions.stack_decisions(stack, call, table))
+    given = read_input(options)
+
+    def judge(stack):
+        if options.expect is not None:
+            return unmet_block(options, table, stack)
+        if options.steps and len(stack) > 1:
+            raise program.ToolError("--steps counts the instructions of one filter, and there are several")
+        return decisions.replies(options, table, lambda call: decisions.of_run(
+            stack[0], call, table, options.path) if options.steps else decisions.stack_decisions(stack, call, table))
+
+    if not isinstance(given, ProfileInput):
+        if options.expect is None:
+            decisions.want_a_call(options)
+        return put_blocks(given, judge, options.json)
+    judged = given.judged(table, options.native)
+    return put_blocks([], lambda _: decisions.replies(options, table, lambda call: decisions.profile_decisions(
+        given.data, call, judged, given.origins)), options.json)

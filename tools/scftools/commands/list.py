@@ -1,89 +1,113 @@
 """Lists a filter with the indexes of its instructions, the targets of its jumps, and names of syscalls.
 
-    scf list [--dot|--json] [--nr NUMBER|NAME] [--arch ARCH] [--ip N] [--a0 N] .. [--a5 N]
-             [--table FILE] FILTER
+    scf list [--plain|--dot|--json] [--nr NUMBER|NAME] [--arch ARCH] [--ip N] [--a0 N] ..
+             [--a5 N] [--table FILE] [--force] FILTER
 
-FILTER is a filter as `scf check` takes it, accepted or not: a file, a pipe, or `-` for standard input. Each line has
-the index of an instruction, from 0 on, the instruction as `scf dis` prints it, and after `//` what it means: the
-targets of a jump, the field that a load reads, the name of an answer, the syscall's name at a test of the number, and
-the architecture at a test of that. A test counts as one of the number if A holds the number on every path to it.
-Syscalls have the names of the architecture that the paths to the test have found, as in `exit of i386`; if they have
-found two or three, the names of each; if they have found none, those of x86-64 and x32.
+FILTER is a filter as `scf check` takes it, accepted or not: a file, a pipe, or `-` for standard input; or pid:N, all
+filters of a process, each distinct stack of its threads a block. Each line has the index of an instruction, from 0 on,
+the instruction as the assembler of `scf compile` takes it, and after `//` what it means: the targets of a jump, the
+field that a load reads, the name of an answer, the syscall's name at a test of the number, and the architecture at a
+test of that. A test counts as one of the number if A holds the number on every path to it. Syscalls have the names of
+the architecture that the paths to the test have found, as in `exit of i386`; if they have found two or three, the names
+of each; if they have found none, those of x86-64 and x32.
 
-If a syscall is given, the instructions that run on it (`scf run --path`) are marked by `>`, and the syscall and its
-answer follow the listing in lines marked by `# `; a filter that can't be run is refused.
+If a syscall is given, the instructions that run on it (`scf decide`) are marked by `>`, and the syscall and its answer
+follow the listing in lines marked by `# `; a filter that can't be run is refused.
+
+--plain prints the instructions alone, as scf does, which `scf compile` makes the filter of again; one with an unknown
+code, or with something in a field that its code doesn't use, is printed as `raw` with its four fields. Without a FILTER
+a raw one is read from standard input then.
 
 --dot prints the control flow as a graph for graphviz, as in `scf list --dot FILTER | dot -Tsvg >filter.svg`: tests of
 one word after another are one node, with the ranges of values that lead to each target, and all returns of an answer
 are one. If a syscall is given, its path is red.
 
-Exit status: 0 success.
+Exit status: 0 success; 1 a thread has no filter.
 
 Examples:
 
     scf list filter.bpf
-    scf list --nr openat filter.bpf
     scf list --nr socket --a0 AF_INET filter.bpf
+    scf list --plain filter.bpf >filter.txt
 """
 from ..base import output, program
 from ..model import tables
 from ..ask import client, explanation
 from ..cli import words
-from ..forms import filters
+from ..forms import operands
 from ..report import decisions, flow_graph, listing
+from ..report.blocks import Block, put_blocks
 
 
 def refused(options, status, line):
-    """Prints scf's line on a filter that can't be listed, or run."""
-    if options.json:
-        fault = client.Fault.read(line)
-        output.put_json({"status": status,
-                         **({"fault": fault.as_json(explanation.explain_fault(fault))} if fault else {})})
-    else:
-        output.put_explained([line], explanation.explain_line(line))
-    return status
+    """scf's line on a filter that can't be listed, or run."""
+    fault = client.Fault.read(line) if options.json else None
+    return Block(status, [line, *output.notes(explanation.explain_line(line))],
+                 {"fault": fault.as_json(explanation.explain_fault(fault))} if fault else {})
 
 
-def listing_json(bpf_filter, lines, table, query, path):
-    """The listing as an object; given a syscall with its answer and the instructions that run on it."""
+def members_of(bpf_filter, lines, table, query, path):
+    """The listing as members of an object; given a syscall with its answer and the instructions that run on it."""
     instructions = [{"index": index, "text": line, "meaning": meaning}
                     for index, (line, meaning) in enumerate(zip(lines, listing.meanings(bpf_filter.data, table)))]
     of_call = {} if path is None else {"call": query.call.as_json(table),
                                        "path": listing.Giver(bpf_filter, True, path).as_json(),
                                        "answer": path.decision.answer.as_json(explains=True)}
-    return {"status": program.SUCCESS, "instructions": instructions, **of_call}
+    return {"instructions": instructions, **of_call}
+
+
+def listed(bpf_filter, options, table, query):
+    """The listing of a filter."""
+    data = bpf_filter.data
+    done = client.run_scf(["dis"], data)
+    if options.plain:
+        return Block(done.status, [*done.lines, *output.notes(explanation.explain_line(done.line))], {})
+    if done.status != program.SUCCESS:
+        return refused(options, done.status, done.line)
+    path = listing.path_of(data, query.words()) if query is not None else None
+    if path is not None and path.decision.answer is None:
+        return refused(options, path.status, path.decision.line)
+    status = path.status if path else done.status
+    if options.json:
+        return Block(status, [], members_of(bpf_filter, done.lines, table, query, path))
+    lines = list(listing.listing_lines(data, done.lines, table))
+    if options.dot:
+        drawing = flow_graph.Drawing(flow_graph.Graph(data), lines, table, path.indexes if path else ())
+        return Block(status, drawing.text().splitlines(), {})
+    if path is not None:
+        on_path = frozenset(path.indexes)
+        lines = [f"{'>' if index in on_path else ' '} {line}" for index, line in enumerate(lines)]
+        lines += output.notes(explanation.explain_answer(query.call, path.decision.answer, table))
+    return Block(status, lines, {})
+
+
+def of_stack(stack, options, table, query):
+    """The listings of the filters of a stack, each of several after its name."""
+    blocks = [listed(bpf_filter, options, table, query) for bpf_filter in stack]
+    if len(blocks) == 1:
+        return blocks[0]
+    if options.dot:
+        raise program.ToolError("--dot draws one filter, and there are several")
+    named = list(zip((bpf_filter.name for bpf_filter in stack), blocks))
+    return Block(client.worst(block.status for block in blocks),
+                 [line for name, block in named for line in (f"# {name}", *block.lines)],
+                 {"listings": [{"file": name, "status": block.status, **block.members} for name, block in named]})
 
 
 def main():
-    parser = words.Parser(__doc__)
+    parser = words.Parser(__doc__, command=lambda options: "dis" if options.plain else None)
     parser.add_argument("--nr", metavar="NUMBER|NAME",
                         help="mark the instructions that run on this syscall, by number or by name [default: 0]")
     decisions.add_numbers(parser)
+    parser.add_argument("--plain", action="store_true", help="print the instructions alone, as scf does")
     parser.add_argument("--dot", action="store_true", help="print the control flow as a graph for graphviz")
-    parser.add("--json", "--table", "filter")
+    parser.add("--json", "--table", "--force", "filter")
     options = parser.parse_args()
     parser.one_standard_input([options.filter, options.table])
-    if options.dot and options.json:
-        parser.error("give either --dot or --json")
+    if options.plain + options.dot + options.json > 1:
+        parser.error("give one of --plain, --dot and --json")
     table = tables.read_table(options.table)
-    call, bpf_filter = decisions.one_query(options, table), filters.read_filter(options.filter)
-    data = bpf_filter.data
-    done = client.run_scf(["dis"], data)
-    if done.status != program.SUCCESS:
-        return refused(options, done.status, done.line)
-    path = listing.path_of(data, call.words()) if call is not None else None
-    if path is not None and path.decision.answer is None:
-        return refused(options, path.status, path.decision.line)
-    if options.json:
-        output.put_json(listing_json(bpf_filter, done.lines, table, call, path))
-        return path.status if path else done.status
-    lines = list(listing.listing_lines(data, done.lines, table))
-    if options.dot:
-        output.put(flow_graph.Drawing(flow_graph.Graph(data), lines, table, path.indexes if path else ()).text())
-    elif path is None:
-        output.put_lines(lines)
-    else:
-        on_path = frozenset(path.indexes)
-        output.put_lines(f"{'>' if index in on_path else ' '} {line}" for index, line in enumerate(lines))
-        output.put_lines(output.notes(explanation.explain_answer(call.call, path.decision.answer, table)))
-    return path.status if path else done.status
+    query, given = decisions.one_query(options, table), operands.read_stacks([options.filter], options)
+    if options.plain and query is not None:
+        parser.error("--plain marks no instructions")
+    return put_blocks(given, lambda stack: of_stack(stack, options, table, query), options.json)

@@ -19,9 +19,9 @@ mode. Or it is one of these:
     - a profile that was made of a log, as oci-seccomp-bpf-hook's, or Kubernetes' recorded SeccompProfile: what it
       allows.
 
-PROFILE is a resolved OCI seccomp profile, or another one as `scf ask` takes it. Each may be a file or a pipe, and one
-of them `-` for standard input. Each syscall that the profile doesn't allow has a line: its number and name, the
-arguments that a condition tests, and scf's answer with the reason (`scf ask`). Lines after it, marked by `# `, say
+PROFILE is a resolved OCI seccomp profile, or another one as `scf decide` takes it. Each may be a file or a pipe, and
+one of them `-` for standard input. Each syscall that the profile doesn't allow has a line: its number and name, the
+arguments that a condition tests, and scf's answer with the reason (`scf decide`). Lines after it, marked by `# `, say
 where it stands in the logs.
 
 Each syscall is judged in the architecture of the process that makes it. Audit records name it, and strace says which

@@ -4,32 +4,46 @@
                 [--splits N] [--table FILE] [--caps LIST] [--json] [--html FILE] FILTER..
                 [--beside OTHER..]
     scf surface .. [--force] pid:PID|--pid PID [--beside OTHER..]
+    scf surface --regions [--arch ARCH] [--examples] [--limit N] [--table FILE] [--json] FILTER..
 
 The FILTERs form one stack, oldest first; pid:PID is that of a running process, as the kernel keeps it, and each
-distinct stack of its threads has a block of its own. A profile, as `scf ask` takes it, or a unit's (unit:NAME), stands
-for the filter that scf compiles of it. Each syscall in the table is always allowed, always denied, always delegated (to
-a supervisor or tracer), or it depends on the arguments; then an example of each is shown. The first line counts them; a
-line before it names a filter that is for another machine. The next lines say whether any syscall of another ABI of the
-machine is allowed, with the same counts of an ABI of which one is, and how many numbers that the table doesn't name are
-allowed. With --machine arm64 all this is said of aarch64 and arm, with --arch of that architecture alone. Then come the
-syscalls by purpose (tables/calls.groups), on a terminal as a table, otherwise a line each: the group, the disposition,
-the number, the names, and an answer. --beside shows the syscalls that differ under another stack of filters; it stands
-last. --html writes the same as a page without scripts, which replaces FILE at once.
+distinct stack of its threads has a block of its own. A profile, as `scf decide` takes it, or a unit's (unit:NAME),
+stands for the filter that scf compiles of it. Each syscall in the table is always allowed, always denied, always
+delegated (to a supervisor or tracer), or it depends on the arguments; then an example of each is shown. The first line
+counts them; a line before it names a filter that is for another machine. The next lines say whether any syscall of
+another ABI of the machine is allowed, with the same counts of an ABI of which one is, and how many numbers that the
+table doesn't name are allowed. With --machine arm64 all this is said of aarch64 and arm, with --arch of that
+architecture alone. Then come the syscalls by purpose (tables/calls.groups), on a terminal as a table, otherwise a line
+each: the group, the disposition, the number, the names, and an answer. --beside shows the syscalls that differ under
+another stack of filters; it stands last. --html writes the same as a page without scripts, which replaces FILE at once.
 
 With --conditions a syscall with several answers has them all instead of examples, with the conditions on its arguments:
 
     socket denied (EINVAL) where domain == AF_NETLINK and protocol == NETLINK_AUDIT, else allowed
 
 Arguments have the names of their manual page, or are a0 to a5; they are compared as whole registers, those of i386, x32
-and arm as lower halves. `prot & ~PROT_READ == 0` allows no bit but PROT_READ, and `sig in {SIGINT, SIGTERM, ..}` is
-any of these values. Such a line is printed only if comparisons of scf prove it. If no profile gives an answer, as
-ALLOW with data, or the answers take many conditions and the dispositions fewer, the latter alone are told; where no
-profile says the conditions, there are examples. Filters that take too many steps have examples alone, and standard
-error says that their conditions are `unfinished`; --limit N gives them N steps, if that is more than they have. With
---examples each syscall has a call for each of its regions, with its answer: the sets of records that take one path
-through the filters.
+and arm as lower halves. `prot & ~PROT_READ == 0` allows no bit but PROT_READ, and `sig in {SIGINT, SIGTERM, ..}` is any
+of these values. Such a line is printed only if comparisons of scf prove it. If no profile gives an answer, as ALLOW
+with data, or the answers take many conditions and the dispositions fewer, the latter alone are told; where no profile
+says the conditions, there are examples. Filters that take too many steps have examples alone, and standard error says
+that their conditions are `unfinished`; --limit N gives them N steps, if that is more than they have. With --examples
+each syscall has a call for each of its regions, with its answer: the sets of records that take one path through the
+filters.
 
-Each disposition is proved: by the regions of all records, as `scf answers` prints them, which also have the examples;
+With --regions it lists everything that the filters answer: scf proves of each region of records that all of them get
+its answer, and each record is in a region. A line has the answer, the filter that gives it (0 is the oldest) with the
+index of the instruction, the syscalls, and the conditions on their arguments, which hold together:
+
+    ERRNO 22 (EINVAL) at 0:364: socket where domain == AF_NETLINK and protocol == 9
+
+Regions that have the same answer at the same instruction under the same conditions are one line; `(u32)a0` is the lower
+half of a register, `a0 >> 32` the upper one, and `ip` the instruction pointer. Where a test isn't decided, the regions
+behind it are `open`: a record that meets several of them gets the answer of one, and none may meet one of them. The
+answer `unknown` is computed. With --examples a line after each, marked by `# `, has a syscall of the region, if one is
+found. Without a FILTER standard input is read, one filter or a bundle, of a profile too; of a bundle the program's own
+lines are printed.
+
+Each disposition is proved: by the regions of all records, as --regions lists them, which also have the examples;
 where a test isn't decided, by comparisons of scf with profiles that deny, allow or delegate everything. If scf can't
 decide, the line says `undecided` or `unfinished`, with the examples that were found. KILL_PROCESS, KILL_THREAD, TRAP
 and ERRNO deny a syscall, USER_NOTIF and TRACE delegate it, LOG and ALLOW allow it.
@@ -42,6 +56,8 @@ Examples:
     scf surface old.bpf --beside new.bpf
     scf surface --caps docker --machine arm64 engine.json
 """
+import types
+
 from ..base import output
 from ..model import architectures, tables
 from ..ask import client, other_abis
@@ -49,11 +65,14 @@ from ..cli import words
 from ..forms import engines, operands
 from ..forms.stacks import Inspection
 from ..report import stack_surfaces, surface_output
+from ..report.blocks import put_blocks
 from scfhost import processes
 
 
 def read_words():
-    parser = words.Parser(__doc__, processes.NEEDS.replace("This needs", "A process needs", 1))
+    parser = words.Parser(__doc__, processes.NEEDS.replace("This needs", "A process needs", 1),
+                          command=lambda options: "answers" if options.regions else None)
+    parser.add_argument("--regions", action="store_true", help="list everything that the filters answer")
     parser.add_argument("--conditions", action="store_true",
                         help="say which arguments get which answer, instead of examples")
     parser.add_argument("--beside", metavar="OTHER", nargs="+", default=[],
@@ -65,16 +84,16 @@ def read_words():
     parser.add_argument("--examples", action="store_true", help="show a call for each region, with its answer")
     parser.add("--force", "--limit", "--splits")
     parser.add("--table", help=words.OWN_TABLE)
-    parser.add("--caps", "--json", "--html")
+    parser.add("--caps", "--json", "--html", "--architectures", "--nr-from", "--nr-to")
     parser.add_argument("filters", metavar="FILTER", nargs="*",
                         help="a filter, of several the oldest first, a profile, or pid:PID; - is standard input")
     options = parser.parse_args()
     if options.pid is not None:
         options.filters.append(f"pid:{processes.number_in(options.pid, parser)}")
-    if not options.filters:
-        parser.error("give a FILTER or pid:PID")
     if options.beside and (options.arch is not None or options.machine not in (None, "amd64")):
         parser.error("give either --arch or --beside, which compares the syscalls of all architectures of this machine")
+    if options.regions and (options.conditions or options.beside or options.html):
+        parser.error("--regions goes without --conditions, --beside and --html")
     if options.conditions and options.examples:
         parser.error("give either --conditions or --examples")
     if options.force and not any(map(operands.is_process, options.filters)):
@@ -87,9 +106,16 @@ def main():
     options = read_words()
     machine = engines.MACHINE_NAMES[options.machine or engines.machine_here()]
     architecture = architectures.judged_in(options.arch or machine)
-    given = operands.read_stacks(options.filters, options, compiles=True)
-    beside = operands.read_stack(options.beside, options, compiles=True)
-    settings = stack_surfaces.Settings(tables.read_table(options.table, architecture), beside, architecture,
+    of_engine = types.SimpleNamespace(caps=options.caps, machine=options.caps and options.machine, force=options.force)
+    given = operands.read_stacks(options.filters, of_engine, compiles=True)
+    table = tables.read_table(options.table, architecture)
+    if options.regions:
+        from ..report import region_output  # pylint: disable=import-outside-toplevel
+
+        return put_blocks(given, lambda stack: region_output.of_stack(
+            stack, table, architecture, options.examples, options.json), options.json)
+    beside = operands.read_stack(options.beside, of_engine, compiles=True)
+    settings = stack_surfaces.Settings(table, beside, architecture,
                                        architecture.oci == machine and machine in other_abis.OF_MACHINES,
                                        options.conditions, options.examples)
     inspection = given if isinstance(given, Inspection) else None

@@ -17,16 +17,16 @@ LINE is what was logged when it happened, and `-` is standard input, with any nu
 --pid takes the records of a process from this machine's kernel log and auditd's; while it runs, and no file is given,
 also its filters. --core takes a core that SIGSYS left, which has the arguments; `-` is standard input.
 
-PROFILE is a profile as `scf ask` takes it, or a unit's (unit:NAME); with --caps its entries are numbered as in the
+PROFILE is a profile as `scf decide` takes it, or a unit's (unit:NAME); with --caps its entries are numbered as in the
 resolved one. --runtime reads it as that container runtime does (RUNTIMES.md), so that a container's config.json is no
 conflict. The FILTERs are those of the process, oldest first, as `scf filters-of` takes them, or pid:PID for those of
 one that runs. One profile and any number of filters may be given, in any order; each may be a pipe. For each syscall
 there are lines marked by `# `: the process, the syscall, the action, and what isn't known of them; scf's answer for the
-profile (`scf ask`) with the entry, and that for the filters (`scf decide`) with the last tests on the path; and whether
-either answers so. If not, another filter of the process gave the answer, since the strictest of all counts, or it isn't
-under this profile. At the end stand changes of the profile that allow the syscall: with the arguments that are known,
-but for addresses, and with all that the entry denies. scf has proved of each that no other answer to an x86-64 syscall
-changes. With --native the profile is judged for x86-64 alone, otherwise for each architecture that it names.
+profile (`scf decide`) with the entry, and that for the filters (`scf decide`) with the last tests on the path; and
+whether either answers so. If not, another filter of the process gave the answer, since the strictest of all counts, or
+it isn't under this profile. At the end stand changes of the profile that allow the syscall: with the arguments that are
+known, but for addresses, and with all that the entry denies. scf has proved of each that no other answer to an x86-64
+syscall changes. With --native the profile is judged for x86-64 alone, otherwise for each architecture that it names.
 
 Of what strace wrote each SIGSYS is judged, and each syscall that failed as PROFILE, or else the FILTERs, answer to it.
 The failed ones are counted by syscall and entry, and the most telling stand first: the last one of a process that ended

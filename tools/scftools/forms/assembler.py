@@ -32,6 +32,11 @@ def first_word(text: str) -> str:
     return next((word for line in text.split("\n") for _, word, _ in _statements(line) if word), "")
 
 
+def is_text(data: bytes) -> bool:
+    """Whether bytes begin as a text in scf's assembler does."""
+    return data.isascii() and first_word(data[:LONGEST_TEXT].decode("ascii")) in MNEMONICS
+
+
 def _unknown(word: str, kind: str, known: Sequence[str]) -> str:
     near = tables.most_like(word.lower(), known)
     return f"'{output.cut(word)}' is no {kind}" + (f"; the nearest is '{near}'" if near else "")

@@ -2,7 +2,6 @@
 profile of a unit (`unit:NAME`). These two are never files: `./pid:1` is one."""
 from __future__ import annotations
 
-import types
 from collections.abc import Sequence
 
 from ..base import inputs, program
@@ -11,19 +10,19 @@ from ..model import tables
 from ..ask import client
 from . import filters, profile_inputs, refusals, runtimes
 from .filters import Filter
-from .profile_inputs import PROCESS, UNIT, ProfileInput
+from .profile_inputs import ProfileInput
 from .stacks import Inspection
 
 
 def is_process(word: str) -> bool:
-    return word.startswith(PROCESS)
+    return word.startswith(inputs.PROCESS)
 
 
 def process_of(word: str, is_forced: bool = False, has_force: bool = False, is_json: bool = False) -> Inspection:
     """The stacks of the process that `pid:N` names, each with its threads. Ends the tool where they can't be read."""
     from scfhost import processes  # pylint: disable=import-outside-toplevel
 
-    kernel, number = processes.Kernel(), processes.number_in(word.removeprefix(PROCESS))
+    kernel, number = processes.Kernel(), processes.number_in(word.removeprefix(inputs.PROCESS))
     return processes.read_or_end(lambda: processes.look_at_process(
         kernel, processes.process_of(kernel, number), is_forced=is_forced), has_force, is_json)
 
@@ -35,10 +34,11 @@ def read(word: str, options: Any = None) -> Filter | ProfileInput | Inspection:
     if is_process(word):
         return process_of(word, getattr(options, "force", False), hasattr(options, "force"))
     data = profile_inputs.read_text(word)
-    if not word.startswith(UNIT) and not profile_inputs.looks_like_profile(data):
+    if not word.startswith(inputs.UNIT) and not profile_inputs.looks_like_profile(data):
         return filters.filter_in(word, data)
-    given = {"runtime": None, "caps": None, "machine": None, "strict": False, **(vars(options) if options else {})}
-    return runtimes.input_in(data, types.SimpleNamespace(**{**given, "profile": word}), given["strict"])
+    named = runtimes.with_profile(options, word)
+    runtimes.check_words(named)
+    return runtimes.input_in(data, named, named.strict)
 
 
 def read_stacks(words: Sequence[str], options: Any = None, compiles: bool = False) -> list[Filter] | Inspection:

@@ -28,8 +28,6 @@ INSPECTIONS = (
     ("docker inspect", (b'"HostConfig"',), "/run/containerd/io.containerd.runtime.v2.task/moby/ID/config.json, as long "
                                            "as the container runs"))
 ID = Pattern(rb'"Id":\s*"([0-9a-f]{64})"')
-# How words begin that aren't files: the number of a process, the name of a unit.
-PROCESS, UNIT = "pid:", "unit:"
 # A mark, blanks and comments before an object; and how what isn't an object begins that is meant as a profile.
 BEFORE_JSON = Pattern(rb"\A(?:\xef\xbb\xbf|\s|#[^\n]*\n|//[^\n]*\n|/\*.*?\*/)*", re.S)
 IN_OTHER_FORMS = Pattern(rb'\[\s*\{\s*"|(?:defaultAction|architectures|syscalls):\s')
@@ -183,11 +181,11 @@ def _resolved(data: bytes, name: str, caps: str, machine: str | None) -> Profile
 def read_text(name: str, kind: str | None = None) -> bytes:
     """The text of a profile: of a file, a pipe or standard input, or what a unit's settings describe. What is too long
     is refused if a kind of inputs is given, and else by scf."""
-    if name.startswith(UNIT):
+    if name.startswith(inputs.UNIT):
         from scfhost import unit_profiles  # pylint: disable=import-outside-toplevel
 
-        return unit_profiles.profile_of_unit(name.removeprefix(UNIT), program.say)
-    if name.startswith(PROCESS):
+        return unit_profiles.profile_of_unit(name.removeprefix(inputs.UNIT), program.say)
+    if name.startswith(inputs.PROCESS):
         raise program.ToolError(f"'{name}' is a process, not a profile: `scf profile-of {name}` prints the profile of "
                                 "its filters")
     return inputs.read_input(name, "profile") if kind is None else inputs.read_whole(name, kind)

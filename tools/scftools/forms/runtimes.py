@@ -407,7 +407,7 @@ def is_made(options: Any) -> bool:
 
 
 def check_words(options: Any) -> None:
-    """Refuses words on a profile that don't go together."""
+    """Refuses words about a profile that don't go together."""
     runtime = RUNTIMES.get(options.runtime)
     if options.machine is not None and options.caps is None and (runtime is None or runtime.engine is None):
         raise program.ToolError("--machine goes with an engine's profile: give --caps, or --runtime docker or podman, "
@@ -420,8 +420,7 @@ def check_words(options: Any) -> None:
 
 
 def text_of(options: Any) -> bytes:
-    """The text of the profile that a command line names; words that don't go together are refused. Of a text that is
-    too long scf says so, if it gets it."""
+    """The text of the profile that a command line names. Of a text that is too long scf says so, if it gets it."""
     check_words(options)
     return profile_inputs.read_text(options.profile, "profile" if is_made(options) else None)
 
@@ -442,3 +441,9 @@ def input_in(data: bytes, options: Any, is_strict: bool | None = False) -> Profi
 def profile_of_options(options: Any) -> ProfileInput:
     """The profile that a command line names."""
     return input_in(text_of(options), options, options.strict)
+
+
+def with_profile(options: Any, name: str) -> Any:
+    """The options of a command line that names this profile."""
+    return types.SimpleNamespace(**{"runtime": None, "caps": None, "machine": None, "strict": False,
+                                    **(vars(options) if options else {}), "profile": name})

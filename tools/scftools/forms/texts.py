@@ -37,7 +37,7 @@ NOT_FILTERS = (
     (rb"#\s*\n# pseudo filter code start", "libseccomp's pseudo code",
      ": seccomp_export_bpf writes the filter itself"),
     (rb"[> ] ?\s*0  (?:ld|ldx|ret|raw|jeq|ja) |\s*0  (?:ld|ldx|ret|raw|ja)\b", "a listing of `scf list`",
-     ": `scf dis` prints one that is taken"),
+     ": `scf list --plain` prints one that is taken"),
     (rb"\s*(?:---\s*\n)?(?:apiVersion|kind):", "YAML", OF_PROFILE),
 )
 # Characters that no text has.

@@ -1,6 +1,7 @@
 """Answers of filters or a profile to syscalls: the records of a command line, and what gives the answer."""
 from __future__ import annotations
 
+import os
 import re
 from collections.abc import Callable, Iterable, Iterator, Sequence
 
@@ -22,6 +23,7 @@ from ..forms import refusals
 from ..forms.filters import Filter
 from ..forms.refusals import faulty_filters
 from . import listing
+from .blocks import Block
 from .listing import Giver
 
 # No name of a syscall and no number is longer; and the most syscalls of a list, for each of which scf is run, and
@@ -67,13 +69,20 @@ def add_options(parser: Parser) -> None:
                              "from the first on; - is standard input")
     add_numbers(parser)
     parser.add("--table", "--json")
+    parser.set_defaults(call=[])
     parser.record_words = record_words
 
 
 def want_a_call(options: Any) -> None:
     """Rejects files without a syscall; of standard input alone number 0 is answered, as by the program."""
-    if output.has_notes and not options.nr and options.calls_from is None:
-        raise program.ToolError("no syscall is given: name one with --nr NUMBER|NAME, or several with --calls-from FILE")
+    if output.has_notes and not options.nr and not options.call and options.calls_from is None:
+        raise program.ToolError("no syscall is given: name it behind the input, with its arguments, or several with "
+                                "--nr NUMBER|NAME or --calls-from FILE")
+    if options.call and os.path.exists(options.call[0]):
+        raise program.ToolError(f"no syscall is given: {inputs.label(options.call[0])} is a file, and several filters "
+                                "go with --nr NUMBER|NAME")
+    if len(options.call) > 7:
+        raise program.ToolError("a syscall has at most six arguments; more filters than one go with --nr")
 
 
 @dataclass(frozen=True)
@@ -159,15 +168,17 @@ def queries(options: Any, table: Table) -> list[Query]:
     """The records that a command line gives, in order; without a syscall the program's default, of number 0."""
     numbering = Numbering(table, options.arch)
     fields = rest_of(options, numbering)
-    numbers = [number for text in options.nr for number in text.split(",")]
-    listed = [Query((("nr", numbering.number_of(number)), *fields)) for number in numbers]
+    calls = [[number] for text in options.nr for number in text.split(",")] + [options.call] * bool(options.call)
     if options.calls_from is not None:
-        for number, *arguments in _lines_of(options.calls_from):
-            own_fields = tuple(zip(OPTIONS[3:], map(numbering.argument, arguments)))
-            other_fields = tuple(pair for pair in fields if pair[0] not in dict(own_fields))
-            listed.append(Query((("nr", numbering.number_of(number)), *other_fields, *own_fields)))
-        return listed
-    return listed or [Query((("nr", numbering.number_of("0")), *fields))]
+        calls += _lines_of(options.calls_from)
+    elif not calls:
+        calls = [["0"]]
+    listed = []
+    for number, *arguments in calls:
+        own_fields = tuple(zip(OPTIONS[3:], map(numbering.argument, arguments)))
+        other_fields = tuple(pair for pair in fields if pair[0] not in dict(own_fields))
+        listed.append(Query((("nr", numbering.number_of(number)), *other_fields, *own_fields)))
+    return listed
 
 
 def record_words(options: Any) -> list[str] | None:
@@ -281,17 +292,11 @@ def profile_decisions(profile: bytes, query: Query, judged: Tables, origins: Seq
                  lambda: reasons.reason_json(reason, profile, call, origins))
 
 
-def print_replies(options: Any, table: Table, answer: Callable[[Query], Reply]) -> int:
-    """Prints the reply to each query of a command line; returns the worst status."""
-    statuses, objects = [], []
-    for query in queries(options, table):
-        reply = answer(query)
-        statuses.append(reply.status)
-        if options.json:
-            objects.append(reply.as_json(table))
-            continue
-        output.put_lines(reply.lines)
-        output.put_lines(output.notes(reply.notes(table)))
+def replies(options: Any, table: Table, answer: Callable[[Query], Reply]) -> Block:
+    """The replies to the queries of a command line; their status is the worst."""
+    made = [answer(query) for query in queries(options, table)]
     if options.json:
-        output.put_json({"status": client.worst(statuses), "calls": objects})
-    return client.worst(statuses)
+        members, lines = {"calls": [reply.as_json(table) for reply in made]}, []
+    else:
+        members, lines = {}, [line for reply in made for line in (*reply.lines, *output.notes(reply.notes(table)))]
+    return Block(client.worst(reply.status for reply in made), lines, members)

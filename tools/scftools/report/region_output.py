@@ -3,12 +3,20 @@ from __future__ import annotations
 
 from collections.abc import Iterator, Sequence
 
+from ..base import output, program
 from ..base.values import dataclass, field
 from ..model.architectures import Architecture
 from ..model.calls import ARGUMENTS
 from ..model.entries import AT_LEAST, AT_MOST, EQUAL, MASKED, NOT_EQUAL, Condition
 from ..model.tables import Table
+from ..ask import explanation, regions
+from ..ask.client import Refusal
+from ..ask.questions import Asker
 from ..ask.regions import FREE, GREATEST_WORD, POINTER, Numbers, Region, Word
+from ..ask.verdicts import UNFINISHED
+from ..forms import refusals
+from ..forms.filters import Filter
+from .blocks import OF_ALL, Block
 from .row_conditions import condition_text, name_of
 
 
@@ -121,3 +129,25 @@ def regions_json(entries: Sequence[Listed], table: Table, architecture: Architec
              "example": call.as_json(table) if (call := entry.region.call_of(
                  architecture.first + entry.first, architecture.number)) else None}
             for entry in entries]
+
+
+def of_stack(stack: Sequence[Filter], table: Table, architecture: Architecture, has_examples: bool,
+             is_json: bool) -> Block:
+    """The regions of a stack of filters, or why scf refuses it."""
+    data = [bpf_filter.data for bpf_filter in stack]
+    try:
+        region_list = regions.regions_of_filters(data)
+        Asker(data, architecture).check(table)
+    except Refusal as why:
+        fault = why.fault
+        sentences = [*explanation.explain_fault(fault), *refusals.stack_refusals(stack, fault)] if fault else []
+        return Block(why.status, [why.line, *output.notes(sentences)],
+                     {"fault": fault.as_json(sentences)} if fault else {}, fault is not None and fault.source in OF_ALL)
+    if region_list is None:
+        return Block(program.UNKNOWN, [UNFINISHED], {"verdict": UNFINISHED})
+    made = listed(region_list, table, architecture)
+    status = program.SUCCESS if all(entry.region.is_decided for entry in made) else program.UNKNOWN
+    if is_json:
+        return Block(status, [], {"architecture": architecture.name,
+                                  "regions": regions_json(made, table, architecture)})
+    return Block(status, [*region_lines(made, table, architecture, has_examples)], {})

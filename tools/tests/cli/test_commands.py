@@ -8,10 +8,10 @@ import re
 import shutil
 import subprocess
 import unittest
-import unittest.mock
+from unittest import mock
 
-from support.common import (CORE, PROGRAM, SCF, TABLE, TOOLS, TOP, Case, filter_of, for_developers, part, profile_of,
-                            ret, source_of)
+from support.common import (CORE, PROGRAM, SCF, TABLE, TOOLS, TOP, Case, filter_of, for_developers, jeq, load, part,
+                            profile_of, ret, source_of)
 from support.confined import OLDEST, Confined, here
 from scftools.cli import commands
 
@@ -105,6 +105,53 @@ class Dispatch(Case):
             self.assertEqual(self.scf(*words), (status, out, err.replace(f"{words[0]}: ", f"scf {words[0]}: ")), words)
         self.assertEqual(self.scf("check", "-", given=filter_of([0])), (0, "accepted 9\n", ""))
 
+    def test_other_names(self):
+        """Each is the same as the words that its row has, and takes the words that it took before."""
+        self.file("f.s", "ld [0]; jeq #41, no, yes; no: ret #0x50001; yes: ret #0x7fff0000")
+        self.file("engine.json", '{"defaultAction": "SCMP_ACT_ERRNO", "syscalls": [{"name": "read", "action": '
+                                 '"SCMP_ACT_ALLOW", "includes": {"caps": ["CAP_KILL"]}}]}')
+        for old, new in ((["run", "--nr", "read", "--path", "f.bpf"], ["decide", "--steps", "--path", "f.bpf", "read"]),
+                         (["run", "--calls-from", "-", "f.bpf"], ["decide", "--steps", "--calls-from", "-", "f.bpf"]),
+                         (["ask", "--nr", "read", "p.json"], ["decide", "p.json", "read"]),
+                         (["ask", "--json", "--nr", "socket", "--a0", "3", "p.json"],
+                          ["decide", "--json", "p.json", "socket", "3"]),
+                         (["answers", "--examples", "f.bpf"], ["surface", "--regions", "--examples", "f.bpf"]),
+                         (["answers", "--json", "f.bpf"], ["surface", "--json", "--regions", "f.bpf"]),
+                         (["dis", "f.s"], ["list", "--plain", "f.s"]), (["asm", "f.s"], ["compile", "f.s"]),
+                         (["resolve-profile", "--caps", "KILL", "engine.json"],
+                          ["profile-of", "--caps", "KILL", "engine.json"]),
+                         (["explain", "fault", "filter", "Empty"], ["help", "fault", "filter", "Empty"]),
+                         (["verify-process", "1", "none"], ["verify", "1", "none"])):
+            with self.subTest(old[0]):
+                first, second = (subprocess.run([SCF, *words], input=b"read\nwrite 1\n", stdout=subprocess.PIPE,
+                                                stderr=subprocess.PIPE, cwd=self.folder, check=False)
+                                 for words in (old, new))
+                self.assertEqual((first.returncode, first.stdout, first.stderr.replace(old[0].encode(), b"NAME")), (
+                    second.returncode, second.stdout, second.stderr.replace(new[0].encode(), b"NAME")))
+                self.assertEqual((first.returncode, first.stdout), (2, b"") if old[1] == "1" else (0, mock.ANY))
+                self.assertIn(f"The same as scf {commands.ALIASES[old[0]]}.",
+                              " ".join(self.scf(old[0], "--help")[1].split()))
+
+    def test_a_call_stands_behind_the_input(self):
+        """As a line of --calls-from has it."""
+        self.file("one.bpf", load(0) + jeq(41, 0, 3) + load(16) + jeq(2, 0, 1) + ret(0x50061) + ret(0x7FFF0000))
+        for words, printed in (("one.bpf socket AF_INET", "ERRNO 97\n"), ("one.bpf socket 2 1", "ERRNO 97\n"),
+                               ("one.bpf 41 AF_UNIX", "ALLOW 0\n"), ("--arch i386 one.bpf read", "ALLOW 0\n"),
+                               ("p.json read", "ALLOW 0 entry 0\n"), ("p.json write -1", "ERRNO 1 default\n"),
+                               ("--steps one.bpf write", "ALLOW 0 steps 3\n")):
+            with self.subTest(words):
+                status, out, err = self.scf("decide", *words.split())
+                self.assertEqual((status, out[:len(printed)], err), (0, printed, ""))
+        for words, says in (("f.bpf f.bpf", "is a file, and several filters go with --nr"),
+                            ("f.bpf read 1 2 3 4 5 6 7", "at most six arguments"),
+                            ("--native f.bpf read", "--native speaks of a profile"),
+                            ("--path f.bpf read", "--path goes with --steps"),
+                            ("--steps --nr 1 f.bpf f.bpf", "the instructions of one filter")):
+            with self.subTest(words):
+                status, out, err = self.scf("decide", *words.split())
+                self.assertEqual((status, out), (2, ""))
+                self.assertIn(says, err)
+
     def test_help_and_usage_errors_are_the_same_everywhere(self):
         """Whatever standard input is, and where the program was never built."""
         tree = self.made_tree("#!/bin/sh\nexit 99\n")
@@ -124,8 +171,8 @@ class Dispatch(Case):
         ours, theirs = pty.openpty()
         self.addCleanup(os.close, ours)
         self.addCleanup(os.close, theirs)
-        for command, names in (("compare", "ACTUAL, WANTED"), ("check", "FILTER"), ("run", "FILTER"), ("dis", "FILE"),
-                               ("decide", "FILTER"), ("ask", "PROFILE"), ("compile", "PROFILE")):
+        for command, names in (("compare", "ACTUAL, WANTED"), ("check", "FILTER"), ("run", "X"), ("dis", "FILTER"),
+                               ("decide", "X"), ("ask", "X"), ("compile", "PROFILE")):
             status, out, err = self.scf(command, given=theirs)
             self.assertEqual((status, out), (2, ""), command)
             self.assertTrue(err.endswith(f"scf {command}: the following arguments are required: {names}\n"), err)
@@ -277,18 +324,13 @@ class Examples(Confined):
                 self.assertNotRegex(out, r"(?m)^fault ")
 
     def test_those_of_files(self):
-        for name in sorted({*TOOLS} - {"audit", "verify", "filters-of", "verify-process", "unit-profile"}):
+        for name in sorted({*TOOLS} - {"audit", "verify", "filters-of", *commands.ALIASES}):
             self.run_examples(name)
 
     @here
     def test_those_of_a_process(self):
-        for name in ("audit", "filters-of", "verify-process"):
+        for name in ("audit", "filters-of", "verify"):
             self.run_examples(name, PID=str(self.child([OLDEST]).pid))
-
-    def test_those_of_systemd(self):
-        if not shutil.which("systemd-analyze"):
-            self.skipTest("there is no systemd-analyze here")
-        self.run_examples("unit-profile")
 
 
 @unittest.skipUnless(shutil.which("git"), "there is no git here")
@@ -362,7 +404,7 @@ class Completion(Case):
             self.assertEqual(self.completed(f"/usr/bin/scf-{words[0]}", *words[1:]), self.completed("scf", *words))
         units = self.file("systemctl", "#!/bin/sh\nprintf 'a.service enabled x\nb@.service static -\nc.socket - -\n'\n")
         os.chmod(units, 0o755)
-        with unittest.mock.patch.dict(os.environ, PATH=f"{self.folder}:{os.environ['PATH']}"):
+        with mock.patch.dict(os.environ, PATH=f"{self.folder}:{os.environ['PATH']}"):
             self.assertEqual(self.completed("scf", "unit-profile", ""), {"a.service", "b@.service", "c.socket"})
             self.assertEqual(self.completed("scf", "unit-profile", "--json", "b"), {"b@.service"})
 

@@ -131,7 +131,7 @@ class Run(Case):
                       ("decide", "--a0=1", self.filter), ("run", "-")):
             status, out, err = self.run_tool(*words, given=filter_of([0]))
             self.assertEqual((status, out), (2, ""), words)
-            self.assertIn("no syscall is given: name one with --nr", err)
+            self.assertIn("no syscall is given: ", err)
         for name in ("run", "decide"):
             self.assertEqual(self.run_tool(name, given=filter_of([0]))[:2],
                              (0, f"ALLOW 0{' steps 6' if name == 'run' else ''}\n"))

@@ -1,4 +1,5 @@
 """What a word of a command line names: a file, the filters of a process, or a unit's profile."""
+import json
 import os
 from unittest import mock
 
@@ -58,6 +59,37 @@ class Processes(Confined):
         self.file(f"pid:{child.pid}", OLDEST)
         self.assertEqual(self.run_tool("surface", f"./pid:{child.pid}"),
                          self.run_tool("surface", self.file("f", OLDEST)))
+
+    @here
+    def test_each_stack_has_a_block(self):
+        """The worst first: a thread without a filter is unconfined, status 1."""
+        child = self.child([OLDEST, NEWEST], [])
+        word = f"pid:{child.pid}"
+        for words, begins in ((["check", word], "0.bpf: accepted 1\n1.bpf: accepted 4\n"),
+                              (["list", word], "# 0.bpf\n0  ret #0x7fff0000  // ALLOW\n# 1.bpf\n0  ld [0] "),
+                              (["list", "--plain", word], "# 0.bpf\nret #0x7fff0000\n# 1.bpf\nld [0]\n"),
+                              (["decide", word, hex(0x0FFFFFFF)], "ERRNO 1\n"),
+                              (["decide", "--expect", self.file("rows", "read = ALLOW\n"), word],
+                               "# rows: 1; answered otherwise than expected: 0\n"),
+                              (["surface", "--regions", word], "ERRNO 1 (EPERM) at 1:2: "),
+                              (["profile-of", "--arch", "x86_64", word], "")):
+            with self.subTest(words):
+                status, out, _ = self.run_tool(*words)
+                unconfined, confined = out.split("\n\n", 1)
+                self.assertEqual((status, unconfined.split("\n")[0]), (1, "unconfined"))
+                self.assertTrue(unconfined.endswith("it isn't confined, and every syscall is allowed"), unconfined)
+                self.assertEqual(confined[:len(begins)], begins)
+                self.assertIn("has 2 filters, of 1, 4 instructions", confined)
+                if words[0] != "list" or words[1] != "--plain":
+                    stacks = json.loads(self.run_tool(words[0], "--json", *words[1:])[1])["stacks"]
+                    self.assertEqual([stack["confined"] for stack in stacks], ["not", "by filters"])
+
+    @here
+    def test_the_profile_of_a_process_is_printed_alone(self):
+        child = self.child([OLDEST])
+        status, out, err = self.run_tool("profile-of", f"pid:{child.pid}")
+        self.assertEqual((status, json.loads(out)["defaultAction"]), (0, "SCMP_ACT_ALLOW"))
+        self.assertIn("has 1 filter, of 1 instructions", err)
 
     @here
     def test_the_only_stack_of_a_process(self):

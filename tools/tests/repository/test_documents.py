@@ -585,12 +585,13 @@ class ManualOfTools(Case):
             self.file(f"{name}.bpf", filter_of([0]))
         self.file("filter.s", "ld [0]\njeq #41, no, yes\nno: ret #0x50001\nyes: ret #0x7fff0000 // read\n")
         env = {**os.environ, "PATH": f"{self.folder}:{os.environ['PATH']}"}
-        for name in ("asm", "dis"):
-            examples = self.page(name).partition(".SH EXAMPLES\n.nf\n")[2].partition("\n.fi")[0].split("\n")
-            self.assertEqual(len(examples), 3, name)
-            for line in examples:
+        of_pages = [line for name in ("compile", "list") for line in self.page(name).partition(".SH EXAMPLES\n.nf\n")[2]
+                    .partition("\n.fi")[0].split("\n") if "filter.s" in line or "--plain" in line]
+        self.assertEqual(len(of_pages), 2)
+        for line in (*of_pages, "scf asm filter.s >filter.bpf", "scf dis old.bpf | scf asm >again.bpf"):
+            with self.subTest(line):
                 status, _, err = self.run_words(["sh", "-c", line], env=env)
-                self.assertEqual((status, err), (0, ""), line)
+                self.assertEqual((status, err), (0, ""))
         with open(os.path.join(self.folder, "again.bpf"), "rb") as file:
             self.assertEqual(file.read(), filter_of([0]))
 

@@ -22,11 +22,11 @@ LATE = {"ast", "ctypes", "difflib", "glob", "hashlib", "importlib", "json", "pic
         "subprocess", "syslog", "tempfile", "threading",
         "scfhost.audit_page", "scfhost.processes", "scfhost.ptrace", "scfhost.unit_profiles", "scftools.forms.lists.sandboxes",
         "scftools.forms.filter_loads", "scftools.lint.sarif", "scftools.logs.cores", "scftools.report.pages",
-        "scftools.report.row_conditions"}
+        "scftools.report.region_output", "scftools.report.row_conditions"}
 
 # The packages of scftools in their order, and what looks at a process or a unit.
 ROOMS = "base model ask cli forms report lint logs commands".split()
-ASKING_HOST = ("scftools.commands.surface", "scftools.commands.why", "scftools.forms.operands",
+ASKING_HOST = ("scftools.commands.profile_of", "scftools.commands.surface", "scftools.commands.why", "scftools.forms.operands",
                "scftools.forms.profile_inputs")
 
 
