@@ -1,12 +1,13 @@
-"""Says whether a running process's filters answer syscalls as a profile does.
+"""Says whether the filters of a running process or container answer syscalls as a profile does.
 
     scf verify [--native|--calls] [--no-more|--no-less] [--container] [--force]
                [--runtime runc|crun|docker|podman] [--engine docker|docker-20.10|podman]
                [--caps LIST] [--kernel X.Y] [--arch-map native|all] [--ignore MEMBER ..]
                [--limit N] [--splits N] [--strict] [--table FILE] [--verbose] [--json]
                [--also PROFILE ..] PID PROFILE
+    scf verify .. [--user UID] CONTAINER [PROFILE]
     scf verify [--native|--calls] [--no-more|--no-less] [--container] [--force] [--limit N]
-               [--splits N] [--table FILE] [--json] PID --beside FOLDER
+               [--splits N] [--table FILE] [--json] PID|CONTAINER --beside FOLDER
 
 The filters are read from the kernel as by `scf filters-of`, for all threads of the process, and compared with the
 profile as by `scf compare`, which shows why a syscall differs. Filters belong to threads. Each distinct stack has a
@@ -19,6 +20,12 @@ container's group is that of PID or one above: the one that a runtime mounts or 
 makes init.scope and system.slice. If other processes of the PID namespace are in groups that can't be known to be a
 container's, status 0 becomes 4. In a cgroup namespace other than the initial one only a group below the namespace's
 root can be known.
+
+CONTAINER is the name of one of root's containers, or the beginning of its ID, as `scf audit` finds them; with --user
+that of a user's. All of its processes are read, as with --all. Without a PROFILE they are compared with what the
+container's own configuration says, as its runtime reads it, and the first line names the container, its ID, its engine
+and its config.json. If that has no profile, the container is `unconfined by configuration`.
+
 --no-more and --no-less ask what they ask of `scf compare`: `more` and `less` count as `differs`.
 
 With --runtime PROFILE is read as the container's runtime reads it, which skips an entry whose answer is the default's
@@ -38,7 +45,7 @@ upgrade or from another one, over each possible record unless --native.
 With a profile the syscalls of each architecture that it names are compared, as far as scf has a table of it; with
 --native x86-64's alone, and with --calls each that a table names by itself. As by `scf compare`, all syscalls of
 another ABI of the machine that the profile doesn't name must be denied, unless --native or --no-less is given; --also
-gives the other profile of a unit that has two (`scf unit-profile --arch i386`).
+gives the other profile of a unit that has two (`scf profile-of --arch i386 unit:UNIT`); a PROFILE unit:UNIT has both.
 
 The exit status is the worst of all stacks, 1 before 2 before 4 before 0: 0 same, no more or no less, 1 differs, more,
 less or not confined, 4 undecided or unfinished.
@@ -58,7 +65,7 @@ from scftools.model import profiles, tables
 from scftools.ask import verdicts
 from scftools.cli import words
 from scftools.forms import engines, profile_inputs, runtimes
-from .. import configurations, containers, processes, verify
+from .. import configurations, container_files, containers, processes, verify
 
 
 def read_words():
@@ -69,13 +76,22 @@ def read_words():
     parser.add("--force")
     parser.relation()
     runtimes.add_options(parser, without_caps="the bounding set of PID")
-    parser.add("--also", "--limit", "--splits", "--strict", "--table", "--verbose", "--json", "pid")
+    parser.add("--also", "--limit", "--splits", "--strict", "--table", "--verbose", "--json")
+    parser.add_argument("--user", metavar="UID", type=int, help="CONTAINER is one of this user's")
+    parser.add("pid", metavar="PID|CONTAINER", help="a process, or a thread of it; or the name of a container or the "
+                                                    "beginning of its ID")
     parser.add_argument("--beside", metavar="FOLDER", help="compare with the filters that filters-of wrote")
     if not any(word.partition("=")[0] == "--beside" for word in sys.argv):
-        parser.add_argument("profile", metavar="PROFILE",
+        parser.add_argument("profile", metavar="PROFILE", nargs="?",
                             help="a resolved profile, or a config.json; with --runtime also an engine's; - is standard "
-                                 "input")
+                                 "input [default: the container's own configuration]")
     options = parser.parse_args()
+    options.pid = options.pid.removeprefix(inputs.PROCESS)
+    options.name = None if not options.pid.strip("0123456789") else options.pid
+    if options.name is None and options.beside is None and options.profile is None:
+        parser.error("the following arguments are required: PROFILE")
+    if options.name is None and options.user is not None:
+        parser.error("--user goes with the name of a container")
     if options.beside is not None:
         options.profile = None
         if options.runtime is not None or options.verbose or options.strict or options.also:
@@ -85,9 +101,45 @@ def read_words():
     if options.runtime is None and runtimes.is_engines(options):
         parser.error("--engine, --caps, --kernel, --arch-map and --ignore need --runtime")
     options.setting = runtimes.setting_of_words(options, parser)
-    options.pid = processes.number_in(options.pid, parser)
+    options.pid = processes.number_in(options.pid, parser) if options.name is None else None
     parser.one_standard_input([options.profile, *options.also, options.table])
     return options
+
+
+def containers_of(kernel, user):
+    """The containers of root, or of a user, that run, with their configurations, as audit finds them."""
+    names = container_files.Names()
+    return [container_files.with_engine(container_files.with_config(found), names)
+            for found in container_files.descriptions_of(kernel).containers if found.user == user]
+
+
+def container_named(owned, name, user):
+    """The one of some containers by a name, or by the beginning of its ID."""
+    fitting = [found for found in owned if name in (found.name, found.identifier)] or \
+        [found for found in owned if found.identifier.startswith(name)]
+    if len(fitting) == 1:
+        return fitting[0]
+    whose = "root" if user is None else f"user {user}"
+    listed = ", ".join(f"{found.identifier[:12]} ({found.name})" if found.name else found.identifier[:12]
+                       for found in fitting or owned)
+    count = "several containers" if fitting else "no container"
+    raise program.ToolError(f"{count} of {whose} {'have' if fitting else 'has'} the name '{name}' or an ID that begins "
+                            f"so; {'these' if fitting else 'those that run'}: {listed or 'none'}")
+
+
+def configured_request(container, settings):
+    """The question whether a container is confined as its own configuration says."""
+    if container.why is not None:
+        raise program.ToolError(f"the configuration of container {container.identifier}: {container.why}; give a "
+                                "PROFILE", program.IO_ERROR)
+    table, scope, relation = settings
+    try:
+        config = configurations.seccomp_in(container.configuration, container.config)
+        if config is None:
+            return verify.nothing_request(*settings, configured=False)
+        return replace(verify.request_of(config, container.runtime, False, table, relation, scope), configured=True)
+    except configurations.ContainerError as why:
+        raise program.ToolError(str(why), program.NEGATIVE) from why
 
 
 def setting_of(options, kernel):
@@ -118,6 +170,8 @@ def is_configured(data, name, kernel, pid):
 
 def read_profile(name, is_engines):
     """The bytes of a profile's or a configuration's file."""
+    if name.startswith(inputs.UNIT):
+        return profile_inputs.read_text(name)
     if not name:
         raise program.ToolError("the name of PROFILE is empty: the command that should print it printed nothing")
     if os.path.exists(os.path.join(name, configurations.CONFIG)):
@@ -138,11 +192,13 @@ def profiles_in(data, name, options, kernel):
     return profile_inputs.profile_in(data, name, is_runtimes=True, is_strict=options.strict).parts
 
 
-def request_of(options, kernel):
+def request_of(options, kernel, named):
     """How each stack is compared, and with what."""
     settings = tables.read_table(options.table), options.scope, options.relation
     if options.beside is not None:
         return verify.SavedRequest(verify.read_saved(options.beside), *settings)
+    if options.profile is None:
+        return configured_request(named, settings)
     data = read_profile(options.profile, options.runtime is not None)
     configured = is_configured(data, options.profile, kernel, options.pid)
     if configured is False:
@@ -159,16 +215,21 @@ def request_of(options, kernel):
 
 def other_runtime(options, kernel, request, worst):
     """The line, where filters aren't as configured, that another runtime than was said reads the configuration."""
-    if request.configured and worst.report is not None and \
-            worst.status in (program.NEGATIVE, program.TROUBLE):
-        identifiers = [*configurations.identifiers_of(kernel, options.pid), *configurations.identifiers_in(options.profile)]
+    is_other = request.configured and worst.report is not None and \
+        worst.status in (program.NEGATIVE, program.TROUBLE)
+    if is_other and options.profile is not None:
+        identifiers = [*configurations.identifiers_of(kernel, options.pid),
+                       *configurations.identifiers_in(options.profile)]
         yield from filter(None, [configurations.other_runtime(identifiers, options.runtime)])
 
 
 def main():
     options = read_words()
-    kernel = processes.Kernel()
-    request = request_of(options, kernel)
+    kernel, named = processes.Kernel(), None
+    if options.name is not None:
+        named = container_named(containers_of(kernel, options.user), options.name, options.user)
+        options.pid, options.all = named.first, True
+    request = request_of(options, kernel, named)
 
     def read():
         process = processes.process_of(kernel, options.pid)
@@ -189,8 +250,13 @@ def main():
                  "not_checked": others}
         if options.runtime is not None or remarks:
             value["remarks"] = remarks
+        if named is not None:
+            value["named"] = {"name": named.name, "id": named.identifier, "engine": named.engine,
+                              "config": named.config}
         output.put_json({**value, "verdict": None} if is_unknown else value)
         return status
+    if named is not None:
+        output.put_line(f"container {named.name or options.name} ({named.identifier}), {named.engine}, {named.config}")
     output.put_lines(verify.verification_lines(blocks, inspection, request, options.verbose))
     output.put_lines(output.notes(remarks))
     if others is not None:
