@@ -22,7 +22,7 @@ container's, status 0 becomes 4. In a cgroup namespace other than the initial on
 root can be known.
 
 CONTAINER is the name of one of root's containers, or the beginning of its ID, as `scf audit` finds them; with --user
-that of a user's. All of its processes are read, as with --all. Without a PROFILE they are compared with what the
+that of a user's. All of its processes are read, as with --container. Without a PROFILE they are compared with what the
 container's own configuration says, as its runtime reads it, and the first line names the container, its ID, its engine
 and its config.json. If that has no profile, the container is `unconfined by configuration`.
 
@@ -31,7 +31,7 @@ and its config.json. If that has no profile, the container is `unconfined by con
 With --runtime PROFILE is read as the container's runtime reads it, which skips an entry whose answer is the default's
 and takes the first of two. runc answers the numbers of an architecture above all that the profile names with ENOSYS, so
 these count as `same`, too. With `docker` and `podman` PROFILE may be the engine's own, which is resolved as by
-`scf resolve-profile`, for --kernel and --caps, or without --caps for the bounding set of PID; a whole config.json is
+`scf profile-of`, for --kernel and --caps, or without --caps for the bounding set of PID; a whole config.json is
 resolved already.
 
 PROFILE may be a container's config.json. If that has no profile, nothing is configured: as `scf audit` says it, a
@@ -228,7 +228,7 @@ def main():
     kernel, named = processes.Kernel(), None
     if options.name is not None:
         named = container_named(containers_of(kernel, options.user), options.name, options.user)
-        options.pid, options.all = named.first, True
+        options.pid, options.container = named.first, True
     request = request_of(options, kernel, named)
 
     def read():
