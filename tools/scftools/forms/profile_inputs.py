@@ -106,8 +106,8 @@ def _refuse_others(data: bytes, label: str) -> None:
     if data.startswith(b"\x7fELF"):
         raise program.ToolError(f"{label} is an ELF file (a program, library or object), not a profile")
     if bpf.are_codes(data):
-        raise program.ToolError(f"{label} is a raw filter, not a profile: `scf diff` compares two filters, and "
-                                "`scf profile-of` prints the profile of one")
+        raise program.ToolError(f"{label} is a raw filter, not a profile: `scf surface` says what it allows, and "
+                                "`scf profile-of` prints its profile")
     for command, members, instead in INSPECTIONS if data.lstrip().startswith((b"[", b"{")) else ():
         if all(member in data for member in members):
             match = ID.search(data)

@@ -23,7 +23,7 @@ HEXADECIMAL_TEXT, ARRAY, DECIMALS, ASSEMBLER, STRACE_LOG = (
     "hexadecimal text", "a C array", "decimals of tcpdump -ddd", "scf's assembler text", "a strace log")
 LOADING = Pattern(r"(?m)^[\[\]pid 0-9]{0,30}(?:seccomp\(SECCOMP_SET_MODE_FILTER|prctl\(PR_SET_SECCOMP), ")
 # What isn't a filter: how it begins, what it is, and what to do.
-OF_PROFILE = ": `scf compare FILTER PROFILE` compares a profile with a filter, `scf compile` makes its filter"
+OF_PROFILE = ": `scf surface` and `scf decide` take profiles, too, and `scf compile` makes the filter of one"
 NOT_FILTERS = (
     (rb"\x7fELF", "an ELF file (a program, library or object)", ""),
     (rb"\x1f\x8b", "compressed by gzip", ": unpack it first"),

@@ -289,6 +289,22 @@ class Help(Case):
                 2, "", f"scf help: '{word}' isn't a command, nor a line or status of scf; the nearest command is "
                 f"'{near}': see scf help\n"))
         self.assertEqual(self.scf("\x1b[2J"), (2, "", "scf: that word isn't a command: see scf help\n"))
+
+    def test_an_input_in_place_of_a_command_names_one(self):
+        self.file("f.bpf", filter_of([0]))
+        self.file("p.json", profile_of("read"))
+        for words, says in (("f.bpf", "scf surface FILE"), ("./p.json", "scf surface FILE"),
+                            ("pid:1", "scf surface pid:.."), ("unit:web.service", "scf surface unit:.."),
+                            ("lint f.bpf", "`scf profile-of` prints its profile"),
+                            ("list p.json", "`scf compile` makes the filter of one"),
+                            ("compile pid:1", "`scf profile-of pid:1` prints"), ("check unit:a", "./unit:a is one"),
+                            ("why p.json", "hand it over as standard input"), ("profile-of p.json pid:1", "stands alone")):
+            with self.subTest(words):
+                status, out, err = self.run_words([SCF, *words.split()], cwd=self.folder)
+                self.assertEqual((status, out), (2, ""))
+                self.assertIn(says, err.splitlines()[-1])
+        self.assertEqual(self.scf("--help", "list"), self.scf("help", "list"))
+        self.assertEqual(self.scf("-V"), self.scf("--version"))
         for word in ("qqq", "scftools", "tests", "../scf", "plain_profile"):
             self.assertEqual(self.scf(word)[:2], (2, ""))
 

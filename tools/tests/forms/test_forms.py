@@ -269,8 +269,8 @@ class Tools(Case):
         bundle = part("filter", FILTER)
         elf = b"\x7fELF\2\1\1\0" + bytes(56)
         for data, says in ((elf, "is an ELF file (a program, library or object), not a filter"),
-                           (profile_of("read"), "is JSON, not a filter: `scf compare FILTER PROFILE` compares a profile "
-                                                "with a filter, `scf compile` makes its filter"),
+                           (profile_of("read"), "is JSON, not a filter: `scf surface` and `scf decide` take profiles, "
+                                                "too, and `scf compile` makes the filter of one"),
                            (b"[]", "is JSON"), (b"[{\"Id\": 1}]", "is JSON"),
                            (b"\x1f\x8b\x08\0\0\0\0\0", "compressed by gzip"),
                            (bundle, "is a bundle"), (b"apiVersion: v1\nkind: Pod\n", "is YAML"),
@@ -287,7 +287,8 @@ class Tools(Case):
                            (b"0  ld [4]  // the architecture\n", "is a listing of `scf list`"),
                            (b">  0  ld [4]  // the architecture\n", "is a listing of `scf list`")):
             path = self.file("x", data)
-            for words in (("check", path), ("compare", path, path, self.profile), ("decide", path), ("list", path)):
+            for words in (("check", path), ("compare", path, path, self.profile), ("list", path),
+                          ("decide", "--nr", "0", path, path)):
                 status, out, err = self.run_tool(*words)
                 self.assertEqual((status, out, err.count("\n")), (2, "", 1), words)
                 self.assertIn(f"{words[0]}: '{path}' ", err)

@@ -88,7 +88,7 @@ class Others(Case):
         podman = self.file("podman.json", b'[{"Id": "%s", "HostConfig": {}, "OCIConfigPath": "/x"}]' % (b"0a" * 32))
         cri = self.file("cri.json", b'{"info": {"runtimeSpec": {"linux": {"seccomp": {"defaultAction": "X"}}}}}')
         task = "/run/containerd/io.containerd.runtime.v2.task/moby"
-        for path, says in ((raw, "is a raw filter, not a profile: `scf diff` compares two filters"),
+        for path, says in ((raw, "is a raw filter, not a profile: `scf surface` says what it allows"),
                            (elf, "ELF file"),
                            (docker, f"is what `docker inspect` prints: take {task}/{'0a' * 32}/config.json"),
                            (podman, "is what `podman inspect` prints: take the file that `podman inspect -f "
