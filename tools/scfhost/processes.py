@@ -12,8 +12,7 @@ from collections.abc import Callable
 
 from scftools.base import child, output, program
 from scftools.base.child import Interrupted
-from scftools.base.values import Any, NoReturn
-from scftools.cli.words import Parser
+from scftools.base.values import Any
 from scftools.forms.stacks import Inspection, Stack, called
 from .containers import Container, container_of
 from .hold import Ended, Hold, Unreadable, Waiting, stack_of, why_no_filters
@@ -117,21 +116,16 @@ def look_at_container(kernel: Kernel, container: Container, patience: float = PA
     return inspection
 
 
-def usage_error(message: str) -> NoReturn:
-    raise program.ToolError(message)
-
-
-def number_in(text: str, parser: Parser | None = None) -> int:
-    """The number of a process or a thread among the words of a tool, whose parser shows its usage if it is given."""
-    error = usage_error if parser is None else parser.error
+def number_in(text: str) -> int:
+    """The number of a process or a thread among the words of a tool."""
     if not text:
-        error("'' isn't a process ID: the command that should print one printed nothing")
+        raise program.ToolError("'' isn't a process ID: the command that should print one printed nothing")
     if text == "0":
-        error("'0' isn't a process ID: it is what `podman inspect` prints of a container that doesn't run, and "
-              "systemctl of a unit")
+        raise program.ToolError("'0' isn't a process ID: it is what `podman inspect` prints of a container that "
+                                "doesn't run, and systemctl of a unit")
     if not (text.isascii() and text.isdigit()) or len(text) > 10 or not 0 < int(text) < 2**31:
-        error(f"'{text}' isn't a process ID: for a container `podman inspect -f '{{{{.State.Pid}}}}' NAME` "
-              "prints it, as docker does, for a unit `systemctl show -p MainPID --value NAME`")
+        raise program.ToolError(f"'{text}' isn't a process ID: for a container `podman inspect -f '{{{{.State.Pid}}}}' "
+                                "NAME` prints it, as docker does, for a unit `systemctl show -p MainPID --value NAME`")
     return int(text)
 
 

@@ -7,7 +7,7 @@ from __future__ import annotations
 import json
 from collections.abc import Callable, Iterator, Sequence
 
-from scftools.base import inputs, program
+from scftools.base import program
 from scftools.base.values import Any
 from scftools.model import architectures, libseccomp, multiplexed
 from scftools.model.answers import Answer
@@ -73,31 +73,26 @@ def profile_of(settings: UnitSettings, group: Sequence[str]) -> str:
     return json.dumps(top, indent=4) + "\n"
 
 
-def settings_of_unit(name: str, say: Callable[[str], None]) -> UnitSettings:
-    """The settings of a unit, as systemctl shows them."""
-    if not name or set(name) & set("*?[\0"):
-        raise program.ToolError(f"'{name}' isn't the name of a unit")
+def _settings_of(name: str | None, options: Any, say: Callable[[str], None]) -> UnitSettings:
+    """The settings of a unit, as systemctl shows them, or without a name those that a command line says."""
     reader = units.ListReader(units.all_groups, say)
-    settings = units.settings_in(units.shown_by_systemctl([name])[0], name, reader)
+    if name is not None:
+        if not name or set(name) & set("*?[\0"):
+            raise program.ToolError(f"'{name}' isn't the name of a unit")
+        settings = units.settings_in(units.shown_by_systemctl([name])[0], name, reader)
+    else:
+        try:
+            reader.is_call = libseccomp.Library().knows
+        except program.ToolError as why:
+            say(f"names that libseccomp doesn't know can't be left out, as systemd may do: {why}")
+        settings = UnitSettings(reader.assigned(options.set), units.refusal_of(options.errno or ""),
+                                units.architectures_of(options.unit_architectures or ""),
+                                reader.assigned(options.log or (), None))
     reader.tell_unknown()
     return settings
 
 
-def settings_of_lists(options: Any, say: Callable[[str], None]) -> UnitSettings:
-    """The settings that the words of a command line say."""
-    reader = units.ListReader(units.all_groups, say)
-    try:
-        reader.is_call = libseccomp.Library().knows
-    except program.ToolError as why:
-        say(f"names that libseccomp doesn't know can't be left out, as systemd may do: {why}")
-    settings = UnitSettings(reader.assigned(options.set), units.refusal_of(options.errno or ""),
-                            units.architectures_of(options.unit_architectures or ""),
-                            reader.assigned(options.log or (), None))
-    reader.tell_unknown()
-    return settings
-
-
-def group_of(settings: UnitSettings, wanted: Architecture, say: Callable[[str], None]) -> Sequence[str]:
+def _group_of(settings: UnitSettings, wanted: Architecture, say: Callable[[str], None]) -> list[str]:
     """The architectures for which a profile is printed, among them this one; says which others there are."""
     group = next((group for group in groups_of(settings) if wanted.oci in group), None)
     if group is None:
@@ -110,28 +105,19 @@ def group_of(settings: UnitSettings, wanted: Architecture, say: Callable[[str], 
     return group
 
 
-def described(options: Any, say: Callable[[str], None]) -> str:
-    """The text of the profile that the words of a command line describe."""
-    wanted = architectures.judged_in(options.arch or architectures.NATIVE)
+def profile_of_unit(name: str | None, say: Callable[[str], None], options: Any = None) -> DerivedProfile:
+    """The profile of a unit, or of the settings that a command line says, for the architecture that it says. By default
+    it is this one's, and `others` are those for architectures on which something else is denied."""
     try:
-        settings = settings_of_lists(options, say) if options.set is not None else \
-            settings_of_unit(options.inputs[0].removeprefix(inputs.UNIT), say)
-        text = profile_of(settings, group_of(settings, wanted, say))
-    except units.SettingError as why:
-        raise program.ToolError(str(why), program.NEGATIVE) from why
-    if settings.filter is None:
-        say("there is no SystemCallFilter: every syscall is allowed"
-            + (" that no other setting denies" if settings.restrictions else ""))
-    if settings.doubt is not None:
-        say(settings.doubt)
-    return text
-
-
-def profile_of_unit(name: str, say: Callable[[str], None]) -> DerivedProfile:
-    """The profile of a unit; its `others` are those for architectures on which the unit denies something else."""
-    try:
-        settings = settings_of_unit(name, say)
-        first, *others = (profile_of(settings, group).encode() for group in groups_of(settings))
+        settings = _settings_of(name, options, say)
+        groups = groups_of(settings)
+        if options is not None:
+            wanted = architectures.judged_in(options.arch or architectures.NATIVE)
+            groups = [_group_of(settings, wanted, say)]
+            if settings.filter is None:
+                say("there is no SystemCallFilter: every syscall is allowed"
+                    + (" that no other setting denies" if settings.restrictions else ""))
+        first, *others = (profile_of(settings, group).encode() for group in groups)
     except units.SettingError as why:
         raise program.ToolError(str(why), program.NEGATIVE) from why
     if settings.doubt is not None:

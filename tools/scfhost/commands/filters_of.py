@@ -60,8 +60,8 @@ def read_words():
     if len(places) != 1 + is_running or options.traced and options.log is not None:
         parser.error("give PID FOLDER, [FOLDER] -- PROGRAM, or --log LOG FOLDER")
     options.folder = places[-1]
-    options.pid = processes.number_in(places[0], parser) if is_running else None
-    options.thread = None if options.thread is None else processes.number_in(options.thread, parser)
+    options.pid = processes.number_in(places[0]) if is_running else None
+    options.thread = None if options.thread is None else processes.number_in(options.thread)
     if os.path.exists(options.folder) and not os.path.isdir(options.folder):
         parser.error(f"'{options.folder}' isn't a folder")
     if filters.saved_in(options.folder):

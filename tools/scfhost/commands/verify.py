@@ -101,7 +101,7 @@ def read_words():
     if options.runtime is None and runtimes.is_engines(options):
         parser.error("--engine, --caps, --kernel, --arch-map and --ignore need --runtime")
     options.setting = runtimes.setting_of_words(options, parser)
-    options.pid = processes.number_in(options.pid, parser) if options.name is None else None
+    options.pid = processes.number_in(options.pid) if options.name is None else None
     parser.one_standard_input([options.profile, *options.also, options.table])
     return options
 
@@ -122,9 +122,9 @@ def container_named(owned, name, user):
     whose = "root" if user is None else f"user {user}"
     listed = ", ".join(f"{found.identifier[:12]} ({found.name})" if found.name else found.identifier[:12]
                        for found in fitting or owned)
-    count = "several containers" if fitting else "no container"
-    raise program.ToolError(f"{count} of {whose} {'have' if fitting else 'has'} the name '{name}' or an ID that begins "
-                            f"so; {'these' if fitting else 'those that run'}: {listed or 'none'}")
+    count, those = ("several containers", "these") if fitting else ("no container", "those that run")
+    raise program.ToolError(f"'{name}' isn't a process ID, and {count} of {whose} {'have' if fitting else 'has'} that "
+                            f"name or an ID that begins so; {those}: {listed or 'none'}")
 
 
 def configured_request(container, settings):

@@ -90,6 +90,13 @@ SHARED: dict[str, dict[str, Any]] = {
 }
 
 
+def refuse(options: Any, names: Iterable[str], why: str) -> None:
+    """Ends the tool if an option is given that doesn't go with its input."""
+    for name in names:
+        if getattr(options, name):
+            raise program.ToolError(f"--{name.replace('_', '-')} {why}")
+
+
 def seconds(text: str) -> float:
     """The number of seconds that an option has."""
     try:

@@ -61,9 +61,7 @@ OF_PROFILES = ("native", "strict", "runtime", "caps", "machine", "hot")
 
 def assembled(text, options):
     """Prints the filter that a text spells."""
-    for name in OF_PROFILES:
-        if getattr(options, name):
-            raise program.ToolError(f"--{name} speaks of a profile, and '{options.profile}' is an assembler's text")
+    words.refuse(options, OF_PROFILES, f"speaks of a profile, and '{options.profile}' is an assembler's text")
     done = client.run_scf(["asm"], text)
     if done.status == program.SUCCESS:
         if options.json:

@@ -92,10 +92,9 @@ def read_input(options):
         given = operands.read_stacks(options.words)
     else:
         given = operands.read(options.words[0], options)
-    for name in OF_PROFILES if not isinstance(given, ProfileInput) else ():
-        if getattr(options, name):
-            raise program.ToolError(f"--{name} speaks of a profile, and '{options.words[0]}' is none")
-    if isinstance(given, ProfileInput) and (options.steps or options.expect is not None):
+    if not isinstance(given, ProfileInput):
+        words.refuse(options, OF_PROFILES, f"speaks of a profile, and '{options.words[0]}' is none")
+    elif options.steps or options.expect is not None:
         return [operands.compiled(options.words[0], given)]
     return [given] if isinstance(given, operands.Filter) else given
 

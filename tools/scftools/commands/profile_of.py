@@ -163,13 +163,6 @@ def read_words():
     return options
 
 
-def refuse(options, names, what):
-    """Refuses options that the input hasn't."""
-    for name in names:
-        if getattr(options, name):
-            raise program.ToolError(f"--{name.replace('_', '-')} {what}")
-
-
 def put_profile(text, profile, options, remarks):
     """Prints a profile that was made of another one, or of a unit."""
     if options.json:
@@ -181,7 +174,7 @@ def put_profile(text, profile, options, remarks):
 
 def of_engine(data, options):
     """Prints what an engine, and the runtime that it uses, make of a profile."""
-    refuse(options, OF_FILTERS, "speaks of filters, and this is a profile")
+    words.refuse(options, OF_FILTERS, "speaks of filters, and this is a profile")
     if options.relation != verdicts.SAME:
         raise program.ToolError("--no-more and --no-less speak of filters, and this is a profile")
     remarks = []
@@ -206,12 +199,13 @@ def of_unit(options):
     """Prints what the settings of a unit, or those that are given, describe."""
     from scfhost import unit_profiles  # pylint: disable=import-outside-toplevel
 
-    refuse(options, (*OF_FILTERS[1:], *OF_ENGINES), "doesn't speak of a unit")
+    words.refuse(options, (*OF_FILTERS[1:], *OF_ENGINES), "doesn't speak of a unit")
     remarks = []
     say = remarks.append if options.json else program.say
-    text = unit_profiles.described(options, say)
+    name = options.inputs[0].removeprefix(inputs.UNIT) if options.inputs else None
+    data = unit_profiles.profile_of_unit(name, say, options)
     try:
-        return put_profile(text, json.loads(text), options, remarks)
+        return put_profile(data, json.loads(data), options, remarks)
     except profiles.Refused as why:
         raise program.ToolError(str(why), program.NEGATIVE) from why
 
@@ -251,7 +245,7 @@ def main():
         if options.kind is not None or profile_inputs.looks_like_profile(data):
             return of_engine(profile_inputs.plain(inputs.whole(data, name, "engine's profile"), name), options)
         given = [filters.filter_in(name, data)]
-    refuse(options, OF_ENGINES, "speaks of an engine's profile, and this is a filter")
+    words.refuse(options, OF_ENGINES, "speaks of an engine's profile, and this is a filter")
     if options.runtime is not None and options.arch is not None:
         raise program.ToolError("give either --arch or --runtime, which confines this machine's syscalls whatever a "
                                 "profile lists")

@@ -63,7 +63,6 @@ from ..model import architectures, tables
 from ..ask import client, other_abis
 from ..cli import words
 from ..forms import engines, operands
-from ..forms.stacks import Inspection
 from ..report import stack_surfaces, surface_output
 from ..report.blocks import put_blocks
 from scfhost import processes
@@ -89,7 +88,7 @@ def read_words():
                         help="a filter, of several the oldest first, a profile, or pid:PID; - is standard input")
     options = parser.parse_args()
     if options.pid is not None:
-        options.filters.append(f"pid:{processes.number_in(options.pid, parser)}")
+        options.filters.append(f"pid:{processes.number_in(options.pid)}")
     if options.beside and (options.arch is not None or options.machine not in (None, "amd64")):
         parser.error("give either --arch or --beside, which compares the syscalls of all architectures of this machine")
     if options.regions and (options.conditions or options.beside or options.html):
@@ -106,7 +105,8 @@ def main():
     options = read_words()
     machine = engines.MACHINE_NAMES[options.machine or engines.machine_here()]
     architecture = architectures.judged_in(options.arch or machine)
-    of_engine = types.SimpleNamespace(caps=options.caps, machine=options.caps and options.machine, force=options.force)
+    of_engine = types.SimpleNamespace(caps=options.caps, machine=options.caps and options.machine, force=options.force,
+                                      json=options.json)
     given = operands.read_stacks(options.filters, of_engine, compiles=True)
     table = tables.read_table(options.table, architecture)
     if options.regions:
@@ -118,15 +118,16 @@ def main():
     settings = stack_surfaces.Settings(table, beside, architecture,
                                        architecture.oci == machine and machine in other_abis.OF_MACHINES,
                                        options.conditions, options.examples)
-    inspection = given if isinstance(given, Inspection) else None
-    blocks = [stack_surfaces.surface_of_stack(given, settings)] if inspection is None else \
-        stack_surfaces.surfaces_of_process(inspection, settings)
+    made, width = [], surface_output.width_of_terminal()
+
+    def judge(stack):
+        made.append(stack_surfaces.surface_of_stack(stack, settings))
+        return made[-1].block(width, options.json)
+
+    status = put_blocks(given, judge, options.json)
     if options.html is not None:
         from ..report import pages  # pylint: disable=import-outside-toplevel
 
-        output.replace_file(options.html, pages.surfaces_page(blocks, settings.table))
-    if options.json:
-        output.put_json(stack_surfaces.surfaces_json(blocks, inspection))
-    else:
-        output.put_lines(stack_surfaces.surfaces_lines(blocks, inspection, surface_output.width_of_terminal()))
-    return client.worst(block.status for block in blocks)
+        made.sort(key=lambda surface: client.rank(surface.status))
+        output.replace_file(options.html, pages.surfaces_page(made, table))
+    return status

@@ -97,7 +97,7 @@ def read_words():
     if options.pid is not None:
         from scfhost import processes  # pylint: disable=import-outside-toplevel
 
-        options.pid = processes.number_in(options.pid, parser)
+        options.pid = processes.number_in(options.pid)
     parser.one_standard_input([options.line, options.core, options.table, *options.words])
     return options
 

@@ -18,13 +18,13 @@ def is_process(word: str) -> bool:
     return word.startswith(inputs.PROCESS)
 
 
-def process_of(word: str, is_forced: bool = False, has_force: bool = False, is_json: bool = False) -> Inspection:
+def process_of(word: str, is_forced: bool = False, is_json: bool = False) -> Inspection:
     """The stacks of the process that `pid:N` names, each with its threads. Ends the tool where they can't be read."""
     from scfhost import processes  # pylint: disable=import-outside-toplevel
 
     kernel, number = processes.Kernel(), processes.number_in(word.removeprefix(inputs.PROCESS))
     return processes.read_or_end(lambda: processes.look_at_process(
-        kernel, processes.process_of(kernel, number), is_forced=is_forced), has_force, is_json)
+        kernel, processes.process_of(kernel, number), is_forced=is_forced), True, is_json)
 
 
 def read(word: str, options: Any = None) -> Filter | ProfileInput | Inspection:
@@ -32,7 +32,7 @@ def read(word: str, options: Any = None) -> Filter | ProfileInput | Inspection:
     (`runtime`, `caps`, `machine`, `strict`) and whether threads are stopped by force (`force`), as far as the command
     has that."""
     if is_process(word):
-        return process_of(word, getattr(options, "force", False), hasattr(options, "force"))
+        return process_of(word, *(getattr(options, name, False) for name in ("force", "json")))
     data = profile_inputs.read_text(word)
     if not word.startswith(inputs.UNIT) and not profile_inputs.looks_like_profile(data):
         return filters.filter_in(word, data)

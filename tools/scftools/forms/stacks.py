@@ -40,6 +40,11 @@ class Stack:
         return not self.filters and not self.is_strict
 
     @property
+    def confined(self) -> str:
+        """What confines its threads, as objects say it."""
+        return "by filters" if self.filters else "strict" if self.is_strict else "not"
+
+    @property
     def description(self) -> str:
         """The number of filters, and their lengths."""
         if self.is_strict:

@@ -42,11 +42,6 @@ def of_threads(stack: Stack, inspection: Inspection) -> Iterator[str]:
         yield line
 
 
-def confined_by(stack: Stack) -> str:
-    """What confines the threads that have a stack, as objects say it."""
-    return "by filters" if stack.filters else "strict" if stack.is_strict else "not"
-
-
 @dataclass(frozen=True)
 class Block:
     """What a command says of a stack of filters: its status, its lines, and the members of its object."""
@@ -75,11 +70,12 @@ def put_blocks(given: Sequence[Filter] | Inspection, judge: Callable[[Sequence[F
     status = client.worst(block.status for block in blocks)
     if is_json:
         output.put_json({"status": status, "stacks": [
-            {"status": block.status, **block.members, "confined": confined_by(block.stack),
+            {"status": block.status, **block.members, "confined": block.stack.confined,
              **block.stack.as_json(given.names)} for block in blocks],
             "asked_again": [{"process": process, "thread": thread} for process, thread in given.asked_again]})
         return status
     for at, block in enumerate(blocks):
-        output.put_lines([*[""] * bool(at), *block.lines, *output.notes(of_threads(block.stack, given))])
+        threads = () if block.is_of_all else of_threads(block.stack, given)
+        output.put_lines([*[""] * bool(at), *block.lines, *output.notes(threads)])
     output.put_lines(output.notes(given.notes))
     return status

@@ -7,7 +7,10 @@ from unittest import mock
 
 from support.confined import FakeKernel, here
 from host.test_filters_of import MOUNT, Confined, comments, refuses, refusing
+from scftools.base import program
 from scfhost import configurations
+from scfhost.commands import verify
+from scfhost.container_files import ContainerDescription
 
 ONE, TWO = "01" * 32, "ef" * 32
 BY_CONFIGURATION, THOUGH = "unconfined by configuration", "unconfined though configured"
@@ -194,6 +197,26 @@ class OtherRuntimes(unittest.TestCase):
         self.assertIsNone(self.other("/run/runc/x/state.json", "crun"))
 
 
+class Names(unittest.TestCase):
+    """A container by its name, or by the beginning of its ID."""
+
+    def test_none_or_several_are_listed(self):
+        made = [ContainerDescription(identifier, "podman", "crun", 1, "config.json", name=name) for identifier, name in (
+            ("abc1" + "0" * 60, "box"), ("abd2" + "0" * 60, "web"), ("bo" + "0" * 62, None), ("abc1", "ab"))]
+        for word, found in (("box", 0), ("web", 1), ("abd", 1), ("bo", 2), ("bo0", 2), ("abc1", 3), ("ab", 3),
+                            ("abc10", 0)):
+            with self.subTest(word):
+                self.assertIs(verify.container_named(made, word, None), made[found])
+        for word, user, says in (
+                ("a", None, "'a' isn't a process ID, and several containers of root have that name or an ID that begins "
+                 "so; these: abc100000000 (box), abd200000000 (web), abc1 (ab)"),
+                ("none", 1000, "'none' isn't a process ID, and no container of user 1000 has that name or an ID that "
+                 "begins so; those that run: abc100000000 (box), abd200000000 (web), bo0000000000, abc1 (ab)")):
+            with self.subTest(word), self.assertRaises(program.ToolError) as raised:
+                verify.container_named(made, word, user)
+            self.assertEqual((str(raised.exception), raised.exception.status), (says, program.USAGE_ERROR))
+
+
 class Mistakes(Confined):
     """What users type in place of a process and of a configuration: the line says what to do."""
 
@@ -204,9 +227,9 @@ class Mistakes(Confined):
 
     def test_a_process(self):
         path = self.file("p.json", refuses("mount"))
-        for word, says in (("box", "'box' isn't a process ID: for a container `podman inspect -f '{{.State.Pid}}' "
-                                   "NAME` prints it, as docker does, for a unit `systemctl show -p MainPID --value "
-                                   "NAME`"),
+        for word, says in (("9" * 11, "'99999999999' isn't a process ID: for a container `podman inspect -f '{{.State."
+                                      "Pid}}' NAME` prints it, as docker does, for a unit `systemctl show -p MainPID "
+                                      "--value NAME`"),
                            ("", "'' isn't a process ID: the command that should print one printed nothing"),
                            ("0", "'0' isn't a process ID: it is what `podman inspect` prints of a container that "
                                  "doesn't run, and systemctl of a unit")):

@@ -13,7 +13,7 @@ import kernel_profiles
 from scftools.model import multiplexed, tables
 from scftools.model.calls import Call
 from scftools.lint import kinds
-from scftools.commands import resolve_profile
+from scftools.commands import profile_of
 
 HEADERS = {"socketcall": ("/usr/include/linux/net.h", r"^#define SYS_(\w+)\s+(\d+)"),
            "ipc": ("/usr/include/linux/ipc.h", r"^#define ((?:SEM|MSG|SHM)\w+)\s+(\d+)")}
@@ -44,7 +44,7 @@ class Words(Case):
             page = file.read()
         of_page = {word: line for line in page.split("\n") for word in ("`socketcall` and `ipc` make, too", "`wide`")
                    if word in line}
-        for names, texts in ((("i386", "ppc64le", "mipsel"), (resolve_profile.__doc__.partition("also made by")[0], *(
+        for names, texts in ((("i386", "ppc64le", "mipsel"), (profile_of.__doc__.partition("also made by")[0], *(
                                  of_page[word] for word in of_page if "ipc" in word))),
                              (("i386", "x32", "arm", "mipsel", "mipsel64n32"), (
                                  kinds.meanings()["wide"], of_page["`wide`"]))):

@@ -20,11 +20,12 @@ from support.common import (ALLOW, EPERM, I386, KILL_PROCESS, KILL_THREAD, LOG, 
 from support.confined import NEWEST, OLDEST, Confined, here
 from support.stand_in import StandIn
 from report.test_why import random_filter
+from scftools.base import output
 from scftools.model import answers, architectures, tables
 from scftools.model.calls import Call
 from scftools.ask import client, questions
 from scftools.forms import stacks
-from scftools.report import stack_surfaces, surface_output, surface_pairs, surfaces
+from scftools.report import blocks, surface_output, surface_pairs, surfaces
 
 READ, WRITE, GETPID, SOCKET, EXIT_GROUP = 0, 1, 39, 41, 231
 NAMES = {"read": READ, "write": WRITE, "getpid": GETPID, "socket": SOCKET, "exit_group": EXIT_GROUP, "too": READ}
@@ -716,7 +717,8 @@ class Process(Confined):
         status, lines = self.surface("--pid", str(child.pid))
         self.assertEqual(status, 1)
         self.assertEqual(lines.count(""), 2)
-        self.assertRegex(lines[0], r"\A# thread [0-9]+ of process [0-9]+ \(.*\) has no filter: it isn't confined, and "
+        self.assertEqual(lines[0], "unconfined")
+        self.assertRegex(lines[1], r"\A# thread [0-9]+ of process [0-9]+ \(.*\) has no filter: it isn't confined, and "
                                    r"every syscall is allowed\Z")
         report = json.loads(self.surface("--json", "--pid", str(child.pid))[1][0])
         self.assertEqual([stack["confined"] for stack in report["stacks"]], ["not", "by filters", "by filters"])
@@ -741,16 +743,17 @@ class Process(Confined):
 
     def test_strict_mode_and_no_filter(self):
         """Without a filter there is nothing to compare; the threads are told."""
-        asked = stack_surfaces.Settings(tables.Table(OWN), [])
-        for is_strict, status, says in ((True, 4, "has no filter, but seccomp's strict mode"),
-                                        (False, 1, "has no filter: it isn't confined, and every syscall is allowed")):
-            inspection = stacks.Inspection([stacks.Stack((), is_strict, {7: [7]})], {7: b"x"}, {})
-            blocks = stack_surfaces.surfaces_of_process(inspection, asked)
-            self.assertEqual((client.worst(block.status for block in blocks),
-                              list(stack_surfaces.surfaces_lines(blocks, inspection, None))),
-                             (status, [f"# process 7 (x) {says}"]))
-            report = stack_surfaces.surfaces_json(blocks, inspection)["stacks"][0]
-            self.assertEqual((report["confined"], "counts" in report), ("strict" if is_strict else "not", False))
+        for is_strict, status, verdict, says in (
+                (True, 4, "strict", "has no filter, but seccomp's strict mode"),
+                (False, 1, "unconfined", "has no filter: it isn't confined, and every syscall is allowed")):
+            with self.subTest(verdict):
+                inspection, printed = stacks.Inspection([stacks.Stack((), is_strict, {7: [7]})], {7: b"x"}, {}), []
+                with mock.patch.object(output, "put_line", printed.append):
+                    self.assertEqual(blocks.put_blocks(inspection, None, False), status)
+                self.assertEqual(printed, [verdict, f"# process 7 (x) {says}"])
+                with mock.patch.object(output, "put_json", printed.append):
+                    blocks.put_blocks(inspection, None, True)
+                self.assertEqual(printed[-1]["stacks"][0]["confined"], "strict" if is_strict else "not")
 
     @here
     def test_a_fault_of_the_table_is_said_once(self):
