@@ -206,7 +206,7 @@ class Runtimes(Case):
             entry("mkdir", args=[condition(0, "EQ", 1)]), entry("mkdir", action=TRAP, args=[condition(1, "EQ", 2)]))))
         for words in ((), ("--runtime", "runc"), ("--runtime", "crun")):
             status, out, _ = self.run_tool("ask", *words, "--nr=mkdir", name)
-            self.assertEqual((status, out.split("\n")[0]), (1, "fault profile Conflict number 83 first 1 second 2"))
+            self.assertEqual((status, out.split("\n")[0]), (2, "fault profile Conflict number 83 first 1 second 2"))
             self.assertEqual("with `--runtime`" in out, not words)
             self.assertEqual("".join(words[1:]) + " hands them to libseccomp, which refuses some" in out, bool(words))
 
@@ -559,7 +559,7 @@ class Tools(Case):
                 self.assertEqual(out.split("\n")[0], verdict)
         refused = self.file("r.json", json.dumps({**self.given, "architectures": [X86_64, "SCMP_ARCH_S390X"]}))
         status, out, err = self.run_tool("compile", "--runtime", "crun", refused)
-        self.assertEqual((status, out), (1, ""))
+        self.assertEqual((status, out), (2, ""))
         self.assertIn("crun refuses the profile: libseccomp takes no big-endian", err)
         status, _, err = self.run_tool("compare", "f.bpf", "--beside", "f.bpf", "--runtime", "runc")
         self.assertEqual((status, "--runtime speaks of a profile" in err), (2, True))
@@ -573,7 +573,7 @@ class Tools(Case):
             self.assertEqual(out.split("\n")[0], line)
         self.assertEqual(self.run_tool("ask", "--runtime", "podman", "--caps", "X", path)[0], 2)
         status, _, err = self.run_tool("ask", "--runtime", "runc", path)
-        self.assertEqual((status, "runc doesn't read archMap" in err), (1, True))
+        self.assertEqual((status, "runc doesn't read archMap" in err), (2, True))
 
     def test_a_bundle(self):
         with open(TABLE, "rb") as file:
@@ -697,7 +697,7 @@ class VerifyProcess(Case):
                 self.assertIsNotNone(process, why)
                 self.assertEqual(self.verify(process, given, "--runtime", runtime)[1].splitlines()[0], "same")
                 # scf alone takes no profile with two answers, and the first of them isn't what the container has
-                self.assertEqual(self.verify(process, given)[0], 1)
+                self.assertEqual(self.verify(process, given)[0], 2)
 
     def test_usage(self):
         own_pid = str(os.getpid())
@@ -712,7 +712,7 @@ class VerifyProcess(Case):
                             (b'{"defaultAction":"A"}', "has an unknown action"), (b"{", "isn't JSON"),
                             (b'{"DefaultAction":"SCMP_ACT_ALLOW"}', "which programs in Go read as 'defaultAction'")):
             status, out, err = self.run_tool("verify-process", "--runtime", "runc", own_pid, self.file("p.json", given))
-            self.assertEqual((status, out), (1, ""))
+            self.assertEqual((status, out), (2, ""))
             self.assertIn(says, err)
 
 
