@@ -96,7 +96,7 @@ def _group_of(settings: UnitSettings, wanted: Architecture, say: Callable[[str],
     """The architectures for which a profile is printed, among them this one; says which others there are."""
     group = next((group for group in groups_of(settings) if wanted.oci in group), None)
     if group is None:
-        raise program.ToolError(f"the unit permits no {wanted.name} syscalls", program.NEGATIVE)
+        raise program.ToolError(f"the unit permits no {wanted.name} syscalls")
     alike, others = (architectures.names_of([oci for oci in units.LOCAL if oci in settings.architectures
                                              and (oci in group) == is_alike]) for is_alike in (True, False))
     if others:
@@ -119,7 +119,7 @@ def profile_of_unit(name: str | None, say: Callable[[str], None], options: Any =
                     + (" that no other setting denies" if settings.restrictions else ""))
         first, *others = (profile_of(settings, group).encode() for group in groups)
     except units.SettingError as why:
-        raise program.ToolError(str(why), program.NEGATIVE) from why
+        raise program.ToolError(str(why)) from why
     if settings.doubt is not None:
         say(settings.doubt)
     profile = DerivedProfile(first)

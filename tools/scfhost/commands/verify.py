@@ -131,7 +131,7 @@ def configured_request(container, settings):
     """The question whether a container is confined as its own configuration says."""
     if container.why is not None:
         raise program.ToolError(f"the configuration of container {container.identifier}: {container.why}; give a "
-                                "PROFILE", program.IO_ERROR)
+                                "PROFILE")
     table, scope, relation = settings
     try:
         config = configurations.seccomp_in(container.configuration, container.config)
@@ -139,7 +139,7 @@ def configured_request(container, settings):
             return verify.nothing_request(*settings, configured=False)
         return replace(verify.request_of(config, container.runtime, False, table, relation, scope), configured=True)
     except configurations.ContainerError as why:
-        raise program.ToolError(str(why), program.NEGATIVE) from why
+        raise program.ToolError(str(why)) from why
 
 
 def setting_of(options, kernel):

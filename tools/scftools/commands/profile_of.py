@@ -192,7 +192,7 @@ def of_engine(data, options):
             profile, _ = multiplexed.with_rules(profile, say)
         return put_profile(engines.printed(profile), profile, options, remarks)
     except profiles.Refused as why:
-        raise program.ToolError(str(why), program.NEGATIVE) from why
+        raise program.ToolError(str(why)) from why
 
 
 def of_unit(options):
@@ -207,7 +207,7 @@ def of_unit(options):
     try:
         return put_profile(data, json.loads(data), options, remarks)
     except profiles.Refused as why:
-        raise program.ToolError(str(why), program.NEGATIVE) from why
+        raise program.ToolError(str(why)) from why
 
 
 def judge(stack, options, architecture, table):
