@@ -40,7 +40,8 @@ are above all that the profile names with ENOSYS: if these do so at the first of
 Without files scf answers a bundle on standard input (see `scf bundle` and scf(1)), and nothing is added to its lines.
 Then all records are compared unless --native or --calls, or --architectures, which takes the tables in the bundle.
 
-Exit status: 0 same, no more or no less; 1 differs, more or less; 4 undecided, undetermined or unfinished.
+Exit status: 0 same, no more or no less; 1 differs, more or less, or a thread has no filter; 4 undecided, undetermined
+or unfinished.
 
 Examples:
 

@@ -26,7 +26,7 @@ resolved for one container as by `scf resolve-profile`. With --runtime they are 
 numbers that runc answers with ENOSYS, above all that a profile names, count too; they are called `stub`. What is left
 out of one profile alone goes to standard error. Entries are always numbered by their index in OLD and NEW.
 
-Exit status: 0 same, no more or no less; 1 differs, more or less; 4 undecided or unfinished.
+Exit status: 0 same, no more or no less; 1 differs, more or less, or a thread has no filter; 4 undecided or unfinished.
 
 Examples:
 

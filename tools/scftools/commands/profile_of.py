@@ -103,7 +103,7 @@ these are read from the unit's files. With --set, as in systemd, a name that the
 left out. The name of another architecture's syscall stays in the profile, and scf skips it.
 
 Exit status: 0 the profile is proved, or made; 1 a thread has no filter; 4 no profile answers as the filters do (the
-nearest ones are printed), scf can't decide, or a unit's files can't be read.
+nearest ones are printed), scf can't decide, or what a list or a unit's files state isn't known.
 
 Examples:
 
