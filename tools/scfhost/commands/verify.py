@@ -6,8 +6,9 @@
                [--limit N] [--splits N] [--strict] [--table FILE] [--verbose] [--json]
                [--also PROFILE ..] PID PROFILE
     scf verify .. [--user UID] CONTAINER [PROFILE]
-    scf verify [--native|--calls] [--no-more|--no-less] [--container] [--force] [--limit N]
-               [--splits N] [--table FILE] [--json] PID|CONTAINER --beside FOLDER
+    scf verify [--native|--calls] [--no-more|--no-less] [--container] [--force]
+               [--limit N] [--splits N] [--table FILE] [--json]
+               PID|CONTAINER --beside FOLDER
 
 The filters are read from the kernel as by `scf filters-of`, for all threads of the process, and compared with the
 profile as by `scf compare`, which shows why a syscall differs. Filters belong to threads. Each distinct stack has a

@@ -51,7 +51,7 @@ def input_pieces(name: str, kind: str, room: int) -> Iterator[bytes]:
     """The first bytes of an input, so many, piece by piece."""
     if name.startswith((PROCESS, UNIT)):
         raise program.ToolError(f"here the {kind} must be a file, and {label(name)} is none: ./{output.escaped(name)} "
-                                "is one", status)
+                                "is one")
     try:
         file = os.dup(0) if name == "-" else os.open(name, os.O_RDONLY | os.O_CLOEXEC | os.O_NOCTTY)
         try:

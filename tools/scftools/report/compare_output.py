@@ -10,8 +10,8 @@ from ..model import profiles, tables
 from ..model.answers import DELEGATED, DENIED
 from ..model.architectures import JUDGED
 from ..ask import explanation, reasons, verdicts
-from ..ask.verdicts import (ALL, CALLS, DIFFERS, LESS, LISTED, MORE, NATIVE_SCOPE, NO_LESS, NO_MORE, SAME, UNDECIDED,
-                            UNDETERMINED, Fault, NamedCall, Report, Verdict, relation_json)
+from ..ask.verdicts import (ALL, CALLS, DIFFERS, LESS, LISTED, MORE, NO_LESS, NO_MORE, SAME, UNDECIDED, UNDETERMINED,
+                            Fault, NamedCall, Report, Verdict, relation_json)
 from ..forms import refusals
 from . import listing, newer
 from .blocks import Block
