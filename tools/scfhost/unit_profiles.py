@@ -108,11 +108,11 @@ def _group_of(settings: UnitSettings, wanted: Architecture, say: Callable[[str],
 def profile_of_unit(name: str | None, say: Callable[[str], None], options: Any = None) -> DerivedProfile:
     """The profile of a unit, or of the settings that a command line says, for the architecture that it says. By default
     it is this one's, and `others` are those for architectures on which something else is denied."""
+    wanted = architectures.judged_in((options and options.arch) or architectures.NATIVE)
     try:
         settings = _settings_of(name, options, say)
         groups = groups_of(settings)
         if options is not None:
-            wanted = architectures.judged_in(options.arch or architectures.NATIVE)
             groups = [_group_of(settings, wanted, say)]
             if settings.filter is None:
                 say("there is no SystemCallFilter: every syscall is allowed"

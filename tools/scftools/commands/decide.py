@@ -80,7 +80,7 @@ def read_words():
         options.words, options.call = options.words[:1], options.words[1:]
     if options.steps and len(options.words) > 1:
         parser.error("--steps counts the instructions of one filter")
-    parser.one_standard_input([*options.words, options.table, options.calls_from, options.expect])
+    parser.one_standard_input([*options.words, *options.call, options.table, options.calls_from, options.expect])
     return options
 
 

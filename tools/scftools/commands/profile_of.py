@@ -154,6 +154,8 @@ def read_words():
         parser.error("give filters, a profile, pid:N or unit:UNIT, or --set and lists")
     if options.set is None and any(getattr(options, name) is not None for name in OF_LISTS):
         parser.error("--errno, --architectures and --log go with --set")
+    if len(options.inputs) > 1 and any(name.startswith(inputs.UNIT) for name in options.inputs):
+        parser.error("a unit stands alone")
     if options.set is not None and options.arch is not None:
         parser.error("--arch needs a unit: --set states the same for all architectures")
     if options.json and options.kubernetes is not None:

@@ -8,7 +8,7 @@ from unittest import mock
 from support.confined import FakeKernel, here
 from host.test_filters_of import MOUNT, Confined, comments, refuses, refusing
 from scftools.base import program
-from scfhost import configurations
+from scfhost import configurations, containers
 from scfhost.commands import verify
 from scfhost.container_files import ContainerDescription
 
@@ -201,20 +201,53 @@ class Names(unittest.TestCase):
     """A container by its name, or by the beginning of its ID."""
 
     def test_none_or_several_are_listed(self):
-        made = [ContainerDescription(identifier, "podman", "crun", 1, "config.json", name=name) for identifier, name in (
-            ("abc1" + "0" * 60, "box"), ("abd2" + "0" * 60, "web"), ("bo" + "0" * 62, None), ("abc1", "ab"))]
+        made = [ContainerDescription(identifier, "podman", "crun", 1, "config.json", name=name) for identifier, name in
+                (("abc1" + "0" * 60, "box"), ("abd2" + "0" * 60, "web"), ("bo" + "0" * 62, None), ("abc1", "ab"))]
         for word, found in (("box", 0), ("web", 1), ("abd", 1), ("bo", 2), ("bo0", 2), ("abc1", 3), ("ab", 3),
                             ("abc10", 0)):
             with self.subTest(word):
                 self.assertIs(verify.container_named(made, word, None), made[found])
         for word, user, says in (
-                ("a", None, "'a' isn't a process ID, and several containers of root have that name or an ID that begins "
-                 "so; these: abc100000000 (box), abd200000000 (web), abc1 (ab)"),
+                ("a", None, "'a' isn't a process ID, and several containers of root have that name or an ID that "
+                 "begins so; these: abc100000000 (box), abd200000000 (web), abc1 (ab)"),
                 ("none", 1000, "'none' isn't a process ID, and no container of user 1000 has that name or an ID that "
                  "begins so; those that run: abc100000000 (box), abd200000000 (web), bo0000000000, abc1 (ab)")):
             with self.subTest(word), self.assertRaises(program.ToolError) as raised:
                 verify.container_named(made, word, user)
             self.assertEqual((str(raised.exception), raised.exception.status), (says, program.USAGE_ERROR))
+
+
+@here
+class Named(Confined):
+    """A container that is named, as audit finds it; the look-up itself is audit's."""
+
+    def test_its_own_configuration_is_what_counts(self):
+        child = self.child([refusing(MOUNT)])
+        for profile, words, status, says in (
+                (config("mount"), (), 0, "same"), (config("mount", "ptrace"), ("--no-more",), 1, "more"),
+                ({"linux": {}}, (), 1, "differs"),
+                ({"linux": {}}, (self.file("p.json", refuses("mount")),), 0, "same")):
+            found = ContainerDescription(ONE, "podman", "crun", child.pid, "/box/config.json", profile, name="box")
+            with self.subTest(profile, words=words), \
+                    mock.patch.object(verify, "containers_of", lambda *_, found=found: [found]), \
+                    mock.patch.object(verify.processes, "container_of",
+                                      lambda *_: containers.Container(b"/box", lambda: [child.pid])):
+                actual, out, err = self.run_tool("verify", "box", *words)
+                self.assertEqual((actual, out.splitlines()[:2], err),
+                                 (status, [f"container box ({ONE}), podman, /box/config.json", says], ""))
+
+    def test_without_a_profile_it_is_unconfined_by_configuration(self):
+        child = self.child([])
+        found = ContainerDescription(TWO, "podman", "crun", child.pid, "/box/config.json", {"linux": {}}, name=None)
+        with mock.patch.object(verify, "containers_of", lambda *_: [found]), \
+                mock.patch.object(verify.processes, "container_of",
+                                  lambda *_: containers.Container(b"/box", lambda: [child.pid])):
+            status, out, _ = self.run_tool("verify", TWO[:6])
+            self.assertEqual((status, out.splitlines()[:2]),
+                             (1, [f"container {TWO[:6]} ({TWO}), podman, /box/config.json", BY_CONFIGURATION]))
+            value = json.loads(self.run_tool("verify", "--json", TWO[:6])[1])
+            self.assertEqual((value["verdict"], value["named"]), (BY_CONFIGURATION, {
+                "name": None, "id": TWO, "engine": "podman", "config": "/box/config.json"}))
 
 
 class Mistakes(Confined):
