@@ -12,8 +12,9 @@ for the profile of a unit; a file may be a pipe, and one input `-` for standard 
 or by its name in the table; with --arch by its name in that architecture's. An ARGUMENT, from the first on, is a
 number, which may be negative, or constants of C joined by `|`, such as CLONE_NEWUSER|SIGCHLD. More FILTERs, the oldest
 first, go with --nr, --calls-from or --expect. A line of --calls-from is a CALL with its ARGUMENTs; a line that begins
-with `#` is a comment. So it is in ROWS, where `=` and an answer follow, and only the rows that get another one are
-printed.
+with `#` is a comment. So it is in ROWS, a file of any length, where `=` and the answer follow that is expected, such as
+`socket AF_NETLINK SOCK_RAW = ERRNO EPERM` or `read = ALLOW`; an action alone is met with any data. Only the rows with
+another answer are printed, and how many rows there are.
 
 For each syscall scf's line comes first; the lines after it are marked by `# `: the syscall, what the answer does, which
 of several filters gives it, and the path through that filter, the indexes of the instructions that ran, from 0 on (3-7
