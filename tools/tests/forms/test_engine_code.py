@@ -87,7 +87,7 @@ class Members(Case):
                                 ("resolve-profile", (given,))):
                 for more in ((), ("--runtime", "runc")):
                     status, out, err = self.run_tool(name, *more, *words)
-                    self.assertEqual((status, out), (1, ""), (name, more))
+                    self.assertEqual((status, out), (2, ""), (name, more))
                     self.assertIn(says, err)
 
     def test_where_a_misread_member_stands(self):

@@ -1427,7 +1427,7 @@ class Words(Case):
         status, out, err = self.run_tool("audit", "--limit", "x")
         self.assertEqual((status, out, err.split(":")[1]), (2, "", " fault number limit"))
         status, out, err = self.run_tool("audit", "--table", self.file("t", "x y z\n"))
-        self.assertEqual((status, out, err.split(":")[1]), (3, "", " fault table Form line 1"))
+        self.assertEqual((status, out, err.split(":")[1]), (2, "", " fault table Form line 1"))
 
     def test_what_runtimes_accept(self):
         """Two answers to a syscall are no reason to look at nothing."""

@@ -214,7 +214,7 @@ class Names(unittest.TestCase):
                  "begins so; those that run: abc100000000 (box), abd200000000 (web), bo0000000000, abc1 (ab)")):
             with self.subTest(word), self.assertRaises(program.ToolError) as raised:
                 verify.container_named(made, word, user)
-            self.assertEqual((str(raised.exception), raised.exception.status), (says, program.USAGE_ERROR))
+            self.assertEqual((str(raised.exception), raised.exception.status), (says, program.TROUBLE))
 
 
 @here

@@ -70,7 +70,7 @@ class Programs(Confined):
                          (2, "", f"filters-of: {NO_PROCESS.format(child.pid)}\n"))
         for words in ((), ("--all",)):
             self.assertEqual(self.run_tool("verify-process", *words, str(child.pid), profile),
-                             (3, "", f"verify-process: {NO_PROCESS.format(child.pid)}\n"))
+                             (2, "", f"verify-process: {NO_PROCESS.format(child.pid)}\n"))
 
     @here
     def test_json_of_a_process_that_has_ended(self):
@@ -86,7 +86,7 @@ class Programs(Confined):
             for name, words in (("verify-process", (str(pid), profile)), ("surface", ("--pid", str(pid)))):
                 status, out, err = self.run_tool(name, "--json", *words)
                 self.assertEqual((status, err), (2, f"{name}: {why}\n"))
-                self.assertEqual(json.loads(out), {"status": 3, "verdict": None, "stacks": [], "why": why, "schema": 3})
+                self.assertEqual(json.loads(out), {"status": 2, "verdict": None, "stacks": [], "why": why, "schema": 3})
 
     @here
     def test_a_zombie(self):
@@ -223,9 +223,9 @@ class FiltersOf(Confined):
         self.assertEqual(self.filters_of(child, "--thread", str(second)), (0, "out/0.bpf\nout/1.bpf\n", ""))
         self.assertEqual(self.read("out/1.bpf"), OTHER)
         self.assertEqual(self.run_tool("filters-of", f"--thread={free}", str(main), "none"),
-                         (3, "", f"filters-of: thread {free} of process {main} has no filter\n"))
+                         (1, "", f"filters-of: thread {free} of process {main} has no filter\n"))
         self.assertEqual(self.run_tool("filters-of", f"--thread={os.getpid()}", str(main), "none"),
-                         (3, "", f"filters-of: process {main} has no thread {os.getpid()}\n"))
+                         (2, "", f"filters-of: process {main} has no thread {os.getpid()}\n"))
         self.runs_on(child)
 
     @here

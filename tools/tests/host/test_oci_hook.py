@@ -123,7 +123,7 @@ class OfStates(Hook):
             self.assertEqual(len(lines), 2)
             self.assertIn(shown, lines[at])
         value = json.loads(self.run_tool("oci-hook", "--json", given=self.state(os.getpid(), "/none", id=name))[1])
-        self.assertEqual((value["id"], value["status"]), (shown, 3))
+        self.assertEqual((value["id"], value["status"]), (shown, 2))
 
     def test_the_file_for_hooks(self):
         """As oci-hooks(5) has it; the words are those that the hook is called with."""
@@ -262,7 +262,7 @@ class OfProcesses(Hook):
     def test_statuses(self):
         child = self.child([refusing(MOUNT)])
         for profile, words, status in ((refuses("mount"), (), 0), (refuses("umount2"), (), 1),
-                                       (refuses("mount"), ("--limit=0",), 4), (b'{"linux":{"seccomp":{}}}', (), 2),
+                                       (refuses("mount"), ("--limit=0",), 4), (b'{"linux":{"seccomp":{}}}', (), 1),
                                        (b"{", (), 2), (b"[]", (), 2), (b'{"linux":7}', (), 2),
                                        (b'{"ociVersion":"1.0.2"}', (), 1), (None, (), 1),
                                        (None, ("--allow-unconfined",), 0), (refuses("umount2"), (
@@ -536,7 +536,7 @@ class OfTime(Hook):
             self.assertIn(says, err)
         done = subprocess.run(["sh", "-c", 'exec "$0" "$@" <&-', tool("oci-hook"), "--kill"], stderr=subprocess.PIPE,
                               check=False)
-        self.assertEqual(done.returncode, 3)
+        self.assertEqual(done.returncode, 2)
         self.assertIn(b"the state standard input can't be read: Bad file descriptor", done.stderr)
 
 

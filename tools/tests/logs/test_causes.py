@@ -834,7 +834,7 @@ class Words(Causes):
         status, out, err = self.run_tool("why", WRITTEN, "none")
         self.assertEqual((status, out, err), (2, "", "why: there is no file 'none'\n"))
         status, _, err = self.closed_output("why", WRITTEN)
-        self.assertEqual((status, err), (3, "why: the output failed: No space left on device\n"))
+        self.assertEqual((status, err), (2, "why: the output failed: No space left on device\n"))
 
     def test_a_profile_without_a_filter(self):
         """One that takes more than 4096 instructions is judged, but no change of it is proved."""

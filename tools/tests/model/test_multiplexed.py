@@ -112,7 +112,7 @@ class Multiplexed(Case):
         given = profile(entry(*multiplexed.CALL_NUMBERS["socketcall"],
                               args=[condition(1, "NE", value) for value in range(4000)]))
         status, out, err = self.run_tool("resolve-profile", "--multiplexed", "-", given=json.dumps(given).encode())
-        self.assertEqual((status, out), (1, ""))
+        self.assertEqual((status, out), (2, ""))
         self.assertIn("the rules of socketcall and ipc have more than 65536 conditions", err)
 
 

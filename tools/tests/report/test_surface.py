@@ -510,10 +510,10 @@ class Program(Case):
         self.assertTrue(all(line.startswith("# ") and line.isprintable() for line in lines[1:]), lines)
         self.assertTrue(lines[-1].startswith("# the filter is ") and lines[-1].endswith("bad\\x1b[2J.bpf"), lines)
         status, lines = self.said([good], "--beside", bad)
-        self.assertEqual((status, lines[0]), (1, "fault filter Jump at 0"))
+        self.assertEqual((status, lines[0]), (2, "fault filter Jump at 0"))
         status, lines = self.said([good], "--json", "--beside", bad)
-        self.assertEqual((status, json.loads(lines[0])["fault"]["kind"]), (1, "Jump"))
-        self.assertEqual(self.said([b"\6\0"])[0], 3)
+        self.assertEqual((status, json.loads(lines[0])["fault"]["kind"]), (2, "Jump"))
+        self.assertEqual(self.said([b"\6\0"])[0], 2)
         self.assertEqual(self.said([good], "--table", self.file("t", b"read\n"))[1][0], "fault table Form line 1")
         self.assertEqual(self.said([good], "--limit", "x"), (2, ["fault number limit", *self.said([good], "--limit",
                                                                                                    "x")[1][1:]]))
@@ -525,7 +525,7 @@ class Program(Case):
         self.assertEqual((status, lines[0]), (0, "allowed 4, depends 1, denied 0"))
         self.assertEqual(self.run_tool("surface", "none"), (2, "", "surface: there is no file 'none'\n"))
         status, _, err = self.closed_output("surface", self.file("f", good))
-        self.assertEqual((status, err.split("\n")[0]), (3, "surface: the output failed: No space left on device"))
+        self.assertEqual((status, err.split("\n")[0]), (2, "surface: the output failed: No space left on device"))
 
     def test_what_is_not_understood_ends_it(self):
         """Of a call without a line the relation is taken to hold: so each line must be understood, and the status."""

@@ -278,7 +278,7 @@ a ~~ b = a ≡ b
 
     def test_sources_that_are_not_utf_8(self):
         status, out, err = self.believe("low::made", **{FINE: b"\xff"})
-        self.assertEqual((status, out), (3, ""))
+        self.assertEqual((status, out), (2, ""))
         self.assertRegex(err, r"^believe: a file of the sources isn't UTF-8: .*\n$")
 
     def test_the_output_fails(self):
@@ -287,9 +287,9 @@ a ~~ b = a ≡ b
         for words in (["low::made"], ["--page", page], ["--help"]):
             with open("/dev/full", "wb") as full:
                 self.assertEqual(self.run_words([*begin, *words], stdout=full),
-                                 (3, "", "believe: the output failed: No space left on device\n"))
+                                 (2, "", "believe: the output failed: No space left on device\n"))
             closed = ["/bin/sh", "-c", 'exec "$@" >&-', "sh", *begin, *words]
-            self.assertEqual(self.run_words(closed), (3, "", "believe: the output failed: Bad file descriptor\n"))
+            self.assertEqual(self.run_words(closed), (2, "", "believe: the output failed: Bad file descriptor\n"))
             read, write = os.pipe()
             os.close(read)
             try:
