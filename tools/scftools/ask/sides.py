@@ -17,8 +17,8 @@ from .verdicts import ALL, CALLS, FAILING_WORDS, RELATIONS, SCOPES, UNFINISHED, 
 
 
 @functools.lru_cache(8)
-def _listed(words: tuple[str, ...], bundle: bytes, beside: str) -> Differences:
-    """The differences of the sides in a bundle. Raises Refusal."""
+def _listed(words: tuple[str, ...], bundle: bytes, beside: str, _limit: str | None) -> Differences:
+    """The differences of the sides in a bundle, within a limit. Raises Refusal."""
     return Differences(regions.asked(["--differences", *words], bundle), beside)
 
 
@@ -48,7 +48,8 @@ class Sides:
     @property
     def found(self) -> Differences:
         """All that both sides may answer differently, which is asked for once. Raises Refusal."""
-        listed = _listed(tuple(self.words(self.tables)), self.bundle(self.tables), self.beside)
+        listed = _listed(tuple(self.words(self.tables)), self.bundle(self.tables), self.beside,
+                         client.limits.get("limit"))
         if not listed.is_finished and not client.has_time():
             _listed.cache_clear()
         return listed
