@@ -1,4 +1,5 @@
-"""Runs a function in a child process, so that it ends in time whatever syscall it blocks in.
+"""Runs a function in a child process, so that it ends in time whatever syscall it blocks in, and with no more rights
+and memory than it needs: it answers by pickled values, or where it isn't believed by JSON, whose form is checked.
 
 The child serves a tool that traces others: the tool's signals are passed on to it, so that it ends in order, and so it
 does if the tool itself is killed. A tool that is stopped (SIGSTOP) doesn't stop its child. When the time is up, the
@@ -12,12 +13,12 @@ import os
 import select
 import struct
 import time
-from collections.abc import Callable, Iterator
+from collections.abc import Callable, Iterable, Iterator
 
-from .values import Any, NoReturn
+from .values import Any, NoReturn, dataclass
 
 # linux/prctl.h
-PR_SET_PDEATHSIG = 1
+PR_SET_PDEATHSIG, PR_SET_DUMPABLE, PR_SET_NO_NEW_PRIVS = 1, 4, 38
 # The signals that end a tool unless they are ignored.
 ENDING = (signal.SIGHUP, signal.SIGINT, signal.SIGQUIT, signal.SIGTERM)
 # In seconds: how often the tool looks for signals while it waits for the child, and how long a child may take to end by
@@ -25,6 +26,9 @@ ENDING = (signal.SIGHUP, signal.SIGINT, signal.SIGQUIT, signal.SIGTERM)
 SIGNAL_PAUSE, TO_END, TIMER_DELAY, LAST_WAIT = 0.05, 1.0, 0.5, 0.2
 # The length of a value, which a child writes before it.
 LENGTH = struct.Struct("<Q")
+# Of a child that isn't believed: the most bytes of its address space, and of what it answers, in a line and in all; how
+# long it may take, in seconds; and the user who has no rights (user_namespaces(7)).
+MEMORY, MOST_OF_LINE, MOST_OF_ANSWER, LONGEST, NOBODY = 256 << 20, 5 << 20, 24 << 20, 10.0, 65534
 
 
 class Interrupted(Exception):
@@ -49,34 +53,30 @@ def look_for_signals() -> None:
 def run_in_child(work: Callable[..., Any], seconds: float, receive: Callable[[Any], object] | None = None) -> Any:
     """The result or exception of a function run in a child process; it calls `look_for_signals` now and then. With
     `receive` the function is given another one, by which it sends values: each is received, however the child ends."""
-    until = time.monotonic() + seconds
-    heeded = {number for number in ENDING if signal.getsignal(number) != signal.SIG_IGN}
-    parent = os.getpid()
-    mask = set(signal.pthread_sigmask(signal.SIG_BLOCK, signal.valid_signals()))
     ended: list[tuple[bool, Any]] = []
-    try:
-        ends = os.pipe()
-        child = os.fork()
-        if not child:
-            os.close(ends[0])
-            _be_child(work if receive is None else lambda: work(lambda value: _send(ends[1], None, value)), ends[1],
-                      seconds, parent)
-        os.close(ends[1])
-        signal.pthread_sigmask(signal.SIG_SETMASK, mask | heeded)
+    pending = bytearray()
+
+    def take(piece: bytes) -> None:
+        import pickle  # pylint: disable=import-outside-toplevel
+
+        pending.extend(piece)
+        while len(pending) >= LENGTH.size and len(pending) >= LENGTH.size + LENGTH.unpack_from(pending)[0]:
+            end = LENGTH.size + LENGTH.unpack_from(pending)[0]
+            is_well, value = pickle.loads(pending[LENGTH.size:end])
+            del pending[:end]
+            if is_well is None and receive is not None:
+                receive(value)
+            else:
+                ended.append((is_well, value))
+
+    def write(file: int) -> None:
         try:
-            for is_well, value in _values_of(child, ends[0], heeded - mask, until):
-                if is_well is None and receive is not None:
-                    receive(value)
-                else:
-                    ended.append((is_well, value))
-        except BaseException:
-            os.kill(child, signal.SIGKILL)
-            raise
-        finally:
-            os.close(ends[0])
-            _wait_for(child)
-    finally:
-        signal.pthread_sigmask(signal.SIG_SETMASK, mask)
+            result = True, work() if receive is None else work(lambda value: _send(file, None, value))
+        except BaseException as error:  # pylint: disable=broad-exception-caught
+            result = False, error
+        _send(file, *result)
+
+    read_child(write, seconds, take)
     if not ended:
         raise Died("the inspecting process ended without a result")
     is_well, result = ended[0]
@@ -85,29 +85,43 @@ def run_in_child(work: Callable[..., Any], seconds: float, receive: Callable[[An
     return result
 
 
+def read_child(write: Callable[[int], object], seconds: float, take: Callable[[bytes], object]) -> None:
+    """Has a function write into a file in a child process, and takes what it wrote as soon as it is there. The child
+    has a process group of its own, which is killed at the end. Raises Late."""
+    until = time.monotonic() + seconds
+    heeded = {number for number in ENDING if signal.getsignal(number) != signal.SIG_IGN}
+    parent = os.getpid()
+    mask = set(signal.pthread_sigmask(signal.SIG_BLOCK, signal.valid_signals()))
+    try:
+        ends = os.pipe()
+        child = os.fork()
+        if not child:
+            os.close(ends[0])
+            _be_child(lambda: write(ends[1]), seconds, parent)
+        os.close(ends[1])
+        signal.pthread_sigmask(signal.SIG_SETMASK, mask | heeded)
+        try:
+            for piece in _output_of(child, ends[0], heeded - mask, until):
+                take(piece)
+        finally:
+            os.close(ends[0])
+            _end(child)
+    finally:
+        signal.pthread_sigmask(signal.SIG_SETMASK, mask)
+
+
+def write_all(file: int, data: bytes) -> None:
+    unsent = memoryview(data)
+    while unsent:
+        unsent = unsent[os.write(file, unsent):]
+
+
 def _send(file: int, is_well: bool | None, value: object) -> None:
     """Sends a value from the child: its result, an exception, or with None another one."""
     import pickle  # pylint: disable=import-outside-toplevel
 
     data = pickle.dumps((is_well, value))
-    unsent = memoryview(LENGTH.pack(len(data)) + data)
-    while unsent:
-        unsent = unsent[os.write(file, unsent):]
-
-
-def _values_of(child: int, file: int, heeded: set[int], until: float) -> Iterator[tuple[bool | None, Any]]:
-    """All that the child sends, as soon as it is there."""
-    import pickle  # pylint: disable=import-outside-toplevel
-
-    pending = bytearray()
-    for piece in _output_of(child, file, heeded, until):
-        pending += piece
-        while len(pending) >= LENGTH.size:
-            end = LENGTH.size + LENGTH.unpack_from(pending)[0]
-            if len(pending) < end:
-                break
-            yield pickle.loads(pending[LENGTH.size:end])
-            del pending[:end]
+    write_all(file, LENGTH.pack(len(data)) + data)
 
 
 def _output_of(child: int, file: int, heeded: set[int], until: float) -> Iterator[bytes]:
@@ -119,6 +133,8 @@ def _output_of(child: int, file: int, heeded: set[int], until: float) -> Iterato
             raise late
         if select.select([file], [], [], min(remaining, SIGNAL_PAUSE))[0]:
             piece = os.read(file, 1 << 16)
+            if not piece and isinstance(late, Interrupted):
+                raise late
             if not piece:
                 return
             yield piece
@@ -126,6 +142,17 @@ def _output_of(child: int, file: int, heeded: set[int], until: float) -> Iterato
         if came:
             os.kill(child, came.si_signo)
             late, until = Interrupted(came.si_signo), min(until, time.monotonic() + TO_END)
+
+
+def _end(child: int) -> None:
+    """Kills a child and what it started, and waits for it."""
+    for kill in (os.killpg, os.kill):
+        try:
+            kill(child, signal.SIGKILL)
+        except OSError:
+            # it has no group of its own yet
+            pass
+    _wait_for(child)
 
 
 def _wait_for(child: int) -> None:
@@ -139,7 +166,7 @@ def _wait_for(child: int) -> None:
         pass
 
 
-def _be_child(work: Callable[[], Any], file: int, seconds: float, parent: int) -> NoReturn:
+def _be_child(work: Callable[[], Any], seconds: float, parent: int) -> NoReturn:
     """Runs the function, with all signals blocked but that of the timer."""
     import ctypes  # pylint: disable=import-outside-toplevel
 
@@ -152,11 +179,113 @@ def _be_child(work: Callable[[], Any], file: int, seconds: float, parent: int) -
         ctypes.CDLL(None).prctl(PR_SET_PDEATHSIG, signal.SIGTERM, 0, 0, 0)
         if os.getppid() != parent:
             os.kill(os.getpid(), signal.SIGTERM)
-        result: tuple[bool, object] = True, work()
-    except BaseException as error:  # pylint: disable=broad-exception-caught
-        result = False, error
-    try:
-        _send(file, *result)
+        work()
     finally:
         # without the interpreter's end, which would print what the tool is about to print
         os._exit(0)
+
+
+class Lost(Exception):
+    """A child ended without all of its answers, and why."""
+
+
+def become(user: int) -> None:
+    """Takes the rights of a user for good: no group, no capability, and nobody else of that user may look inside."""
+    import ctypes  # pylint: disable=import-outside-toplevel
+
+    if os.geteuid() == 0:
+        os.setgroups([])
+        os.setresgid(NOBODY, NOBODY, NOBODY)
+        os.setresuid(user, user, user)
+    # (a change of the user takes these back)
+    for words in ((PR_SET_DUMPABLE, 0), (PR_SET_NO_NEW_PRIVS, 1), (PR_SET_PDEATHSIG, signal.SIGKILL)):
+        if ctypes.CDLL(None).prctl(*words, 0, 0, 0):
+            raise OSError("rights can't be given up")
+
+
+def ask(work: Callable[[Callable[[object], object]], object], seconds: float,
+        receive: Callable[[Any], object]) -> None:
+    """Has a function send values from a child: each is received as soon as it is there. Raises Lost."""
+    import json  # pylint: disable=import-outside-toplevel
+
+    pending, count = bytearray(), 0
+
+    def take(piece: bytes) -> None:
+        nonlocal count
+        count += len(piece)
+        pending.extend(piece)
+        *lines, last = pending.split(b"\n") if b"\n" in piece else [pending]
+        if count > MOST_OF_ANSWER or max(map(len, (*lines, last))) > MOST_OF_LINE:
+            raise Lost("it answers too much")
+        if lines:
+            pending[:] = last
+        for line in lines:
+            try:
+                value = json.loads(line)
+                if isinstance(value, str):
+                    raise Lost(value)
+                receive(value)
+            except (ValueError, LookupError, TypeError, RecursionError) as error:
+                raise Lost("its answer isn't what it should be") from error
+
+    try:
+        read_child(lambda file: _work(work, file), seconds, take)
+    except Late as late:
+        raise Lost(f"it takes longer than {seconds:.2g} seconds") from late
+    if bytes(pending) != b"done":
+        raise Lost("who looks at it was ended")
+
+
+def _work(work: Callable[[Callable[[object], object]], object], file: int) -> None:
+    """What a child does: it sends values, and a text says why there are no more."""
+    import json  # pylint: disable=import-outside-toplevel
+    import resource  # pylint: disable=import-outside-toplevel
+
+    resource.setrlimit(resource.RLIMIT_AS, (MEMORY, MEMORY))
+
+    def send(value: object) -> None:
+        write_all(file, json.dumps(value).encode() + b"\n")
+
+    try:
+        work(send)
+    except MemoryError:
+        send(f"it takes more than {MEMORY >> 20} MB of memory")
+    except Interrupted:
+        raise
+    except Exception as error:  # pylint: disable=broad-exception-caught
+        send(f"it can't be looked at: {type(error).__name__}")
+    else:
+        write_all(file, b"done")
+
+
+def checked(value: Any, form: Any) -> Any:
+    """A value that has this form: a type, None, several forms of which one fits, a list of values of one form, or an
+    object with these members. Raises TypeError."""
+    if isinstance(form, tuple):
+        for each in form:
+            try:
+                return checked(value, each)
+            except TypeError:
+                pass
+    elif isinstance(form, list) and type(value) is list:
+        return [checked(item, form[0]) for item in value]
+    elif isinstance(form, dict) and type(value) is dict and value.keys() == form.keys():
+        return {name: checked(value[name], form[name]) for name in form}
+    elif value is None if form is None else type(value) is form:
+        return value
+    raise TypeError("an answer of another form")
+
+
+@dataclass
+class Budget:
+    """How long some children may take, in seconds."""
+
+    remaining: float
+
+    def shares(self, items: Iterable[Any]) -> Iterator[tuple[Any, float]]:
+        """Each of some things with the seconds that it has: no more than are left for each of those that are left."""
+        waiting = list(items)
+        for at, item in enumerate(waiting):
+            began = time.monotonic()
+            yield item, max(0.01, min(LONGEST, self.remaining / (len(waiting) - at)))
+            self.remaining -= time.monotonic() - began

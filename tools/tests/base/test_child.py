@@ -3,6 +3,7 @@ import fcntl
 import os
 import signal
 import time
+import unittest
 from unittest import mock
 
 from support.common import Case, comes
@@ -87,6 +88,76 @@ class Child(Case):
     def status_of(self, process):
         with open(f"/proc/{process}/status", "rb") as file:
             return file.read()
+
+    def answers(self, work, seconds=600):
+        """What a child answers, and why there is no more."""
+        values = []
+        try:
+            child.ask(work, seconds, values.append)
+        except child.Lost as why:
+            return values, str(why)
+        return values, None
+
+    def test_answers(self):
+        """They are JSON of some bytes, and what was sent before a child ended is received."""
+        self.assertEqual(self.answers(lambda send: (send([1, "\udcff"]), send({"a": None}))), ([[1, "\udcff"], {"a": None}], None))
+        for work, why in ((lambda send: (send([7]), 1 / 0), "it can't be looked at: ZeroDivisionError"),
+                          (lambda send: (send([7]), os._exit(0)), "who looks at it was ended"),
+                          (lambda send: (send([7]), os.kill(os.getpid(), signal.SIGKILL)), "who looks at it was ended"),
+                          (lambda send: (send([7]), bytearray(1 << 29)), "it takes more than 256 MB of memory"),
+                          (lambda send: (send([7]), send(["x" * child.MOST_OF_LINE])), "it answers too much"),
+                          (lambda send: (send([7]), *(send(["x" * (1 << 20)]) for _ in range(30))),
+                           "it answers too much")):
+            values, actual = self.answers(work)
+            self.assertEqual((values[0], actual), ([7], why))
+
+    def test_one_that_is_stopped(self):
+        """And what it started ends with it."""
+        read, write = os.pipe()
+
+        def work(send):
+            os.posix_spawn("/bin/sleep", ["sleep", "1000"], {}, file_actions=[(os.POSIX_SPAWN_DUP2, write, 1)])
+            send([1])
+            os.kill(os.getpid(), signal.SIGSTOP)
+
+        self.assertEqual(self.answers(work, 1), ([[1]], "it takes longer than 1 seconds"))
+        os.close(write)
+        # (nobody has the other end any more)
+        self.assertEqual(os.read(read, 1), b"")
+        os.close(read)
+
+    @unittest.skipIf(os.getuid(), "only root gives up rights")
+    def test_rights_that_are_given_up(self):
+        def work(send):
+            child.become(12345)
+            with open("/proc/self/status", encoding="utf-8") as file:
+                status = dict(line.rstrip("\n").split(":\t", 1) for line in file if ":\t" in line)
+            send([status[name].strip() for name in ("Uid", "Gid", "Groups", "CapPrm", "CapEff", "NoNewPrivs")])
+            send([os.access("/root", os.R_OK), os.stat("/proc/self/mem").st_uid])
+            os.setuid(0)
+
+        values, why = self.answers(work)
+        self.assertEqual(values, [["\t".join(["12345"] * 4), "\t".join(["65534"] * 4), "", "0" * 16, "0" * 16, "1"],
+                                  [False, 0]])
+        self.assertEqual(why, "it can't be looked at: PermissionError")
+
+    def test_forms(self):
+        form = ({"a": int, "b": [str], "c": (bool, None)}, [int])
+        for value in ({"a": 1, "b": [], "c": None}, {"a": -1, "b": ["x"], "c": True}, [], [1, 2]):
+            self.assertEqual(child.checked(value, form), value)
+        for value in (None, {}, {"a": True, "b": [], "c": None}, {"a": 1, "b": [1], "c": None}, [True], "x",
+                      {"a": 1, "b": [], "c": 0}, {"a": 1, "b": [], "c": None, "d": 1}, {"a": 1.0, "b": [], "c": None}):
+            with self.assertRaises(TypeError):
+                child.checked(value, form)
+
+    def test_shares(self):
+        """Each has what the others leave, and no more than its share of the rest."""
+        clock, shares = [0.0], []
+        with mock.patch.object(child.time, "monotonic", lambda: clock[0]):
+            for used, seconds in child.Budget(30.0).shares([0.0, 100.0, 6.0, 0.0]):
+                shares.append(seconds)
+                clock[0] += min(used, seconds)
+        self.assertEqual(shares, [7.5, 10.0, 10.0, 10.0])
 
     def test_signals_that_end_the_tool_are_handed_on(self):
         """They end the child in order; nothing else is told of them, and those that are ignored are left alone."""
