@@ -31,9 +31,9 @@ RESTART = {X86_64: 219, I386_NUMBER: 0}
 # linux/filter.h: BPF_RET | BPF_A, whose answer is computed; linux/seccomp.h: SECCOMP_RET_USER_NOTIF's high half.
 RETURN_COMPUTED, USER_NOTIF = 0x16, 0x7FC0
 # How often scf is asked about the threads of a process, which are stopped meanwhile; calls beyond begin anew. The steps
-# in which it follows their filters: the 28 of a unit of systemd take 230000, and some 30 ms. Of how many stacks the regions
-# are kept; and how many calls of a stack are asked one by one before all of them.
-MOST_ASKED, LOOKUP_STEPS, MOST_KEPT, FEW_CALLS = 200, "300000", 50, 2
+# in which it follows their filters: the 28 of a unit of systemd take 230000, and some 30 ms. The most bytes that it may
+# answer, of how many stacks the regions are kept, and how many calls of one are asked one by one before all of them.
+MOST_ASKED, LOOKUP_STEPS, MOST_BYTES, MOST_KEPT, FEW_CALLS = 200, "300000", 256 << 10, 50, 2
 
 
 def restart_of(call: Call) -> Call:
@@ -166,6 +166,6 @@ class Restarts:
         run."""
         self.remaining_runs -= 1
         try:
-            return client.run_scf(words, bundles.stack_bundle(filters), may_build=False).text
+            return client.run_scf(words, bundles.stack_bundle(filters), may_build=False, most=MOST_BYTES).text
         except (program.ToolError, OSError):
             return ""

@@ -21,6 +21,8 @@ MAX_MEMORY = 256 << 20
 # A tool's comparisons without --limit: seconds of CPU time for the tool and all that it runs; after the first limit
 # comparisons have few steps, after the second none.
 SECONDS, ALL_SECONDS, FEW_STEPS = 6, 8, "1000"
+# The most bytes of an answer of scf that are read.
+MOST_OF_ANSWER = 32 << 20
 # The options of `scf compare` by which a tool's command line limits each comparison, with their texts.
 LIMIT_OPTIONS = {
     "limit": f"at most N steps for each comparison [default: 1000000, and {SECONDS} s of CPU time for all together]",
@@ -167,23 +169,23 @@ def _limit(child: int, seconds: float | None) -> None:
             pass
 
 
-def run_scf(words: Sequence[str], given: bytes | None = b"", seconds: float | None = None,
-            may_build: bool = True) -> Run:
+def run_scf(words: Sequence[str], given: bytes | None = b"", seconds: float | None = None, may_build: bool = True,
+            most: int = MOST_OF_ANSWER) -> Run:
     """Runs scf on these bytes, or if they are None on this process's standard input.
 
-    After so many seconds of CPU time it is killed, and the result is empty and UNKNOWN. If scf isn't built, its
-    launcher builds it first, which takes long; without `may_build` the result is then empty and NOT_BUILT.
+    After so many seconds of CPU time, or so many bytes, it is killed, and the result is empty and UNKNOWN. If scf isn't
+    built, its launcher builds it first, which takes long; without `may_build` the result is then empty and NOT_BUILT.
     """
     if given is None or not program.is_tool:
-        return _run(words, given, seconds, may_build)
+        return _run(words, given, seconds, may_build, most)
     question = tuple(words), given
-    done = _kept_runs.get(question) or _run(words, given, seconds, may_build)
+    done = _kept_runs.get(question) or _run(words, given, seconds, may_build, most)
     if done.out and len(_kept_runs) < MOST_KEPT_RUNS:
         _kept_runs[question] = done
     return done
 
 
-def _run(words: Sequence[str], given: bytes | None, seconds: float | None, may_build: bool) -> Run:
+def _run(words: Sequence[str], given: bytes | None, seconds: float | None, may_build: bool, most: int) -> Run:
     """The run of scf that `run_scf` needs."""
     path, before = _command()
     if path == SCF and not may_build:
@@ -203,8 +205,12 @@ def _run(words: Sequence[str], given: bytes | None, seconds: float | None, may_b
     if path != SCF:
         _limit(child, seconds)
     with os.fdopen(ends[0], "rb") as printed:
-        out = printed.read()
+        out = printed.read(most + 1)
+        if len(out) > most:
+            os.kill(child, SIGKILL)
     state = os.waitpid(child, 0)[1]
+    if len(out) > most:
+        return Run(UNKNOWN, b"")
     if os.WIFSIGNALED(state) and seconds is not None and os.WTERMSIG(state) == SIGKILL:
         return Run(UNKNOWN, b"")
     if os.WIFSIGNALED(state):

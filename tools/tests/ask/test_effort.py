@@ -92,3 +92,9 @@ class Limits(Case):
         status, out, _ = self.run_tool("compare", self.file("f.bpf", filter_of([0])),
                                        self.file("p.json", profile_of("read")), preexec_fn=limited(2))
         self.assertEqual((status, out), (0, "same\n"))
+
+    def test_a_long_answer(self):
+        """No more than so many bytes of it are read, and it is as if scf had no time."""
+        for most, status, is_whole in ((10, program.UNKNOWN, False), (1 << 20, 0, True)):
+            done = client.run_scf(["--help"], most=most)
+            self.assertEqual((done.status, bool(done.out)), (status, is_whole))
