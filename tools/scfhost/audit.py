@@ -2,233 +2,181 @@
 whether its processes are confined as configured.
 
 The expected profile of a container is that of its config.json as its runtime applies it, that of a unit is what its
-settings state, and of other programs nothing is expected. Each pair of a distinct stack and a distinct profile is
-compared once, by scf. What users describe and what only their processes have comes after all else, and each user has a
-budget of time for it.
+settings state, and of other programs nothing is expected. For each row of root's, and for each user with all rows, one
+child copies filters and another one judges them (`child`), within some seconds: root's first.
 """
 from __future__ import annotations
 
-import math
 import time
-from collections import Counter
-from collections.abc import Iterable
+from collections.abc import Iterable, Iterator
 
-from scftools.base import child, output, program
-from scftools.base.values import dataclass, field, replace
-from scftools.ask import client
-from scftools.ask.verdicts import NO_MORE
+from scftools.base import child
+from scftools.base.values import dataclass
+from scftools.model import tables
+from scftools.model.architectures import JUDGED
 from scftools.forms.stacks import Stack
-from . import container_files, hold, machine
-from .audit_judge import StackJudge
-from .audit_rows import (AUDIT_VERDICTS, BY_CONFIGURATION, NOT_KNOWN, UNCONFINED_THOUGH, WEAKER, Audit, AuditRow,
-                         Expectation, RowPart, StackJudgement)
-from .container_files import ContainerDescription
-from .expectations import Expectations, Options, rows_of
-from .machine import Snapshot
+from scftools.report.pages import ShownSurface
+from . import hold, machine
+from .audit_judge import Judges
+from .audit_rows import (BY_CONFIGURATION, NOT_KNOWN, UNCONFINED_THOUGH, Audit, AuditRow, Expectation, RowPart,
+                         StackJudgement, StackShape)
+from .container_files import described_containers
+from .expectations import Expectations, Options, RowMaker
+from .machine import Process, Snapshot
+from .machine_pass import Copies
 from .processes import Kernel
+from .ptrace import ticks_at_start
+from .turnover import COMES_AND_GOES, LOOKS, Turnover
 
-# How long a process may take to load its filter after its container or unit starts, and how long reading all such
-# processes again may take, in seconds.
-TO_CONFINE, TO_LOOK_AGAIN = 0.5, 5.0
-# How long the rows of one user may take, and of all users, in seconds, what each has in any case, and how much of it
-# scf's comparisons may take with all their steps.
-SECONDS_OF_A_USER, SECONDS_OF_USERS, LEAST_SECONDS, SECONDS_OF_SCF = 5.0, 20.0, 0.25, 3.0
-BEYOND = "it isn't looked at: to judge all of this user takes too long"
+# How long a process may take to load its filter after its container or unit starts, in seconds.
+TO_CONFINE = 0.5
+# How long all rows of root may take, all users' files, and all users' rows.
+SECONDS_OF_ROOT, SECONDS_OF_FILES, SECONDS_OF_USERS = 60.0, 10.0, 20.0
 IN_STRICT_MODE = "it is in seccomp's strict mode, which no profile expresses"
 
 
-def judgement_of(stack: Stack, expected: Expectation, options: Options, judge: StackJudge) -> StackJudgement:
-    if stack.is_strict:
-        return StackJudgement(NOT_KNOWN, IN_STRICT_MODE)
-    if not stack.filters:
-        if expected.why is not None:
-            return StackJudgement(NOT_KNOWN, f"it isn't confined, and what is configured isn't known: {expected.why}",
-                                  is_unconfined=True)
-        return StackJudgement(BY_CONFIGURATION if expected.asked is None else UNCONFINED_THOUGH, is_unconfined=True)
-    if expected.why is not None:
-        judgement = StackJudgement(NOT_KNOWN, f"what is configured isn't known: {expected.why}")
-    else:
-        judgement = judge.judge_all(stack, expected)
-    if options.baseline is None:
-        return judgement
-    least = judge.judge(stack, options.request(options.baseline[1], NO_MORE), NO_MORE)
-    is_worse = AUDIT_VERDICTS.index(least.verdict) < AUDIT_VERDICTS.index(judgement.verdict)
-    return replace(least, is_of_baseline=True) if is_worse and least.verdict in (WEAKER, NOT_KNOWN) else judgement
+def unconfined_judgement(expected: Expectation) -> StackJudgement:
+    """The verdict on threads that have neither a filter nor the strict mode."""
+    why = expected.why or ("it isn't looked at" if expected.is_unresolved else None)
+    if why is not None:
+        return StackJudgement(NOT_KNOWN, f"it isn't confined, and what is configured isn't known: {why}",
+                              is_unconfined=True)
+    return StackJudgement(UNCONFINED_THOUGH if expected.is_stated else BY_CONFIGURATION, is_unconfined=True)
 
 
-class Budgets:
-    """How long the rows of users may still take, in seconds."""
-
-    def __init__(self) -> None:
-        self.remaining = SECONDS_OF_USERS
-        self.of: dict[int, float] = {}
-
-    def of_user(self, user: int, count: int) -> float:
-        """The seconds for the next of `count` users; each has at least LEAST_SECONDS."""
-        share = max(LEAST_SECONDS, self.remaining - LEAST_SECONDS * (count - 1))
-        return min(self.of.get(user, SECONDS_OF_A_USER), share)
-
-    def spend(self, user: int, seconds: float) -> None:
-        self.remaining -= seconds
-        self.of[user] = self.of.get(user, SECONDS_OF_A_USER) - seconds
-
-
-@dataclass(frozen=True)
+@dataclass
 class Task:
-    """What is judged at once: a row, and some distinct stacks, each with the threads of the row that have it."""
+    """What is looked at at once: a row of root's, or all of a user's."""
 
-    row: AuditRow
-    stacks: list[tuple[Stack, dict[int, list[int]]]] = field(default_factory=list)
-
-
-@dataclass(frozen=True)
-class Outcome:
-    """A row's container with its engine's names, what is expected of the row, and the judgement on each stack."""
-
-    container: ContainerDescription | None
-    expected: Expectation
-    judgements: list[StackJudgement]
+    user: int | None
+    rows: list[AuditRow]
+    copies: Copies
 
 
 class Assessor:
-    """Judges rows: first what root describes and what root's processes have, then the rest of each user, within a
-    budget."""
+    """Looks at rows: first at root's, one by one, then at each user's."""
 
-    def __init__(self, snapshot: Snapshot, expectations: Expectations, judge: StackJudge) -> None:
-        self.snapshot, self.expectations, self.judge = snapshot, expectations, judge
-        self.budgets = Budgets()
-        # how many rows weren't looked at as a whole, by users
-        self.beyond: Counter[int] = Counter()
-
-    @property
-    def left_out(self) -> list[str]:
-        """Lines on what wasn't looked at."""
-        return [f"{count} row{'s' * (count > 1)} of user {user}: to judge all of this user takes longer than "
-                f"{SECONDS_OF_A_USER:g} seconds, or of all users than {SECONDS_OF_USERS:g}"
-                for user, count in sorted(self.beyond.items())]
+    def __init__(self, kernel: Kernel, snapshot: Snapshot, judges: Judges, why: str | None) -> None:
+        self.kernel, self.snapshot, self.judges, self.why = kernel, snapshot, judges, why
+        self.budgets = child.Budget(SECONDS_OF_ROOT), child.Budget(SECONDS_OF_USERS)
+        self.surfaces: dict[str, ShownSurface] = {}
 
     def fill(self, rows: Iterable[AuditRow]) -> None:
-        """Adds the parts of rows."""
-        self.judge.forget_unknown()
-        client.begin_limits()
-        tasks = self._tasks(rows)
-        for task in tasks.pop(None, ()):
-            self._add(task, self._judged(task))
-        for at, user in enumerate(sorted(owner for owner in tasks if owner is not None)):
-            client.begin_limits(SECONDS_OF_SCF, False)
-            began = time.monotonic()
-            until = began + self.budgets.of_user(user, len(tasks) - at)
-            for task in tasks[user]:
-                outcome = (self._judged if task.row.container is None else self._judged_in_child)(task, until)
-                self._add(task, outcome)
-                self.beyond[user] += any(judgement.why == BEYOND for judgement in outcome.judgements)
-            self.budgets.spend(user, time.monotonic() - began)
-        self.beyond = +self.beyond
-
-    def _tasks(self, rows: Iterable[AuditRow]) -> dict[int | None, list[Task]]:
-        """The tasks by the user whose time they take, None for root: a container is its user's if only a user describes
-        it; of a unit and a program a stack is a user's if root answers for no process that has it."""
-        tasks: dict[int | None, list[Task]] = {}
+        """Adds the parts of rows. What takes longer than its share has what others left, in the end."""
+        by_user: dict[int | None, list[AuditRow]] = {}
         for row in rows:
-            unread = {process.number: self.snapshot.unread.get(process.number) for process in row.processes}
-            row.parts = [RowPart(Stack((), False), {number: []}, StackJudgement(NOT_KNOWN, why))
-                         for number, why in unread.items() if why is not None]
-            by_user: dict[int | None, Task] = {}
-            for stack, threads in self.snapshot.stacks_of(process.number for process in row.processes):
-                least = min(process.owner for process in row.processes if process.number in threads) or None
-                user = least if row.container is None else row.user
-                by_user.setdefault(user, Task(row)).stacks.append((stack, threads))
-            for user, task in by_user.items():
-                tasks.setdefault(user, []).append(task)
-        return tasks
+            by_user.setdefault(row.user, []).append(row)
+        of_root = [self.task(None, [row]) for row in by_user.pop(None, ())]
+        of_users = [self.task(user, by_user[user]) for user in sorted(by_user)]
+        for budget, tasks in zip(self.budgets, (of_root, of_users)):
+            late = [task for task, seconds in budget.shares(tasks) if self.look(task, seconds)]
+            for task, seconds in budget.shares(late if budget.remaining > 0 else ()):
+                self.look(task, seconds)
+        self.snapshot.notes += [note for task in of_root for note in task.copies.notes]
 
-    def _add(self, task: Task, outcome: Outcome) -> None:
-        row = task.row
-        row.container, row.expected = outcome.container, outcome.expected
-        row.parts += [RowPart(*stack, judgement) for stack, judgement in zip(task.stacks, outcome.judgements)]
-        row.parts.sort(key=lambda part: part.judgement.order)
+    def task(self, user: int | None, rows: list[AuditRow]) -> Task:
+        # (those that may take long come last)
+        confined = sorted((process for row in rows for process in row.processes if process.is_confined),
+                          key=lambda process: (process.is_stuck, len(process.threads), process.number))
+        return Task(user, rows, Copies(self.kernel, (process.number for process in confined),
+                                       self.judges.options.is_forced))
 
-    def _judged(self, task: Task, until: float = math.inf) -> Outcome:
-        """Judges the stacks of a row. The config.json is read here, and isn't kept."""
-        container, expected = task.row.container, task.row.expected
-        if container is not None:
-            container, expected = self.expectations.of_container(container)
-        judgements = [self._judgement(stack, expected, until) for stack, _ in task.stacks]
-        if container is not None:
-            expected = replace(expected, asked=None, dropped=expected.digest)
-        return Outcome(container, expected, judgements)
+    def look(self, task: Task, seconds: float) -> bool:
+        """Looks at what is left of a task; whether more time may help."""
+        until = time.monotonic() + seconds
+        copies = task.copies
+        why = self.why or copies.read(seconds)
+        of_row = {process.number: at for at, row in enumerate(task.rows) for process in row.processes}
+        stacks = list(copies.stacks.values())
+        threads: list[dict[int, dict[int, list[int]]]] = [{} for _ in task.rows]
+        for index, stack in enumerate(stacks):
+            for number in sorted(stack.threads):
+                threads[of_row[number]].setdefault(index, {})[number] = stack.threads[number]
+        for row, its in zip(task.rows, threads):
+            row.judged = {index: row.judged.get(index) for index in its if stacks[index].filters}
+        judging = self.judges.judge(task.rows, stacks, self.surfaces, max(until - time.monotonic(), 0.01),
+                                    task.user is None)
+        for row, its in zip(task.rows, threads):
+            waiting = {**dict.fromkeys(copies.waiting, why), **copies.unread}
+            row.parts = [RowPart(StackShape(), {process.number: []}, StackJudgement(NOT_KNOWN, waiting[process.number]))
+                         for process in row.processes if process.number in waiting
+                         and ticks_at_start(process.number) == process.start]
+            row.parts += self.parts_of(row, [(stacks[index], index, its[index]) for index in its], judging)
+            row.parts.sort(key=lambda part: part.judgement.order)
+            self.forget_ended(row)
+        is_late = self.why is None and (why or judging) is not None
+        if is_late and task.user is not None:
+            self.snapshot.leave_out("not all of its rows could be looked at", task.user)
+        if not is_late:
+            copies.forget()
+        return is_late and seconds < child.LONGEST
 
-    def _judgement(self, stack: Stack, expected: Expectation, until: float) -> StackJudgement:
-        """The verdict on a stack of a row; whatever is raised meanwhile, it isn't known."""
-        if stack.filters and time.monotonic() > until:
-            return StackJudgement(NOT_KNOWN, BEYOND)
-        try:
-            return judgement_of(stack, expected, self.expectations.options, self.judge)
-        except child.Interrupted:
-            raise
-        except program.ToolError as why:
-            if why.status == program.NOT_BUILT:
-                raise
-            return StackJudgement(NOT_KNOWN, str(why))
-        except Exception as error:  # pylint: disable=broad-exception-caught
-            return StackJudgement(NOT_KNOWN, f"it can't be compared: {type(error).__name__}")
+    def parts_of(self, row: AuditRow, stacks: list[tuple[Stack, int, dict[int, list[int]]]],
+                 judging: str | None) -> Iterator[RowPart]:
+        """The parts of a row's stacks, with their indexes and threads; `judging` says why some aren't judged."""
+        plain = {process.number: list(process.threads) for process in row.processes if not process.is_confined}
+        for stack, index, threads in stacks:
+            if stack.is_unconfined:
+                plain.update(threads)
+                continue
+            why = judging if stack.filters else IN_STRICT_MODE
+            digest, judgement = row.judged.get(index) or (None, StackJudgement(NOT_KNOWN, why))
+            lengths = tuple(len(data) // 8 for data in stack.filters)
+            yield RowPart(StackShape(lengths, stack.is_strict, digest), threads, judgement)
+        if plain:
+            yield RowPart(StackShape(), dict(sorted(plain.items())), unconfined_judgement(row.expected))
 
-    def _judged_in_child(self, task: Task, until: float) -> Outcome:
-        """Judges a container that a user describes, in a child process, which ends in time."""
-        earlier_keys = set(self.judge.judgements.values)
+    def forget_ended(self, row: AuditRow) -> None:
+        """Forgets the processes of a row that have ended meanwhile."""
+        alive = {number for part in row.parts for number in part.threads}
+        for process in row.processes:
+            if process.number not in alive:
+                self.snapshot.processes.pop(process.number, None)
+        row.processes = [process for process in row.processes if process.number in alive]
 
-        def work() -> object:
-            client.begin_limits(SECONDS_OF_SCF, False)
-            return self._judged(task), {key: judgement for key, judgement in self.judge.judgements.values.items()
-                                        if key not in earlier_keys and judgement.verdict != NOT_KNOWN}
+    def look_again(self, rows: Iterable[AuditRow]) -> None:
+        """Reads those processes again that have no filter though one is configured, since they may just be starting."""
+        early = [row for row in rows if row.verdict == UNCONFINED_THOUGH]
+        if not early:
+            return
+        time.sleep(TO_CONFINE)
+        for row in early:
+            row.processes = [process for process in map(self.again, row.processes) if process is not None]
+            row.judged = {}
+        self.fill(early)
 
-        try:
-            remaining = until - time.monotonic()
-            if remaining > 0:
-                outcome, news = child.run_in_child(work, remaining)
-                for key, judgement in news.items():
-                    self.judge.keep(key, judgement)
-                return outcome
-        except (child.Late, child.Died):
-            pass
-        return Outcome(task.row.container, replace(task.row.expected, why=BEYOND), [
-            StackJudgement(NOT_KNOWN, BEYOND, is_unconfined=stack.is_unconfined) for stack, _ in task.stacks])
-
-
-def _look_again(kernel: Kernel, snapshot: Snapshot, rows: Iterable[AuditRow], options: Options) -> list[AuditRow]:
-    """Reads those processes again that have no filter though one is configured, since they may just be starting: the
-    rows that have them."""
-    unconfined = snapshot.unconfined
-    early = {id(row): [process.number for process in row.processes if process.number in unconfined]
-             for row in rows if row.expected.digest is not None}
-    numbers = [number for early_numbers in early.values() for number in early_numbers]
-    if not numbers:
-        return []
-    time.sleep(TO_CONFINE)
-    for number in numbers:
-        snapshot.forget(number)
-    machine.read_more(kernel, snapshot, numbers, options.is_forced, hold.why_no_filters(kernel),
-                      time.monotonic() + TO_LOOK_AGAIN)
-    again = [row for row in rows if early.get(id(row))]
-    for row in again:
-        alive = (snapshot.processes.get(process.number) for process in row.processes)
-        row.processes = [process for process in alive if process is not None]
-    return again
+    def again(self, process: Process) -> Process | None:
+        """A process as it is now, None if it has ended, also if another one has its number."""
+        now = machine.process_of_number(self.kernel, process.number)
+        self.snapshot.processes.pop(process.number, None)
+        if now is None or now.start != process.start:
+            return None
+        self.snapshot.processes[process.number] = now
+        return now
 
 
-def audit_machine(options: Options, judge: StackJudge) -> Audit:
-    """Audits the machine; `judge` keeps its results for the next time."""
-    began, kernel = time.monotonic(), Kernel()
-    audit = Audit([], machine.read_machine(kernel, options.is_forced), time.time(),
-                  allows_unconfined=options.allows_unconfined)
-    audit.snapshot.notes += [f"no folder is --runtime-root {output.escaped(root)}" for root in options.roots
-                             if not container_files.is_there(root)]
-    expectations = Expectations(options)
-    rows, left_out = rows_of(kernel, audit.snapshot, expectations)
-    assessor = Assessor(audit.snapshot, expectations, judge)
+def audit_machine(options: Options, judges: Judges) -> Audit:
+    """Audits the machine; `judges` keeps its results for the next time."""
+    began, now, kernel = time.monotonic(), time.time(), Kernel()
+    for name in JUDGED:
+        # (who judges may not be able to read them)
+        tables.architecture_table(name)
+    why = hold.why_no_filters(kernel)
+    snapshot = machine.read_machine(kernel, why)
+    containers = described_containers(kernel, snapshot, options.roots, child.Budget(SECONDS_OF_FILES))
+    maker = RowMaker(kernel, snapshot, Expectations(options), containers)
+    turnover = Turnover(kernel, maker.members.grouped)
+    turnover.look()
+    rows = maker.rows()
+    assessor = Assessor(kernel, snapshot, judges, why)
     assessor.fill(rows)
-    assessor.fill(_look_again(kernel, audit.snapshot, rows, options))
-    audit.rows = sorted((row for row in rows if row.parts), key=lambda row: row.order)
-    audit.left_out = [*audit.snapshot.left_out, *left_out, *assessor.left_out]
-    audit.seconds = time.monotonic() - began
-    return audit
+    turnover.look()
+    assessor.look_again([row for row in rows if row.parts])
+    turnover.look()
+    for row in rows:
+        if row.container is not None and row.user is None and turnover.gone[row.container.first] >= LOOKS and row.parts:
+            judgement = StackJudgement(NOT_KNOWN, COMES_AND_GOES)
+            row.parts.append(RowPart(StackShape(), {row.container.first: [row.container.first]}, judgement))
+            row.parts.sort(key=lambda part: part.judgement.order)
+    rows = sorted((row for row in rows if row.parts), key=lambda row: row.order)
+    return Audit(rows, snapshot, now, time.monotonic() - began, options.allows_unconfined, assessor.surfaces)

@@ -1,89 +1,98 @@
-"""Judges stacks of filters by what is expected of them, each pair of a stack and a profile once."""
+"""Judges stacks of filters by what is expected of them, in a child with no rights (`child`), which is started for a
+row of root's, or for all of a user's."""
 from __future__ import annotations
 
-from collections.abc import Callable
+import json
+import os
+from collections.abc import Collection, Sequence
+from itertools import islice
 
-from scftools.base import program
+from scftools.base import child, program
 from scftools.base.values import Any, replace
-from scftools.model.profiles import not_compared_of, reading_of
-from scftools.model.tables import Table
+from scftools.model import architectures
+from scftools.model.profiles import not_compared_of
+from scftools.ask import client, verdicts
 from scftools.ask.verdicts import NO_LESS, NO_MORE, OTHERWISE, SAME, Verdict
 from scftools.forms.stacks import Stack
+from scftools.report import compare_output, surfaces
 from scftools.report.compare import Comparison, left_out
+from scftools.report.pages import ShownSurface
 from . import verify
-from .audit_rows import AS_CONFIGURED, NOT_KNOWN, STRICTER, WEAKER, Expectation, StackJudgement, sha256, stack_digest
+from .audit_rows import (AS_CONFIGURED, AUDIT_VERDICTS, NOT_KNOWN, STRICTER, WEAKER, AuditRow, Expectation,
+                         StackJudgement, sha256, stack_digest)
+from .container_files import Send
+from .expectations import Options, of_settings
 from .verify import Request
 
 # Of several verdicts on the filters of one stack the first of these is that on all of them.
 WORST_FIRST = (WEAKER, NOT_KNOWN, STRICTER, OTHERWISE, AS_CONFIGURED)
-# The most results that are kept, and the most bytes of the profiles in them.
-MOST_CACHED, MOST_CACHED_BYTES = 2000, 1 << 26
-
-
-class Cache:
-    """Results by what they are of, as long as they take no more than some memory."""
-
-    def __init__(self) -> None:
-        self.values: dict[tuple[object, ...], Any] = {}
-        self.size = 0
-
-    def keep(self, key: tuple[object, ...], value: Any, size: int) -> Any:
-        """Keeps a result that takes about so many bytes, and hands it back."""
-        if len(self.values) > MOST_CACHED or self.size + size > MOST_CACHED_BYTES:
-            self.values.clear()
-            self.size = 0
-        self.values[key] = value
-        self.size += size
-        return value
+# The most verdicts that are kept for the next audit, and the most lines that explain one.
+MOST_KEPT, MOST_LINES = 5000, 100
+# How much of a child's time scf may take with all steps.
+SHARE_OF_SCF = 0.6
+# What a child answers: of a row the profile that is expected, or why that isn't known; of a stack of a row the SHA-256
+# of its bundle and the verdict; and what a stack allows.
+SURFACE = {"whole": [str], "rows": [{"names": [str], "said": str, "details": [str]}]}
+JUDGEMENT = {"verdict": str, "why": (str, None), "shown": [str], "not_compared": [str], "lines": [str],
+             "architecture": (str, None), "is_of_baseline": bool}
+ANSWER = ({"row": int, "digest": (str, None), "why": (str, None)},
+          {"row": int, "stack": int, "digest": str, "judgement": JUDGEMENT},
+          {"stack": int, **SURFACE})
 
 
 class StackJudge:
-    """Compares stacks with profiles, each pair once; `tell` is called with the number of comparisons."""
+    """Compares stacks with profiles."""
 
-    def __init__(self, table: Table, tell: Callable[[int], None] = lambda _: None) -> None:
-        self.table = table
-        self.tell = tell
-        # by digests of the filters and the profile
-        self.judgements = Cache()
+    def __init__(self, options: Options) -> None:
+        self.options = options
 
-    def keep(self, key: tuple[object, ...], judgement: StackJudgement) -> StackJudgement:
-        comparison = judgement.comparison
-        return self.judgements.keep(key, judgement, len(comparison.profile) if comparison is not None else 0)
+    def judgement(self, stack: Stack, expected: Expectation) -> StackJudgement:
+        """The verdict on a stack with filters; whatever is raised meanwhile, it isn't known."""
+        try:
+            if expected.why is not None:
+                judgement = StackJudgement(NOT_KNOWN, f"what is configured isn't known: {expected.why}")
+            else:
+                judgement = self.judge_all(stack, expected)
+            if self.options.baseline is None:
+                return judgement
+            least = self.judge(stack, self.options.request(self.options.baseline[1], NO_MORE), NO_MORE)
+            is_worse = AUDIT_VERDICTS.index(least.verdict) < AUDIT_VERDICTS.index(judgement.verdict)
+            return replace(least, is_of_baseline=True) if is_worse and least.verdict in (WEAKER, NOT_KNOWN) else \
+                judgement
+        except program.ToolError as why:
+            return StackJudgement(NOT_KNOWN, str(why))
+        except Exception as error:  # pylint: disable=broad-exception-caught
+            return StackJudgement(NOT_KNOWN, f"it can't be compared: {type(error).__name__}")
 
-    def forget_unknown(self) -> None:
-        """Forgets what isn't known: it may have taken too long, and may be known with more time."""
-        self.judgements.values = {key: judgement for key, judgement in self.judgements.values.items()
-                                  if judgement.verdict != NOT_KNOWN}
+    def judge_all(self, stack: Stack, expected: Expectation) -> StackJudgement:
+        """The verdict beside all that is expected."""
+        filters = tuple(data for data in stack.filters if data != expected.beside)
+        stack = replace(stack, filters=filters) if filters else stack
+        judgements = (self.judge(stack, request) for request in (expected.asked, *expected.others))
+        worst = min(judgements, key=lambda judgement: WORST_FIRST.index(judgement.verdict))
+        if expected.doubt is None or worst.verdict in (NOT_KNOWN, AS_CONFIGURED):
+            return worst
+        return replace(worst, verdict=NOT_KNOWN, why=f"it is {worst.verdict}, but {expected.doubt}")
 
     def judge(self, stack: Stack, asked: Request | None, relation: str = SAME) -> StackJudgement:
-        """The verdict on a stack with filters."""
-        asked_of = asked or verify.nothing_request(self.table)
-        stub = asked_of.applied.stub if asked_of.applied is not None else {}
-        key = (stack_digest(stack.filters), sha256(asked_of.profile), reading_of(asked_of.profile), tuple(stub.items()),
-               relation, asked is None, asked_of.elsewhere, not_compared_of(asked_of.profile))
-        if key in self.judgements.values:
-            return self.judgements.values[key]
-        self.tell(len(self.judgements.values))
-        return self.keep(key, self._judged(stack, asked_of, relation, asked is None))
-
-    def _judged(self, stack: Stack, asked: Request, relation: str, is_of_nothing: bool) -> StackJudgement:
-        """The verdict."""
-        comparison = asked.comparison(stack.named, relation)
-        try:
-            # (one of which nothing is shown needs no second look)
-            verdict = comparison.known_verdict(comparison.scope, relation) if is_of_nothing else None
+        """The verdict beside a profile, or where nothing is configured."""
+        asked_of = asked or verify.nothing_request(self.options.table)
+        comparison = asked_of.comparison(stack.named, relation)
+        # (one of which nothing is shown needs no second look)
+        verdict = comparison.known_verdict(comparison.scope, relation) if asked is None else None
+        if verdict is None:
+            comparison, _, report = comparison.run_by_stub()
+            verdict = report.verdict
             if verdict is None:
-                comparison, _, report = comparison.run_by_stub()
-                verdict = report.verdict
-            judgement = self._of_verdict(comparison, verdict) if verdict is not None else \
-                StackJudgement(NOT_KNOWN, f"scf says: {report.lines[0] if report.lines else 'nothing'}")
-        except program.InternalError as why:
-            return StackJudgement(NOT_KNOWN, str(why))
-        if is_of_nothing:
+                return StackJudgement(NOT_KNOWN, f"scf says: {report.lines[0] if report.lines else 'nothing'}")
+        judgement = self._of_verdict(comparison, verdict)
+        if asked is None:
             # (the call that shows it would be answered by no profile of a user)
-            return replace(judgement, shown=None)
+            return replace(judgement, shown=None, lines=())
         names = left_out(comparison.profile, comparison.tables).architectures
-        return replace(judgement, not_compared=(*names, *not_compared_of(asked.profile)))
+        is_i386 = list(comparison.tables.of) == [architectures.I386]
+        return replace(judgement, not_compared=(*names, *not_compared_of(asked.profile)),
+                       architecture="i386" if is_i386 else None)
 
     def _of_verdict(self, comparison: Comparison, verdict: Verdict) -> StackJudgement:
         """The verdict on what is judged: if some syscalls differ, whether any is more permissive, or any stricter."""
@@ -94,25 +103,122 @@ class StackJudge:
         no_more = verdict if comparison.relation == NO_MORE else comparison.verdict(comparison.scope, NO_MORE)
         if no_more is None or not no_more.holds:
             return _undecided(no_more) if no_more is None or not no_more.fails else \
-                StackJudgement(WEAKER, shown=no_more, comparison=comparison)
+                self._shown(WEAKER, no_more, comparison)
         no_less = comparison.verdict(comparison.scope, NO_LESS)
         if no_less is None or not (no_less.holds or no_less.fails):
             return _undecided(no_less)
-        return StackJudgement(OTHERWISE if no_less.holds else STRICTER, shown=verdict if no_less.holds else no_less,
-                              comparison=comparison)
+        return self._shown(OTHERWISE, verdict, comparison) if no_less.holds else \
+            self._shown(STRICTER, no_less, comparison)
 
-    def judge_all(self, stack: Stack, expected: Expectation) -> StackJudgement:
-        """The verdict on a stack with filters beside all that is expected."""
-        filters = tuple(data for data in stack.filters if data != expected.beside)
-        stack = replace(stack, filters=filters) if filters else stack
-        judgements = (self.judge(stack, request) for request in (expected.asked, *expected.others))
-        worst = min(judgements, key=lambda judgement: WORST_FIRST.index(judgement.verdict))
-        if expected.doubt is None or worst.verdict in (NOT_KNOWN, AS_CONFIGURED):
-            return worst
-        return replace(worst, verdict=NOT_KNOWN, why=f"it is {worst.verdict}, but {expected.doubt}")
+    def _shown(self, word: str, shown: Verdict, comparison: Comparison) -> StackJudgement:
+        has_lines = self.options.has_surfaces and shown.call is not None
+        lines = compare_output.difference_lines(comparison, shown) if has_lines else ()
+        return StackJudgement(word, shown=shown, lines=tuple(islice(lines, MOST_LINES)))
 
 
 def _undecided(verdict: Verdict | None) -> StackJudgement:
     word = verdict.word if verdict is not None else "nothing"
     at = f" at {verdict.at}" if verdict is not None and verdict.at is not None else ""
     return StackJudgement(NOT_KNOWN, f"scf says: {word}{at}")
+
+
+def _of_answer(value: Any) -> StackJudgement:
+    """The verdict that a child answered."""
+    if value["verdict"] not in AUDIT_VERDICTS:
+        raise ValueError(value["verdict"])
+    shown = verdicts.report("\n".join(value["shown"])).verdict if value["shown"] else None
+    return StackJudgement(**{**value, "shown": shown, "lines": tuple(value["lines"]),
+                             "not_compared": tuple(value["not_compared"])})
+
+
+def _send_all(send: Send, options: Options, rows: Sequence[AuditRow], stacks: Sequence[Stack],
+              surfaces_known: Collection[str], seconds: float) -> None:
+    """Judges, in a child, what waits for it, and sends that."""
+    path = client.built_program()
+    if path is not None:
+        # (it may be where only root can look for it)
+        file = os.open(path, os.O_PATH)
+        os.set_inheritable(file, True)
+        client.PROGRAMS = (f"/proc/self/fd/{file}",)
+    child.become(child.NOBODY)
+    client.begin_limits(seconds * SHARE_OF_SCF, False)
+    judge, digests = StackJudge(options), {}
+    resolved: dict[str, Expectation] = {}
+    judgements: dict[tuple[str, int], StackJudgement] = {}
+    for at, row in enumerate(rows):
+        expected, key = row.expected, row.expected.key
+        if row.waits and expected.settings is not None:
+            if key not in resolved:
+                resolved[key] = of_settings(json.loads(expected.settings), expected.runtime, expected.source, options)
+            expected = resolved[key]
+            send({"row": at, "digest": expected.digest, "why": expected.why})
+        for number, known in row.judged.items():
+            digests[number] = known[0] if known is not None else stack_digest(stacks[number].filters)
+            if known is None:
+                if (key, number) not in judgements:
+                    judgements[key, number] = judge.judgement(stacks[number], expected)
+                judgement = judgements[key, number]
+                shown = [] if judgement.shown is None else verdicts.Report.of(judgement.shown).lines
+                send({"row": at, "stack": number, "digest": digests[number], "judgement": {
+                    **{name: getattr(judgement, name) for name in JUDGEMENT}, "shown": shown}})
+    for number, digest in digests.items() if options.has_surfaces else ():
+        if digest not in surfaces_known:
+            surface = ShownSurface.of(surfaces.surface_of_filters(stacks[number].filters, options.table))
+            send({"stack": number, **surface.as_json()})
+
+
+class Judges:
+    """Has children judge rows. Verdicts on root's rows are kept, and none of a user's."""
+
+    def __init__(self, options: Options) -> None:
+        self.options = options
+        # by what is expected and digests of filters; the profiles that containers' settings mean, by their SHA-256; and
+        # what stacks allow
+        self.known: dict[tuple[str, str], tuple[str, StackJudgement]] = {}
+        self.resolved: dict[str, str] = {}
+        self.surfaces: dict[str, ShownSurface] = {}
+
+    def judge(self, rows: Sequence[AuditRow], stacks: Sequence[Stack], surfaces_of: dict[str, ShownSurface],
+              seconds: float, is_root: bool) -> str | None:
+        """Adds the verdicts that rows wait for, and what stacks allow; says why some still wait, or None."""
+        filters = {data: sha256(data) for stack in stacks for data in stack.filters}
+        stack_keys = [sha256("".join(map(filters.get, stack.filters)).encode()) for stack in stacks]
+        keys = [row.expected.key for row in rows]
+        for row, key in zip(rows, keys):
+            if row.expected.is_unresolved and key in self.resolved:
+                row.expected = replace(row.expected, dropped=self.resolved[key])
+            row.judged = {number: judged or self.known.get((key, stack_keys[number]))
+                          for number, judged in row.judged.items()}
+        digests = {number: judged[0] for row in rows for number, judged in row.judged.items() if judged is not None}
+        surfaces_of.update((digest, self.surfaces[digest]) for digest in digests.values() if digest in self.surfaces)
+        if not any(row.waits for row in rows) and (not self.options.has_surfaces or
+                                                   surfaces_of.keys() >= {*digests.values()}):
+            return None
+
+        def receive(value: Any) -> None:
+            value = child.checked(value, ANSWER)
+            if "whole" in value:
+                surfaces_of.setdefault(digests[value["stack"]], ShownSurface.of_json(value))
+            elif "stack" not in value:
+                row = rows[value["row"]]
+                row.expected = replace(row.expected, dropped=value["digest"], why=value["why"])
+            elif rows[value["row"]].judged[value["stack"]] is None:
+                digests[value["stack"]] = value["digest"]
+                rows[value["row"]].judged[value["stack"]] = value["digest"], _of_answer(value["judgement"])
+
+        surfaces_known, why = set(surfaces_of), None
+        try:
+            child.ask(lambda send: _send_all(send, self.options, rows, stacks, surfaces_known, seconds), seconds,
+                      receive)
+        except child.Lost as lost:
+            why = str(lost)
+        if len(self.known) > MOST_KEPT:
+            for kept in (self.known, self.resolved, self.surfaces):
+                kept.clear()
+        self.surfaces.update(surfaces_of if is_root else {})
+        for row, key in zip(rows, keys) if is_root else ():
+            if row.expected.dropped is not None:
+                self.resolved[key] = row.expected.dropped
+            self.known.update(((key, stack_keys[number]), judged) for number, judged in row.judged.items()
+                              if judged is not None and judged[1].verdict != NOT_KNOWN)
+        return why if any(row.waits for row in rows) else None

@@ -4,13 +4,15 @@ from __future__ import annotations
 import os
 import re
 import time
-from collections.abc import Iterator
+from collections import Counter
+from collections.abc import Iterable, Iterator
+from itertools import islice
 
 from scftools.base import output
 from scftools.base.values import Any, dataclass
 from scftools.model.tables import Table
 from .audit_rows import (AUDIT_VERDICTS, CONTAINER, OTHER_PROGRAM, ROW_KINDS, STRICTER, UNIT, Audit, AuditRow, RowPart,
-                         StackJudgement, is_only_counted, sha256, stack_digest)
+                         StackJudgement, is_only_counted, sha256)
 
 # At most so many processes of a row are named in a line, and so many characters of a name, or of a label, are printed.
 MOST_PROCESSES, MOST_OF_NAME, MOST_OF_LABEL = 3, 200, 256
@@ -18,7 +20,7 @@ MOST_PROCESSES, MOST_OF_NAME, MOST_OF_LABEL = 3, 200, 256
 CHANGED = "has changed: judged is the profile that the container was started with"
 PLURALS = {CONTAINER: "containers", UNIT: "units", OTHER_PROGRAM: "other confined programs"}
 # A metric's name and help, and its values with their labels.
-Metric = "tuple[str, str, list[tuple[list[tuple[str, str | None]], object]]]"
+Metric = "tuple[str, str, list[tuple[list[tuple[str, str | int | None]], object]]]"
 
 
 def time_text(seconds: float) -> str:
@@ -36,16 +38,16 @@ def short(identifier: str) -> str:
 
 
 def whose(row: AuditRow) -> list[str]:
-    """The user who alone describes a container, and where, if one before it has the same identifier."""
+    """The user whose a row is, and of a container where it is described, if one before it has the same identifier."""
     phrases = [] if row.user is None else [f"of user {row.user}"]
     return phrases if row.container is None or row.key == row.container.identifier else [*phrases, row.place]
 
 
 def about(row: AuditRow) -> list[str]:
-    """The details of a container that stand behind its name."""
+    """The details that stand behind a name."""
     container = row.container
     if container is None:
-        return []
+        return whose(row)
     details = [container.engine, *whose(row), container.image, f"pod {short(container.pod)}" if container.pod else None,
                short(container.identifier) if container.name is not None else None]
     return [output.cut(detail, MOST_OF_NAME) for detail in details if detail]
@@ -70,28 +72,31 @@ def judgement_text(judgement: StackJudgement, table: Table) -> str:
             f"{judgement.shown.profile}")
 
 
-def _processes_text(row: AuditRow, part: RowPart) -> str:
+def _processes_text(names: dict[int, bytes], part: RowPart) -> str:
     """Which processes of a row have a stack."""
-    shown = [f"{number} ({output.escaped(row.names.get(number, b''))})"
-             for number in list(part.threads)[:MOST_PROCESSES]]
+    shown = [f"{number} ({output.escaped(names.get(number, b''))})" for number in islice(part.threads, MOST_PROCESSES)]
     more = len(part.threads) - len(shown)
     return f"process{'es' * (len(part.threads) > 1)} {', '.join(shown)}" + (f" and {more} more" if more else "")
 
 
-def row_lines(row: AuditRow, table: Table, row_of_reason: dict[str, str]) -> Iterator[str]:
-    """A line for a row, and for each further verdict in it one more. A reason that stands at an earlier row isn't
-    repeated: `row_of_reason` has the rows by their reasons."""
+def row_lines(row: AuditRow, table: Table, row_of_reason: dict[tuple[int | None, str], str]) -> Iterator[str]:
+    """A line for a row, and for each further verdict in it one more. A reason that stands at an earlier row of the same
+    user isn't repeated: `row_of_reason` has the rows by their users and reasons."""
     yield f"{row.verdict}: {row_text(row)}: {number_text(len(row.processes), 'process', 'processes')}"
     if row.container is not None and row.container.has_changed:
         yield f"    {output.escaped(row.container.config)} {CHANGED}"
-    verdicts = [part.judgement.verdict for part in row.parts]
-    for at, part in enumerate(row.parts):
-        text = judgement_text(part.judgement, table) if part.judgement.verdict != STRICTER else ""
-        if part.judgement.verdict in verdicts[:at] or not text and len(set(verdicts)) == 1:
+    firsts: dict[str, RowPart] = {}
+    for part in row.parts:
+        firsts.setdefault(part.judgement.verdict, part)
+    names = row.names
+    for verdict, part in firsts.items():
+        text = judgement_text(part.judgement, table) if verdict != STRICTER else ""
+        if not text and len(firsts) == 1:
             continue
-        if text and part.judgement.shown is None and row_of_reason.setdefault(text, row_text(row)) != row_text(row):
-            text = f"as for {row_of_reason[text]}"
-        yield f"    {part.judgement.verdict}: {_processes_text(row, part)}" + (f": {text}" if text else "")
+        if text and part.judgement.shown is None:
+            earlier = row_of_reason.setdefault((row.user, text), row_text(row))
+            text = text if earlier == row_text(row) else f"as for {earlier}"
+        yield f"    {verdict}: {_processes_text(names, part)}" + (f": {text}" if text else "")
 
 
 def summary(audit: Audit, unlisted: int = 0) -> Iterator[str]:
@@ -102,7 +107,7 @@ def summary(audit: Audit, unlisted: int = 0) -> Iterator[str]:
         text = ", ".join(f"{verdict} {count}" for verdict, count in counts if count) or "none"
         more = f"; without a configuration, and listed by --programs: {unlisted}"
         yield f"{PLURALS[kind]}: {text}{more if unlisted and kind == OTHER_PROGRAM else ''}"
-    yield (f"processes: confined {audit.confined}, unconfined {audit.unconfined}; distinct stacks: "
+    yield (f"processes: confined {len(audit.confined)}, unconfined {len(audit.unconfined)}; distinct stacks: "
            f"{len(audit.stacks)}; seconds: {audit.seconds:.2f}")
     named = sorted({name for row in audit.rows for part in row.parts for name in part.judgement.not_compared})
     if named:
@@ -115,7 +120,7 @@ def audit_lines(audit: Audit, table: Table, lists_all: bool = True, earlier: Ear
     """The text output: the rows, without the programs that are only counted unless `lists_all`; the changes since an
     earlier audit; and the summary."""
     listed = [row for row in audit.rows if lists_all or not row.is_only_counted]
-    row_of_reason: dict[str, str] = {}
+    row_of_reason: dict[tuple[int | None, str], str] = {}
     for row in listed:
         yield from row_lines(row, table, row_of_reason)
     for line in () if earlier is None else _change_lines(earlier, audit, lists_all):
@@ -134,14 +139,14 @@ class EarlierRow:
 
 @dataclass(frozen=True)
 class Earlier:
-    """An earlier audit: its time, and its rows by their kinds and keys."""
+    """An earlier audit: its time, and its rows by their kinds, users and IDs."""
 
     time: str
-    rows: dict[tuple[str, str], EarlierRow]
+    rows: dict[tuple[str, int | None, str], EarlierRow]
 
     @classmethod
     def of(cls, audit: Audit) -> Earlier:
-        return cls(time_text(audit.time), {(row.kind, output.escaped(row.key)): EarlierRow(
+        return cls(time_text(audit.time), {(row.kind, row.user, row.id): EarlierRow(
             output.escaped(row_text(row)), row.verdict, row.is_only_counted) for row in audit.rows})
 
     @classmethod
@@ -154,10 +159,11 @@ class Earlier:
             texts = [row.get(name) for name in ("kind", "name", "verdict")] if isinstance(row, dict) else [None]
             if not all(isinstance(text, str) for text in texts):
                 raise ValueError("a row is malformed")
-            key, (kind, name, verdict) = row.get("id"), texts
+            key, user, (kind, name, verdict) = row.get("id"), row.get("user"), texts
             is_stated = row.get("profile") != {"source": None, "sha256": None}
-            rows[kind, key if isinstance(key, str) else name] = EarlierRow(
-                f"{kind} {name}", verdict, is_only_counted(kind, is_stated, verdict))
+            whose_row = f" (of user {user})" if isinstance(user, int) else ""
+            rows[kind, user if isinstance(user, int) else None, key if isinstance(key, str) else name] = EarlierRow(
+                f"{kind} {name}{whose_row}", verdict, is_only_counted(kind, is_stated, verdict))
         return cls(str(value.get("time", "an earlier audit")), rows)
 
 
@@ -204,32 +210,27 @@ def _judgement_json(judgement: StackJudgement, table: Table) -> dict[str, object
     return value
 
 
-def _part_json(row: AuditRow, part: RowPart, numbers: dict[int, int], table: Table) -> dict[str, object]:
-    names = row.names
-    return {**_judgement_json(part.judgement, table), "stack": numbers.get(id(part.stack)),
-            "is_unconfined": part.judgement.is_unconfined,
-            "processes": [{"process": process, "name": output.escaped(names.get(process, b"")), "threads": len(threads)}
-                          for process, threads in part.threads.items()]}
-
-
-def row_json(row: AuditRow, numbers: dict[int, int], table: Table) -> dict[str, object]:
-    """A row; `numbers` are the indexes of stacks by their identities."""
-    container = row.container
-    value: dict[str, object] = {"kind": row.kind, "name": output.escaped(row.name), "verdict": row.verdict,
-                                "is_unconfined": row.is_unconfined}
+def row_json(row: AuditRow, numbers: dict[str, int], table: Table) -> dict[str, object]:
+    """A row; `numbers` are the indexes of stacks by their digests."""
+    container, names = row.container, row.names
+    value: dict[str, object] = {"kind": row.kind, "name": output.escaped(row.name), "id": row.id, "user": row.user,
+                                "verdict": row.verdict, "is_unconfined": row.is_unconfined}
     if container is not None:
         value.update((name, None if value is None else output.escaped(value)) for name, value in (
-            ("id", row.key), ("engine", container.engine), ("runtime", container.runtime), ("image", container.image),
+            ("engine", container.engine), ("runtime", container.runtime), ("image", container.image),
             ("pod", container.pod)))
-        value["user"] = container.user
     value["profile"] = {"source": None if row.expected.source is None else output.escaped(row.expected.source),
                         "sha256": row.expected.digest,
                         **({"why": output.escaped(row.expected.why)} if row.expected.why is not None else {}),
                         **({"changed": True} if container is not None and container.has_changed else {})}
+    parts = [{**_judgement_json(part.judgement, table), "stack": numbers.get(part.stack.digest or ""),
+              "is_unconfined": part.judgement.is_unconfined,
+              "processes": [{"process": process, "name": output.escaped(names.get(process, b"")),
+                             "threads": len(threads)} for process, threads in part.threads.items()]}
+             for part in row.parts]
     return {**value, "capabilities": row.capabilities,
             "no_new_privileges": all(process.has_no_new_privileges for process in row.processes),
-            "users": sorted({process.user for process in row.processes}),
-            "parts": [_part_json(row, part, numbers, table) for part in row.parts]}
+            "users": sorted({process.user for process in row.processes}), "parts": parts}
 
 
 def head_json(audit: Audit, earlier: Earlier | None = None) -> dict[str, object]:
@@ -241,12 +242,11 @@ def head_json(audit: Audit, earlier: Earlier | None = None) -> dict[str, object]
             "seconds": round(audit.seconds, 3),
             "verdicts": {kind: {verdict: audit.counts[kind, verdict] for verdict in AUDIT_VERDICTS}
                          for kind in ROW_KINDS},
-            "processes": {"confined": audit.confined,
-                          "unconfined": audit.unconfined, "unread": len(audit.snapshot.unread)},
+            "processes": {"confined": len(audit.confined), "unconfined": len(audit.unconfined),
+                          "unread": len(audit.unread)},
             "left_out": [output.escaped(line) for line in audit.left_out],
             "notes": [output.escaped(note) for note in audit.snapshot.notes], **since,
-            "stacks": [{"sha256": stack_digest(stack.filters), "filters": [len(data) // 8 for data in stack.filters]}
-                       for stack in audit.stacks]}
+            "stacks": [{"sha256": digest, "filters": list(stack.lengths)} for digest, stack in audit.stacks.items()]}
 
 
 def audit_json(audit: Audit, table: Table, earlier: Earlier | None = None) -> dict[str, object]:
@@ -256,7 +256,7 @@ def audit_json(audit: Audit, table: Table, earlier: Earlier | None = None) -> di
 
 def json_lines(audit: Audit, table: Table, earlier: Earlier | None = None) -> Iterator[dict[str, object]]:
     """An object for each row, and the last one for the whole."""
-    numbers = {id(stack): at for at, stack in enumerate(audit.stacks)}
+    numbers = {digest: at for at, digest in enumerate(audit.stacks)}
     yield from (row_json(row, numbers, table) for row in audit.rows)
     yield head_json(audit, earlier)
 
@@ -270,21 +270,33 @@ def _label(text: str) -> str:
 
 
 def _metrics(audit: Audit) -> Iterator[Metric]:
+    """Each has a label for the user whose things it is about, empty for root, but for those on the audit itself."""
+    def by_user(numbers: Iterable[int]) -> Counter[int | None]:
+        return Counter(process.owner or None for process in map(audit.snapshot.processes.get, numbers) if process)
+
     yield "scf_container_verdict", "The verdict on a container; the label says which.", [
         ([("id", row.key), ("name", row.name), ("engine", row.container.engine), ("image", row.container.image),
-          ("pod", row.container.pod), ("verdict", row.verdict)], 1)
+          ("pod", row.container.pod), ("user", row.user), ("verdict", row.verdict)], 1)
         for row in audit.rows if row.kind == CONTAINER and row.container is not None]
     yield "scf_unit_verdict", "The verdict on a systemd unit; the label says which.", [
-        ([("unit", row.key), ("verdict", row.verdict)], 1) for row in audit.rows if row.kind == UNIT]
+        ([("unit", row.key), ("user", row.user), ("verdict", row.verdict)], 1)
+        for row in audit.rows if row.kind == UNIT]
+    counts = Counter((row.user, row.kind, row.verdict) for row in audit.rows)
     yield "scf_audit_rows", "How many rows of a kind have a verdict.", [
-        ([("kind", kind), ("verdict", verdict)], audit.counts[kind, verdict])
-        for kind in ROW_KINDS for verdict in AUDIT_VERDICTS]
+        ([("kind", kind), ("user", user), ("verdict", verdict)], counts[user, kind, verdict])
+        for user in (None, *sorted({row.user for row in audit.rows} - {None}))
+        for kind in ROW_KINDS for verdict in AUDIT_VERDICTS if user is None or counts[user, kind, verdict]]
+    stacks = {(row.user, part.stack.digest) for row in audit.rows for part in row.parts}
+    for name, help_text, of_user in (
+            ("unconfined_processes", "Processes with a thread that has no seccomp filter.", by_user(audit.unconfined)),
+            ("confined_processes", "Processes with a thread that has a seccomp filter.", by_user(audit.confined)),
+            ("unread_processes", "Confined processes whose filters could not be read.", by_user(audit.unread)),
+            ("distinct_stacks", "Distinct stacks of filters.", Counter(user for user, digest in stacks if digest)),
+            ("not_looked_at", "What could not be looked at, each thing a line of scf audit.",
+             Counter({user: len(lines) for user, lines in audit.snapshot.left_out.items()}))):
+        users = (None, *sorted(of_user.keys() - {None}))
+        yield f"scf_{name}", help_text, [([("user", user)], of_user[user]) for user in users]
     for name, help_text, value in (
-            ("unconfined_processes", "Processes with a thread that has no seccomp filter.", audit.unconfined),
-            ("confined_processes", "Processes with a thread that has a seccomp filter.", audit.confined),
-            ("unread_processes", "Confined processes whose filters could not be read.", len(audit.snapshot.unread)),
-            ("distinct_stacks", "Distinct stacks of filters.", len(audit.stacks)),
-            ("not_looked_at", "What could not be looked at, each thing a line of scf audit.", len(audit.left_out)),
             ("audit_status", "The exit status: 0 as configured, 1 weaker or unconfined, 4 something is not known.",
              audit.status),
             ("audit_seconds", "How long the audit took.", f"{audit.seconds:.3f}"),
@@ -298,6 +310,6 @@ def metrics(audit: Audit) -> str:
     for name, help_text, samples in _metrics(audit):
         lines_of += [f"# HELP {name} {help_text}\n", f"# TYPE {name} gauge\n"]
         for labels, value in samples:
-            shown = ",".join(f'{label}="{_label(text or "")}"' for label, text in labels)
+            shown = ",".join(f'{label}="{_label("" if text is None else str(text))}"' for label, text in labels)
             lines_of.append(f"{name}{{{shown}}} {value}\n" if shown else f"{name} {value}\n")
     return "".join(lines_of)

@@ -7,19 +7,15 @@ import shlex
 from collections.abc import Iterator
 
 from scftools.base import output
-from scftools.model.architectures import I386
 from scftools.model.tables import Table
 from scftools.ask import client
 from scftools.ask.verdicts import OTHERWISE
-from scftools.forms.stacks import Stack
-from scftools.report import compare_output, pages, surfaces
+from scftools.report import pages
 from scftools.report.pages import Markup, Named, c_call, document, joined, listed, preformatted, table, tag
 from scftools.report.surface_output import Groups
-from scftools.report.surfaces import Surface
 from . import audit_output
 from .audit_output import Earlier
-from .audit_rows import (AS_CONFIGURED, NOT_KNOWN, STRICTER, UNIT, WEAKER, Audit, AuditRow, RowPart, StackJudgement,
-                         stack_digest)
+from .audit_rows import AS_CONFIGURED, NOT_KNOWN, STRICTER, UNIT, WEAKER, Audit, AuditRow, RowPart, StackJudgement
 
 PROVED = ("Each comparison of a stack of filters with a profile is proved for all x86-64 syscalls and arguments by "
           "scf; what the files of runtimes and systemd say, and which process belongs to what, isn't.")
@@ -39,8 +35,8 @@ def repeat(row: AuditRow, part: RowPart) -> list[str]:
         return []
     relation = "--no-more " if part.judgement.verdict == WEAKER else ""
     if row.kind == UNIT:
-        comparison = part.judgement.comparison
-        arch = "--arch i386 " if comparison is not None and list(comparison.tables.of) == [I386] else ""
+        architecture = part.judgement.architecture
+        arch = f"--arch {architecture} " if architecture is not None else ""
         return [f"scf unit-profile {arch}{shlex.quote(row.key)} >unit.json",
                 f"scf verify-process {relation}{process} unit.json"]
     runtime = f"--runtime {row.container.runtime} " if row.container is not None and row.container.runtime else ""
@@ -57,13 +53,12 @@ def _head(audit: Audit) -> Iterator[Markup]:
     yield tag("p", PROVED, class_="faint")
 
 
-def _stacks_of(row: AuditRow, audit: Audit) -> Markup:
+def _stacks_of(row: AuditRow, numbers: dict[str | None, int]) -> Markup:
     """The distinct stacks of a row's threads, each with its verdict if they have several."""
-    numbers = {id(stack): at for at, stack in enumerate(audit.stacks)}
     has_several = len({part.judgement.verdict for part in row.parts}) > 1
     items = []
     for part in row.parts:
-        at = numbers.get(id(part.stack))
+        at = numbers.get(part.stack.digest)
         shown = part.judgement.why or part.stack.description if at is None else \
             joined([tag("a", f"stack {at}", href=f"#stack-{at}"), f": {part.stack.description}"])
         items.append(joined([f"{part.judgement.verdict}: " if has_several else "", shown]))
@@ -72,7 +67,7 @@ def _stacks_of(row: AuditRow, audit: Audit) -> Markup:
     return tag("details", tag("summary", f"{len(items)} stacks"), listed(items))
 
 
-def _row(row: AuditRow, audit: Audit) -> list[object]:
+def _row(row: AuditRow, numbers: dict[str | None, int]) -> list[object]:
     capabilities = row.capabilities
     expected, digest = row.expected, row.expected.digest
     source: list[object] = [expected.source or ("nothing is configured" if expected.why is None else
@@ -82,7 +77,7 @@ def _row(row: AuditRow, audit: Audit) -> list[object]:
     processes = [f"{number} {output.escaped(name)}" for number, name in row.names.items()]
     count = audit_output.number_text(len(processes), "process", "processes")
     return [_coloured(row.verdict), joined([row.kind, " ", tag("strong", row.name, class_="long")]),
-            ", ".join(audit_output.about(row)), tag("span", *source, class_="long"), _stacks_of(row, audit),
+            ", ".join(audit_output.about(row)), tag("span", *source, class_="long"), _stacks_of(row, numbers),
             tag("details", tag("summary", str(len(capabilities))), " ".join(capabilities)) if capabilities else "none",
             "yes" if all(process.has_no_new_privileges for process in row.processes) else "no",
             tag("details", tag("summary", count), listed(processes))]
@@ -92,7 +87,8 @@ def _rows(audit: Audit) -> Iterator[Markup]:
     yield tag("h2", "Containers, units and programs")
     head = ("verdict", "what", "engine, image", "profile", "filters", "capabilities", "NoNewPrivs", "processes")
     if audit.rows:
-        yield table(head, (_row(row, audit) for row in audit.rows), "rows")
+        numbers = {digest: at for at, digest in enumerate(audit.stacks)}
+        yield table(head, (_row(row, numbers) for row in audit.rows), "rows")
     else:
         yield tag("p", "There is no container, no unit, and no other program with a filter.")
 
@@ -102,15 +98,14 @@ def _shown(judgement: StackJudgement, table_of: Table) -> Iterator[Markup]:
     shown = judgement.shown
     if judgement.why is not None:
         yield tag("p", judgement.why)
-    if shown is None or shown.call is None or judgement.comparison is None:
+    if shown is None or shown.call is None:
         return
     yield preformatted([c_call(shown.call, table_of)])
     than = "the baseline" if judgement.is_of_baseline else "the profile"
     sides = [(answer.describe() if answer is not None else "unknown") for answer in (shown.filters, shown.profile)]
     yield listed((f"the filters answer {sides[0]}", f"{than} answers {sides[1]}"))
-    lines = list(compare_output.difference_lines(judgement.comparison, shown))
-    if lines:
-        yield preformatted(lines)
+    if judgement.lines:
+        yield preformatted(judgement.lines)
 
 
 def _findings(audit: Audit, table_of: Table) -> Iterator[Markup]:
@@ -124,7 +119,7 @@ def _findings(audit: Audit, table_of: Table) -> Iterator[Markup]:
     alike: dict[object, list[tuple[AuditRow, RowPart]]] = {}
     for row, part in bad:
         judgement = part.judgement
-        reason = (judgement.verdict, judgement.why) if judgement.shown is None else id(judgement)
+        reason = row.user, judgement.verdict, judgement.why, judgement.shown
         alike.setdefault(reason, []).append((row, part))
     for pairs in alike.values():
         names = dict.fromkeys(audit_output.row_text(row) for row, _ in pairs)
@@ -134,18 +129,6 @@ def _findings(audit: Audit, table_of: Table) -> Iterator[Markup]:
         if commands:
             yield tag("p", "To repeat it:")
             yield preformatted(commands)
-
-
-def _surfaces(stacks: list[Stack], table_of: Table) -> list[Surface | None]:
-    """The surface of each stack, with a limit of its own; None if scf refuses the stack."""
-    surfaces_of_stacks: list[Surface | None] = []
-    for stack in stacks:
-        client.begin_limits()
-        try:
-            surfaces_of_stacks.append(surfaces.surface_of_filters(stack.filters, table_of))
-        except client.Refusal:
-            surfaces_of_stacks.append(None)
-    return surfaces_of_stacks
 
 
 def _since(audit: Audit, earlier: Earlier | None) -> Iterator[Markup]:
@@ -160,8 +143,8 @@ def _since(audit: Audit, earlier: Earlier | None) -> Iterator[Markup]:
 
 def _stacks(audit: Audit, table_of: Table) -> Iterator[Markup]:
     groups = Groups()
-    stacks = [Named(f"stack {at}", surface, stack.description, stack_digest(stack.filters)) for at, (stack, surface)
-              in enumerate(zip(audit.stacks, _surfaces(audit.stacks, table_of)))]
+    stacks = [Named(f"stack {at}", audit.surfaces.get(digest), stack.description, digest)
+              for at, (digest, stack) in enumerate(audit.stacks.items())]
     if not stacks:
         return
     yield from pages.matrix(stacks, groups)
@@ -172,6 +155,6 @@ def _stacks(audit: Audit, table_of: Table) -> Iterator[Markup]:
 
 
 def page(audit: Audit, table_of: Table, earlier: Earlier | None = None) -> str:
-    """The page, with the changes since an earlier audit; scf is asked for the surface of each stack."""
+    """The page, with the changes since an earlier audit."""
     return document(f"seccomp audit of {os.uname().nodename}", *_head(audit), *_since(audit, earlier), *_rows(audit),
                     *_findings(audit, table_of), *_stacks(audit, table_of))

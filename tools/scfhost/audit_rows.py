@@ -6,13 +6,14 @@ import os
 from collections import Counter
 from collections.abc import Sequence
 
-from scftools.base import program
+from scftools.base import output, program
 from scftools.base.values import dataclass, field
 from scftools.model import bundles
+from scftools.model.profiles import not_compared_of, reading_of
 from scftools.ask.verdicts import OTHERWISE, Verdict
 from scftools.forms import engines
-from scftools.forms.stacks import Stack
-from scftools.report.compare import Comparison
+from scftools.forms.stacks import description
+from scftools.report.pages import ShownSurface
 from .container_files import ContainerDescription
 from .machine import Process, Snapshot
 from .verify import Request
@@ -52,8 +53,24 @@ class Expectation:
     doubt: str | None = None
     # a filter that the processes may have beside, which only denies more
     beside: bytes = b""
+    # a container's settings, of which it isn't known yet what they mean, and its runtime
+    settings: str | None = None
+    runtime: str | None = None
     # the SHA-256 of a profile that isn't kept
     dropped: str | None = None
+
+    @property
+    def is_unresolved(self) -> bool:
+        """Whether it isn't known yet what settings mean."""
+        return self.settings is not None and self.dropped is None and self.why is None
+
+    @property
+    def key(self) -> str:
+        """What tells it from others with another meaning."""
+        requests = [(request.profile, reading_of(request.profile), not_compared_of(request.profile), request.elsewhere,
+                     request.applied and request.applied.stub) for request in (self.asked, *self.others) if request]
+        return sha256(repr((self.settings, self.runtime, requests, self.doubt, self.beside)).encode(
+            "utf-8", "surrogatepass"))
 
     @property
     def digest(self) -> str | None:
@@ -63,7 +80,7 @@ class Expectation:
     @property
     def is_stated(self) -> bool:
         """Whether it is stated how the processes are confined, or isn't known whether it is."""
-        return self.digest is not None or self.why is not None
+        return self.digest is not None or self.why is not None or self.is_unresolved
 
 
 @dataclass(frozen=True)
@@ -75,8 +92,9 @@ class StackJudgement:
     shown: Verdict | None = None
     # the OCI names of architectures that the profile also names: their syscalls aren't compared
     not_compared: tuple[str, ...] = ()
-    # the comparison that scf made, if there was one
-    comparison: Comparison | None = None
+    # the lines that explain the call, and the architecture if i386 alone was compared
+    lines: tuple[str, ...] = ()
+    architecture: str | None = None
     # whether it is weaker than the baseline, not than what is configured
     is_of_baseline: bool = False
     # whether the threads have neither a filter nor the strict mode
@@ -88,11 +106,25 @@ class StackJudgement:
         return not self.is_unconfined, AUDIT_VERDICTS.index(self.verdict)
 
 
+@dataclass(frozen=True)
+class StackShape:
+    """A stack without its bytes: the lengths of its filters, and the SHA-256 of their bundle, None if that isn't known
+    or there are none."""
+
+    lengths: tuple[int, ...] = ()
+    is_strict: bool = False
+    digest: str | None = None
+
+    @property
+    def description(self) -> str:
+        return description(self.lengths, self.is_strict)
+
+
 @dataclass
 class RowPart:
     """A distinct stack of a row's threads."""
 
-    stack: Stack
+    stack: StackShape
     # the threads that have it, by their processes
     threads: dict[int, list[int]]
     judgement: StackJudgement
@@ -109,16 +141,20 @@ class AuditRow:
     processes: list[Process]
     expected: Expectation
     container: ContainerDescription | None = None
+    # the ID of the user who alone describes it, or whose processes it has; None for root
+    user: int | None = None
     parts: list[RowPart] = field(default_factory=list)
+    # of its stacks, by their indexes, the SHA-256 of the bundle and the verdict; None of one that waits for these
+    judged: dict[int, tuple[str, StackJudgement] | None] = field(default_factory=dict)
+
+    @property
+    def waits(self) -> bool:
+        """Whether a child has to judge something of it."""
+        return self.expected.is_unresolved or None in self.judged.values()
 
     @property
     def worst(self) -> StackJudgement:
         return min((part.judgement for part in self.parts), key=lambda judgement: judgement.order)
-
-    @property
-    def user(self) -> int | None:
-        """The user who alone describes it, if one does."""
-        return self.container.user if self.container is not None else None
 
     @property
     def verdict(self) -> str:
@@ -146,9 +182,15 @@ class AuditRow:
         return engines.capabilities_in(held)
 
     @property
-    def order(self) -> tuple[bool, int, int, str, str]:
+    def order(self) -> tuple[bool, int, int, str, str, int]:
         """Where it stands: unconfined containers and units first."""
-        return (*self.worst.order, ROW_KINDS.index(self.kind), self.name, self.key)
+        return (*self.worst.order, ROW_KINDS.index(self.kind), self.name, self.key, self.user or 0)
+
+    @property
+    def id(self) -> str:
+        """A text that no other row of its kind has, as one line."""
+        key = output.escaped(self.key.replace("\\", "\\\\"))
+        return key if self.user is None else f"user {self.user}: {key}"
 
     @property
     def name(self) -> str:
@@ -170,35 +212,56 @@ class Audit:
     # the seconds since 1970 at the beginning, and those that passed
     time: float
     seconds: float = 0.0
-    left_out: list[str] = field(default_factory=list)
     allows_unconfined: bool = False
+    # what stacks allow, by their digests
+    surfaces: dict[str, ShownSurface] = field(default_factory=dict)
 
     @property
     def status(self) -> int:
+        """What is bad of root's is; of a user's it is no more than unknown, since the user may have described it so."""
         bad = {WEAKER, UNCONFINED_THOUGH, *([] if self.allows_unconfined else [BY_CONFIGURATION])}
-        if any(row.verdict in bad or row.is_unconfined and row.verdict == NOT_KNOWN for row in self.rows):
+        is_bad = {row.user is None: True for row in self.rows
+                  if row.verdict in bad or row.is_unconfined and row.verdict == NOT_KNOWN}
+        if True in is_bad:
             return program.NEGATIVE
-        is_unknown = self.left_out or any(row.verdict == NOT_KNOWN for row in self.rows)
+        is_unknown = is_bad or self.left_out or any(row.verdict == NOT_KNOWN for row in self.rows)
         return program.UNKNOWN if is_unknown else program.SUCCESS
+
+    @property
+    def left_out(self) -> list[str]:
+        """Lines on what wasn't looked at."""
+        return [line for lines in self.snapshot.left_out.values() for line in lines]
 
     @property
     def counts(self) -> Counter[tuple[str, str]]:
         return Counter((row.kind, row.verdict) for row in self.rows)
 
     @property
-    def confined(self) -> int:
+    def confined(self) -> list[int]:
         """The processes with a filter in some thread."""
-        return sum(process.is_confined for process in self.snapshot.processes.values())
+        return [number for number, process in self.snapshot.processes.items() if process.is_confined]
 
     @property
-    def unconfined(self) -> int:
-        """The processes without a filter in some thread."""
-        return len(self.snapshot.unconfined)
+    def unconfined(self) -> set[int]:
+        """The processes with a thread that has no filter."""
+        parts = (part for row in self.rows for part in row.parts if part.judgement.is_unconfined)
+        return {*self.snapshot.processes} - {*self.confined} | {number for part in parts for number in part.threads}
 
     @property
-    def stacks(self) -> list[Stack]:
-        """The distinct stacks that some thread has."""
-        return [stack for stack in self.snapshot.stacks.values() if stack.threads and stack.filters]
+    def unread(self) -> set[int]:
+        """The processes whose filters couldn't be read: of no thread it is known what it has."""
+        return {number for row in self.rows for part in row.parts
+                for number, threads in part.threads.items() if not threads}
+
+    @property
+    def stacks(self) -> dict[str, StackShape]:
+        """The distinct stacks that some thread has, by their digests: root's first."""
+        stacks: dict[str, StackShape] = {}
+        for row in sorted(self.rows, key=lambda row: row.user is not None):
+            for part in row.parts:
+                if part.stack.digest is not None:
+                    stacks.setdefault(part.stack.digest, part.stack)
+        return stacks
 
 
 def stack_digest(filters: Sequence[bytes]) -> str:

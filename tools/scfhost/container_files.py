@@ -3,7 +3,7 @@
 runc and crun keep a folder for each container, in which they name its first process and its bundle; the bundle holds
 config.json, which the engine wrote. podman, CRI-O, containerd and Docker keep names, images and pods beside it. What a
 user could have written describes only processes of that user, and no process that root's files or a unit's settings
-speak of. It is read in a child process (`child`), which ends in time.
+speak of. It is read by a child that has that user's rights (`child`), so it has nothing that the user can't read.
 
 A container's own control group is the one that its runtime's file states, or that a runtime names so; of a container
 without one, the processes are those of its PID namespace; and of one with neither, its first process and that one's
@@ -13,17 +13,16 @@ from __future__ import annotations
 
 import json
 import os
-import time
 from collections.abc import Callable, Iterable, Iterator, Sequence
 
 from scftools.base import child
-from scftools.base.values import Any, Pattern, dataclass, field, replace
+from scftools.base.values import Any, Pattern, dataclass, replace
 from scftools.model import profiles
 from scftools.forms import engines
-from . import containers, owned_files, started_profiles
-from .machine import Process, ancestors
-from .owned_files import ANYONE, Absent, UnreadableFile
-from .ptrace import Kernel, contents, ticks_at_start
+from . import configurations, containers, owned_files, started_profiles
+from .machine import Process, Snapshot, inherited
+from .owned_files import Absent, UnreadableFile
+from .ptrace import Kernel, ticks_at_start
 
 # Where runtimes keep the folders of containers: runc and crun for root, containerd and Docker by namespaces, and both
 # for each user in a folder called by the user's ID.
@@ -47,15 +46,10 @@ IMAGE_ANNOTATIONS = ("io.kubernetes.cri.image-name", "io.kubernetes.cri-o.ImageN
 POD_ANNOTATIONS = (("io.kubernetes.pod.namespace", "io.kubernetes.pod.name"),
                    ("io.kubernetes.cri.sandbox-namespace", "io.kubernetes.cri.sandbox-name"))
 SANDBOX_ANNOTATIONS = ("io.kubernetes.cri-o.SandboxID", "io.kubernetes.cri.sandbox-id")
-# The most bytes of a runtime's file (runc's has the profile again: 35 KB with podman's) of a user and of root, of a
-# config.json, and of a file of an engine, of which storage has one for all containers.
-STATE_BYTES, STATE_BYTES_OF_ROOT, CONFIG_BYTES, ENGINE_BYTES = 1 << 16, 1 << 22, 1 << 22, 1 << 22
-# The most folders of containers of a user that are looked at; and how long reading what a user's runtimes have in them
-# may take, and of all users, and what each user has in any case, in seconds.
-MOST_OF_A_USER, READING_SECONDS_OF_A_USER, READING_SECONDS_OF_USERS, LEAST_READING_SECONDS = 200, 2.0, 10.0, 0.25
-
-# The count of IDs in the initial user namespace, and the ID that stands for none (user_namespaces(7)).
-NO_USER = (1 << 32) - 1
+# The most bytes of a file of a runtime or an engine; storage has one for all containers.
+MOST_BYTES = 1 << 22
+# The most folders of containers of a user that are looked at.
+MOST_OF_A_USER = 200
 # The units that run processes of their own (systemd.exec(5)), as the name of a control group has them; systemd puts `_`
 # before a name that would mean something else there (cg_escape of its basic/cgroup-util.c).
 UNIT_GROUP = Pattern(rb"_?([A-Za-z0-9:_.\\@-]{1,255}\.(?:service|socket|mount|swap))")
@@ -81,9 +75,10 @@ class ContainerDescription:
     first: int
     # the path of its config.json, and what that holds, or why it isn't known
     config: str
-    configuration: Any = None
+    # the seccomp settings in it, as a config.json with nothing else, or why they aren't known
+    seccomp: str | None = None
     why: str | None = None
-    # whether the seccomp settings in it aren't those that the container was started with, which are judged
+    # whether these aren't those that the container was started with, which are judged
     has_changed: bool = False
     name: str | None = None
     image: str | None = None
@@ -91,50 +86,10 @@ class ContainerDescription:
     # the folder of its runtime's files, and the control groups that these state, as paths or ends of paths
     folder: str = ""
     groups: tuple[bytes, ...] = ()
-    # the ID of the user who could have written its runtime's files; None if only root could
+    # the ID of the user who alone describes it; None if root does
     user: int | None = None
-
-    @property
-    def place(self) -> tuple[object, ...]:
-        """Where the description stands: a folder and a process, or else the control group whose name is all."""
-        return (self.folder, self.first) if self.folder else self.groups
-
-    def read(self, path: str, most: int) -> bytes:
-        """The bytes of a file that says more about it: of a user's container only one that this user could have
-        written, and of root's only one that no user could have."""
-        data, users = owned_files.read_owned_file(path, most)
-        others = {user for user in users - {self.user} if not is_mapped(self.first, user)}
-        if self.user is not None and (not users or others - {ANYONE}):
-            raise UnreadableFile(f"'{path}' isn't user {self.user}'s own")
-        if self.user is None and others - {0}:
-            raise UnreadableFile(f"'{path}' may be changed by {named_users(others - {0})}")
-        return data
-
-
-def named_users(users: Iterable[int]) -> str:
-    """Users by their IDs."""
-    return " and ".join("any user" if user == ANYONE else f"user {user}" for user in sorted(users))
-
-
-def is_mapped(process: int, user: int) -> bool:
-    """Whether a user ID is one of a process's own user namespace, and not of the initial one: the container's."""
-    ranges = [tuple(map(int, line.split())) for line in contents(f"/proc/{process}/uid_map").splitlines()]
-    return any(first <= user < first + count for _, first, count in ranges if count < NO_USER)
-
-
-def paths_matching(pattern: str) -> list[str]:
-    """The paths that match a pattern (glob(7)), in order; a path without wildcards, whether or not it is there."""
-    import glob  # pylint: disable=import-outside-toplevel
-
-    return sorted(glob.glob(pattern)) if glob.has_magic(pattern) else [pattern]
-
-
-def is_there(pattern: str) -> bool:
-    """Whether a folder matches a pattern, or that isn't known soon: a user may answer, and never."""
-    try:
-        return child.run_in_child(lambda: any(map(os.path.isdir, paths_matching(pattern))), READING_SECONDS_OF_A_USER)
-    except (child.Late, child.Died):
-        return True
+    # when its first process started, if its runtime's file says so
+    started: int | None = None
 
 
 def _object(read: Callable[[str, int], bytes], path: str, most: int) -> Any:
@@ -172,157 +127,220 @@ def _of_crun(value: Any) -> tuple[Any, str | None, Any, Any]:
     return value.get("pid"), _text(value, "bundle"), value.get("process-start-time"), [value.get("cgroup-path")]
 
 
-def _user_of(path: str, users: frozenset[int]) -> int | None:
-    """The user who could have written a file, None if only root could."""
-    if len(users) > 1 or ANYONE in users:
-        raise UnreadableFile(f"'{path}' may be changed by {named_users(users - {0})}")
-    return next(iter(users), None)
+# What a child answers: a container, with the number of its settings, which are answered before, each once; a line on
+# what can't be read; a note; and a folder of a user who reads it.
+CONTAINER = {"identifier": str, "engine": str, "runtime": (str, None), "first": int, "started": (int, None),
+             "config": str, "seccomp": (int, None), "why": (str, None), "has_changed": bool, "name": (str, None),
+             "image": (str, None), "pod": (str, None), "folder": str, "groups": [str]}
+ANSWER = (CONTAINER, {"settings": str}, {"left_out": str}, {"note": str}, {"user": int, "folder": str})
+Send = Callable[[object], object]
 
 
-def _runs(first: Any, started: Any) -> bool:
-    """Whether the first process of a container still runs, given its number and the time of its start."""
-    ticks = ticks_at_start(first) if type(first) is int and 0 < first < 2**31 else None
-    return ticks is not None and not (type(started) is int and started and started != ticks)
+class Reader:
+    """Reads the files of containers, in a child, and sends what they say: root's own files, or all that a user may read
+    who is this process's."""
 
+    def __init__(self, send: Send, is_root: bool) -> None:
+        self.send, self.read = send, owned_files.read_own if is_root else owned_files.read_file
+        self.names = Names(self.read)
+        self.settings: dict[str | None, int | None] = {None: None}
+        self.unread: list[str] = []
 
-def _state_in(kernel: Kernel, folder: str) -> ContainerDescription | None:
-    """The container of a runtime's folder, if its first process runs. Raises UnreadableFile if a file is there that
-    isn't the runtime's."""
-    for name, runtime in STATE_FILES.items():
-        path = os.path.join(folder, name)
+    def state_in(self, folder: str) -> ContainerDescription | None:
+        """The container of a runtime's folder. Raises UnreadableFile if a file is there that isn't the runtime's."""
+        for name, runtime in STATE_FILES.items():
+            path = os.path.join(folder, name)
+            try:
+                value = json.loads(self.read(path, MOST_BYTES).decode("utf-8"))
+            except Absent:
+                continue
+            except (ValueError, RecursionError) as error:
+                raise UnreadableFile(f"'{path}' isn't JSON") from error
+            if not isinstance(value, dict):
+                raise UnreadableFile(f"'{path}' isn't an object")
+            first, bundle, started, groups = _of_runc(value) if runtime == "runc" else _of_crun(value)
+            paths = tuple(group.encode("utf-8", "backslashreplace") for group in groups
+                          if isinstance(group, str) and group.strip("/"))
+            config = os.path.join(bundle, "config.json") if bundle and bundle.startswith("/") else ""
+            return ContainerDescription(os.path.basename(folder), runtime, runtime, first, config, folder=folder,
+                                        groups=paths, started=started)
+        return None
+
+    def of_engine(self, folder: str) -> ContainerDescription | None:
+        """The container of a bundle of containerd's, of which only an engine's own files are known."""
         try:
-            data, users = owned_files.read_owned_file(path, STATE_BYTES_OF_ROOT, STATE_BYTES)
+            first = int(self.read(os.path.join(folder, "init.pid"), MOST_BYTES)[:12])
+        except Absent:
+            return None
+        return ContainerDescription(os.path.basename(folder), "containerd", None, first,
+                                    os.path.join(folder, "config.json"), folder=folder)
+
+    def add(self, read: Callable[[str], ContainerDescription | None], folder: str) -> None:
+        """Sends what is read of a folder; whatever is raised meanwhile concerns no other container."""
+        try:
+            container = read(folder)
+            if container is not None and _number(container.first):
+                self.send_container(self.with_config(container))
+        except UnreadableFile as why:
+            self.unread.append(str(why))
+        except Exception as error:  # pylint: disable=broad-exception-caught
+            self.unread.append(f"'{folder}' can't be read: {type(error).__name__}")
+
+    def add_all(self, folder: str) -> None:
+        """Sends the containers that a runtime has in a folder."""
+        try:
+            names, is_all = owned_files.names_in(folder, MOST_OF_A_USER)
+        except UnreadableFile as why:
+            self.unread.append(str(why))
+            return
+        for name in names:
+            self.add(self.state_in, os.path.join(folder, name))
+        if not is_all:
+            self.send({"left_out": f"all but {MOST_OF_A_USER} of the folders of containers in {folder}"})
+
+    def with_config(self, container: ContainerDescription) -> ContainerDescription:
+        """The container with what its config.json says, as it was started, or with the reason why that isn't known."""
+        if not container.config:
+            return replace(container, why="its runtime's files name no bundle")
+        try:
+            configuration = engines.parse_json(self.read(container.config, MOST_BYTES))
+            container = with_engine(container, configuration, self.names)
+            container, configuration = self.as_started(container, configuration)
+            seccomp = configurations.seccomp_in(configuration, container.config)
+            return replace(container, seccomp=None if seccomp is None else json.dumps(seccomp))
+        except (UnreadableFile, configurations.ContainerError) as why:
+            return replace(container, why=str(why))
+        except profiles.Refused as why:
+            return replace(container, why=f"'{container.config}': {why}")
+        except Exception as error:  # pylint: disable=broad-exception-caught
+            return replace(container, why=f"'{container.config}' can't be read: {type(error).__name__}")
+
+    def as_started(self, container: ContainerDescription, configuration: Any) -> tuple[ContainerDescription, Any]:
+        """A container and its configuration, with the seccomp settings that runc started it with, if its config.json
+        has others by now."""
+        linux = configuration.get("linux") or {} if isinstance(configuration, dict) else {}
+        try:
+            state = _object(self.read, os.path.join(container.folder, "state.json"), MOST_BYTES)
+            started = started_profiles.seccomp_of(state)
+            if container.runtime != "runc" or started_profiles.state_same(started, linux.get("seccomp")):
+                return container, configuration
+        except (LookupError, TypeError, AttributeError):
+            return container, configuration
+        return replace(container, has_changed=True), {**configuration, "linux": {**linux, "seccomp": started}}
+
+    def send_container(self, container: ContainerDescription) -> None:
+        if container.seccomp not in self.settings:
+            self.settings[container.seccomp] = len(self.settings) - 1
+            self.send({"settings": container.seccomp})
+        members = {name: getattr(container, name) for name in CONTAINER}
+        self.send({**members, "seccomp": self.settings[container.seccomp], "started": _number(container.started),
+                   "groups": list(map(os.fsdecode, container.groups))})
+
+
+def _number(value: Any) -> int | None:
+    """A value that may be the number or the start of a process."""
+    return value if type(value) is int and 0 < value < 1 << 62 else None
+
+
+def _send_roots(send: Send, more_roots: Sequence[str]) -> None:
+    """Sends the containers that root's own files describe, and the folders of users."""
+    import glob  # pylint: disable=import-outside-toplevel
+
+    reader = Reader(send, True)
+    for pattern, read in (*((f"{root}/*", reader.state_in) for root in ROOTS),
+                          *((f"{root}/io.containerd.runtime.v2.task/*/*", reader.of_engine) for root in CONTAINERD)):
+        for folder in sorted(glob.glob(pattern)):
+            reader.add(read, folder)
+    owned_files.leave_users_mounts()
+    places = []
+    for root in more_roots:
+        folders = sorted(glob.glob(os.path.abspath(root)))
+        places += folders
+        if not folders:
+            send({"note": f"no folder is --runtime-root {root}"})
+    places += [os.path.join(OF_USERS, user, root) for user in owned_files.names_in(OF_USERS, 1 << 16)[0]
+               for root in ROOTS_OF_USERS]
+    for place in places:
+        try:
+            user = owned_files.writer_of(place)
         except Absent:
             continue
-        user = _user_of(path, users)
-        try:
-            value = json.loads(data.decode("utf-8"))
-        except (ValueError, RecursionError) as error:
-            raise UnreadableFile(f"'{path}' isn't JSON") from error
-        if not isinstance(value, dict):
-            raise UnreadableFile(f"'{path}' isn't an object")
-        first, bundle, started, groups = _of_runc(value) if runtime == "runc" else _of_crun(value)
-        if not _runs(first, started) or user is not None and not _is_of_user(kernel, first, user):
-            return None
-        config = os.path.join(bundle, "config.json") if bundle and bundle.startswith("/") else ""
-        paths = tuple(group.encode("utf-8", "backslashreplace") for group in groups
-                      if isinstance(group, str) and group.strip("/"))
-        return ContainerDescription(os.path.basename(folder), runtime, runtime, first, config, folder=folder,
-                                    groups=paths, user=user)
-    return None
+        if user is None:
+            reader.add_all(place)
+        elif user == owned_files.ANYONE:
+            reader.unread.append(f"'{place}' may be changed by any user")
+        else:
+            send({"user": user, "folder": place})
+    for line in reader.unread:
+        send({"left_out": line})
 
 
-@dataclass
-class Descriptions:
-    """The containers that files describe, and lines on what couldn't be read."""
-
-    containers: list[ContainerDescription] = field(default_factory=list)
-    left_out: list[str] = field(default_factory=list)
-
-    def add(self, read: Callable[[Kernel, str], ContainerDescription | None], kernel: Kernel, folder: str) -> None:
-        """Adds what is read of a folder; whatever is raised meanwhile concerns no other container."""
-        try:
-            container = read(kernel, folder)
-            if container is not None:
-                self.containers.append(container)
-        except child.Interrupted:
-            raise
-        except UnreadableFile as why:
-            self.left_out.append(str(why))
-        except Exception as error:  # pylint: disable=broad-exception-caught
-            self.left_out.append(f"'{folder}' can't be read: {type(error).__name__}")
+def _send_users(send: Send, user: int, folders: Sequence[str]) -> None:
+    """Sends the containers that a user's files describe."""
+    owned_files.leave_users_mounts()
+    child.become(user)
+    reader = Reader(send, False)
+    for folder in folders:
+        reader.add_all(folder)
+    if reader.unread:
+        send({"left_out": f"{len(reader.unread)} of the folders of containers: {reader.unread[0]}"})
 
 
-def _of_engine(_: Kernel, folder: str) -> ContainerDescription | None:
-    """The container of a bundle of containerd's, of which only an engine's own files are known."""
-    path = os.path.join(folder, "init.pid")
-    try:
-        data, users = owned_files.read_owned_file(path, STATE_BYTES)
-    except Absent:
-        return None
-    first = int(data[:12])
-    if not _runs(first, None):
-        return None
-    return ContainerDescription(os.path.basename(folder), "containerd", None, first,
-                                os.path.join(folder, "config.json"), folder=folder, user=_user_of(path, users))
-
-
-def _of_root(kernel: Kernel) -> Descriptions:
-    """The containers that root's own files describe."""
-    descriptions = Descriptions()
-    for pattern, read in (*((f"{root}/*", _state_in) for root in ROOTS),
-                          *((f"{root}/io.containerd.runtime.v2.task/*/*", _of_engine) for root in CONTAINERD)):
-        for folder in paths_matching(pattern):
-            descriptions.add(read, kernel, folder)
-    return descriptions
-
-
-def _in_roots(kernel: Kernel, patterns: Iterable[str], whose: str) -> Descriptions:
-    """The containers in folders of runtimes that may be a user's, with a line for all that can't be read."""
-    listing, more = Descriptions(), []
-    for root in (path for pattern in patterns for path in paths_matching(pattern)):
-        try:
-            names, is_all = owned_files.names_in(root, MOST_OF_A_USER)
-        except UnreadableFile as why:
-            listing.left_out.append(str(why))
-            continue
-        for name in sorted(names):
-            listing.add(_state_in, kernel, os.path.join(root, name))
-        if not is_all:
-            more = [f"all but {MOST_OF_A_USER} of the folders of containers {whose}"]
-    count = len(listing.left_out)
-    listing.left_out = [f"{count} of the folders of containers {whose}: {line}" for line in listing.left_out[:1]] + more
-    return listing
-
-
-def _in_child(kernel: Kernel, patterns: Iterable[str], whose: str, seconds: float) -> Descriptions:
-    """The containers in these folders, read in a child process, which ends in time whatever file system a user
-    has put there."""
-    try:
-        return child.run_in_child(lambda: _in_roots(kernel, patterns, whose), seconds)
-    except child.Interrupted:
-        raise
-    except (child.Late, child.Died):
-        why = f"within {seconds:.2g} seconds"
-    except Exception as error:  # pylint: disable=broad-exception-caught
-        why = type(error).__name__
-    return Descriptions([], [f"the folders of containers {whose}: they can't be read ({why})"])
-
-
-def descriptions_of(kernel: Kernel, more_roots: tuple[str, ...] = ()) -> Descriptions:
-    """The containers that run, each once, those first that only root could have described; `more_roots` are further
-    folders in which runtimes keep theirs."""
-    until, every = time.monotonic() + READING_SECONDS_OF_USERS, [_of_root(kernel)]
-    places = [([os.path.abspath(root)], f"in {root}") for root in more_roots]
-    try:
-        users = owned_files.names_in(OF_USERS, 0)[0]
-    except UnreadableFile as why:
-        users, every = [], [*every, Descriptions([], [str(why)])]
-    places += [([os.path.join(OF_USERS, user, root) for root in ROOTS_OF_USERS], f"of user {user}") for user in users]
-    for patterns, whose in places:
-        seconds = max(LEAST_READING_SECONDS, min(READING_SECONDS_OF_A_USER, until - time.monotonic()))
-        every.append(_in_child(kernel, patterns, whose, seconds))
+def described_containers(kernel: Kernel, snapshot: Snapshot, more_roots: Sequence[str],
+                         budget: child.Budget) -> list[ContainerDescription]:
+    """The containers that run, each once, those first that root's own files describe; `more_roots` are further folders
+    in which runtimes keep theirs."""
     by_first: dict[int, ContainerDescription] = {}
-    every_container = (container for listing in every for container in listing.containers)
-    for container in sorted(every_container, key=lambda container: container.user is not None):
-        by_first.setdefault(container.first, container)
-    return Descriptions(list(by_first.values()), [line for listing in every for line in listing.left_out])
+    folders_of_users: dict[int, list[str]] = {}
+
+    def ask(work: Callable[[Send], object], seconds: float, user: int | None) -> None:
+        """Takes the answers of a child that reads root's files, or a user's."""
+        settings: list[str] = []
+
+        def receive(value: Any) -> None:
+            value = child.checked(value, ANSWER)
+            if "identifier" in value:
+                container = ContainerDescription(**{
+                    **value, "seccomp": None if value["seccomp"] is None else settings[value["seccomp"]], "user": user,
+                    "groups": tuple(map(os.fsencode, value["groups"]))})
+                ticks = ticks_at_start(container.first)
+                if ticks is not None and container.started in (None, ticks) and (
+                        user is None or _is_of_user(kernel, container.first, user)):
+                    by_first.setdefault(container.first, container)
+            elif "settings" in value:
+                settings.append(value["settings"])
+            elif "left_out" in value:
+                snapshot.leave_out(value["left_out"], user)
+            elif user is None and "note" in value:
+                snapshot.notes.append(value["note"])
+            elif user is None:
+                folders_of_users.setdefault(value["user"], []).append(value["folder"])
+
+        try:
+            child.ask(work, seconds, receive)
+        except child.Lost as why:
+            snapshot.leave_out(f"the folders of containers can't be read: {why}", user)
+
+    ask(lambda send: _send_roots(send, more_roots), child.LONGEST, None)
+    for (user, folders), seconds in budget.shares(sorted(folders_of_users.items())):
+        ask(lambda send, user=user, folders=folders: _send_users(send, user, folders), seconds, user)
+    return list(by_first.values())
 
 
 class Names:
     """The names and images of containers in the storage of podman or CRI-O, read once for each storage."""
 
-    def __init__(self) -> None:
-        self.of_storage: dict[tuple[str, int | None], dict[str, tuple[str | None, str | None]]] = {}
+    def __init__(self, read: Callable[[str, int], bytes]) -> None:
+        self.read = read
+        self.of_storage: dict[str, dict[str, tuple[str | None, str | None]]] = {}
 
-    def of(self, container: ContainerDescription, folder: str, identifier: str) -> tuple[str | None, str | None]:
+    def of(self, folder: str, identifier: str) -> tuple[str | None, str | None]:
         """The name and the image of a container in a storage."""
-        if (folder, container.user) not in self.of_storage:
-            listed = _object(container.read, os.path.join(folder, "containers.json"), ENGINE_BYTES)
-            self.of_storage[folder, container.user] = {
-                entry["id"]: self._in(entry) for entry in (listed if isinstance(listed, list) else ())
-                if _text(entry, "id")}
-        return self.of_storage[folder, container.user].get(identifier, (None, None))
+        if folder not in self.of_storage:
+            listed = _object(self.read, os.path.join(folder, "containers.json"), MOST_BYTES)
+            self.of_storage[folder] = {entry["id"]: self._in(entry) for entry in
+                                       (listed if isinstance(listed, list) else ()) if _text(entry, "id")}
+        return self.of_storage[folder].get(identifier, (None, None))
 
     @staticmethod
     def _in(value: dict[str, Any]) -> tuple[str | None, str | None]:
@@ -336,21 +354,21 @@ class Names:
                 _text(metadata, "image-name"))
 
 
-def with_engine(container: ContainerDescription, names: Names) -> ContainerDescription:
+def with_engine(container: ContainerDescription, configuration: Any, names: Names) -> ContainerDescription:
     """The container with the name, image and pod that its engine gives it."""
-    annotations = container.configuration.get("annotations") if isinstance(container.configuration, dict) else None
+    annotations = configuration.get("annotations") if isinstance(configuration, dict) else None
     bundle = os.path.dirname(container.config)
     task, storage = TASK_BUNDLE.fullmatch(bundle), STORAGE_BUNDLE.fullmatch(bundle)
     engine = MANAGER.get(_text(annotations, "io.container.manager") or "")
     name, image = _text(annotations, *NAME_ANNOTATIONS), _text(annotations, *IMAGE_ANNOTATIONS)
     if storage:
         engine = engine or "podman"
-        stored = names.of(container, storage[1], storage[2])
+        stored = names.of(storage[1], storage[2])
         name, image = name or stored[0], image or stored[1]
     elif task and task[1] == "moby":
         engine = "Docker"
         path = os.path.join(DOCKER_CONTAINERS, container.identifier, "config.v2.json")
-        value = _object(container.read, path, ENGINE_BYTES)
+        value = _object(names.read, path, MOST_BYTES)
         name = (_text(value, "Name") or "").removeprefix("/") or None
         image = _text(value.get("Config") if isinstance(value, dict) else None, "Image")
     elif task:
@@ -358,38 +376,6 @@ def with_engine(container: ContainerDescription, names: Names) -> ContainerDescr
     pods = ((_text(annotations, space) or "", _text(annotations, pod)) for space, pod in POD_ANNOTATIONS)
     pod = next((f"{space}/{pod}" for space, pod in pods if pod), None) or _text(annotations, *SANDBOX_ANNOTATIONS)
     return replace(container, engine=engine or container.engine, name=name, image=image, pod=pod)
-
-
-def _as_started(container: ContainerDescription) -> ContainerDescription:
-    """The container with the seccomp settings that runc started it with, if its config.json has others by now."""
-    configuration = container.configuration
-    if container.runtime != "runc" or not container.folder or not isinstance(configuration, dict):
-        return container
-    most = STATE_BYTES_OF_ROOT if container.user is None else STATE_BYTES
-    linux = configuration.get("linux") or {}
-    try:
-        state = _object(container.read, os.path.join(container.folder, "state.json"), most)
-        started = started_profiles.seccomp_of(state)
-        if started_profiles.state_same(started, linux.get("seccomp")):
-            return container
-    except (LookupError, TypeError, AttributeError):
-        return container
-    return replace(container, has_changed=True, configuration={**configuration, "linux": {**linux, "seccomp": started}})
-
-
-def with_config(container: ContainerDescription) -> ContainerDescription:
-    """The container with its config.json as it was started, or with the reason why that can't be read."""
-    if container.why is not None:
-        return container
-    if not container.config:
-        return replace(container, why="its runtime's files name no bundle")
-    try:
-        return _as_started(replace(container, configuration=engines.parse_json(
-            container.read(container.config, CONFIG_BYTES))))
-    except UnreadableFile as why:
-        return replace(container, why=str(why))
-    except profiles.Refused as why:
-        return replace(container, why=f"'{container.config}': {why}")
 
 
 @dataclass(frozen=True)
@@ -437,19 +423,28 @@ class ContainerPlaces:
     """Where some containers are, to find those of processes."""
 
     def __init__(self, places: Sequence[Place], processes: dict[int, Process]) -> None:
-        self.processes = processes
-        # the innermost group first
-        self.by_group = sorted((place for place in places if place.group is not None), reverse=True,
-                               key=lambda place: len(place.group.path) if place.group else 0)
+        self.by_group: dict[tuple[str, bytes], list[Place]] = {}
+        for place in places:
+            for group in {(place.group.hierarchy, place.group.path), *place.group.others} if place.group else ():
+                self.by_group.setdefault(group, []).append(place)
+        # how many names the paths of these groups have
+        self.depths = {path.count(b"/") for _, path in self.by_group}
         # (of two that name one, the first)
         self.by_space = {place.space: place.container for place in reversed(places) if place.space is not None}
-        self.by_first = {place.container.first: place.container for place in reversed(places)}
+        self.by_ancestor = inherited(processes, {
+            place.container.first: place.container for place in reversed(places)})
 
     def containers_of(self, process: Process) -> Iterator[ContainerDescription]:
-        """The containers that a process may be of, the most likely one first."""
-        yield from (place.container for place in self.by_group if place.group.has(process.groups))
+        """The containers that a process may be of, the most likely one first: of groups the innermost."""
+        found = []
+        for hierarchy, path in process.groups.items() if self.depths else ():
+            names = path.split(b"/", max(self.depths) + 1)
+            for depth in self.depths:
+                if depth < len(names):
+                    found += self.by_group.get((hierarchy, b"/".join(names[:depth + 1])), ())
+        yield from (place.container for place in sorted(found, key=lambda place: -len(place.group.path)))
         yield from (self.by_space[space] for space in process.spaces if space in self.by_space)
-        yield from (self.by_first[number] for number in ancestors(process, self.processes) if number in self.by_first)
+        yield from filter(None, [self.by_ancestor[process.number]])
 
 
 class Membership:
@@ -462,8 +457,9 @@ class Membership:
                   if container.first in processes]
         self.of_root = ContainerPlaces([place for place in places if place.container.user is None], processes)
         self.of_users = ContainerPlaces([place for place in places if place.container.user is not None], processes)
-        # the groups of pods, by the containers in them
-        self.pods = {place.group.path.rpartition(b"/")[0] for place in self.of_root.by_group if place.group is not None}
+        # the groups of pods, by the containers in them; and root's containers that have a group of their own
+        self.grouped = [place for place in places if place.group is not None and place.container.user is None]
+        self.pods = {place.group.path.rpartition(b"/")[0] for place in self.grouped}
 
     def container_of(self, process: Process, is_stated: bool = False) -> ContainerDescription | None:
         """The container of a process, None if it is of none. What root's files say comes first; then the unit of which

@@ -1,12 +1,13 @@
 """What is expected of a machine's containers, units and other confined programs, and the rows of an audit of these."""
 from __future__ import annotations
 
+import functools
 import json
 import os
 from collections.abc import Callable, Iterable, Sequence
 
-from scftools.base import child, program
-from scftools.base.values import Any, dataclass, replace
+from scftools.base import program
+from scftools.base.values import Any, dataclass
 from scftools.model.profiles import elsewhere_of
 from scftools.model.tables import Table
 from scftools.ask.questions import IS_ALLOWED
@@ -15,14 +16,17 @@ from scftools.forms.filters import Filter
 from scftools.forms.lists import lxc, sandbox_rules
 from scftools.report import compare_output
 from scftools.report.compare import Comparison
-from . import configurations, container_files, sandbox_programs, unit_profiles, units, verify
-from .audit_judge import Cache
-from .audit_rows import CONTAINER, OTHER_PROGRAM, UNIT, AuditRow, Expectation, sha256
-from .container_files import ContainerDescription
+from . import configurations, container_files, owned_files, sandbox_programs, unit_profiles, units, verify
+from .audit_rows import CONTAINER, OTHER_PROGRAM, UNIT, AuditRow, Expectation
+from .container_files import SLICE_OF_A_USER, ContainerDescription, Membership
 from .machine import Process, Snapshot
 from .owned_files import UnreadableFile
 from .processes import Kernel
 from .verify import Request
+
+
+# The IDs of users who aren't the system's (UIDS-GIDS of systemd): from the first on, without those of services.
+FIRST_USER, OF_SERVICES = 1000, range(61184, 65520)
 
 
 @dataclass(frozen=True)
@@ -37,6 +41,8 @@ class Options:
     roots: tuple[str, ...] = ()
     # None for all architectures that a profile names
     scope: str | None = None
+    # whether to find out what each stack allows, for a page
+    has_surfaces: bool = False
 
     def request(self, profile: bytes, relation: str = SAME, **settings: Any) -> Request:
         """The question how filters stand beside a profile."""
@@ -55,34 +61,26 @@ class Options:
                 raise program.ToolError(f"'{name}': {sentence}" if fault.source == "profile" else sentence)
 
 
+def of_settings(config: dict[str, Any], runtime: str | None, source: str | None, options: Options) -> Expectation:
+    """The expectation of a container's settings, as its runtime applies them."""
+    try:
+        return Expectation(verify.request_of(config, runtime, False, options.table, SAME, options.scope), source)
+    except configurations.ContainerError as why:
+        return Expectation(source=source, why=str(why))
+    except Exception as error:  # pylint: disable=broad-exception-caught
+        return Expectation(source=source, why=f"'{source}' can't be read: {type(error).__name__}")
+
+
 class Expectations:
     """The expected profiles of containers and units."""
 
     def __init__(self, options: Options) -> None:
         self.options = options
-        self.requests = Cache()
-        self.names = container_files.Names()
         self.of_lists: dict[object, Expectation | None] = {}
+        # the main processes of units
+        self.main_processes: dict[str, int] = {}
 
-    def _asked(self, config: dict[str, Any], runtime: str | None) -> Request | str:
-        """The question about a configuration, once for each distinct one; or why there is none."""
-        text = json.dumps(config).encode()
-        key = sha256(text), runtime
-        if key in self.requests.values:
-            return self.requests.values[key]
-        try:
-            asked = verify.request_of(config, runtime, False, self.options.table, SAME, self.options.scope)
-        except configurations.ContainerError as why:
-            return self.requests.keep(key, str(why), 0)
-        if asked.applied is not None:
-            # (what it was made of isn't needed any more)
-            asked = replace(asked, applied=replace(asked.applied, profile={}, data=b"", notes=()))
-        return self.requests.keep(key, asked, len(asked.profile))
-
-    def _of_config(self, config: dict[str, Any], runtime: str | None, source: str) -> Expectation:
-        asked = self._asked(config, runtime)
-        return Expectation(source=source, why=asked) if isinstance(asked, str) else Expectation(asked, source)
-
+    @functools.lru_cache(None)
     def of_all(self, runtime: str | None = None) -> Expectation | None:
         """The profile of --expect, as a container's runtime applies it."""
         if self.options.expected is None:
@@ -92,35 +90,18 @@ class Expectations:
             return Expectation(self.options.request(data), name)
         value = json.loads(data)
         linux = value.get("linux") if isinstance(value, dict) else None
-        return self._of_config({"linux": linux if isinstance(linux, dict) else {"seccomp": value}}, runtime, name)
+        return of_settings({"linux": linux if isinstance(linux, dict) else {"seccomp": value}}, runtime, name,
+                           self.options)
 
-    def of_container(self, container: ContainerDescription) -> tuple[ContainerDescription, Expectation]:
-        """A container with its engine's names, and the expectation of its config.json. Any exception makes it
-        unknown."""
-        try:
-            container = container_files.with_engine(container_files.with_config(container), self.names)
-            return replace(container, configuration=None), self._of_container(container)
-        except child.Interrupted:
-            raise
-        except Exception as error:  # pylint: disable=broad-exception-caught
-            why = f"'{container.config}' can't be read: {type(error).__name__}"
-            return replace(container, configuration=None), Expectation(source=container.config or None, why=why)
-
-    def _of_container(self, container: ContainerDescription) -> Expectation:
+    def of_container(self, container: ContainerDescription) -> Expectation:
+        """The expectation of a container; what its settings mean is found out by a child."""
         stated = self.of_all(container.runtime)
         if stated is not None:
             return stated
         if container.engine == "LXC" and container.user is None:
             return self._of_lxc(container)
-        if container.why is not None:
-            return Expectation(source=container.config or None, why=container.why)
-        try:
-            config = configurations.seccomp_in(container.configuration, container.config)
-        except configurations.ContainerError as why:
-            return Expectation(source=container.config, why=str(why))
-        if config is None:
-            return Expectation(source=container.config)
-        return self._of_config(config, container.runtime, container.config)
+        return Expectation(source=container.config or None, why=container.why, settings=container.seccomp,
+                           runtime=container.runtime)
 
     def _of_list(self, key: object, source: str, read: Callable[[], Expectation | None]) -> Expectation | None:
         """The expectation that is read of a sandbox's own list, or why it can't be; once for each key."""
@@ -142,10 +123,10 @@ class Expectations:
         path = sandbox_programs.lxc_config(container.identifier)
 
         def read() -> Expectation:
-            policy_path = sandbox_programs.lxc_policy(container.read, path)
+            policy_path = sandbox_programs.lxc_policy(owned_files.read_own, path)
             if policy_path is None:
                 return Expectation(source=path)
-            policy = lxc.read_lxc_policy(container.read(policy_path, sandbox_rules.MOST_LIST_BYTES))
+            policy = lxc.read_lxc_policy(owned_files.read_own(policy_path, sandbox_rules.MOST_LIST_BYTES))
             policies = [policy, *policy.others] if self.options.scope is None else [policy]
             return self._of_groups([each.data() for each in policies], policy_path)
 
@@ -176,6 +157,8 @@ class Expectations:
         except program.ToolError as why:
             return {name: Expectation(source="systemctl", why=str(why)) for name in names}
         reader = units.ListReader(units.all_groups, lambda _: None)
+        self.main_processes = {name: int(properties["MainPID"]) for name, properties in shown.items()
+                               if properties.get("MainPID", "").isdecimal()}
         return {name: self._of_unit(name, shown.get(name), reader) for name in names}
 
     def _of_unit(self, name: str, shown: dict[str, str] | None, reader: units.ListReader) -> Expectation:
@@ -195,50 +178,65 @@ class Expectations:
         return self._of_groups(profiles, source, settings.doubt)
 
 
-def _program_row(process: Process, sandbox: sandbox_programs.Firejail | None,
-                 expectations: Expectations) -> AuditRow:
-    """The row of a program that is in no container and no unit, and maybe in a sandbox of firejail."""
-    path = os.fsdecode(process.executable) or f"unknown ({os.fsdecode(process.name)})"
-    if sandbox is None:
-        return AuditRow(OTHER_PROGRAM, path, [], expectations.of_all() or Expectation())
-    return AuditRow(OTHER_PROGRAM, f"{path} in firejail {sandbox.number}", [], expectations.of_firejail(sandbox))
+class RowMaker:
+    """The rows of a machine's processes, without their parts."""
 
+    def __init__(self, kernel: Kernel, snapshot: Snapshot, expectations: Expectations,
+                 containers: Iterable[ContainerDescription]) -> None:
+        self.kernel, self.snapshot, self.expectations = kernel, snapshot, expectations
+        self.members = Membership(kernel, containers, snapshot.processes)
+        self.sandboxes, self.tags = sandbox_programs.firejails_of(snapshot.processes), sandbox_programs.snap_tags()
+        units_of = map(container_files.unit_of, snapshot.processes.values())
+        self.of_units = expectations.of_units(sorted({unit for unit in units_of if unit is not None}))
 
-def rows_of(kernel: Kernel, snapshot: Snapshot, expectations: Expectations) -> tuple[list[AuditRow], list[str]]:
-    """The rows without their parts, and lines on what couldn't be read. The config.json of containers is read later."""
-    options, every = expectations.options, list(snapshot.processes.values())
-    descriptions = container_files.descriptions_of(kernel, options.roots)
-    members = container_files.Membership(kernel, descriptions.containers, snapshot.processes)
-    sandboxes, tags = sandbox_programs.Firejails(snapshot.processes), sandbox_programs.snap_tags()
-    of_units = expectations.of_units(sorted({unit for unit in map(container_files.unit_of, every) if unit is not None}))
-    rows: dict[tuple[object, ...], AuditRow] = {}
-    for process in every:
+    def rows(self) -> list[AuditRow]:
+        rows: dict[tuple[object, ...], AuditRow] = {}
+        for process in self.snapshot.processes.values():
+            row = self.row_of(process)
+            if row is not None:
+                rows.setdefault((row.kind, row.user, row.place or row.key), row).processes.append(process)
+        _tell_apart(rows.values())
+        return list(rows.values())
+
+    def row_of(self, process: Process) -> AuditRow | None:
+        """A new row for a process, None for one without a filter that is in no container and no unit."""
         unit = container_files.unit_of(process)
-        container = members.container_of(process, unit is not None and of_units[unit].is_stated)
-        tag = sandbox_programs.snap_tag_of(process) if tags else None
-        of_snap = expectations.of_snap(tag) if tag in tags else None
+        container = self.members.container_of(process, unit is not None and self.of_units[unit].is_stated)
         if container is not None:
-            row = AuditRow(CONTAINER, container.identifier, [], Expectation(), container)
-        elif of_snap is not None:
-            row = AuditRow(OTHER_PROGRAM, tag, [], of_snap)
-        elif unit is not None:
-            row = AuditRow(UNIT, unit, [], of_units[unit])
-        elif process.is_confined:
-            row = _program_row(process, sandboxes.sandbox_of(process), expectations)
-        else:
-            continue
-        key = (row.kind, *(container.place if container is not None else (row.key,)))
-        rows.setdefault(key, row).processes.append(process)
-    _tell_apart(rows.values())
-    return list(rows.values()), descriptions.left_out
+            return AuditRow(CONTAINER, container.identifier, [], self.expectations.of_container(container), container,
+                            container.user)
+        tag, owner = sandbox_programs.snap_tag_of(self.kernel, process) if self.tags else (None, None)
+        of_snap = self.expectations.of_snap(tag) if tag in self.tags else None
+        if of_snap is not None:
+            return AuditRow(OTHER_PROGRAM, tag, [], of_snap, user=owner)
+        if unit is not None:
+            return AuditRow(UNIT, unit, [], self.of_units[unit], user=self.user_in_unit(process, unit))
+        return self.program_row(process) if process.is_confined else None
+
+    def user_in_unit(self, process: Process, unit: str) -> int | None:
+        """The user who has brought a process into a unit, None if it is the unit's own: one of the system's users has
+        it, or the one as whom the unit's main process runs."""
+        main = self.snapshot.processes.get(self.expectations.main_processes.get(unit, 0))
+        is_of_user = any(map(SLICE_OF_A_USER.match, process.groups.values()))
+        is_own = process.owner < FIRST_USER or process.owner in OF_SERVICES or \
+            main is not None and main.owner == process.owner
+        return None if is_own and not is_of_user else process.owner or None
+
+    def program_row(self, process: Process) -> AuditRow:
+        """The row of a program that is in no container and no unit, and maybe in a sandbox of firejail."""
+        path = os.fsdecode(process.executable) or f"unknown ({os.fsdecode(process.name)})"
+        sandbox, expected = self.sandboxes[process.number], self.expectations.of_all() or Expectation()
+        if sandbox is not None:
+            path, expected = f"{path} in firejail {sandbox.number}", self.expectations.of_firejail(sandbox)
+        return AuditRow(OTHER_PROGRAM, path, [], expected, user=process.owner or None)
 
 
 def _tell_apart(rows: Iterable[AuditRow]) -> None:
-    """Adds to the key of a container where its description stands, if one before it has the key too: those come first
-    that root's files describe, then those that only a group's name tells, then users'."""
-    seen: set[str] = set()
+    """Adds to the key of a container where its description stands, if one before it of the same user has the key, too:
+    those come first that files describe, then those that only a group's name tells."""
+    seen: set[tuple[int | None, str]] = set()
     for row in sorted((row for row in rows if row.container is not None), key=lambda row: (
-            row.user is not None, not row.container.folder, row.user or 0, row.place)):
-        if row.key in seen:
+            not row.container.folder, row.place)):
+        if (row.user, row.key) in seen:
             row.key = f"{row.key} of {row.place}"
-        seen.add(row.key)
+        seen.add((row.user, row.key))

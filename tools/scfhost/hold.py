@@ -360,7 +360,7 @@ def filter_at(kernel: Kernel, thread: int, process: int, index: int) -> bytes | 
     if again != count:
         raise Unreadable(f"filter {index} of {called(thread, process)} changed its length from {count} to {again} "
                          f"while it was read")
-    return room.raw[:count * INSTRUCTION.size]
+    return kernel.keep(room.raw[:count * INSTRUCTION.size])
 
 
 def stack_of(kernel: Kernel, thread: int, process: int) -> tuple[tuple[bytes, ...], bool]:

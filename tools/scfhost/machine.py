@@ -1,25 +1,25 @@
-"""All processes of a machine, and the filters of their threads, in one pass.
+"""All processes of a machine, as /proc describes them, in one pass, and what wasn't looked at.
 
-/proc says of each thread whether it has a filter. The filters of processes with a confined thread are read in a pass
-(`machine_pass`). The processes of the kernel, those that have ended, and this tool are left out.
+/proc says of each thread whether it has a filter. The processes of the kernel, those that have ended, and this tool are
+left out.
 """
 from __future__ import annotations
 
 import os
 import re
 import time
-from collections.abc import Iterable, Iterator
+from collections.abc import Iterable, Mapping
 
 from scftools.base import output
-from scftools.base.values import Pattern, dataclass, field
-from scftools.forms.stacks import Stack
-from . import machine_pass
-from .hold import PF_KTHREAD, why_no_filters
+from scftools.base.values import Any, Pattern, dataclass, field
+from .hold import PF_KTHREAD
 from .processes import Kernel
-from .ptrace import PROC_PID_INIT_INO, contents, has_ended
+from .ptrace import PROC_PID_INIT_INO, contents, has_ended, stat_of
 
 # How often processes that started meanwhile are looked for.
 LISTINGS = 3
+# Of what wasn't looked at of a user, at most so many reasons are given, and so many characters of each.
+MOST_REASONS, MOST_OF_REASON = 3, 200
 SECCOMP_MODE = Pattern(rb"^Seccomp:\t([0-2])", re.M)
 
 
@@ -48,52 +48,49 @@ class Process:
     is_stuck: bool
     # the ID of the user who answers for it (Kernel.owner_of)
     owner: int
+    # when it started, in the kernel's clock ticks
+    start: int
+
+    @property
+    def started_at(self) -> float:
+        """When it started, in seconds since 1970."""
+        return time.time() - time.clock_gettime(time.CLOCK_BOOTTIME) + self.start / os.sysconf("SC_CLK_TCK")
 
 
-def ancestors(process: Process, processes: dict[int, Process]) -> Iterator[int]:
-    """The number of a process and those of its ancestors, the nearest first."""
-    numbers: dict[int, None] = {}
-    while process is not None and process.number not in numbers:
-        numbers[process.number] = None
-        process = processes.get(process.parent)
-    return iter(numbers)
+def inherited(processes: Mapping[int, Process], own: Mapping[int, Any]) -> dict[int, Any]:
+    """For each process its own value, or else that of its nearest ancestor with one, or None. Each is asked once."""
+    values: dict[int, Any] = dict(own)
+    for number in processes:
+        asked: list[int] = []
+        while number in processes and number not in values:
+            values[number] = None
+            asked.append(number)
+            number = processes[number].parent
+        values.update(dict.fromkeys(asked, values.get(number)))
+    return values
 
 
 @dataclass
 class Snapshot:
-    """The processes of a machine and the distinct stacks of their threads."""
+    """The processes of a machine, and what wasn't looked at."""
 
     processes: dict[int, Process] = field(default_factory=dict)
-    # Each stack has the threads that share it; the one without filters, too.
-    stacks: dict[tuple[tuple[bytes, ...], bool], Stack] = field(default_factory=dict)
-    # Of the processes whose filters weren't read: why.
-    unread: dict[int, str] = field(default_factory=dict)
-    # What else wasn't looked at, and notes on the inspection itself.
-    left_out: list[str] = field(default_factory=list)
+    # lines by the users whose things they are about, None for root
+    left_out_of: dict[int | None, list[str]] = field(default_factory=dict)
+    # notes on the inspection itself
     notes: list[str] = field(default_factory=list)
 
-    def add(self, key: tuple[tuple[bytes, ...], bool], process: int, threads: Iterable[int]) -> None:
-        self.stacks.setdefault(key, Stack(*key)).threads.setdefault(process, []).extend(threads)
+    def leave_out(self, line: str, user: int | None = None) -> None:
+        lines = self.left_out_of.setdefault(user, [])
+        if line not in lines:
+            lines.append(line)
 
     @property
-    def unconfined(self) -> dict[int, list[int]]:
-        """The threads that have neither a filter nor the strict mode, by their processes."""
-        stack = self.stacks.get(((), False))
-        return stack.threads if stack is not None else {}
-
-    def forget(self, process: int) -> None:
-        """Forgets a process that has ended, or is read again."""
-        self.processes.pop(process, None)
-        self.unread.pop(process, None)
-        for stack in self.stacks.values():
-            stack.threads.pop(process, None)
-
-    def stacks_of(self, numbers: Iterable[int]) -> list[tuple[Stack, dict[int, list[int]]]]:
-        """The distinct stacks of some processes, each with the threads of these that have it."""
-        wanted = set(numbers)
-        stacks = [(stack, {number: threads for number, threads in sorted(stack.threads.items()) if number in wanted})
-                  for stack in self.stacks.values()]
-        return [(stack, threads) for stack, threads in stacks if threads]
+    def left_out(self) -> dict[int | None, list[str]]:
+        """The lines: for a user one."""
+        return {user: lines if user is None else [f"of user {user}: " + output.some(
+            [output.cut(line, MOST_OF_REASON) for line in lines[:100]], MOST_REASONS)]
+                for user, lines in sorted(self.left_out_of.items(), key=lambda of: (of[0] is not None, of[0] or 0))}
 
 
 def _mode_of(thread: int) -> int:
@@ -125,75 +122,35 @@ def process_of_number(kernel: Kernel, number: int) -> Process | None:
     is_confined = status.get("Seccomp", "0") != "0" or any(_mode_of(thread) for thread in threads if thread != first)
     is_stuck = is_confined and status["State"][:1] == "D"
     user = int(status["Uid"].split()[1])
+    fields = stat_of(number)
     return Process(number, int(status["PPid"]), kernel.name_of(number), _executable_of(first), user,
                    kernel.groups_of(first), tuple(kernel.namespaces_of(first)), int(inner),
                    int(status.get("CapEff", "0"), 16), status.get("NoNewPrivs") == "1", tuple(threads), is_confined,
-                   is_stuck, kernel.owner_of(first, user))
+                   is_stuck, kernel.owner_of(first, user), int(fields[19]) if len(fields) > 19 else 0)
 
 
-def _left_out(kernel: Kernel, why: str | None) -> list[str]:
+def _left_out(kernel: Kernel, why: str | None) -> Iterable[str]:
     """Lines on what this tool can't see."""
-    lines = [] if why is None else [f"no filters could be read: {why}"]
+    if why is not None:
+        yield f"no filters could be read: {why}"
     try:
         is_first = os.stat("/proc/self/ns/pid").st_ino == PROC_PID_INIT_INO
     except OSError:
         is_first = False
     if not is_first:
-        lines.append("processes outside of the PID namespace that this tool runs in")
+        yield "processes outside of the PID namespace that this tool runs in"
     if not kernel.is_root_the_first():
-        lines.append("control groups outside of the cgroup namespace that this tool runs in, so containers and units "
-                     "may not be known as such")
-    return lines
+        yield ("control groups outside of the cgroup namespace that this tool runs in, so containers and units may not "
+               "be known as such")
 
 
-def read_machine(kernel: Kernel, is_forced: bool = False) -> Snapshot:
-    """All processes, each as it was at some moment of the pass."""
-    why, until = why_no_filters(kernel), time.monotonic() + machine_pass.LONGEST_PASS
-    snapshot = Snapshot(left_out=_left_out(kernel, why))
+def read_machine(kernel: Kernel, why: str | None) -> Snapshot:
+    """All processes, each as it was at some moment; `why` says why no filters can be read."""
+    snapshot = Snapshot()
+    for line in _left_out(kernel, why):
+        snapshot.leave_out(line)
     for _ in range(LISTINGS):
         unread = [number for number in kernel.processes() if number not in snapshot.processes]
-        if not read_more(kernel, snapshot, unread, is_forced, why, until):
-            break
+        described = (process_of_number(kernel, number) for number in unread if number != kernel.tool)
+        snapshot.processes.update((process.number, process) for process in described if process is not None)
     return snapshot
-
-
-def read_more(kernel: Kernel, snapshot: Snapshot, numbers: Iterable[int], is_forced: bool, why: str | None,
-              until: float | None = None) -> bool:
-    """Adds processes to a snapshot; whether some of them are confined. `why` says why no filters can be read, `until`
-    when the pass ends."""
-    excluded = {os.getpid(), kernel.tool}
-    descriptions = (process_of_number(kernel, number) for number in numbers if number not in excluded)
-    processes = [process for process in descriptions if process is not None]
-    for process in processes:
-        snapshot.processes[process.number] = process
-        if not process.is_confined:
-            snapshot.add(((), False), process.number, process.threads)
-    # (those that may take long come last)
-    confined = sorted((process for process in processes if process.is_confined), key=lambda process: (
-        process.is_stuck, len(process.threads) > machine_pass.MOST_HELD, process.number))
-    if why is not None:
-        snapshot.unread.update((process.number, why) for process in confined)
-    elif confined:
-        _add_filters(kernel, snapshot, confined, is_forced,
-                     time.monotonic() + machine_pass.LONGEST_PASS if until is None else until)
-    return bool(confined) and why is None
-
-
-def _add_filters(kernel: Kernel, snapshot: Snapshot, confined: list[Process], is_forced: bool, until: float) -> None:
-    """Adds the filters of processes of a snapshot to it; those that have ended meanwhile are forgotten."""
-    owners = {process.number: process.owner for process in confined}
-    passed = machine_pass.read_processes(kernel, owners, is_forced, until)
-    for key, stack in passed.stacks.items():
-        for number, threads in stack.threads.items():
-            snapshot.add(key, number, threads)
-    read_numbers = {number for stack in passed.stacks.values() for number in stack.threads}
-    for number in (process.number for process in confined):
-        if number in passed.unread and process_of_number(kernel, number) is not None:
-            snapshot.unread[number] = passed.unread[number]
-        elif number not in read_numbers:
-            snapshot.forget(number)
-    for why in machine_pass.NOT_LOOKED_AT:
-        unread = [f"process {process.number}" for process in confined if snapshot.unread.get(process.number) == why]
-        if unread:
-            snapshot.left_out.append(f"the filters of {output.some(unread, 3)}: {why}")
-    snapshot.notes += passed.notes

@@ -64,7 +64,7 @@ def ticks_at_start(process: int) -> int | None:
     return int(fields[19]) if len(fields) > 19 else None
 
 
-def _without_octal(field: bytes) -> bytes:
+def without_octal(field: bytes) -> bytes:
     """A path of mountinfo, in which the kernel writes some bytes as a backslash and three octal digits."""
     return ESCAPED_BYTE.sub(lambda match: bytes([int(match[1], 8)]), field)
 
@@ -76,7 +76,7 @@ def _group_mounts(process: int | str) -> Iterator[tuple[bytes, list[bytes], byte
         fields, _, source = line.partition(b" - ")
         kind, _, options = source.partition(b" ")
         if kind in (b"cgroup", b"cgroup2") and fields.count(b" ") > 4:
-            root, place = map(_without_octal, fields.split(b" ")[3:5])
+            root, place = map(without_octal, fields.split(b" ")[3:5])
             yield kind, options.rpartition(b" ")[2].split(b","), root, place
 
 
@@ -117,6 +117,9 @@ def is_executing(thread: int) -> bool:
 class Kernel:
     """Questions to the kernel; raises OSError if a syscall fails."""
 
+    # what is kept of the bytes of a filter
+    keep = bytes
+
     def __init__(self) -> None:
         import ctypes  # pylint: disable=import-outside-toplevel
 
@@ -125,6 +128,8 @@ class Kernel:
         self.library.ptrace.argtypes = [ctypes.c_long, ctypes.c_long, ctypes.c_void_p, ctypes.c_void_p]
         # The tool that looks, which may do that in a child.
         self.tool = os.getpid()
+        # The control groups of processes, by what the kernel shows of them.
+        self.groups: dict[bytes, dict[str, bytes]] = {}
 
     def ptrace(self, request: int, thread: int, place: int | None, data: object) -> int:
         answer: int = self.library.ptrace(request, thread, place, data)
@@ -193,8 +198,9 @@ class Kernel:
 
     def groups_of(self, process: int) -> dict[str, bytes]:
         """The control groups of a process, by the controllers of their hierarchies."""
-        paths: dict[str, bytes] = {}
-        for line in contents(f"/proc/{process}/cgroup").split(b"\n"):
+        data = contents(f"/proc/{process}/cgroup")
+        paths = self.groups.setdefault(data, {})
+        for line in data.split(b"\n") if not paths else ():
             _, _, fields = line.partition(b":")
             controllers, _, path = fields.partition(b":")
             if path:
@@ -205,22 +211,26 @@ class Kernel:
         """The roots of the control group mounts that a process sees."""
         return [root for _, _, root, _ in _group_mounts(process)]
 
+    def group_folder(self, hierarchy: str, path: bytes) -> tuple[bytes, bytes] | None:
+        """Where a control group of a hierarchy is mounted here: the mount's folder, and the path below."""
+        for kind, options, root, place in _group_mounts("self"):
+            if kind == (b"cgroup" if hierarchy else b"cgroup2") and (not hierarchy or hierarchy.encode() in options) \
+                    and (path + b"/").startswith(root.rstrip(b"/") + b"/"):
+                return place, path[len(root.rstrip(b"/")):]
+        return None
+
     def group_owner(self, hierarchy: str, path: bytes) -> int | None:
         """The first user beside root who owns a control group of a hierarchy, or one above it; None if root owns all,
         or the hierarchy isn't mounted here."""
-        for kind, options, root, place in _group_mounts("self"):
-            if kind != (b"cgroup" if hierarchy else b"cgroup2") or hierarchy and hierarchy.encode() not in options:
-                continue
-            if root != b"/" and path != root and not path.startswith(root + b"/"):
-                continue
-            for part in path[len(root) if root != b"/" else 0:].strip(b"/").split(b"/"):
-                place = place + b"/" + part
-                try:
-                    user = os.stat(place).st_uid
-                except OSError:
-                    break
-                if user != 0:
-                    return user
+        place, below = self.group_folder(hierarchy, path) or (b"", b"")
+        for part in below.strip(b"/").split(b"/") if place else ():
+            place = place + b"/" + part
+            try:
+                user = os.stat(place).st_uid
+            except OSError:
+                break
+            if user != 0:
+                return user
         return None
 
     def is_root_the_first(self) -> bool:

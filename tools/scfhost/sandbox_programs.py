@@ -16,15 +16,19 @@ from scftools.model.answers import ALLOW
 from scftools.forms.lists import firejail, snapd
 from scftools.forms.lists.sandbox_rules import MOST_LIST_BYTES, Policy, UnknownRules
 from . import owned_files
-from .machine import Process, ancestors
+from .machine import Process, inherited
 from .owned_files import UnreadableFile
-from .ptrace import contents
+from .ptrace import Kernel, contents
 
 # Where root's containers of LXC have their folders; what files of one may have, and how they may include each other.
 LXC_CONTAINERS, MOST_CONFIG_BYTES, MOST_FILES, DEEPEST = "/var/lib/lxc", 1 << 18, 64, 8
+# The most names of a folder that are read.
+MOST_NAMES = 1 << 16
 Read = Callable[[str, int], bytes]
 # Where firejail's files are, and the most bytes of a path.
 FIREJAIL_SANDBOXES, MOST_PATH = "/run/firejail/profile", 4096
+# By how many seconds the time of a file may seem to be before the start of the process that wrote it.
+SLACK = 2.0
 # How options of firejail begin that state more than a profile, or that it isn't read.
 STATING = Pattern(rb"--(?:seccomp|protocol|memory-deny-write-execute|restrict-namespaces|allow-debuggers|ignore|"
                   rb"noprofile)")
@@ -35,9 +39,9 @@ TAGGED_GROUP = Pattern(rb"(snap\.[a-z0-9_-]{1,80}(?:\.[A-Za-z0-9-]{1,80}){1,2})"
 
 
 def _names_in(folder: str) -> list[str]:
-    """The names in a folder of root's, none if it can't be read."""
+    """The names in a folder of root's, none if it can't be read, or is a user's."""
     try:
-        return owned_files.names_in(folder, 0)[0]
+        return owned_files.names_in(folder, MOST_NAMES)[0] if owned_files.writer_of(folder) is None else []
     except UnreadableFile:
         return []
 
@@ -72,12 +76,12 @@ def _lxc_settings(read: Read, path: str, files: Iterator[int], depth: int = 0) -
 def _included(path: str) -> list[str]:
     """The file that an include names, or the files of a folder whose names end in .conf."""
     try:
-        names, is_all = owned_files.names_in(path, 0)
+        if owned_files.writer_of(path) is not None or not os.path.isdir(path):
+            return [path]
     except UnreadableFile:
+        # (that is said where it is read)
         return [path]
-    if not is_all:
-        raise UnreadableFile(f"'{path}' isn't root's own")
-    return [os.path.join(path, name) for name in sorted(names) if name.endswith(".conf")]
+    return [os.path.join(path, name) for name in _names_in(path) if name.endswith(".conf")]
 
 
 @dataclass(frozen=True)
@@ -96,28 +100,23 @@ class Firejail:
         return firejail.read_firejail_profile(owned_files.read_own(self.profile, MOST_LIST_BYTES))
 
 
-class Firejails:
-    """The sandboxes of firejail, by the processes that started them."""
-
-    def __init__(self, processes: dict[int, Process]) -> None:
-        self.processes = processes
-        names = (name for name in _names_in(FIREJAIL_SANDBOXES) if name.isascii() and name.isdigit())
-        sandboxes = (_firejail(name) for name in names if int(name) in processes)
-        self.of_number = {sandbox.number: sandbox for sandbox in sandboxes if sandbox is not None}
-
-    def sandbox_of(self, process: Process) -> Firejail | None:
-        """The sandbox of a process: that of its nearest ancestor that started one."""
-        return next((self.of_number[number] for number in ancestors(process, self.processes)
-                     if number in self.of_number), None)
+def firejails_of(processes: dict[int, Process]) -> dict[int, Firejail | None]:
+    """The sandbox of each process: that of its nearest ancestor that started one."""
+    names = (name for name in _names_in(FIREJAIL_SANDBOXES) if name.isascii() and name.isdigit())
+    sandboxes = (_firejail(processes[int(name)]) for name in names if int(name) in processes)
+    return inherited(processes, {sandbox.number: sandbox for sandbox in sandboxes if sandbox is not None})
 
 
-def _firejail(number: str) -> Firejail | None:
-    """The sandbox that a process with this number started; None if its file isn't root's, or has no path."""
+def _firejail(process: Process) -> Firejail | None:
+    """The sandbox that a process started; None if its file isn't root's, has no path, or is that of a process before
+    it with this number."""
+    name = os.path.join(FIREJAIL_SANDBOXES, str(process.number))
     try:
-        path = os.fsdecode(owned_files.read_own(os.path.join(FIREJAIL_SANDBOXES, number), MOST_PATH).rstrip(b"\n"))
-    except UnreadableFile:
+        path = os.fsdecode(owned_files.read_own(name, MOST_PATH).rstrip(b"\n"))
+        is_its = os.stat(name).st_mtime >= process.started_at - SLACK
+    except (UnreadableFile, OSError):
         return None
-    return Firejail(int(number), path) if path.startswith("/") else None
+    return Firejail(process.number, path) if path.startswith("/") and is_its else None
 
 
 def snap_rules(tag: str) -> str:
@@ -145,7 +144,11 @@ def snap_tags() -> frozenset[str]:
     return frozenset(name.removesuffix(".src") for name in _names_in(SNAP_RULES) if name.endswith(".src"))
 
 
-def snap_tag_of(process: Process) -> str | None:
-    """The security tag by which a control group of a process is called."""
-    named = (TAGGED_GROUP.fullmatch(part) for path in process.groups.values() for part in path.split(b"/"))
-    return next((match[1].decode() for match in named if match), None)
+def snap_tag_of(kernel: Kernel, process: Process) -> tuple[str | None, int | None]:
+    """The security tag by which a control group of a process is called, and the user whose group or process it is, None
+    for root."""
+    for hierarchy, path in process.groups.items():
+        match = next(filter(None, map(TAGGED_GROUP.fullmatch, path.split(b"/"))), None)
+        if match:
+            return match[1].decode(), kernel.group_owner(hierarchy, path) or process.owner or None
+    return None, None

@@ -19,7 +19,7 @@ from scftools.model.architectures import NATIVE
 from scftools.forms.lists import unit_restrictions
 from scftools.forms.lists.unit_restrictions import KILL_NUMBERS, SettingError, answer_of_errno
 
-PROPERTIES = ("Id", "LoadState", "NeedDaemonReload", "FragmentPath", "DropInPaths", "SystemCallFilter",
+PROPERTIES = ("Id", "MainPID", "LoadState", "NeedDaemonReload", "FragmentPath", "DropInPaths", "SystemCallFilter",
               "SystemCallErrorNumber", "SystemCallArchitectures", "SystemCallLog",
               *unit_restrictions.RESTRICTION_PROPERTIES)
 # The manager's version, which is added to what a unit shows; and the first one that is known to allow write(2) in each

@@ -21,9 +21,8 @@ With --baseline a row is also weaker if it allows more than the profile FILE. A 
 ABI of the machine, such as i386 or x32 on x86-64, that it doesn't name; --native doesn't ask about these.
 
 Containers are known by the files of runc, crun, containerd, Docker, podman and CRI-O. --runtime-root is a folder that
-was given to a runtime as --root, may have wildcards, and may be given several times. What a user could have written
-there describes only processes of that user, in a row of its own; a user's rows come last, and have 5 seconds. A line
-says what wasn't looked at.
+was given to a runtime as --root, may have wildcards, and may be given several times. What users describe or run has
+rows `of user N`, of their processes alone, which come last and have some seconds. A line says what wasn't looked at.
 
 --json prints one object, and --json-lines an object for each row and a last one for the whole; both have all rows.
 --since compares with an object that --json printed, and says which rows are new or gone, or have another verdict:
@@ -31,8 +30,8 @@ in lines, in the member `since`, and on the page. --prometheus writes metrics fo
 node_exporter, and --html a page without scripts, which also shows what each distinct stack allows. Both replace FILE at
 once. --watch audits again and again, and after the first time prints a line for each change.
 
-Exit status: 0 nothing is unconfined or weaker than configured; 1 something is (with --allow-unconfined what is
-unconfined by configuration doesn't count); 4 something isn't known or wasn't looked at.
+Exit status: 0 nothing is unconfined or weaker than configured; 1 something of root's is (with --allow-unconfined what
+is unconfined by configuration doesn't count); 4 something of a user's is, or something isn't known or wasn't looked at.
 
 Examples:
 
@@ -41,7 +40,6 @@ Examples:
     scf audit --json >before.json; scf audit --since before.json
 """
 import json
-import sys
 import time
 
 from scftools.base import inputs, output, program
@@ -89,8 +87,8 @@ def options_of(given):
         return None if name is None else (name, profile_inputs.read_profile(name, is_runtimes=True).data)
 
     return expectations.Options(tables.read_table(given.table), profile(given.expect), profile(given.baseline),
-                         given.force, given.allow_unconfined, tuple(given.runtime_root),
-                         verdicts.NATIVE_SCOPE if given.native else None)
+                                given.force, given.allow_unconfined, tuple(given.runtime_root),
+                                verdicts.NATIVE_SCOPE if given.native else None, given.html is not None)
 
 
 def earlier_in(name):
@@ -131,20 +129,13 @@ def show_changes(before, report, given):
             output.put_line(audit_output.change_text(change))
 
 
-def progress(count):
-    """Shows on a terminal how many comparisons were made; None clears the line."""
-    if sys.stderr is not None and sys.stderr.isatty():
-        print("\r\033[K" + (f"compared: {count}" if count is not None else ""), end="", file=sys.stderr, flush=True)
-
-
 def main():
     given = read_words()
     options, earlier, before = options_of(given), earlier_in(given.since), None
     options.check()
-    judge = audit_judge.StackJudge(options.table, progress)
+    judges = audit_judge.Judges(options)
     while True:
-        report = processes.read_or_end(lambda: audit.audit_machine(options, judge), is_json=given.json)
-        progress(None)
+        report = processes.read_or_end(lambda: audit.audit_machine(options, judges), is_json=given.json)
         write(report, given, options, earlier)
         if before is None or given.json:
             show(report, given, options.table, earlier)

@@ -12,6 +12,15 @@ def called(thread: int, process: int) -> str:
     return f"process {process}" if thread == process else f"thread {thread} of process {process}"
 
 
+def description(lengths: Sequence[int], is_strict: bool) -> str:
+    """The number of a stack's filters, and their lengths."""
+    if is_strict:
+        return "no filter, but seccomp's strict mode"
+    if not lengths:
+        return "no filter"
+    return f"{len(lengths)} filter{'s' * (len(lengths) > 1)}, of {', '.join(map(str, lengths))} instructions"
+
+
 @dataclass
 class Stack:
     """The filters that some threads have in common, oldest first, as bytes."""
@@ -46,13 +55,7 @@ class Stack:
 
     @property
     def description(self) -> str:
-        """The number of filters, and their lengths."""
-        if self.is_strict:
-            return "no filter, but seccomp's strict mode"
-        if not self.filters:
-            return "no filter"
-        sizes = ", ".join(str(filter_.count) for filter_ in self.named)
-        return f"{len(self.filters)} filter{'s' * (len(self.filters) > 1)}, of {sizes} instructions"
+        return description([filter_.count for filter_ in self.named], self.is_strict)
 
 
 @dataclass

@@ -14,14 +14,14 @@ from collections import Counter
 from collections.abc import Iterable, Iterator, Sequence
 
 from ..base import output
-from ..base.values import dataclass
+from ..base.values import Any, dataclass
 from ..model import dangerous_calls
 from ..model.answers import ALLOWED, DELEGATED, DENIED, DEPENDS
 from ..model.calls import Call
 from ..model.tables import Table
 from ..ask import client
 from ..ask.verdicts import Report
-from . import surface_output, surfaces
+from . import surface_output
 from .compare import Pair
 from .stack_surfaces import StackSurface
 from .surface_output import Groups
@@ -158,11 +158,41 @@ def comparison_page(comparison: Pair, report: Report, added: Sequence[str], comm
 
 
 @dataclass(frozen=True)
+class ShownRow:
+    """A syscall on a page: its names, what holds of it, and what decides."""
+
+    names: Sequence[str]
+    said: str
+    details: Sequence[str]
+
+
+@dataclass(frozen=True)
+class ShownSurface:
+    """What a stack allows, as a page shows it: the lines on all of it, and its syscalls."""
+
+    whole: Sequence[str]
+    rows: Sequence[ShownRow]
+
+    @classmethod
+    def of(cls, surface: Surface) -> ShownSurface:
+        return cls(surface_output.whole_lines(surface), [
+            ShownRow(row.names, row.said, surface_output.details(row)) for row in surface.rows])
+
+    @classmethod
+    def of_json(cls, value: Any) -> ShownSurface:
+        return cls(value["whole"], [ShownRow(**row) for row in value["rows"]])
+
+    def as_json(self) -> dict[str, object]:
+        rows = [{"names": row.names, "said": row.said, "details": row.details} for row in self.rows]
+        return {"whole": self.whole, "rows": rows}
+
+
+@dataclass(frozen=True)
 class Named:
-    """What a stack allows, None if scf refuses it, with what the page calls it."""
+    """What a stack allows, None if that wasn't looked at, with what the page calls it."""
 
     name: str
-    surface: Surface | None
+    surface: ShownSurface | None
     description: str
     digest: str | None = None
 
@@ -171,7 +201,7 @@ class Named:
         return self.name.replace(" ", "-")
 
 
-def _cell(rows: list[surfaces.Row]) -> str:
+def _cell(rows: Sequence[ShownRow]) -> str:
     counts = Counter(row.said for row in rows)
     if set(counts) == {DENIED}:
         return ALL_DENIED
@@ -189,12 +219,12 @@ def stack(named: Named, groups: Groups) -> Iterator[Markup]:
     if named.digest is not None:
         yield tag("p", "SHA-256 ", tag("code", named.digest, class_="long"))
     if named.surface is None:
-        yield tag("p", "scf refuses this stack.")
+        yield tag("p", "It wasn't looked at: that takes too long.")
         return
-    yield listed(surface_output.whole_lines(named.surface))
+    yield listed(named.surface.whole)
     for group, rows in surface_output.grouped(named.surface.rows, groups):
         calls = listed(joined([tag("code", " or ".join(row.names)), f" {row.said}",
-                               *(f"; {detail}" for detail in surface_output.details(row))]) for row in rows)
+                               *(f"; {detail}" for detail in row.details)]) for row in rows)
         yield tag("details", tag("summary", f"{group}: {_cell(rows)}"), tag("div", calls, id=f"{named.anchor}-{group}"))
 
 
@@ -230,9 +260,9 @@ def of_blocks(blocks: Sequence[StackSurface]) -> Iterator[Named]:
     """The stacks of `scf surface`, and those that they are compared with."""
     for at, block in enumerate(block for block in blocks if block.filters):
         names = ", ".join(bpf_filter.name for bpf_filter in block.filters)
-        yield Named(f"stack {at}", block.surface, names)
+        yield Named(f"stack {at}", ShownSurface.of(block.surface), names)
         if block.beside is not None:
-            yield Named(f"beside {at}", block.beside.sides[1], "the filters beside it")
+            yield Named(f"beside {at}", ShownSurface.of(block.beside.sides[1]), "the filters beside it")
 
 
 def surfaces_page(blocks: Sequence[StackSurface], table_of: Table) -> str:

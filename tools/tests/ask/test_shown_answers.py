@@ -16,6 +16,7 @@ from scftools.forms.filters import Filter
 from scftools.forms.stacks import Stack
 from scftools.report import compare
 from scfhost import audit_judge, audit_rows
+from scfhost.expectations import Options
 from scfhost.verify import Request
 
 # Stands in for scf: a comparison says that mount is answered otherwise than any filter here does.
@@ -98,9 +99,10 @@ class Modules(Case):
         stack = Stack((filter_of([0]),), False)
         text = (b"differs\ncall nr 1 arch 0xc000003e ip 0x0 args 0x0 0x0 0x0 0x0 0x0 0x0\nfilter ALLOW 0\n"
                 b"profile ALLOW 0\n")
-        run, judge = client.run_scf, audit_judge.StackJudge(tables.read_table(None))
+        table = tables.read_table(None)
+        run, judge = client.run_scf, audit_judge.StackJudge(Options(table))
         with mock.patch.object(client, "run_scf", lambda words, *more_words, **more: Run(1, text)
                                if words[0] == "compare" else run(words, *more_words, **more)):
-            block = judge.judge(stack, Request(profile_of("read", "write"), judge.table))
+            block = judge.judgement(stack, audit_rows.Expectation(Request(profile_of("read"), table)))
         self.assertEqual((block.verdict, block.why[:42]),
                          (audit_rows.NOT_KNOWN, "internal error: the filters answer ERRNO 1"))

@@ -100,7 +100,8 @@ class Child(Case):
 
     def test_answers(self):
         """They are JSON of some bytes, and what was sent before a child ended is received."""
-        self.assertEqual(self.answers(lambda send: (send([1, "\udcff"]), send({"a": None}))), ([[1, "\udcff"], {"a": None}], None))
+        self.assertEqual(self.answers(lambda send: (send([1, "\udcff"]), send({"a": None}))),
+                         ([[1, "\udcff"], {"a": None}], None))
         for work, why in ((lambda send: (send([7]), 1 / 0), "it can't be looked at: ZeroDivisionError"),
                           (lambda send: (send([7]), os._exit(0)), "who looks at it was ended"),
                           (lambda send: (send([7]), os.kill(os.getpid(), signal.SIGKILL)), "who looks at it was ended"),

@@ -13,7 +13,7 @@ from host.test_audit import process
 from scftools.model import tables
 from scftools.ask import verdicts
 from scftools.forms import stacks
-from scftools.report import compare
+from scftools.report import compare, compare_output, pages, surfaces
 from scfhost import audit_output, audit_page, audit_rows, container_files, machine
 
 # The elements that a page has, and their attributes.
@@ -73,19 +73,23 @@ class Pages(Case):
         container = container_files.ContainerDescription("i" * 64, "podman", "crun", 7, HOSTILE, name=HOSTILE,
                                                          image=HOSTILE, pod=HOSTILE)
         stack = stacks.Stack((filter_of([0, 41]),), False, {7: [7]})
+        shape = audit_rows.StackShape((10,), digest="ab" * 32)
         seven, eight = process(name=os.fsencode(HOSTILE)), process(8)
         asked = compare.Comparison(stack.named, profile_of("read"), table)
         verdict = asked.run(verdicts.NATIVE_SCOPE, verdicts.NO_MORE)[1].verdict
         rows = [audit_rows.AuditRow(audit_rows.CONTAINER, container.identifier, [seven], audit_rows.Expectation(source=HOSTILE),
                                container),
                 audit_rows.AuditRow(audit_rows.UNIT, "a.service", [eight], audit_rows.Expectation(why=HOSTILE))]
-        weaker = audit_rows.StackJudgement(audit_rows.WEAKER, shown=verdict, comparison=asked)
-        rows[0].parts = [audit_rows.RowPart(stack, {7: [7]}, weaker)]
-        rows[1].parts = [audit_rows.RowPart(stacks.Stack((), False, {8: [8]}), {8: [8]}, audit_rows.StackJudgement(
+        weaker = audit_rows.StackJudgement(audit_rows.WEAKER, shown=verdict,
+                                           lines=tuple(compare_output.difference_lines(asked, verdict)))
+        rows[0].parts = [audit_rows.RowPart(shape, {7: [7]}, weaker)]
+        rows[1].parts = [audit_rows.RowPart(audit_rows.StackShape(), {8: [8]}, audit_rows.StackJudgement(
             audit_rows.NOT_KNOWN, HOSTILE, is_unconfined=True))]
-        snapshot = machine.Snapshot({7: seven, 8: eight}, {(stack.filters, False): stack})
-        report = audit_rows.Audit(rows, snapshot, 0.0, left_out=[HOSTILE])
-        earlier = audit_output.Earlier(HOSTILE, {("unit", HOSTILE): audit_output.EarlierRow(HOSTILE, "weaker", False)})
+        snapshot = machine.Snapshot({7: seven, 8: eight}, {None: [HOSTILE]})
+        surface = pages.ShownSurface.of(surfaces.surface_of_filters(stack.filters, table))
+        report = audit_rows.Audit(rows, snapshot, 0.0, surfaces={shape.digest: surface})
+        was = audit_output.EarlierRow(HOSTILE, "weaker", False)
+        earlier = audit_output.Earlier(HOSTILE, {("unit", None, HOSTILE): was})
         return audit_page.page(report, table, earlier)
 
     def test_an_audit(self):
@@ -103,7 +107,7 @@ class Pages(Case):
         rows = [audit_rows.AuditRow(audit_rows.UNIT, name, [process(8)], audit_rows.Expectation()) for name in ("a", "b")]
         for row in rows:
             judgement = audit_rows.StackJudgement(audit_rows.NOT_KNOWN, "slow")
-            row.parts = [audit_rows.RowPart(stacks.Stack((), False), {8: [8]}, judgement)]
+            row.parts = [audit_rows.RowPart(audit_rows.StackShape(), {8: [8]}, judgement)]
         text = Page(audit_page.page(audit_rows.Audit(rows, machine.Snapshot(), 0.0), tables.read_table(None)), self).check()
         self.assertIn("not known unit a, unit b", text)
         self.assertEqual(text[text.index("What shows the verdicts"):].count("slow"), 1)
@@ -114,8 +118,8 @@ class Pages(Case):
                                (audit_rows.Expectation(why="no bus"), "what is configured isn't known: no bus"),
                                (audit_rows.Expectation(source="systemctl", why="no bus"), "systemctl no bus")):
             row = audit_rows.AuditRow(audit_rows.UNIT, "a.service", [process(8)], expected)
-            stack = stacks.Stack((), False, {8: [8]})
-            row.parts = [audit_rows.RowPart(stack, {8: [8]}, audit_rows.StackJudgement(audit_rows.NOT_KNOWN))]
+            row.parts = [audit_rows.RowPart(audit_rows.StackShape(), {8: [8]},
+                                            audit_rows.StackJudgement(audit_rows.NOT_KNOWN))]
             made = audit_rows.Audit([row], machine.Snapshot(), 0.0)
             text = Page(audit_page.page(made, tables.read_table(None)), self).check()
             self.assertIn(says, text)

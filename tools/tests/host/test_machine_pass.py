@@ -1,8 +1,7 @@
-"""scftools/machine_pass.py: a pass over processes of a machine, some of which make it wait or have much to read."""
+"""scfhost.machine_pass: copies of the filters of processes, some of which make it wait or have much to read."""
 import json
 import os
 import subprocess
-import time
 import unittest
 from unittest import mock
 
@@ -11,21 +10,23 @@ from support.confined import processes
 from support.own_machine import ROOT, OwnMachine
 from scfhost import machine_pass
 
-# Prints what a pass found: the numbers of processes by the lengths of their filters, those that weren't read and why,
-# what else was left out, and the seconds that it took. Its words are the tools' folder and what is to be set in the
-# module: limits, or for None a function that says no.
+# Prints what was copied of all confined processes: the numbers of processes by the lengths of their filters, those that
+# weren't read and why, and why others still wait. Its words are the tools' folder and limits that are to be set in the
+# module.
 PASS = """
-import json, sys, time
+import json, sys
 sys.path.insert(0, sys.argv[1])
 from scfhost import machine, machine_pass, processes
 for name, value in json.loads(sys.argv[2]).items():
-    setattr(machine_pass, name, (lambda *_: False) if value is None else value)
-begun = time.monotonic()
-found = machine.read_machine(processes.Kernel())
+    setattr(machine_pass, name, value)
+kernel = processes.Kernel()
+every = machine.read_machine(kernel, None).processes.values()
+copies = machine_pass.Copies(kernel, (process.number for process in every if process.is_confined), False)
+why = copies.read(600)
 print(json.dumps({
     "read": [[[len(it) // 8 for it in key[0]], sorted(stack.threads), sum(map(len, stack.threads.values()))]
-             for key, stack in found.stacks.items()],
-    "unread": found.unread, "left_out": found.left_out, "seconds": time.monotonic() - begun}))
+             for key, stack in copies.stacks.items()],
+    "unread": copies.unread, "why": why, "waiting": list(copies.waiting), "filters": len(copies.filters)}))
 """
 # Starts processes that wait in execve(2) for ever, so many, each with a filter of one instruction: the kernel waits for
 # all other threads to end, and one of them is traced by this process, which never waits for it. Prints their numbers.
@@ -62,7 +63,7 @@ time.sleep(1000)
 
 class Passes(OwnMachine):
     def found(self, **limits):
-        """What a pass finds: its object, with the processes of each stack by the lengths of its filters."""
+        """What is copied: the object, with the processes of each stack by the lengths of its filters."""
         status, out, err = self.on("/usr/bin/python3", "-c", PASS, os.path.join(TOP, "tools"), json.dumps(limits))
         self.assertEqual((status, err), (0, ""))
         value = json.loads(out)
@@ -90,63 +91,47 @@ class Passes(OwnMachine):
         self.assertEqual(sorted(value["unread"]), stuck)
         self.assertEqual({*value["unread"].values()},
                          {"it executes a program, and until that has begun the kernel makes a tracer wait"})
-        self.assertLess(value["seconds"], 20)
 
-    def test_one_that_begins_to_execute_just_then(self):
-        """The kernel makes the tool wait: what was read before is kept, and the others are read."""
-        before = self.crowd(("before", [filter_of([0])], 2, 1))
-        stuck = self.executing(2)
-        behind = self.crowd(("behind", [filter_of([0])], 2, 1))
-        value = self.found(is_executing=None)
-        self.assertEqual(value["read"][9,], [*before, *behind])
-        self.assertEqual(value["unread"], dict.fromkeys(stuck, "the kernel made a tracer wait, as for a thread that "
-                                                               "executes a program"))
-        self.assertLess(value["seconds"], 20)
+    def test_each_filter_is_kept_once(self):
+        """However many threads and stacks have it."""
+        shared = ret(ALLOW)
+        numbers = self.crowd(("some", [shared, filter_of([0])], 2, 250), ("other", [shared, filter_of([0, 1])], 1, 1))
+        value = self.found()
+        self.assertEqual((value["read"], value["filters"], value["why"]),
+                         ({(1, 9): numbers[:2], (1, 10): numbers[2:]}, 3, None))
+        self.assertEqual(value["threads"][1, 9], 500)
 
-    def test_threads_beyond_the_most_that_are_looked_at(self):
-        first, two = self.crowd(("some", [filter_of([0])], 1, 250), ("many", [ret(ALLOW)], 1, 251))
-        value = self.found(MOST_THREADS=250)
-        self.assertEqual((value["read"][9,], value["threads"][9,]), ([first], 250))
-        self.assertEqual(value["unread"], {two: "it has more than 5000 threads"})
-        self.assertEqual(value["left_out"][1:], [f"the filters of process {two}: it has more than 5000 threads"])
-        value, why = self.found(MOST_FILTERS=250), "its threads have more than 20000 filters in all"
-        self.assertEqual((value["read"][9,], value["unread"]), ([first], {two: why}))
-        self.assertEqual(value["left_out"][1:], [f"the filters of process {two}: {why}"])
-
-    def test_a_pass_that_is_over(self):
-        numbers = self.crowd(("some", [filter_of([0])], 5, 1))
-        value, why = self.found(LONGEST_PASS=-1), "the pass over all processes took longer than 30 seconds"
-        self.assertEqual(value["unread"], dict.fromkeys(numbers, why))
-        shown = ", ".join(f"process {number}" for number in numbers[:3])
-        self.assertEqual(value["left_out"][1:], [f"the filters of {shown} and 2 more: {why}"])
-
-
-class Turns(unittest.TestCase):
-    def test_whose_turn_it_is(self):
-        """A user whose processes take long isn't read before those of others that take less."""
-        seconds, clock = {1000: 1.0, 0: 0.3, 7: 0.1}, [0.0]
-        users = {**dict.fromkeys(range(10, 14), 1000), **dict.fromkeys(range(20, 24), 0), 30: 7}
-        actual = []
-        with mock.patch.object(machine_pass.time, "monotonic", lambda: clock[0]):
-            for number in machine_pass.in_turns(users, {}):
-                actual.append(number)
-                clock[0] += seconds[users[number]]
-        self.assertEqual(actual, [20, 30, 10, 21, 22, 23, 11, 12, 13])
-
-    def test_what_was_used_before(self):
-        self.assertEqual([*machine_pass.in_turns({10: 1, 20: 2, 30: 3}, {1: 9.0, 2: 4.0})], [30, 20, 10])
+    def test_more_bytes_than_are_copied(self):
+        """The processes whose filters are too much aren't read, and the others are."""
+        first, two = self.crowd(("some", [filter_of([0])], 1, 1), ("many", [filter_of([0, 1])], 1, 250))
+        value = self.found(MOST_FILTER_BYTES=9 * 8)
+        self.assertEqual((value["read"], list(value["unread"]), value["waiting"]), ({(9,): [first]}, [two], []))
+        self.assertEqual(value["unread"][two], "its filters, and those that were read before, have too many bytes")
 
 
 class Ended(unittest.TestCase):
-    def test_children_that_are_ended_whatever_they_do(self):
-        """By something else than a process that is read."""
-        for seconds, why in ((100, "the process that reads filters was ended again and again"),
-                             (-1, "the pass over all processes took longer than 30 seconds")):
-            with mock.patch.object(machine_pass.child, "run_in_child", side_effect=machine_pass.child.Died) as run:
-                actual = machine_pass.read_processes(processes.Kernel(), {7: 0, 8: 0}, False,
-                                                     time.monotonic() + seconds)
-            self.assertEqual((actual.unread, actual.stacks), ({7: why, 8: why}, {}))
-            self.assertLessEqual(run.call_count, 30)
+    def test_a_child_that_is_ended(self):
+        """What it answered before is kept; what may have ended it is read last the next time."""
+        copies = machine_pass.Copies(processes.Kernel(), (6, 7, 8), False)
+
+        def ask(_, seconds, receive):
+            receive({"process": 6, "why": "x"})
+            raise machine_pass.child.Lost("y")
+
+        with mock.patch.object(machine_pass.child, "ask", ask):
+            self.assertEqual(copies.read(1), "y")
+        self.assertEqual((list(copies.waiting), copies.unread), ([8, 7], {6: "x"}))
+
+    def test_answers_of_another_form(self):
+        copies = machine_pass.Copies(processes.Kernel(), (7,), False)
+        copies.receive({"filter": "BgAAAAAA/38="})
+        for value in ({"filter": 1}, {"filter": "x"}, {"process": 8, "stacks": [], "notes": []}, [], {"process": "7"},
+                      {"process": 7, "stacks": [{"filters": [1], "is_strict": False, "threads": [7]}], "notes": []},
+                      {"process": 7, "stacks": [{"filters": [0], "is_strict": 0, "threads": [7]}], "notes": []}):
+            with self.assertRaises((TypeError, ValueError, LookupError)):
+                copies.receive(value)
+            copies.waiting = {7: None}
+        self.assertEqual((copies.filters, copies.unread), ([ret(ALLOW)], {}))
 
 
 @ROOT

@@ -150,7 +150,7 @@ class UnitProfile(Case):
         asked = asked[:-3]
         self.assertEqual((asked[:2], asked[-2:]), (["--no-pager", "show"], ["--", "box.service"]))
         self.assertEqual(sorted(asked[2:-2]), sorted(f"--property={name}" for name in (
-            "DropInPaths", "FragmentPath", "Id", "LoadState", "NeedDaemonReload", "Personality",
+            "DropInPaths", "FragmentPath", "Id", "LoadState", "MainPID", "NeedDaemonReload", "Personality",
             "SystemCallArchitectures", "SystemCallErrorNumber", "SystemCallFilter", "SystemCallLog", *OTHERS)))
         self.assertFalse(os.path.exists(os.path.join(self.folder, "systemd-analyze.words")))
 

@@ -222,6 +222,8 @@ class FakeKernel:
         self.asked = []
         self.held = set()
 
+    keep = bytes
+
     def ptrace(self, request, thread, place, data):
         self.asked.append((request, thread, data if request == ptrace.PTRACE_DETACH else place))
         if request in self.fails:
