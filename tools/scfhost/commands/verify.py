@@ -57,16 +57,18 @@ Examples:
     scf verify --no-more --json "$PID" profile.json
     scf verify "$PID" --beside filters
 """
+import json
 import os
 import sys
 
-from scftools.base import inputs, output, program
+from scftools.base import child, inputs, output, program
 from scftools.base.values import replace
 from scftools.model import profiles, tables
 from scftools.ask import verdicts
 from scftools.cli import words
 from scftools.forms import engines, profile_inputs, runtimes
-from .. import configurations, container_files, containers, processes, verify
+from .. import audit, configurations, container_files, containers, processes, verify
+from ..machine import Snapshot
 
 
 def read_words():
@@ -108,10 +110,9 @@ def read_words():
 
 
 def containers_of(kernel, user):
-    """The containers of root, or of a user, that run, with their configurations, as audit finds them."""
-    names = container_files.Names()
-    return [container_files.with_engine(container_files.with_config(found), names)
-            for found in container_files.descriptions_of(kernel).containers if found.user == user]
+    """The containers of root, or of a user, that run, with their settings of seccomp, as audit finds them."""
+    budget = child.Budget(audit.SECONDS_OF_FILES)
+    return [found for found in container_files.described_containers(kernel, Snapshot(), (), budget) if found.user == user]
 
 
 def container_named(owned, name, user):
@@ -135,9 +136,9 @@ def configured_request(container, settings):
                                 "PROFILE")
     table, scope, relation = settings
     try:
-        config = configurations.seccomp_in(container.configuration, container.config)
-        if config is None:
+        if container.seccomp is None:
             return verify.nothing_request(*settings, configured=False)
+        config = json.loads(container.seccomp)
         return replace(verify.request_of(config, container.runtime, False, table, relation, scope), configured=True)
     except configurations.ContainerError as why:
         raise program.ToolError(str(why)) from why
