@@ -2,9 +2,6 @@
 from __future__ import annotations
 
 import os
-import re
-
-from ..base import program
 
 # The commands, and those that few need.
 COMMANDS = ("compare", "diff", "surface", "decide", "list", "check", "lint", "compile", "profile-of", "needs", "record",
@@ -37,13 +34,6 @@ def name_at(path: str) -> str | None:
             return None
         path = os.path.join(os.path.dirname(path), os.readlink(path))
     return os.path.basename(path).removeprefix("scf-")
-
-
-def summaries() -> dict[str, str]:
-    """What each command is for, in a line."""
-    with open(os.path.join(program.TOP, "tables", "commands"), encoding="ascii") as file:
-        listed = dict(re.findall(r"(?m)^  ([a-z-]+) +(\S.*)$", file.read()))
-    return {**{name: listed[name] for name in COMMANDS}, **{name: same_as(name) for name in ALIASES}, **OTHERS}
 
 
 def same_as(name: str) -> str:

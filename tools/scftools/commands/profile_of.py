@@ -14,10 +14,7 @@
 
 The FILTERs form one stack, oldest first; pid:N stands for those of a process, each distinct stack of its threads a
 block; `scf filters-of` writes them to files. Before a profile is printed, scf proves that it answers every syscall of
-each architecture that it lists as the filters do; `scf compare FILTER.. PROFILE` says `same` of it again:
-
-    scf compile profile.json >filter.bpf
-    scf profile-of filter.bpf >again.json
+each architecture that it lists as the filters do; `scf compare FILTER.. PROFILE` says `same` of it again.
 
 A profile has an entry for each answer and the syscalls that always get it, and entries with conditions on arguments.
 Ranges and bits that no operator compares as a whole are several entries, each with a mask. Numbers that the table
@@ -26,9 +23,7 @@ doesn't name get the default action.
 The profile is for this machine's own architecture, such as x86-64. It also lists each other one of scf's tables for
 which scf proves the same, with entries for names that x86-64 lacks; but none whose syscalls the filters all kill.
 Standard error names those that it lists, and others of which the filters allow some syscall. With --arch the profile is
-for one architecture alone; where its arguments have 32 bits, conditions are on the lower half:
-
-    scf profile-of --arch i386 filter.bpf
+for one architecture alone; where its arguments have 32 bits, conditions are on the lower half.
 
 TRAP with data, as browsers' filters have it, is written as errnoRet beside SCMP_ACT_TRAP, and a remark says so, since
 --runtime sandbox alone reads that; with --runtime or --kubernetes the data is left out.
@@ -38,9 +33,7 @@ or with data that a profile has no place for. Then the output is two profiles, a
 is nowhere stricter than the filters, and the nearest that is nowhere more permissive. This is proved. Lines marked by
 `# ` say which syscalls get another answer, and why, with an example where the profile is more permissive or stricter.
 If one profile is both, as of runc's filters, whose ENOSYS no profile says, it is printed alone, and standard error says
-this. With --no-less only the first profile is printed, with --no-more the second:
-
-    scf profile-of --no-more filter.bpf >stricter.json
+this. With --no-less only the first profile is printed, with --no-more the second.
 
 Of filters that take too many steps to follow the output says `unfinished`, and has the profiles that are proved all the
 same; --limit N gives them N steps, if that is more than they have. Those of chromium and firefox take fewer; but their
