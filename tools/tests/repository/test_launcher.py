@@ -2,8 +2,10 @@
 import os
 import re
 import shutil
+import signal
+import subprocess
 
-from support.common import TOP, Case
+from support.common import PATIENCE, TOP, Case, comes
 
 # Notes where and how it was asked, and prints what it is told. A program that it builds, and runs, prints the source and
 # its words.
@@ -21,9 +23,9 @@ class Launcher(Case):
     def setUp(self):
         super().setUp()
         self.tree = os.path.join(self.folder, "tree")
-        os.makedirs(self.tree)
-        for name in ("scf", "build"):
-            shutil.copy2(os.path.join(TOP, name), self.tree)
+        os.makedirs(os.path.join(self.tree, "dev"))
+        for name in ("scf", "build", "dev/build-crate"):
+            shutil.copy2(os.path.join(TOP, name), os.path.join(self.tree, name))
         self.file("tree/crates/scf/src/main.rt", "one")
         for name in ("low", "middle", "aside"):
             os.makedirs(os.path.join(self.tree, "crates", name))
@@ -53,8 +55,34 @@ class Launcher(Case):
         self.assertEqual((status, out), (0, ""))
         self.assertEqual(re.sub(r"\([0-9]+ s\)", "(N s)", err).splitlines(), [
             "build: proving and building middle; the first time this may take an hour",
-            "build: low: proved: crate 1 of 2 (N s)"])
+            "build: low: proved: crate 1 of 1 (N s)"])
         self.assertEqual(self.asked(), ["low lib"])
+
+    def test_crates_side_by_side(self):
+        """Two that stand on one library: each ends only when the other one has begun."""
+        self.file("tree/crates.txt", "low: thiserror\naside: low\nmiddle: low json\nscf: middle aside\n")
+        waits = ('case ${PWD##*/} in aside | middle) until [ "$(grep -c "aside\\|middle" "$ASKED")" = 2 ]; do sleep 0.1; '
+                 "done ;; esac\n")
+        os.chmod(self.file("kit/rt", RT.replace("case", waits + "case", 1)), 0o755)
+        os.chmod(self.file("kit/nproc", "#!/bin/sh\necho 4\n"), 0o755)
+        status, _, err = self.run_here("build", PROVES="*", PRINTS=self.PRINTED)
+        self.assertEqual(status, 0)
+        self.assertEqual(sorted(self.asked()), ["aside lib --jobs 2", "low lib", "middle lib --jobs 2", "scf run -- --help"])
+        self.assertRegex(err, r"\n(build: (aside|middle): proved: crate [23] of 4 \([0-9]+ s\)(; at work: (aside|middle))?\n){2}"
+                              r"build: scf: proved: crate 4 of 4 \([0-9]+ s\)\n\Z")
+
+    def test_an_interrupt_leaves_nothing(self):
+        """The kit would work for an hour."""
+        os.chmod(self.file("kit/rt", '#!/bin/sh\necho $$ >"$ASKED"\nexec sleep 3600\n'), 0o755)
+        for number in (signal.SIGINT, signal.SIGTERM, signal.SIGHUP):
+            with subprocess.Popen([os.path.join(self.tree, "build")], env=self.env, stderr=subprocess.DEVNULL) as build:
+                comes(lambda: os.path.exists(self.env["ASKED"]) and self.asked())
+                build.send_signal(number)
+                self.assertEqual(build.wait(PATIENCE), 130 if number == signal.SIGINT else 143)
+            self.assertEqual(os.listdir(self.room), [])
+            (process,) = self.asked()
+            self.assertRaises(ProcessLookupError, os.kill, int(process), 0)
+            os.unlink(self.env["ASKED"])
 
     def test_build_has_the_kit_build_again(self):
         self.run_here("scf", "check")
