@@ -62,8 +62,9 @@ class Gate(Case):
     def test_all_are_counted(self):
         status, lines = self.gate(ci="7 passed, 0 failed")
         self.assertEqual((status, lines[-1]), (0, "18 passed, 0 failed"))
-        self.assertEqual([line for line in lines if not line.startswith("test: ")],
-                         ["7 passed, 0 failed", "4 passed, 0 failed", "3 passed, 0 failed", "18 passed, 0 failed"])
+        self.assertEqual(sorted(line for line in lines if not line.startswith("test: ")),
+                         ["18 passed, 0 failed", "3 passed, 0 failed", "4 passed, 0 failed", "7 passed, 0 failed"])
+        self.assertRegex(lines[-2], r"\Atest: processor minutes: (\w[\w /-]* [0-9]+\.[0-9], ){4}")
 
     def test_it_says_how_far_it_is(self):
         """Of a crate that is proved a line is shown, of one that isn't all that was printed."""
@@ -76,7 +77,7 @@ class Gate(Case):
         status, lines = self.gate(ci=f"{refused}\n0 passed, 1 failed", CI_STATUS="1")
         self.assertEqual((status, lines[-1]), (1, "0 passed, 1 failed"))
         self.assertIn("fn f: not proved", lines)
-        self.assertIn("step 4 of 4: dev/must-fail", "\n".join(self.gate()[1]))
+        self.assertIn("step 3 of 3: dev/fault-injection", "\n".join(self.gate()[1]))
 
     def test_the_program_of_the_gate_is_put_in_place(self):
         """`rt ci` works in a copy, without what was built here, and the later steps use its program."""
@@ -154,8 +155,8 @@ class Gate(Case):
         for number in (signal.SIGINT, signal.SIGTERM):
             with subprocess.Popen([os.path.join(self.tree, "test")], env=self.environment(), stdout=subprocess.PIPE,
                                   stderr=subprocess.DEVNULL) as gate:
-                self.assertIn(b"step 1 of 4", gate.stdout.readline())
-                self.assertEqual(gate.stdout.readline(), b"early\n")
+                self.assertIn(b"step 1 of 3", gate.stdout.readline())
+                self.assertIn(b"early\n", iter(gate.stdout.readline, b""))  # (beside it bugs are planted)
                 gate.send_signal(number)
                 self.assertEqual(gate.wait(PATIENCE), 128 + number)
             self.assertEqual(os.listdir(self.room), [])
