@@ -7,7 +7,6 @@ from __future__ import annotations
 
 import bisect
 import functools
-import itertools
 import operator
 import re
 from collections.abc import Mapping, Sequence
@@ -142,43 +141,38 @@ class Family:
     """The constants of one kind of argument. The bits of `mask` are one number, by `of_mask`; each other bit, or some
     bits together, has a name of its own in `bits`."""
 
-    mask: int = 0
-    patterns: list[tuple[bool, str]] = field(default_factory=list)
+    mask: int
     of_mask: dict[int, str] = field(default_factory=dict)
     bits: dict[int, str] = field(default_factory=dict)
     # of each constant the index of its pattern
     ranks: dict[str, int] = field(default_factory=dict)
 
-    def add(self, word: str) -> None:
-        """Takes a word of the table: the mask, or a pattern of names that are in the family, or after `-` are not."""
-        if word.startswith("0"):
-            self.mask = int(word, 0)
-        else:
-            self.patterns.append((word[0] != "-", word.removeprefix("-")))
-
-    def fill(self, numbers_by_name: dict[str, int], ordered: Sequence[str]) -> None:
-        """Finds its constants, whose names are also given in order. Of two with one number the first in the table is
-        kept."""
-        rank_of = {}
-        for rank, (_, pattern) in enumerate(self.patterns):
-            prefix, star, behind = pattern.partition("*")
-            form = re.compile(re.escape(pattern).replace(r"\*", r"\w*")) if behind else None
-            for name in itertools.islice(ordered, bisect.bisect_left(ordered, prefix), None):
-                if not name.startswith(prefix) or not star and name != prefix:
-                    break
-                if form is None or form.fullmatch(name):
-                    rank_of[name] = rank
+    @classmethod
+    def read(cls, words: Sequence[str], numbers_by_name: dict[str, int]) -> Family:
+        """The family of the table's words: the mask, and names, or the beginnings of names before `*`, that are in the
+        family, or after `-` are not. Of two constants with one number the first in the list of numbers is kept."""
+        masks = [word for word in words if word.startswith("0")]
+        patterns = [word for word in words if not word.startswith("0")]
+        family = cls(int(masks[-1], 0) if masks else 0)
+        rank_of: dict[str, int] = {}
+        ordered = sorted(numbers_by_name)
+        for rank, pattern in enumerate(patterns):
+            name = pattern.strip("-*")
+            begin = bisect.bisect_left(ordered, name)
+            end = bisect.bisect_left(ordered, name + "~") if pattern.endswith("*") else bisect.bisect(ordered, name)
+            rank_of.update(dict.fromkeys(ordered[begin:end], rank))
         for name, number in numbers_by_name.items():
             rank = rank_of.get(name)
             # a bit of the sign of 32 bits would be 33 bits of a register
-            if rank is not None and self.patterns[rank][0] and number > -SMALL:
-                number, self.ranks[name] = number % WORD_VALUES, rank
-                if number & ~self.mask == 0:
-                    self.of_mask.setdefault(number, name)
-                elif number & self.mask == 0:
-                    self.bits.setdefault(number, name)
+            if rank is not None and not patterns[rank].startswith("-") and number > -SMALL:
+                number, family.ranks[name] = number % WORD_VALUES, rank
+                if number & ~family.mask == 0:
+                    family.of_mask.setdefault(number, name)
+                elif number & family.mask == 0:
+                    family.bits.setdefault(number, name)
         # what has more bits goes first, as O_SYNC before O_DSYNC
-        self.bits = dict(sorted(self.bits.items(), key=lambda item: (-bin(item[0]).count("1"), item[0])))
+        family.bits = dict(sorted(family.bits.items(), key=lambda item: (-bin(item[0]).count("1"), item[0])))
+        return family
 
     def describe(self, value: int) -> str | None:
         """A value below 2^32 by its constants, or None if it has none."""
@@ -206,8 +200,8 @@ class Family:
 
 
 @functools.lru_cache(None)
-def _families() -> tuple[dict[str, list[str]], dict[str, list[str]]]:
-    """The words of each family by its name; and the family of each argument by the syscall, `-` for none."""
+def _words() -> tuple[dict[str, list[str]], dict[str, list[str]]]:
+    """The words of each family by its name, and the family of each argument by the syscall, `-` for none."""
     families: dict[str, list[str]] = {}
     calls: dict[str, list[str]] = {}
     for first, *words in map(str.split, program.table_lines("x86_64.constants")):
@@ -220,12 +214,8 @@ def _families() -> tuple[dict[str, list[str]], dict[str, list[str]]]:
 
 @functools.lru_cache(None)
 def _family(name: str, architecture: str) -> Family:
-    """A family by its name, of the constants that are on an architecture what they are on x86-64."""
-    family, numbers_by_name = Family(), numbers_on(architecture)
-    for word in _families()[0][name]:
-        family.add(word)
-    family.fill(numbers_by_name, sorted(numbers_by_name))
-    return family
+    """A family, of constants that are on an architecture what they are on x86-64."""
+    return Family.read(_words()[0][name], numbers_on(architecture))
 
 
 def _number_text(value: int, kind: str) -> str:
@@ -249,7 +239,7 @@ def family_of(name: str, index: int, values: Mapping[int, int],
               architecture: str = architectures.NATIVE) -> Family | None:
     """The constants of an argument on the architecture of this OCI name, given the arguments that are known, by their
     indices."""
-    families, calls = _families()
+    families, calls = _words()
     words = calls.get(name, [])
     first = next((at for at, word in enumerate(words) if word in families), index)
     if first != index and values.get(first, WORD_VALUES) < WORD_VALUES:
