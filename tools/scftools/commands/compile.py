@@ -1,7 +1,7 @@
 """Prints a filter that answers every syscall as a profile says, or that a text in scf's assembler spells.
 
     scf compile [--native] [--strict] [--runtime runc|crun|docker|podman|sandbox] [--json]
-                [--hot FILE] [--table FILE] [--caps LIST] [--machine NAME] PROFILE >FILTER
+                [--hot FILE [--no-bitmap]] [--table FILE] [--caps LIST] [--machine NAME] PROFILE >FILTER
     scf compile [--as assembler] [--json] TEXT >FILTER
 
 PROFILE is a resolved OCI seccomp profile, or another one as `scf decide` takes it: a file, a pipe, or `-` for standard
@@ -15,7 +15,9 @@ Without a PROFILE standard input is read: a profile, or a bundle, to whose filte
 
 With --hot the syscalls that FILE counts take fewer steps; the answers, and the bounds on the filter's size and steps,
 stay the same. FILE has lines NAME COUNT, as `scf needs --counts` prints them, and for another architecture than x86-64,
-or than the first that PROFILE lists, ARCH NAME COUNT.
+or than the first that PROFILE lists, ARCH NAME COUNT. Linux from 5.11 on allows a syscall that the filter always allows
+without running it, but for x32 and mips; the counts of these are left out, unless --no-bitmap says that the kernel is
+older.
 
 TEXT is known by its first word; with --as assembler it is one whatever it begins with. It is ASCII. A newline or `;`
 ends a statement, and `//` begins a comment, which ends with the line. A statement is an instruction, a label with `:`
@@ -84,6 +86,8 @@ def main():
     parser.add("--as", choices=("assembler",))
     parser.add_argument("--hot", metavar="FILE",
                         help="how often syscalls are called, as `scf needs --counts` prints it; - is standard input")
+    parser.add_argument("--no-bitmap", action="store_true",
+                        help="count syscalls that are always allowed, too: for Linux before 5.11, which runs the filter")
     parser.add("--architectures", "--reading", "--left-out", "profile")
     runtimes.add_option(parser, is_sandboxes=True)
     options = parser.parse_args()
@@ -95,7 +99,7 @@ def main():
         return assembled(data, options)
     profile = runtimes.input_in(data, options, options.strict)
     judged = profile.judged(tables.read_table(options.table), options.native)
-    hot = [] if options.hot is None else counts.read_counts(options.hot, judged)
+    hot = [] if options.hot is None else counts.read_counts(options.hot, profile.data, judged, not options.no_bitmap)
     done = client.run_scf(["compile", "--left-out", *judged.words],
                           bundles.compilation_bundle(profile.data, judged, hot))
     fault = None if done.status == program.SUCCESS else Fault.read(done.line)

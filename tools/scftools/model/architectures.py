@@ -58,6 +58,9 @@ class Architecture:
     swaps_clone: bool = True
     # its socketcall and ipc make the syscalls of sockets and System V IPC, too: sys_socketcall of libseccomp's arch-*.c
     multiplexes: bool = False
+    # Linux from 5.11 on answers its syscalls that are always allowed without running a filter: SECCOMP_ARCH_NATIVE or
+    # SECCOMP_ARCH_COMPAT in asm/seccomp.h
+    has_bitmap: bool = True
 
     @property
     def kind(self) -> str:
@@ -105,18 +108,18 @@ JUDGED = {architecture.oci: architecture for architecture in (
     Architecture(NATIVE, "x86-64", numbering=HeaderNumbering(abis=("common", "64")), machine="amd64",
                  modes=(("32 bit", I386), ("x32", X32)), swaps_clone=False),
     Architecture(I386, "i386", bits=32, multiplexes=True),
-    Architecture(X32, "x32", first=answers.FIRST_X32, bits=32, swaps_clone=False,
+    Architecture(X32, "x32", first=answers.FIRST_X32, bits=32, swaps_clone=False, has_bitmap=False,
                  numbering=HeaderNumbering((("__X32_SYSCALL_BIT", 0),), abis=("common", "x32"))),
     Architecture(AARCH64, "aarch64", machine="arm64", modes=(("32 bit", ARM),)),
     Architecture(ARM, "arm", bits=32,
                  numbering=HeaderNumbering((("__NR_SYSCALL_BASE", 0), ("__ARM_NR_BASE", 0x0F0000)), has_aliases=True)),
     Architecture(f"{PREFIX}RISCV64", "riscv64", machine="riscv64"),
     Architecture(f"{PREFIX}PPC64LE", "ppc64le", machine="ppc64le", multiplexes=True),
-    Architecture(f"{PREFIX}MIPSEL", "mipsel", bits=32, machine="mipsle", multiplexes=True,
+    Architecture(f"{PREFIX}MIPSEL", "mipsel", bits=32, machine="mipsle", multiplexes=True, has_bitmap=False,
                  numbering=HeaderNumbering((("__NR_Linux", 4000),))),
-    Architecture(f"{PREFIX}MIPSEL64", "mipsel64", machine="mips64le",
+    Architecture(f"{PREFIX}MIPSEL64", "mipsel64", machine="mips64le", has_bitmap=False,
                  numbering=HeaderNumbering((("__NR_Linux", 5000),))),
-    Architecture(f"{PREFIX}MIPSEL64N32", "mipsel64n32", bits=32, machine="mips64p32le",
+    Architecture(f"{PREFIX}MIPSEL64N32", "mipsel64n32", bits=32, machine="mips64p32le", has_bitmap=False,
                  numbering=HeaderNumbering((("__NR_Linux", 6000),))),
     Architecture(f"{PREFIX}LOONGARCH64", "loongarch64", machine="loong64", swaps_clone=False))}
 # By the names that sources have of them.

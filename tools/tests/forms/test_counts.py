@@ -96,12 +96,12 @@ class Hot(Case):
         super().setUp()
         self.profile, self.table = self.file("p.json", PROFILE), self.file("t", TABLE)
 
-    def compiled(self, text):
-        """The status, the filter and what is said of it."""
+    def compiled(self, text, *words, profile=None):
+        """The status, the filter and what is said of it; by default all that the profile allows is counted."""
         path = self.file("out.bpf", b"")
         with open(path, "wb") as out:
-            status, _, err = self.run_tool("compile", "--hot", self.file("hot", text), f"--table={self.table}",
-                                           self.profile, stdout=out)
+            status, _, err = self.run_tool("compile", *(words or ("--no-bitmap",)), "--hot", self.file("hot", text),
+                                           f"--table={self.table}", profile or self.profile, stdout=out)
         with open(path, "rb") as out:
             return status, out.read(), err
 
@@ -111,6 +111,27 @@ class Hot(Case):
                               ("c104 899\nc31 5\nc236 80\nc104 1\n", MIX), ("", {}),
                               ("c31 5000000000\nc236 80000000000\nc104 900000000000", MIX)):
             self.assertEqual(self.compiled(text), (0, compiled(PARTS + counts(entries)), ""), text)
+
+    def test_syscalls_that_linux_always_allows(self):
+        """They aren't counted, where Linux has a bitmap of them; one with a condition or another answer is, and all are
+        for an older kernel."""
+        entries = [{"names": ["c31", "c104"], "action": "SCMP_ACT_ALLOW"},
+                   {"names": ["c236"], "action": "SCMP_ACT_ALLOW", "args": [{"index": 0, "value": 1, "op": "SCMP_CMP_EQ"}]},
+                   {"names": ["c237"], "action": "SCMP_ACT_LOG"}]
+        text = json.dumps({"defaultAction": "SCMP_ACT_ERRNO", "syscalls": entries})
+        path, parts = self.file("q.json", text), bundle([a_profile(text), a_table(TABLE)])
+        every = {"c31": 5, "c104": 900, "c236": 80, "c237": 40, "c238": 30}
+        lines = "".join(f"{name} {count}\n" for name, count in every.items())
+        run = {name: every[name] for name in ("c236", "c237", "c238")}
+        self.assertEqual(self.compiled(lines, "--native", profile=path), (0, compiled(parts + counts(run)), ""))
+        self.assertEqual(self.compiled(lines, "--native", "--no-bitmap", profile=path),
+                         (0, compiled(parts + counts(every)), ""))
+        self.assertNotEqual(compiled(parts + counts(run)), compiled(parts + counts(every)))
+
+    def test_architectures_without_a_bitmap(self):
+        """SECCOMP_ARCH_NATIVE and SECCOMP_ARCH_COMPAT in asm/seccomp.h of Linux 6.1: mips has none, x32 neither."""
+        self.assertEqual({row.name for row in JUDGED.values() if not row.has_bitmap},
+                         {"x32", "mipsel", "mipsel64", "mipsel64n32"})
 
     def test_bad_lines(self):
         for number, line in ((1, "c31"), (1, "c31 x"), (1, "c31 -1"), (2, "c31 1 2"), (2, "i387 c31 1"), (3, "1 c31"),
@@ -133,7 +154,7 @@ class Hot(Case):
         names = ["execve", *list(tables.read_table(None).names())[::3]]
         profile = {**json.loads(profile_of(*names)), "architectures": listed}
         hot, path = self.file("hot", text), self.file("p.json", json.dumps(profile))
-        status, out, err = self.run_tool("compile", "--json", "--hot", hot, path)
+        status, out, err = self.run_tool("compile", "--json", "--no-bitmap", "--hot", hot, path)
         self.assertEqual((status, err), (0, ""))
         filter_ = bytes.fromhex(json.loads(out)["hex"])
         return [steps(filter_, tables.architecture_table(name).number_of("execve"), JUDGED[name].number)
