@@ -92,7 +92,7 @@ def _of_hexadecimal(text: str) -> bytes | None:
     stripped = text.strip()
     if re.fullmatch(r'"?(?:\\x[0-9a-fA-F]{2})+"?', stripped):
         data = bytes.fromhex(stripped.strip('"').replace("\\x", ""))
-    elif re.fullmatch(r"[0-9a-fA-F\s]+", text) and all(len(word) % 2 == 0 for word in text.split()):
+    elif re.fullmatch(r"[0-9a-fA-F\s]+", text, re.ASCII) and all(len(word) % 2 == 0 for word in text.split()):
         data = bytes.fromhex(text)
     else:
         data = _of_dump(text) or b""
@@ -101,7 +101,7 @@ def _of_hexadecimal(text: str) -> bytes | None:
 
 def _of_decimals(text: str) -> bytes | None:
     """A count, and so many rows of four numbers; as of `bpf_asm`, commas may end the rows."""
-    if not re.fullmatch(r"[0-9\s,]+", text):
+    if not re.fullmatch(r"[0-9\s,]+", text, re.ASCII):
         return None
     rows = [row.split() for row in re.split("[\n,]", text.strip().rstrip(",")) if row.strip()]
     if [len(row) for row in rows] != [1] + [4] * (len(rows) - 1):

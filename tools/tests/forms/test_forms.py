@@ -86,6 +86,12 @@ class Texts(Case):
             if shutil.which(words[0]):
                 self.is_read(dumped(*words), texts.HEXADECIMAL_TEXT)
 
+    def test_white_space_is_asciis(self):
+        """No form has other blanks: U+2003 and U+0085 between digits are no text of a filter."""
+        for blank in "\u2003\u0085":
+            for text in (FILTER.hex(" ", 8).replace(" ", blank), DECIMALS.replace(" ", blank)):
+                self.assertIsNone(texts.form_of(text.encode(), "it"), ascii(blank))
+
     def test_lines_that_a_dump_leaves_out(self):
         """hexdump prints `*` for lines that are repeated: that isn't the whole filter."""
         lines = [f"{at:08x}  {bytes(16).hex(' ')}  |................|" for at in (0, 16, 48)]
