@@ -173,8 +173,9 @@ def run_scf(words: Sequence[str], given: bytes | None = b"", seconds: float | No
             most: int = MOST_OF_ANSWER) -> Run:
     """Runs scf on these bytes, or if they are None on this process's standard input.
 
-    After so many seconds of CPU time, or so many bytes, it is killed, and the result is empty and UNKNOWN. If scf isn't
-    built, its launcher builds it first, which takes long; without `may_build` the result is then empty and NOT_BUILT.
+    After so many seconds of CPU time it is killed, and the result is empty and UNKNOWN; after so many bytes it is, too,
+    and the result is `unfinished`. If scf isn't built, its launcher builds it first, which takes long; without
+    `may_build` the result is then empty and NOT_BUILT.
     """
     if given is None or not program.is_tool:
         return _run(words, given, seconds, may_build, most)
@@ -210,7 +211,7 @@ def _run(words: Sequence[str], given: bytes | None, seconds: float | None, may_b
             os.kill(child, SIGKILL)
     state = os.waitpid(child, 0)[1]
     if len(out) > most:
-        return Run(UNKNOWN, b"")
+        return Run(UNKNOWN, b"unfinished\n")
     if os.WIFSIGNALED(state) and seconds is not None and os.WTERMSIG(state) == SIGKILL:
         return Run(UNKNOWN, b"")
     if os.WIFSIGNALED(state):

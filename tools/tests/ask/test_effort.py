@@ -1,8 +1,10 @@
 """The limits of comparisons: a tool ends soon, however long its filters may be explored, and says what it left out."""
 import json
+import os
+from unittest import mock
 
-from support.common import (ALLOW, EPERM, GATE, TABLE, Case, filter_of, insn, jeq, jge, limited, load, part, profile_of,
-                            ret, taken)
+from support.common import (ALLOW, EPERM, GATE, PROGRAM, TABLE, Case, filter_of, insn, jeq, jge, limited, load, part,
+                            profile_of, ret, taken)
 from scftools.base import program
 from scftools.ask import client
 
@@ -42,6 +44,15 @@ class Slow(Case):
         status, out, err = self.ends("surface", "--json", name)
         actual = {row["number"]: row["disposition"] for row in json.loads(out)["calls"]}
         self.assertEqual((status, set(actual.values()), err), (4, {"unfinished"}, ""))
+
+    def test_an_answer_without_end(self):
+        """No more than a part of it is read, then scf is ended."""
+        program_file = self.file("program", f'#!/bin/sh\n[ "$1" = --version ] && exec {PROGRAM} "$@"\nexec yes region\n')
+        os.chmod(program_file, 0o755)
+        name = self.file("f.bpf", BITS)
+        with mock.patch.object(client, "PROGRAMS", [program_file]):
+            self.assertEqual(self.ends("answers", name)[:2], (4, "unfinished\n"))
+            self.assertEqual(self.ends("surface", name)[0], 4)
 
     def test_a_limit_that_is_given_is_the_only_one(self):
         status, out, err = self.run_tool("compare", "--calls", "--limit", "20000", self.file("f.bpf", BITS),
