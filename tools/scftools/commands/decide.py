@@ -12,7 +12,7 @@ for the profile of a unit; a file may be a pipe, and one input `-` for standard 
 or by its name in the table; with --arch by its name in that architecture's. An ARGUMENT, from the first on, is a
 number, which may be negative, or constants of C joined by `|`, such as CLONE_NEWUSER|SIGCHLD. More FILTERs, the oldest
 first, go with --nr, --calls-from or --expect. A line of --calls-from is a CALL with its ARGUMENTs; a line that begins
-with `#` is a comment. So it is in ROWS, a file of any length, where `=` and the answer follow that is expected, such as
+with `#` is a comment. So it is in ROWS, of at most 65536 rows, where `=` and the answer follow that is expected, such as
 `socket AF_NETLINK SOCK_RAW = ERRNO EPERM` or `read = ALLOW`; an action alone is met with any data. Only the rows with
 another answer are printed, and how many rows there are.
 

@@ -14,8 +14,8 @@ from ..ask import regions
 from ..ask.questions import Asker
 from .decisions import Numbering, Query
 
-# What messages call the input, and the most bytes that are read of it.
-INPUT_KIND, LONGEST_LIST = "file of rows", 1 << 62
+# What messages call the input, the most bytes that are read of it, and the most rows, which take some seconds.
+INPUT_KIND, LONGEST_LIST, MOST_ROWS = "file of rows", 1 << 62, 1 << 16
 ROW = re.compile(r"([^=]+)=\s*([A-Z_]+)(?:\s+(\S+))?")
 
 
@@ -84,7 +84,7 @@ def _row(line: int, text: str, numbering: Numbering, defaults: dict[str, str]) -
 def read_expectations(name: str, numbering: Numbering, defaults: dict[str, str]) -> Iterator[ExpectedRow]:
     """The rows of a file, line by line; a line that begins with `#` is a comment. `defaults` are the fields of each
     record that a row doesn't give."""
-    unfinished, line = b"", 0
+    unfinished, line, count = b"", 0, 0
     for piece in [*inputs.input_pieces(name, INPUT_KIND, LONGEST_LIST), b"\n"]:
         *whole, unfinished = (unfinished + piece).split(b"\n")
         if len(unfinished) > LONGEST_LINE:
@@ -93,6 +93,9 @@ def read_expectations(name: str, numbering: Numbering, defaults: dict[str, str])
             line += 1
             text = row.decode("utf-8", "surrogateescape").strip()
             if text and not text.startswith("#"):
+                count += 1
+                if count > MOST_ROWS:
+                    raise program.ToolError(f"the file has more than {MOST_ROWS} rows")
                 yield _row(line, text, numbering, defaults)
 
 

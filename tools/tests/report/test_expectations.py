@@ -1,11 +1,13 @@
 """tools/decide --expect: rows of syscalls with the answers that are expected, against a second machine."""
 import json
 import random
+from unittest import mock
 
 from support.common import ALLOW, EPERM, I386, KILL_PROCESS, X86_64, filter_of, insn, jeq, load, ret
 from support.stand_in import StandIn
 from ask.test_starts import Counting
 from scftools.model.calls import Call
+from scftools.report import expectations
 
 # socket of AF_NETLINK is denied, another architecture's syscalls kill.
 DATA = (load(4) + jeq(X86_64, 1, 0) + ret(KILL_PROCESS) + load(0) + jeq(41, 0, 2) + load(16) + jeq(16, 1, 0)
@@ -64,6 +66,12 @@ class Expectations(Counting):
         rows = self.file("rows", "".join(f"socket {it % 40} {it} = {'ERRNO 1' if it % 40 == 16 else 'ALLOW'}\n"
                                          for it in range(5000)))
         self.assertEqual(self.starts("decide", "--expect", rows, self.file("f.bpf", DATA)), 1)
+
+    def test_more_rows_than_a_file_may_have(self):
+        with mock.patch.object(expectations, "MOST_ROWS", 2):
+            self.assertEqual(self.decided("read = ALLOW\n# other\nread = ALLOW\n")[0], 0)
+            self.assertEqual(self.decided("read = ALLOW\n" * 3)[::2],
+                             (2, "decide: the file has more than 2 rows\n"))
 
     def test_what_is_refused(self):
         for rows, says in (("read ALLOW\n", "line 1 of the rows isn't a syscall"),
