@@ -21,11 +21,15 @@ MAX_MEMORY = 256 << 20
 # A tool's comparisons without --limit: seconds of CPU time for the tool and all that it runs; after the first limit
 # comparisons have few steps, after the second none.
 SECONDS, ALL_SECONDS, FEW_STEPS = 6, 8, "1000"
+# Until then comparisons have so many: the effort of real pairs is some millions, and from the effort on scf promises to
+# decide masked pairs. Regions, which take memory, have scf's default.
+MOST_STEPS = "1000000000"
 # The most bytes of an answer of scf that are read.
 MOST_OF_ANSWER = 32 << 20
 # The options of `scf compare` by which a tool's command line limits each comparison, with their texts.
 LIMIT_OPTIONS = {
-    "limit": f"at most N steps for each comparison [default: 1000000, and {SECONDS} s of CPU time for all together]",
+    "limit": f"at most N steps for each comparison [default: {MOST_STEPS}, 1000000 for regions of answers, and "
+             f"{SECONDS} s of CPU time for all together]",
     "splits": "how hard to try before `undecided`; none is no limit [default: 10000]"}
 # The greatest limit, which scf never reaches.
 NO_LIMIT = str((1 << 64) - 1)
@@ -264,7 +268,7 @@ def has_time() -> bool:
 
 def compare(words: Sequence[str], bundle: bytes) -> Run:
     """`scf compare` within the limits of the command line."""
-    return _limited(["compare", *words, *(f"--{name}={text}" for name, text in limits.items())], bundle)
+    return _limited(["compare", *words, *(f"--{name}={text}" for name, text in limits.items())], bundle, MOST_STEPS)
 
 
 def answers(words: Sequence[str], bundle: bytes) -> Run:
@@ -273,18 +277,19 @@ def answers(words: Sequence[str], bundle: bytes) -> Run:
     return _limited(["answers", *words, *of_limit], bundle)
 
 
-def _limited(words: Sequence[str], bundle: bytes) -> Run:
-    """Runs scf within the limits of the command line; a tool without --limit has scf's own while there is time, and
-    reports once that it is up."""
+def _limited(words: Sequence[str], bundle: bytes, most_steps: str | None = None) -> Run:
+    """Runs scf within the limits of the command line; a tool without --limit gives it so many steps, or scf's default,
+    while there is time, and reports once that it is up."""
     global _is_spent_reported, _seconds_of_scf  # pylint: disable=global-statement
     if "limit" in limits or not program.is_tool:
         return run_scf(words, bundle)
     if built_program() is None:
         # the time to build it doesn't count
         run_scf(["--version"])
-    for steps, until in (([], SECONDS), ([f"--limit={FEW_STEPS}"], ALL_SECONDS)):
+    for steps, until in ((most_steps, SECONDS), (FEW_STEPS, ALL_SECONDS)):
         remaining, before = _seconds_left(until), sum(os.times()[2:4])
-        done = run_scf([*words, *steps], bundle, remaining) if remaining > 0 else None
+        of_steps = [] if steps is None else [f"--limit={steps}"]
+        done = run_scf([*words, *of_steps], bundle, remaining) if remaining > 0 else None
         if _seconds_of_scf is not None:
             _seconds_of_scf += sum(os.times()[2:4]) - before
         if done is not None and done.out:

@@ -5,6 +5,7 @@ from unittest import mock
 
 from support.common import (ALLOW, EPERM, GATE, PROGRAM, TABLE, Case, filter_of, insn, jeq, jge, limited, load, part,
                             profile_of, ret, taken)
+from support.worked import size_of_paths
 from scftools.base import program
 from scftools.ask import client
 
@@ -13,6 +14,7 @@ SECONDS, MEMORY = 30, 500 << 20
 # Of about 4000 instructions: each bit of an argument again and again, on ways that part and don't meet soon; and orders
 # of all arguments.
 BITS = GATE + load(16) + b"".join(insn(0x45, 1 << at % 32, 0, 1) for at in range(4080)) + ret(ALLOW) * 2
+SPENT = f"compare: {client.SPENT}\n"
 ORDERS = GATE + b"".join(load(16 + 4 * (at % 12)) + jge(at // 12 * 1000 + 500, 0, 1) + load(16)
                          for at in range(1300)) + ret(ALLOW)
 
@@ -27,15 +29,24 @@ class Slow(Case):
 
     def test_compare(self):
         allows, fails = self.file("a.json", b'{"defaultAction":"SCMP_ACT_ALLOW"}'), self.file("e.json", profile_of())
-        # scf's own limit of steps for all syscalls together comes first
-        status, out, err = self.ends("compare", "--calls", self.file("f.bpf", BITS), allows)
-        self.assertEqual((status, out.split("\n")[0], err), (4, "unfinished", ""))
-        # the verdict over all of them is known soon
-        for data in (BITS, ORDERS):
-            name = self.file("f.bpf", data)
-            for profile, expected in ((allows, (4, "unfinished")), (fails, (1, "differs"))):
-                status, out, err = self.ends("compare", name, profile)
-                self.assertEqual((status, out.split("\n")[0], err), (*expected, ""))
+        # a verdict that is known soon, or none, by the limit of time or that of steps for all syscalls together
+        bits, orders = self.file("b.bpf", BITS), self.file("o.bpf", ORDERS)
+        for words, expected in ((["--calls", bits, allows], (4, "unfinished")), ([bits, allows], (4, "unfinished")),
+                                ([orders, fails], (1, "differs"))):
+            status, out, err = self.ends("compare", *words)
+            self.assertEqual((status, out.split("\n")[0]), expected)
+            self.assertIn(err, ("", SPENT))
+
+    def test_a_masked_pair_of_more_steps_than_the_program_takes(self):
+        """scf's clauses speak of limits from the effort on: a tool's is above that of real pairs, the program's isn't."""
+        masked = load(16) + insn(0x54, 0x30) + jeq(0x10, 0, 1) + ret(ALLOW) + ret(EPERM)
+        tests = b"".join(insn(0x15, at, 0, 1) + insn(5, 2 * (299 - at)) for at in range(300))
+        filters = load(0) + tests + load(16) * 3480 + masked, masked
+        self.assertEqual(size_of_paths(filters[0]) * size_of_paths(masked), 5247930)
+        first, second = (self.file(name, data) for name, data in zip(("a.bpf", "b.bpf"), filters))
+        for limit, expected in (([], (0, "same")), (["--limit=1000000"], (4, "unfinished"))):
+            status, out, err = self.run_tool("compare", *limit, first, "--beside", second)
+            self.assertEqual((status, out.split("\n")[0], err), (*expected, ""))
 
     def test_surface(self):
         """A filter whose regions take more steps than the limit is unfinished as a whole, in time."""

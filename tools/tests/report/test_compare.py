@@ -508,7 +508,7 @@ class WithAnotherScf(Case):
             self.assertEqual(handed.read().split("\n"), [f"compare --native --no-{word} --limit=7"
                                                          for word in ("more", "less")]
                              + [""])
-        self.assertEqual(self.run_fake("--all", "--table", "t", "a.bpf", "p.json")[2], "compare\n")
+        self.assertEqual(self.run_fake("--all", "--table", "t", "a.bpf", "p.json")[2], "compare --limit=1000000000\n")
 
 
 class Decide(Case):
