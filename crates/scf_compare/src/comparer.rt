@@ -19,6 +19,7 @@ ghost use Rattle.scf_compare.specs.Findings.{
   compared_sides,
 };
 ghost use Rattle.scf_facts.specs.Masks.{AreFew};
+ghost use Rattle.scf_compare.specs.Masked.{IsMaskedProfile, IsMaskedProgram};
 ghost use Rattle.scf_compare.specs.Sides.{AreOneStack, IsMaskedSide, IsPlainSide, behavior_of, effort_of_sides};
 ghost use Rattle.scf_compare.specs.Verdicts.{IsDecided, IsTrueOf, IsTrueOfStack, IsWithin};
 ghost use Rattle.scf_compare.specs.internal.Comparers.{IsComparison};
@@ -300,8 +301,9 @@ fn compare_pair<F: WordFacts, L: SideTree, R: SideTree>(
 /// register) and where the store `F` doesn't decide the answer. `Unfinished` comes only if the limit is below the exact
 /// effort; the steps of `Same` are within both.
 ///
-/// A store that starts exact decides plain programs and profiles: with a limit of at least the effort the verdict is
-/// `Same` exactly if both answer every call record alike, else `Differs`.
+/// A store that starts exact decides plain programs and profiles, and those that test under masks of at most 16 bits
+/// together: with a limit of at least the effort the verdict is `Same` exactly if both answer every call record alike,
+/// else `Differs`.
 #[tactic(auto, using(crate::proofs::Verdicts::on_the_left))]
 pub fn compare<F: WordFacts>(
     alloc: Global,
@@ -312,6 +314,11 @@ pub fn compare<F: WordFacts>(
     ensures holds { IfOk result (IsTrueOf program.now profile.now) }
     ensures within { IfOk result (IsWithin limit (effort_of program.now profile.now)) }
     ensures decided { IsTrue F.starts_exact → IsPlainProgram program.now → IsPlainProfile profile.now
+        → IfOk result (IsDecided
+        (SameAnswers (RunAnswers program.now) profile.now)
+        limit (effort_of program.now profile.now)) }
+    ensures by_masks { IsTrue F.starts_exact → (masks : ℕ) → AreFew masks
+        → IsMaskedProgram masks program.now → IsMaskedProfile masks profile.now
         → IfOk result (IsDecided
         (SameAnswers (RunAnswers program.now) profile.now)
         limit (effort_of program.now profile.now)) }
@@ -328,7 +335,7 @@ pub fn compare<F: WordFacts>(
 /// The verdicts are those of `compare`. The record of `Differs` is in the scope, and its filter's answer is the
 /// stack's. `Undecided` gives an instruction index in the oldest filter whose answer isn't known; if all answers are
 /// known, and only the path to them isn't, in the filter whose answer takes precedence; 0 for an empty stack. A store
-/// that starts exact decides stacks of plain programs and plain profiles.
+/// that starts exact decides what `compare` decides.
 #[tactic(auto, using(crate::proofs::Verdicts::on_the_left))]
 pub fn compare_stack<F: WordFacts>(
     alloc: Global,
@@ -340,6 +347,11 @@ pub fn compare_stack<F: WordFacts>(
     ensures holds { IfOk result (IsTrueOfStack stack.now profile.now scope) }
     ensures within { IfOk result (IsWithin limit (effort_of_stack stack.now profile.now)) }
     ensures decided { IsTrue F.starts_exact → All IsPlainProgram stack.now → IsPlainProfile profile.now
+        → IfOk result (IsDecided
+        (SameAnswersIn scope (StackAnswers stack.now) profile.now)
+        limit (effort_of_stack stack.now profile.now)) }
+    ensures by_masks { IsTrue F.starts_exact → (masks : ℕ) → AreFew masks
+        → All (IsMaskedProgram masks) stack.now → IsMaskedProfile masks profile.now
         → IfOk result (IsDecided
         (SameAnswersIn scope (StackAnswers stack.now) profile.now)
         limit (effort_of_stack stack.now profile.now)) }

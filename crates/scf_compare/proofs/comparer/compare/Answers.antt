@@ -1,6 +1,7 @@
 use Rattle.std.proofs.Math.Nat.{mul-one}
 use Rattle.scf_compare.proofs.Common.{[], ◌∷◌, All-cons, All-nil, IsPlainProgram, Same}
 use Rattle.scf_profile.specs.declared.scope.Scope.TheVariants.{All}
+use Rattle.scf_compare.specs.Masked.{IsMaskedProgram}
 use Rattle.scf_compare.proofs.Verdicts.{alone_same, decided_in, decided_same, same_alone, true_alone, true_by}
 use Rattle.scf_compare.proofs.comparer.compare.Goals as goal
 
@@ -24,3 +25,14 @@ returns-clause-decided g c = λ exact plain plain_profile.
     rw mul-one at (decided_same _ _ c.args.limit _ c.verdict.result (same_alone program profile) (alone_same program profile)
     (decided_in Same All (program ∷ []) profile c.args.limit _ c.verdict.result
     (decided exact (All-cons IsPlainProgram program [] plain (All-nil IsPlainProgram)) plain_profile)))
+
+pub returns-clause-by_masks : goal.returns-clause-by_masks
+returns-clause-by_masks g c = λ exact masks few masked masked_profile.
+    let program = c.args.program.now in
+    let profile = c.args.profile.now in
+    let decided =
+    rw (c.from_ref.ensures.value, c.of_steps-limit.ensures, ← c.verdict.ensures) at c.in_ok-finding.ensures.by_masks in
+    rw mul-one at (decided_same _ _ c.args.limit _ c.verdict.result (same_alone program profile) (alone_same program profile)
+    (decided_in Same All (program ∷ []) profile c.args.limit _ c.verdict.result
+    (decided exact masks few (All-cons (IsMaskedProgram masks) program [] masked (All-nil (IsMaskedProgram masks)))
+    masked_profile)))

@@ -12,3 +12,9 @@ returns-clause-decided g c = λ exact plain plain_profile.
     let decided = rw (c.filters.ensures.same, c.of_steps-limit.ensures) at c.in_ok-finding.ensures.decided in
     decided_in Same c.args.scope c.args.stack.now c.args.profile.now c.args.limit _ c.verdict.result
     (rw c.verdict.ensures (decided exact plain plain_profile))
+
+pub returns-clause-by_masks : goal.returns-clause-by_masks
+returns-clause-by_masks g c = λ exact masks few masked masked_profile.
+    let decided = rw (c.filters.ensures.same, c.of_steps-limit.ensures) at c.in_ok-finding.ensures.by_masks in
+    decided_in Same c.args.scope c.args.stack.now c.args.profile.now c.args.limit _ c.verdict.result
+    (rw c.verdict.ensures (decided exact masks few masked masked_profile))
