@@ -8,7 +8,9 @@ use Rattle.scf_profile.specs.declared.loaded.Loaded.{Loaded}
 use Rattle.scf_profile.specs.PlainProfile.{IsPlainProfile}
 use Rattle.scf_profile.specs.SameAnswers.{SameAnswers}
 use Rattle.scf_profile.specs.Table.{Names}
+use Rattle.scf_facts.specs.Masks.{AreFew}
 use Rattle.scf_compare.specs.Effort.{effort_of}
+use Rattle.scf_compare.specs.Masked.{IsMaskedProfile, IsMaskedProgram}
 use Rattle.scf_compare.specs.Verdicts.{IsTrueOf, IsWithin, IsDecided}
 use Rattle.scf_request.specs.Interpretations.{by_words}
 use Rattle.scf_tool.specs.declared.verification.Outcome.{Outcome}
@@ -16,7 +18,8 @@ use Rattle.scf_tool.specs.declared.verify_fault.VerifyFault.{VerifyFault}
 use Rattle.scf_tool.specs.Verifying.{IsAcceptedFilter, IsLoaded, IsNoFilter, IsProfileFault, IsTable}
 
 -- The bytes are a filter, a call table and a profile, whose skipped names and other architectures these are. The
--- verdict is true of that filter and that profile, and decides between them where both are plain.
+-- verdict is true of that filter and that profile, and decides between them where both are plain, or test under masks of
+-- few bits together.
 pub record IsVerified (filter table profile : Option (List ℕ)) (limit : ℕ) (outcome : Outcome) : Type 0 where
   pub insns : List Insn
   pub names : Names
@@ -29,6 +32,8 @@ pub record IsVerified (filter table profile : Option (List ℕ)) (limit : ℕ) (
   pub holds : IsTrueOf insns loaded.profile outcome.verdict
   pub within : IsWithin limit (effort_of insns loaded.profile) outcome.verdict
   pub decided : IsPlainProgram insns → IsPlainProfile loaded.profile
+      → IsDecided (SameAnswers (RunAnswers insns) loaded.profile) limit (effort_of insns loaded.profile) outcome.verdict
+  pub by_masks : (masks : ℕ) → AreFew masks → IsMaskedProgram masks insns → IsMaskedProfile masks loaded.profile
       → IsDecided (SameAnswers (RunAnswers insns) loaded.profile) limit (effort_of insns loaded.profile) outcome.verdict
 
 -- What the comparison of a filter with a profile, from the bytes of their readers, answers. The filter is read first.

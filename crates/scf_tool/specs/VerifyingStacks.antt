@@ -11,7 +11,9 @@ use Rattle.scf_profile.specs.Table.{Names}
 use Rattle.scf_profile.specs.Scope.{SameAnswersIn}
 use Rattle.scf_profile.specs.declared.scope.Scope.{Scope}
 use Rattle.scf_compare.specs.declared.verdict.Verdict.{Verdict}
+use Rattle.scf_facts.specs.Masks.{AreFew}
 use Rattle.scf_compare.specs.Effort.{effort_of_stack}
+use Rattle.scf_compare.specs.Masked.{IsMaskedProfile, IsMaskedProgram}
 use Rattle.scf_compare.specs.Verdicts.{IsTrueOfStack, IsWithin, IsDecided}
 use Rattle.scf_request.specs.Interpretations.{Interpretation, by_words}
 use Rattle.scf_tool.specs.declared.left_out.LeftOut.{LeftOut}
@@ -50,12 +52,14 @@ IsRefusedStack by filters table profile fault = HasNoStack filters fault
     ⊎ ((stack : List (List Insn)) × HasStack filters stack × IsProfileFault by table profile fault)
 
 -- A verdict is true of a stack and a profile over the calls of a scope, and within the limit and the effort. It decides
--- between plain filters and a plain profile.
+-- between plain filters and a plain profile, and those that test under masks of few bits together.
 pub record IsVerdictOn (stack : List (List Insn)) (p : Profile) (scope : Scope) (limit : ℕ) (verdict : Verdict) : Type 0
   where
     pub holds : IsTrueOfStack stack p scope verdict
     pub within : IsWithin limit (effort_of_stack stack p) verdict
     pub decided : All IsPlainProgram stack → IsPlainProfile p
+        → IsDecided (SameAnswersIn scope (StackAnswers stack) p) limit (effort_of_stack stack p) verdict
+    pub by_masks : (masks : ℕ) → AreFew masks → All (IsMaskedProgram masks) stack → IsMaskedProfile masks p
         → IsDecided (SameAnswersIn scope (StackAnswers stack) p) limit (effort_of_stack stack p) verdict
 
 -- What the comparison of a stack with a profile over a scope, from the bytes of their readers, answers.

@@ -22,7 +22,8 @@ use std::alloc::Global;
 /// 4194304 bytes each.
 ///
 /// `Same` is true of every record of the scope, and `Differs` shows one that is answered differently: see
-/// `compare_stack`. Plain filters and a plain profile are never left undecided.
+/// `compare_stack`. Filters and a profile that are plain, or test under masks of at most 16 bits together, are
+/// never left undecided.
 pub fn verify_stack<F: Source, P: Source, T: Source>(
     alloc: Global,
     filter_readers: &mut [F],

@@ -66,8 +66,8 @@ pub(crate) fn read_profile<R: Source>(
 /// The filter is read and checked, then the table is read, then the profile; the error is the first fault. Tables and
 /// profiles have at most 4194304 bytes each.
 ///
-/// `Same` is true of every call record, and `Differs` shows one that is answered differently: see `compare`. A plain
-/// filter and a plain profile are never left undecided.
+/// `Same` is true of every call record, and `Differs` shows one that is answered differently: see `compare`. A filter and
+/// a profile that are plain, or test under masks of at most 16 bits together, are never left undecided.
 pub fn verify<F: Source, P: Source, T: Source>(
     alloc: Global,
     filter_reader: &mut F,

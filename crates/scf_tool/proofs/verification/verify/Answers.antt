@@ -46,4 +46,5 @@ returns-clause-answer g c = record {
   holds = c.in_ok-verdict.ensures.holds;
   within = c.in_ok-verdict.ensures.within;
   decided = c.in_ok-verdict.ensures.decided refl;
+  by_masks = c.in_ok-verdict.ensures.by_masks refl;
 }
