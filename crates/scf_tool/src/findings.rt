@@ -55,7 +55,7 @@ fn owned_texts(alloc: Global, words: &[&str]) -> Result<Texts, AllocError>
 }
 
 /// The number of a call of a table. The table is asked for it, which promises that it is below 0x40000000.
-fn number_in(table: &CallTable, call: &NamedCall<'_>) -> u32
+pub fn number_in(table: &CallTable, call: &NamedCall<'_>) -> u32
     requires named { 0 < length call.now.names.items }
     requires names { HasItsNames table.now call.now }
     ensures same { result ≡ call.now.number }

@@ -39,11 +39,12 @@ pub use compiled_filter::compiled_is_same;
 pub use exploration::none_differ;
 pub use fault_row::{FaultRow, MEMORY, beside_row, compile_row, text_row, verify_row};
 pub use filter_stack::read_stack;
-pub use findings::{CallFinding, ComparisonOutcome, Findings};
+pub use findings::{CallFinding, ComparisonOutcome, Findings, number_in};
 pub use in_memory::InMemory;
 pub use joint_finding::worst_of;
 pub use left_out::LeftOut;
 pub use loading::{load_with_table, load_with_tables};
+pub use region_lines::are_whole;
 pub use reporting::{report, report_by};
 pub use scf_request::{
     BundleFault, Comparison, Interpretation, Limits, NumberFault, Part, PartKind, Scopes, Stub,

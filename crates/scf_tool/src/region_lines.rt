@@ -42,7 +42,7 @@ impl fmt::Display for IntervalText {
 }
 
 /// Whether intervals are the whole word.
-fn are_whole(intervals: &[Interval]) -> bool
+pub fn are_whole(intervals: &[Interval]) -> bool
     ensures { result ≡ spec.are_whole intervals.now }
 {
     match intervals {
