@@ -429,8 +429,8 @@ enum scf_fact_kind {
     SCF_LACKS_BITS = 3 /* (word & mask) != value */
 };
 
-/* Hands out what a side answers to each call of the question's scope, in at most its total_limit of steps; its relation
- * is SCF_SAME. */
+/* Hands out what a side answers to each call of the question's scope, in at most its total_limit of steps. A relation
+ * other than SCF_SAME is SCF_WRONG_ARGUMENT. */
 SCF_RESULT SCF_NONNULL(1, 4, 5, 8, 11, 12) SCF_READS(2, 3) SCF_WRITES(6, 7) SCF_WRITES(9, 10)
 uint32_t scf_answers(const struct scf_side *side, const struct scf_table *tables, size_t tables_len,
                      const struct scf_question *question, struct scf_listing *listing, struct scf_region *regions,

@@ -490,6 +490,52 @@ static void answers(void) {
     side.kind = 9;
     IS(scf_answers(&side, &names, 1, &question, &listing, regions, 64, &count, facts, 256, &facts_count, &fault)
        == SCF_WRONG_ARGUMENT);
+    side = with_filters(&filter, 1);
+    for (i = SCF_NO_MORE; i <= SCF_SAME_DISPOSITION; i++) {
+        question = asked(SCF_ALL_CALLS, (uint32_t)i);
+        unset();
+        IS(scf_answers(&side, NULL, 0, &question, &listing, regions, 64, &count, facts, 256, &facts_count, &fault)
+           == SCF_WRONG_ARGUMENT);
+        IS(is_zero(&listing, sizeof listing) && count == 0 && facts_count == 0 && is_zero(&fault, sizeof fault));
+    }
+}
+
+/* Of filters that answer alike the newest is named (seccomp(2)), of entries that a call meets the first. */
+static void answers_by_one_of_several(void) {
+    static const char twice[] =
+        "{\"defaultAction\": \"SCMP_ACT_ERRNO\", \"syscalls\": ["
+        "{\"names\": [\"write\"], \"action\": \"SCMP_ACT_ALLOW\"}, "
+        "{\"names\": [\"read\"], \"action\": \"SCMP_ACT_ALLOW\", "
+        "\"args\": [{\"index\": 0, \"value\": 5, \"op\": \"SCMP_CMP_EQ\"}]}, "
+        "{\"names\": [\"read\", \"write\"], \"action\": \"SCMP_ACT_ALLOW\", "
+        "\"args\": [{\"index\": 0, \"value\": 5, \"op\": \"SCMP_CMP_EQ\"}]}]}";
+    static struct scf_region regions[64];
+    static struct scf_fact facts[256];
+    struct scf_bytes stack[3];
+    struct scf_side side = with_filters(stack, 3);
+    struct scf_question question = asked(SCF_ALL_CALLS, SCF_SAME);
+    struct scf_table names = table_of(SCF_TABLE_X86_64, table);
+    struct scf_listing listing;
+    size_t facts_count, i;
+    stack[0] = stack[1] = bytes_of(positive, sizeof positive);
+    stack[2] = bytes_of(allow, sizeof allow);
+    IS(scf_answers(&side, NULL, 0, &question, &listing, regions, 64, &count, facts, 256, &facts_count, &fault)
+       == SCF_OK);
+    IS(count == 2);
+    for (i = 0; i < count; i++) {
+        IS(regions[i].filter == (regions[i].answer == RET_EPERM ? 1 : 2));
+        IS(regions[i].index == (regions[i].answer == RET_EPERM ? 3 : 0));
+    }
+    side = with_profile(twice);
+    question = asked_of(0, 1, SCF_SAME);
+    IS(scf_answers(&side, &names, 1, &question, &listing, regions, 64, &count, facts, 256, &facts_count, &fault)
+       == SCF_OK);
+    for (i = 0; i < count; i++) {
+        const struct scf_call *call = &regions[i].example;
+        if (call->nr == 0 && call->args[0] != 5) IS(regions[i].reason == SCF_BY_DEFAULT);
+        else IS(regions[i].reason == SCF_BY_ENTRY && regions[i].entry == (call->nr == 0 ? 1 : 0));
+    }
+    IS(count >= 3);
 }
 
 /* No table, one that is there twice, and each number without a meaning is a wrong argument; no input is looked at. */
@@ -622,6 +668,7 @@ int main(void) {
     asks_of_each();
     compares_each();
     answers();
+    answers_by_one_of_several();
     wrong_tables();
     fault_texts();
     printf("%ld checks\n", checks);

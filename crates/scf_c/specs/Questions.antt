@@ -65,6 +65,14 @@ pub record IsAsked (question : Question) (left right : SideInput) (tables : List
 abbrev pub IsNothingAsked : Question → SideInput → SideInput → List Table → Type 0
 IsNothingAsked question left right tables = (asked : Asked) → IsAsked question left right tables asked → ⊥
 
+-- the same of a side by itself, whose relation is that of the same answers
+abbrev pub IsSideAsked : Question → SideInput → List Table → Asked → Type 0
+IsSideAsked question side tables asked =
+    (question.relation ≡ relation_number Same) × IsAsked question side side tables asked
+
+abbrev pub IsNoSideAsked : Question → SideInput → List Table → Type 0
+IsNoSideAsked question side tables = (asked : Asked) → IsSideAsked question side tables asked → ⊥
+
 -- how many steps each comparison may take, with the default number of splits
 abbrev pub limit_of : Question → Limit
 limit_of question = record { steps = question.limit; splits = AtMost 10000 }

@@ -30,7 +30,7 @@ ghost use Rattle.scf_c.specs.Answers.{
 };
 ghost use Rattle.scf_c.specs.Faults.{IsRefusal, no_fault};
 ghost use Rattle.scf_c.specs.HandingOut.{IsHandedOut, IsNothingHandedOut};
-ghost use Rattle.scf_c.specs.Questions.{IsAsked, IsNothingAsked};
+ghost use Rattle.scf_c.specs.Questions.{IsNoSideAsked, IsSideAsked};
 ghost use Rattle.scf_c.specs.Statuses.{ok, wrong_argument};
 ghost use Rattle.scf_c.specs.declared.question.Asked.{Asked};
 
@@ -40,7 +40,7 @@ use crate::layout::{
 };
 use crate::memory::hand_out;
 use crate::profile::{NOTHING_LEFT_OUT, entry_of, reason_number};
-use crate::question::{Asked, asked_of};
+use crate::question::{Asked, asked_of_side};
 use crate::records::{Records, some_records};
 use crate::refusal::Refusal;
 use crate::side::{ReadSide, read_side, used_by};
@@ -355,16 +355,16 @@ pub extern "C" fn scf_answers(
     facts_needed: &mut usize,
     fault: &mut Fault,
 ) -> u32
-    ensures listed { result ≡ ok → (asked : Asked) × IsAsked question.now side.now side.now tables.now asked
+    ensures listed { result ≡ ok → (asked : Asked) × IsSideAsked question.now side.now tables.now asked
         × (listed : Listed) × IsListed question.now side.now tables.now asked listed
         × (listing.new ≡ listed.listing)
         × IsHandedOut listed.regions.items regions.old regions.new regions_needed.new
         × IsHandedOut listed.facts.items facts.old facts.new facts_needed.new × (fault.new ≡ no_fault) }
-    ensures wrong { result ≡ wrong_argument → (IsNothingAsked question.now side.now side.now tables.now
-        ⊎ ((asked : Asked) × IsAsked question.now side.now side.now tables.now asked
+    ensures wrong { result ≡ wrong_argument → (IsNoSideAsked question.now side.now tables.now
+        ⊎ ((asked : Asked) × IsSideAsked question.now side.now tables.now asked
         × IsListedOverNone side.now tables.now asked)) × (fault.new ≡ no_fault) }
     ensures refused { result ≢ ok → result ≢ wrong_argument → (asked : Asked)
-        × IsAsked question.now side.now side.now tables.now asked
+        × IsSideAsked question.now side.now tables.now asked
         × IsRefusal (IsListingRefused side.now tables.now asked) result fault.new }
     ensures nothing { result ≢ ok → (listing.new ≡ no_listing)
         × IsNothingHandedOut regions.old regions.new regions_needed.new
@@ -374,7 +374,7 @@ pub extern "C" fn scf_answers(
     *regions_needed = 0;
     *facts_needed = 0;
     *fault = NO_FAULT;
-    let Some(asked) = asked_of(question, side, side, tables) else {
+    let Some(asked) = asked_of_side(question, side, tables) else {
         return WRONG_ARGUMENT;
     };
     match list_answers(alloc, side, tables, question, asked) {

@@ -5,9 +5,11 @@ ghost use Rattle.scf_profile.specs.declared.relation.Relation.{Relation};
 ghost use Rattle.scf_c.specs.Questions.{
   HasNumber,
   IsAsked,
+  IsNoSideAsked,
   IsNothingAsked,
   IsOver,
   IsRange,
+  IsSideAsked,
   limit_of,
   needs_tables,
   relation_number,
@@ -138,6 +140,21 @@ pub(crate) fn asked_of<'a>(
         left,
         right,
     })
+}
+
+/// What the numbers ask for of a side by itself, whose relation is that of the same answers.
+pub(crate) fn asked_of_side<'a>(
+    question: &Question,
+    side: &SideInput<'a>,
+    tables: &[Table],
+) -> Option<Asked>
+    ensures { MatchOption result (IsNoSideAsked question.now side.now tables.now)
+        (IsSideAsked question.now side.now tables.now) }
+{
+    if question.relation != 0 {
+        return None;
+    }
+    asked_of(question, side, side, tables)
 }
 
 /// How many steps each comparison may take, with the default number of splits.
