@@ -1,15 +1,16 @@
 -- Comparisons of sides in the caller's bytes, and their findings as numbers.
-use Rattle.std.specs.Prelude.{◌≡◌, ◌⊎◌, ℕ, List, [], ◌∷◌, Option, Some, None, find}
-use Rattle.std.specs.Option.{option_map_or, option_or}
+use Rattle.std.specs.Prelude.{◌≡◌, ◌⊎◌, ℕ, List, [], ◌∷◌, Option, Some, None}
+use Rattle.std.specs.Option.{option_map_or}
 use Rattle.scf_profile.specs.declared.relation.Relation.{Relation}
 use Rattle.scf_compare.specs.declared.budget.Limit.{Limit}
 use Rattle.scf_compare.specs.declared.finding.Finding.{Finding}
 use Rattle.scf_compare.specs.declared.finding.Finding.TheVariants.{Holds, Fails, Undecided, Unfinished}
 use Rattle.scf_compare.specs.declared.finding.Which.{Which}
 use Rattle.scf_compare.specs.declared.finding.Which.TheVariants.{Left, Right}
+use Rattle.scf_compare.specs.Limits.{limit_of_steps}
 use Rattle.scf_compare.specs.Sides.{Behavior}
 use Rattle.scf_tool.specs.Comparisons.{AreFound, IsFoundInTurn}
-use Rattle.scf_tool.specs.JointFindings.{is_holding, worst_of}
+use Rattle.scf_tool.specs.JointFindings.{worst_of}
 use Rattle.scf_tool.specs.Reports.{report_text}
 use Rattle.scf_tool.specs.declared.findings.Findings.TheVariants.{AtOnce}
 use Rattle.scf_tool.specs.declared.left_out.LeftOut.{LeftOut}
@@ -29,7 +30,6 @@ use Rattle.scf_c.specs.declared.side.ReadSide.{ReadSide}
 use Rattle.scf_c.specs.declared.side.ReadSide.TheVariants as sides
 use Rattle.scf_c.specs.Layout.{call_of, no_call}
 use Rattle.scf_c.specs.Profiles.{nothing_left_out}
-use Rattle.scf_c.specs.Questions.{limit_of}
 use Rattle.scf_c.specs.Records.{AreRecords, AreRecordsRefused, AreSomeRecords}
 use Rattle.scf_c.specs.Sides.{IsRead, IsSideRefused, are_same_kind, behavior_of_read, left_out_of_side}
 use Rattle.scf_c.specs.Sides.{refusal_of_right, tables_in_scope}
@@ -41,9 +41,9 @@ abbrev pub AreFoundOver : Relation → Behavior → Behavior → Limit → ℕ �
 AreFoundOver relation left right limit =
     AreFound (λ remaining records. IsFoundInTurn relation left right records.scope limit remaining)
 
--- The finding that speaks for several: the worst, else the first that holds. None if there is none.
-abbrev pub joint_finding : List Finding → Option Finding
-joint_finding findings = option_or (worst_of findings) (find is_holding findings)
+-- The finding that speaks for several: the worst, else that the relation holds.
+abbrev pub joint_finding : List Finding → Finding
+joint_finding findings = option_map_or (λ finding. finding) (worst_of findings) (Holds 0)
 
 -- ---- as numbers
 
@@ -77,9 +77,9 @@ of_each (records ∷ later) (finding ∷ findings) = of_records records finding 
 of_each records findings = []
 
 -- of all
-abbrev pub comparison_of : List Finding → ReadSide → ReadSide → Comparison
-comparison_of findings left right = record {
-  finding = option_map_or numbers_of (joint_finding findings) no_finding;
+abbrev pub comparison_of : Finding → ReadSide → ReadSide → Comparison
+comparison_of finding left right = record {
+  finding = numbers_of finding;
   left_out_of_left = left_out_of_side left;
   left_out_of_right = left_out_of_side right;
 }
@@ -95,9 +95,8 @@ printed_left_out (sides.Profiles loaded) =
 printed_left_out (sides.Filters stack) = None
 
 -- the printed lines of a finding on filters and a right side
-abbrev pub text_of : Relation → ReadSide → Option Finding → List ℕ
-text_of relation right None = []
-text_of relation right (Some finding) =
+abbrev pub text_of : Relation → ReadSide → Finding → List ℕ
+text_of relation right finding =
     report_text relation (record { findings = AtOnce finding; left_out = printed_left_out right })
 
 -- ---- a comparison
@@ -114,8 +113,8 @@ pub record IsCompared (question : Question) (left right : SideInput) (tables : L
   pub is_right : IsRead right asked.right tables right_side
   pub are_records : AreSomeRecords asked.over (tables_in_scope left_side right_side tables) records
   pub are_found : AreFoundOver asked.relation (behavior_of_read left_side) (behavior_of_read right_side)
-      (limit_of question) question.total_limit records findings remaining
-  pub comparison_is : compared.comparison ≡ comparison_of findings left_side right_side
+      (limit_of_steps question.limit) question.total_limit records findings remaining
+  pub comparison_is : compared.comparison ≡ comparison_of (joint_finding findings) left_side right_side
   pub each_is : compared.each.items ≡ of_each records findings
   pub text_is : compared.text.items ≡ text_of asked.relation right_side (joint_finding findings)
 

@@ -4,8 +4,6 @@ use Rattle.scf_insn.specs.Architectures.{row_of}
 use Rattle.scf_insn.specs.declared.architecture.Architecture.{Architecture}
 use Rattle.scf_profile.specs.declared.relation.Relation.{Relation}
 use Rattle.scf_profile.specs.declared.relation.Relation.TheVariants.{Same, NoMore, NoLess, SameDisposition}
-use Rattle.scf_compare.specs.declared.budget.Limit.{Limit}
-use Rattle.scf_compare.specs.declared.budget.Splits.TheVariants.{AtMost}
 use Rattle.scf_c.specs.declared.layout.Question.{Question}
 use Rattle.scf_c.specs.declared.layout.SideInput.{SideInput}
 use Rattle.scf_c.specs.declared.layout.Table.{Table}
@@ -72,7 +70,3 @@ IsSideAsked question side tables asked =
 
 abbrev pub IsNoSideAsked : Question → SideInput → List Table → Type 0
 IsNoSideAsked question side tables = (asked : Asked) → IsSideAsked question side tables asked → ⊥
-
--- how many steps each comparison may take, with the default number of splits
-abbrev pub limit_of : Question → Limit
-limit_of question = record { steps = question.limit; splits = AtMost 10000 }

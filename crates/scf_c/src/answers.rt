@@ -4,7 +4,6 @@ ghost use Rattle.std.specs.Prelude.{◌≡◌, ◌≢◌, ◌⊎◌, ◌++◌, �
 ghost use Rattle.std.specs.Prelude.{OnOk};
 ghost use Rattle.std.specs.List.{AllByRecursion};
 ghost use Rattle.scf_compare.specs.Sides.{behavior_of};
-ghost use Rattle.scf_tool.specs.RegionLines as lines;
 ghost use Rattle.scf_c.specs.Sides.{behavior_of_read};
 ghost use Rattle.scf_c.specs.Answers.{
   AreOfRecords,
@@ -48,6 +47,7 @@ use crate::status::{OK, WRONG_ARGUMENT};
 use scf_compare::{Origin, Region, Regions, Side, regions_of};
 use scf_facts::{Bits, Interval, Snapshot, WordSet, WordSets, word_sets_start_exact};
 use scf_insn::Memory;
+use scf_tool::are_whole;
 use std::alloc::{AllocError, Global};
 
 /// The indices of a record's words.
@@ -77,51 +77,28 @@ fn explore(
 
 /// The regions of a side over each of several sets of records. None if the walks together take more steps than the
 /// limit.
+#[tactic(auto, using(std::proofs::lemmas::Grind::common_steps, crate::proofs::ComparisonLemmas::same_behavior))]
 fn explore_each(
     alloc: Global,
-    side: &Side<'_>,
+    read: &ReadSide,
     several: &[Records],
     limit: u64,
 ) -> Result<Option<Vec<Regions>>, Memory>
     ensures { IfOk result (λ walks. MatchOption walks
-        (ListsEach (behavior_of side.now) several.now limit None)
-        (λ listed. ListsEach (behavior_of side.now) several.now limit (Some listed.items))) }
+        (ListsEach (behavior_of_read read.now) several.now limit None)
+        (λ listed. ListsEach (behavior_of_read read.now) several.now limit (Some listed.items))) }
 {
+    let side = read.as_side();
     let mut listed = Vec::new(alloc);
     let mut remaining = limit;
     for records in several {
-        let Some(regions) = explore(alloc, side, *records, remaining)? else {
+        let Some(regions) = explore(alloc, &side, *records, remaining)? else {
             return Ok(None);
         };
         remaining -= regions.steps;
         listed.push(regions)?;
     }
     Ok(Some(listed))
-}
-
-/// The regions of a side that is read, over each of several sets of records.
-fn explore_read(
-    alloc: Global,
-    side: &ReadSide,
-    several: &[Records],
-    limit: u64,
-) -> Result<Option<Vec<Regions>>, Memory>
-    ensures { IfOk result (λ walks. MatchOption walks
-        (ListsEach (behavior_of_read side.now) several.now limit None)
-        (λ listed. ListsEach (behavior_of_read side.now) several.now limit (Some listed.items))) }
-{
-    let side = side.as_side();
-    explore_each(alloc, &side, several, limit)
-}
-
-/// Whether intervals are the whole word.
-fn are_whole(intervals: &[Interval]) -> bool
-    ensures { result ≡ lines.are_whole intervals.now }
-{
-    match intervals {
-        [interval] => interval.low == 0 && interval.high == u32::MAX,
-        _ => false,
-    }
 }
 
 fn bits_fact(kind: u32, index: u8, bits: Bits) -> WordFact
@@ -314,7 +291,7 @@ fn list_answers(
         return Ok(None);
     };
     let left_out = read.left_out();
-    match explore_read(alloc, &read, &records, question.total_limit)? {
+    match explore_each(alloc, &read, &records, question.total_limit)? {
         Some(walks) => Ok(Some(listed_of(alloc, &walks, left_out)?)),
         None => Ok(Some(Listed {
             listing: listing_of(false, left_out),

@@ -1,9 +1,8 @@
 //! Comparisons of two sides over several sets of records.
 
-ghost use Rattle.std.specs.Prelude.{◌≡◌, ◌++◌, ℕ, find, IfErr, IfOk, MatchOption, OnOk};
+ghost use Rattle.std.specs.Prelude.{◌≡◌, ◌++◌, ℕ, IfErr, IfOk, MatchOption, OnOk};
 ghost use Rattle.scf_compare.specs.Sides.{behavior_of};
 ghost use Rattle.scf_tool.specs.Comparisons.{IsFoundInTurn};
-ghost use Rattle.scf_tool.specs.JointFindings.{is_holding};
 ghost use Rattle.scf_c.specs.Sides.{behavior_of_read};
 ghost use Rattle.scf_c.specs.Comparisons.{
   AreFoundOver,
@@ -23,7 +22,7 @@ ghost use Rattle.scf_c.specs.Comparisons.{
 use crate::layout::{
     Call, Comparison, FindingNumbers, Question, RecordsComparison, SideInput, Table,
 };
-use crate::question::{Asked, limit_of};
+use crate::question::Asked;
 use crate::records::{Records, some_records};
 use crate::refusal::Refusal;
 use crate::side::{ReadSide, are_same_kind, read_side, tables_in_scope};
@@ -73,39 +72,6 @@ fn compare_over(
 /// Compares two sides over each of several sets of records, in at most `total` steps together.
 fn compare_each(
     alloc: Global,
-    left: &Side<'_>,
-    right: &Side<'_>,
-    several: &[Records],
-    relation: Relation,
-    limit: Limit,
-    total: u64,
-) -> Result<Vec<Finding>, Memory>
-    ensures { IfOk result (λ findings. (remaining : ℕ)
-        × AreFoundOver relation (behavior_of left.now) (behavior_of right.now) limit total several.now
-        findings.items remaining) }
-{
-    let mut findings = Vec::new(alloc);
-    let mut remaining = total;
-    let mut remaining_below = total;
-    for records in several {
-        let finding = compare_over(
-            alloc,
-            left,
-            right,
-            *records,
-            relation,
-            limit,
-            &mut remaining,
-            &mut remaining_below,
-        )?;
-        findings.push(finding)?;
-    }
-    Ok(findings)
-}
-
-/// Compares two sides that are read over each of several sets of records.
-fn compare_read(
-    alloc: Global,
     left: &ReadSide,
     right: &ReadSide,
     several: &[Records],
@@ -117,35 +83,32 @@ fn compare_read(
         × AreFoundOver relation (behavior_of_read left.now) (behavior_of_read right.now) limit total
         several.now findings.items remaining) }
 {
-    let left = left.as_side();
-    let right = right.as_side();
-    compare_each(alloc, &left, &right, several, relation, limit, total)
-}
-
-fn holds(finding: &Finding) -> bool
-    ensures { result ≡ is_holding finding.now }
-{
-    matches!(finding, Finding::Holds { .. })
-}
-
-/// The first that holds.
-#[tactic(auto, using(std::proofs::lemmas::Grind::common_steps, crate::proofs::Searching::found_here, crate::proofs::Searching::found_later))]
-fn first_holding(findings: &[Finding]) -> Option<Finding>
-    ensures { result ≡ find is_holding findings.now }
-{
-    for finding in findings {
-        if holds(finding) {
-            return Some(*finding);
-        }
+    let left_side = left.as_side();
+    let right_side = right.as_side();
+    let mut findings = Vec::new(alloc);
+    let mut remaining = total;
+    let mut remaining_below = total;
+    for records in several {
+        let finding = compare_over(
+            alloc,
+            &left_side,
+            &right_side,
+            *records,
+            relation,
+            limit,
+            &mut remaining,
+            &mut remaining_below,
+        )?;
+        findings.push(finding)?;
     }
-    None
+    Ok(findings)
 }
 
-/// The finding that speaks for several: the worst, else the first that holds.
-fn joint_finding(findings: &[Finding]) -> Option<Finding>
+/// The finding that speaks for several: the worst, else that the relation holds.
+fn joint_finding(findings: &[Finding]) -> Finding
     ensures { result ≡ joint_finding findings.now }
 {
-    worst_of(findings).or(first_holding(findings))
+    worst_of(findings).unwrap_or(Finding::Holds { steps: 0 })
 }
 
 fn side_number(side: Which) -> u32
@@ -225,16 +188,12 @@ fn add_each(
     add_each(list, later, further)
 }
 
-/// All findings together as numbers, and what was left out of the sides.
-fn comparison_of(findings: &[Finding], left: &ReadSide, right: &ReadSide) -> Comparison
-    ensures { result ≡ comparison_of findings.now left.now right.now }
+/// The finding on all as numbers, and what was left out of the sides.
+fn comparison_of(finding: &Finding, left: &ReadSide, right: &ReadSide) -> Comparison
+    ensures { result ≡ comparison_of finding.now left.now right.now }
 {
-    let finding = match joint_finding(findings) {
-        Some(finding) => numbers_of(&finding),
-        None => NO_FINDING,
-    };
     Comparison {
-        finding,
+        finding: numbers_of(finding),
         left_out_of_left: left.left_out(),
         left_out_of_right: right.left_out(),
     }
@@ -258,13 +217,10 @@ fn text_of(
     alloc: Global,
     relation: Relation,
     right: ReadSide,
-    finding: Option<Finding>,
+    finding: Finding,
 ) -> Result<Vec<u8>, Memory>
     ensures { IfOk result (λ text. text.items ≡ text_of relation right finding) }
 {
-    let Some(finding) = finding else {
-        return Ok(Vec::new(alloc));
-    };
     let outcome = ComparisonOutcome {
         findings: Findings::AtOnce(finding),
         left_out: printed_left_out(right),
@@ -295,19 +251,20 @@ pub(crate) fn compare_inputs(
     let Some(records) = some_records(alloc, asked.over, &used)? else {
         return Ok(None);
     };
-    let findings = compare_read(
+    let findings = compare_each(
         alloc,
         &left_side,
         &right_side,
         &records,
         asked.relation,
-        limit_of(question),
+        Limit::of_steps(question.limit),
         question.total_limit,
     )?;
-    let comparison = comparison_of(&findings, &left_side, &right_side);
+    let finding = joint_finding(&findings);
+    let comparison = comparison_of(&finding, &left_side, &right_side);
     let mut each = Vec::new(alloc);
     add_each(&mut each, &records, &findings)?;
-    let text = text_of(alloc, asked.relation, right_side, joint_finding(&findings))?;
+    let text = text_of(alloc, asked.relation, right_side, finding)?;
     Ok(Some(Compared {
         comparison,
         each,

@@ -10,7 +10,6 @@ ghost use Rattle.scf_c.specs.Questions.{
   IsOver,
   IsRange,
   IsSideAsked,
-  limit_of,
   needs_tables,
   relation_number,
 };
@@ -20,7 +19,6 @@ ghost use Rattle.scf_c.specs.declared.question.Over.{Over};
 use crate::layout::{Question, SideInput, Table};
 use crate::side::{SideKind, kind_of};
 use crate::tables::{architecture_of, are_meant};
-use scf_compare::{Limit, Splits};
 use scf_insn::Architecture;
 use scf_profile::Relation;
 
@@ -155,14 +153,4 @@ pub(crate) fn asked_of_side<'a>(
         return None;
     }
     asked_of(question, side, side, tables)
-}
-
-/// How many steps each comparison may take, with the default number of splits.
-pub(crate) fn limit_of(question: &Question) -> Limit
-    ensures { result ≡ limit_of question.now }
-{
-    Limit {
-        steps: question.limit,
-        splits: Splits::AtMost(10_000),
-    }
 }

@@ -1,9 +1,8 @@
 //! The records that are compared, taken apart as a question asks for.
 
-ghost use Rattle.std.specs.Prelude.{◌≡◌, ◌++◌, ◌+◌, ◌<◌, ◌^◌, [], ℕ, List, Ok, length, map, IfErr, IfOk, MatchOption, OnOk};
+ghost use Rattle.std.specs.Prelude.{◌≡◌, ◌++◌, ◌+◌, ◌<◌, ◌^◌, [], ℕ, List, Ok, map, IfErr, IfOk, MatchOption, OnOk};
 ghost use Rattle.scf_insn.specs.Architectures.{row_of};
-ghost use Rattle.scf_insn.specs.Kernel.{x32_syscall_bit};
-ghost use Rattle.scf_profile.specs.NamedCalls.{AreCallsOf, HasItsNames};
+ghost use Rattle.scf_profile.specs.NamedCalls.{AreCallsOf};
 ghost use Rattle.scf_profile.specs.Table.{Names, table_of};
 ghost use Rattle.scf_c.specs.Architectures.{texts_of};
 ghost use Rattle.scf_c.specs.Records.{AreNumbers, AreOfCalls, AreRecords, AreRecordsRefused, AreSomeRecords};
@@ -16,7 +15,7 @@ use crate::refusal::Refusal;
 use crate::tables::{architecture_number, architecture_of};
 use scf_insn::Architecture;
 use scf_profile::{CallTable, NamedCall, Scope};
-use scf_tool::VerifyFault;
+use scf_tool::{VerifyFault, number_in};
 use std::alloc::{AllocError, Global};
 
 /// The records of one comparison.
@@ -92,19 +91,6 @@ fn of_call(architecture: Architecture, number: u32) -> Records
             first: nr,
             last: nr,
         },
-    }
-}
-
-/// The number of a call of a table. The table is asked for it, which promises that it is below 0x40000000.
-fn number_in(table: &CallTable, call: &NamedCall<'_>) -> u32
-    requires named { 0 < length call.now.names.items }
-    requires names { HasItsNames table.now call.now }
-    ensures same { result ≡ call.now.number }
-    ensures below { result < x32_syscall_bit }
-{
-    match table.number_of(call.names[0]) {
-        Some(number) => number,
-        None => unreachable!(),
     }
 }
 

@@ -46,13 +46,10 @@ fn is_meant(table: &Table) -> bool
 fn count_for(tables: &[Table], number: u32) -> usize
     ensures { result ≡ count_for number tables.now }
 {
-    let mut count = 0;
-    for table in tables {
-        if table.architecture == number {
-            count += 1;
-        }
-    }
-    count
+    tables
+        .iter()
+        .filter(|table| table.architecture == number)
+        .count()
 }
 
 /// Whether a table is the only one for its architecture.
@@ -204,16 +201,10 @@ pub(crate) fn listed_of<'a>(
 }
 
 /// Whether a table is that of an architecture that has one of these profiles.
-#[tactic(auto, using(std::proofs::lemmas::Grind::common_steps, crate::proofs::Searching::any_here, crate::proofs::Searching::any_later))]
 fn has_profile(profiles: &[Profile], table: &Table) -> bool
     ensures { result ≡ spec.has_profile profiles.now table.now }
 {
-    for profile in profiles {
-        if architecture_number(profile.architecture()) == table.architecture {
-            return true;
-        }
-    }
-    false
+    profiles.iter().any(|profile| architecture_number(profile.architecture()) == table.architecture)
 }
 
 /// The tables of architectures that have one of these profiles.

@@ -10,7 +10,7 @@ use Rattle.scf_c.proofs.answers.explore_each.Goals as goal
 
 pub loop-records-preserved : goal.loop-records-preserved
 loop-records-preserved c =
-    let side = behavior_of c.args.side.now in
+    let side = behavior_of c.as_side-side.result in
     let size : Records → ℕ = λ records. side.size in
     let steps : Regions → ℕ = λ regions. regions.steps in
     let regions = c.in-Some.regions in
