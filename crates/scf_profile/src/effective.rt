@@ -1,52 +1,44 @@
 //! The rules by which libseccomp's filter answers.
 
-ghost use Rattle.std.specs.Prelude.{◌≡◌, IfOk, option_map};
-ghost use Rattle.std.specs.List.{filter};
-ghost use Rattle.scf_profile.specs.Readings.{effective_rules as effective_by, first_unconditional as first_stated, is_effective as effective};
+ghost use Rattle.std.specs.Prelude.{◌≡◌, ◌==◌, ℕ, IfOk, true, option_map};
+ghost use Rattle.std.specs.BTreeMap.{get};
+ghost use Rattle.std.specs.Option.{option_map_or};
+ghost use Rattle.std.specs.Ordering.{nat_cmp};
+ghost use Rattle.scf_profile.specs.Readings.{effective_rules as effective_by, first_unconditional};
 
 use crate::reading::Reading;
 use crate::rule::Rule;
-use scf_insn::Architecture;
+use scf_insn::{Answer, Architecture};
 use std::alloc::{AllocError, Global};
+use std::collections::BTreeMap;
 
-/// The first rule of a syscall number without conditions.
-fn first_unconditional(architecture: Architecture, number: u32, rules: &[Rule]) -> Option<&Rule>
-    ensures { option_map (λ r. r.now) result ≡ first_stated architecture number rules.now }
-{
-    for rule in rules {
-        if rule.number == number && rule.is_unconditional(architecture) {
-            return Some(rule);
-        }
-    }
-    None
-}
-
-/// Whether a rule answers as the first one of its number without conditions, if there is one.
-fn is_effective(architecture: Architecture, rules: &[Rule], rule: &Rule) -> bool
-    ensures { result ≡ effective architecture rules.now rule.now }
-{
-    match first_unconditional(architecture, rule.number, rules) {
-        Some(first) => first.answer == rule.answer,
-        None => true,
-    }
-}
-
-/// Copies of the effective ones of rules.
-#[tactic(auto, using(std::proofs::lemmas::Grind::common_steps))]
-fn copy_effective(
+/// The answer of the first rule without conditions of each syscall number that has one.
+fn first_answers(
     alloc: Global,
     architecture: Architecture,
     rules: &[Rule],
-) -> Result<Vec<Rule>, AllocError>
-    ensures { IfOk result (λ copies. copies.items ≡ filter (effective architecture rules.now) rules.now) }
+) -> Result<BTreeMap<u32, Answer>, AllocError>
+    ensures { IfOk result (λ answers. (number : ℕ) → get nat_cmp answers number
+        ≡ option_map (λ first. first.answer) (first_unconditional architecture number rules.now)) }
 {
-    let mut copies = Vec::new(alloc);
+    let mut answers = BTreeMap::new(alloc);
     for rule in rules {
-        if is_effective(architecture, rules, rule) {
-            copies.push(rule.try_clone(alloc)?)?;
+        if rule.is_unconditional(architecture) {
+            answers.entry(rule.number)?.or_insert(rule.answer);
         }
     }
-    Ok(copies)
+    Ok(answers)
+}
+
+/// Whether a rule answers as the first one of its number without conditions, if there is one.
+fn is_effective(answers: &BTreeMap<u32, Answer>, rule: &Rule) -> bool
+    ensures { result ≡ option_map_or (λ first. first.0 == rule.now.answer.0)
+        (get nat_cmp answers.now rule.now.number) true }
+{
+    match answers.get(&rule.number) {
+        Some(first) => *first == rule.answer,
+        None => true,
+    }
 }
 
 /// The rules by which a filter answers: all of them, but for a runtime's reading. `Err`: an allocation failed.
@@ -54,12 +46,14 @@ pub(crate) fn effective_rules(
     alloc: Global,
     reading: Reading,
     architecture: Architecture,
-    rules: Vec<Rule>,
+    mut rules: Vec<Rule>,
 ) -> Result<Vec<Rule>, AllocError>
     ensures { IfOk result (λ list. list.items ≡ effective_by reading architecture rules.items) }
 {
     if !reading.is_runtime() {
         return Ok(rules);
     }
-    copy_effective(alloc, architecture, &rules)
+    let answers = first_answers(alloc, architecture, &rules)?;
+    rules.retain(|rule| is_effective(&answers, rule));
+    Ok(rules)
 }
