@@ -1,19 +1,12 @@
 -- Where the parts of a line stand in the text.
-use Rattle.scf_text.proofs.Common.{◌≡◌, ℕ, ◌+◌, ◌-◌, ◌<◌, ◌≤◌, false, List, [], ◌∷◌, ◌++◌, length, take, drop, Option, Some, None, Result, Ok, Err, IfOk, refl, sym, ap, ◌∙◌, append_assoc, append-nil, arith, inl, inr, filter, filter-append, take_while, take_rest, drop-append-add, cases_Bool, MatchOption, Bor, drop-drop, drop-append-le, take-add, take-append-le, take-append-add, take-append-drop, length-append, length-drop, length-filter, is_line_end, is_word_byte, count_ends, begins_in_word, before_comment, IsLinePart, IsBehind, FollowsBehind, LiesBehind, name_at, line_at, index_after}
+use Rattle.scf_text.proofs.Common.{◌≡◌, ℕ, ◌+◌, ◌-◌, ◌<◌, ◌≤◌, false, List, [], ◌∷◌, ◌++◌, length, take, drop, Option, Some, None, Result, Ok, Err, IfOk, refl, sym, ap, ◌∙◌, append_assoc, append-nil, arith, inl, inr, filter-append, take_while, take_rest, drop-append-add, cases_Bool, MatchOption, Bor, drop-drop, drop-append-le, take-add, take-append-le, take-append-add, take-append-drop, length-append, length-drop, length-filter, is_word_byte, count_ends, begins_in_word, before_comment, IsLinePart, IsBehind, FollowsBehind, LiesBehind, name_at, line_at, index_after, nat_tests}
 use Rattle.scf_text.specs.declared.part.Next.{Next}
 use Rattle.scf_text.specs.declared.part.Next.TheVariants as next
 use Rattle.scf_text.proofs.TokenLemmas.{prefix_more, comment_of}
+use Rattle.std.proofs.lemmas.Grind.{common_steps}
 
 count_append : (xs ys : List ℕ) → count_ends (xs ++ ys) ≡ count_ends xs + count_ends ys
-count_append xs ys =
-    omega (
-      arith,
-      length-filter is_line_end (xs ++ ys),
-      ap length (filter-append is_line_end xs ys),
-      length-append (filter is_line_end xs) (filter is_line_end ys),
-      length-filter is_line_end xs,
-      length-filter is_line_end ys,
-    )
+count_append xs ys = grind (arith, common_steps, nat_tests, length-filter, filter-append, length-append)
 
 lines_before : (text bytes : List ℕ) (index n : ℕ) → take n (drop index text) ≡ bytes
     → line_at text (index + n) ≡ line_at text index + count_ends bytes
@@ -69,8 +62,7 @@ name_of_part text part line start n p le =
 
 behind_line : (comment remaining : List ℕ) → begins_in_word comment ≡ false → begins_in_word remaining ≡ false
     → begins_in_word (comment ++ remaining) ≡ false
-behind_line [] remaining h k = k
-behind_line (c ∷ cs) remaining h k = h
+behind_line comment remaining h h2 = grind (arith, common_steps, nat_tests)
 
 shown_is_part : (text line bytes after : List ℕ) (number start : ℕ) → drop start text ≡ line ++ after
     → start + (length line + length after) ≤ length text → begins_in_word after ≡ false
@@ -118,8 +110,7 @@ line_behind text remaining line next number start e numbered whole unbroken =
 
 pub token_behind : (part : List ℕ) (index start len : ℕ) → index ≤ start → 0 < len → start + len ≤ length part
     → IsBehind part index (take (length part - (start + len)) (drop (start + len) part))
-token_behind part index start len le some within =
-    record { start = start + len; later = omega arith; within = within; is = take_rest part (start + len) }
+token_behind part index start len le some within = grind (arith, common_steps, nat_tests, take_rest)
 
 rest_len : {part remaining : List ℕ} {index : ℕ} (b : IsBehind part index remaining) → length remaining ≡ length part - b.start
 rest_len {part} b = ap length b.is ∙ length-drop b.start part
@@ -137,38 +128,28 @@ behind_behind {part} b d =
 
 pub follows_behind : {part remaining : List ℕ} {index : ℕ} (after : Option (Bor (List ℕ))) → IsBehind part index remaining
     → FollowsBehind remaining 0 after → FollowsBehind part index after
-follows_behind None b d = omega arith
-follows_behind (Some end) b d = behind_behind b d
+follows_behind after h h2 = grind (arith, common_steps, nat_tests, behind_behind)
 
 pub lies_behind : {part remaining : List ℕ} {index : ℕ} (next : Next) → IsBehind part index remaining → LiesBehind remaining 0 next
     → LiesBehind part index next
-lies_behind (next.Token t end) b d = behind_behind b d
-lies_behind (next.End after) b d = follows_behind after b d
+lies_behind next h h2 = grind (arith, common_steps, nat_tests, behind_behind, follows_behind)
 
 -- where it begins
 after_index : (part : List ℕ) (start index : ℕ) (after : Option (Bor (List ℕ))) → FollowsBehind part index after
     → start + index + 1 ≤ index_after start part after
-after_index part start index None h = omega arith
-after_index part start index (Some remaining) h = let len = rest_len h in omega arith
+after_index part start index after h = grind (arith, common_steps, nat_tests, rest_len)
 
 pub index_within : (part : List ℕ) (index : ℕ) (next : Next) → LiesBehind part index next → index ≤ length part
-index_within part index (next.Token t remaining) h = omega arith
-index_within part index (next.End None) h = h
-index_within part index (next.End (Some remaining)) h = omega arith
+index_within part index next h = grind (arith, common_steps, nat_tests)
 
 -- what follows a statement is a part again
 pub behind_is_part : (text part remaining : List ℕ) (line start : ℕ) → IsLinePart text line start part → IsBehind part 0 remaining
     → IsLinePart text line (start + (length part - length remaining)) remaining × (length remaining ≤ length part)
-behind_is_part text part remaining line start p b =
-    let len = rest_len b in
-    let n : b.start ≡ length part - length remaining = omega arith in
-    (rw (← n) (rest_is_part text part remaining line start b.start p b.within b.is), omega arith)
+behind_is_part text part remaining line start p b = grind (arith, common_steps, nat_tests, rest_len, rest_is_part)
 
 follows_part : (part : List ℕ) (index : ℕ) (after : Option (Bor (List ℕ))) → FollowsBehind part index after
     → FollowsBehind part 0 after
-follows_part part index None h = omega arith
-follows_part part index (Some remaining) h =
-    record { start = h.start; later = omega arith; within = h.within; is = h.is }
+follows_part part index after h = grind (arith, common_steps, nat_tests)
 
 pub instruction_behind : {E : Type 0} (r : Result (Option (Bor (List ℕ))) E) (bytes : List ℕ) (start index : ℕ)
     (next : Next) → LiesBehind bytes index next

@@ -1,8 +1,9 @@
 -- A text spells a list exactly where it has no fault, and then only one.
-use Rattle.scf_text.proofs.Common.{◌≡◌, ◌≢◌, ℕ, suc, Bool, false, bytes_eq, map, IsDistinct, ◌+◌, ◌-◌, ◌<◌, ◌≤◌, ◌^◌, true, cond, eqb, ltb, List, [], ◌∷◌, ◌++◌, length, Option, Some, None, refl, sym, ap, subst, ◌∙◌, zero-add, arith, inl, inr, IsSome, option_or, option_map, option_to_list, AllByRecursion, list_any, flat_map, cases_Bool, lt-ltb, le-ltb, lt-leb, nat_tests, length-append, IsInsn, bpf_maxinsns, Insn, encodings, FieldValue, Number, Label, ParsedInsn, has_mnemonic, read_by, parsed_of, is_below, is_in_range, number_of, Statement, Labels, SymbolTable, index_of, symbols_in, label_in, instruction_in, label_at, labels_from, parsed_insns_by, parsed_insns_in, statements_of, parsed_insns_of, Says, SaysInsn, SaysEach, AreNew, Spells, ascii_fault, label_fault, operands_fault, instruction_fault, statement_fault, statements_fault, target_fault, targets_fault, insn_fault, fault_of}
+use Rattle.scf_text.proofs.Common.{◌≡◌, ◌≢◌, ℕ, Bool, false, bytes_eq, map, IsDistinct, ◌+◌, ◌-◌, ◌<◌, ◌≤◌, true, cond, eqb, List, [], ◌∷◌, ◌++◌, length, Option, Some, None, refl, sym, ◌∙◌, zero-add, arith, inl, inr, IsSome, option_or, option_map, option_to_list, AllByRecursion, list_any, flat_map, cases_Bool, lt-ltb, le-ltb, lt-leb, nat_tests, length-append, IsInsn, bpf_maxinsns, Insn, encodings, FieldValue, ParsedInsn, has_mnemonic, read_by, parsed_of, is_below, is_in_range, number_of, Statement, Labels, SymbolTable, index_of, symbols_in, label_in, instruction_in, label_at, labels_from, parsed_insns_by, parsed_insns_in, statements_of, parsed_insns_of, Says, SaysInsn, SaysEach, AreNew, Spells, ascii_fault, label_fault, operands_fault, instruction_fault, statement_fault, statements_fault, target_fault, targets_fault, insn_fault, fault_of}
 use Rattle.scf_text.specs.Encodings.{Encoding}
 use Rattle.std.proofs.lemmas.List.{append-nil}
 use Rattle.scf_text.proofs.ReadLemmas.{bytes_eq_sym, count_more, labels_more, lookup_push, is_none}
+use Rattle.std.proofs.lemmas.Grind.{common_steps}
 
 -- choices
 
@@ -29,14 +30,11 @@ ascii_to (b ∷ bs) line h = rw (lt-ltb b 128 h.0) (ascii_to bs (cond (eqb b 10)
 new_from : (earlier : Labels) (at line : ℕ) (o : Option (List ℕ)) (ls : Labels)
     → label_fault (index_of earlier) line o ≡ None → AreNew (earlier ++ label_at at o) ls
     → AreNew earlier (label_at at o ++ ls)
-new_from earlier at line None ls h k = subst (λ (e : Labels). AreNew e ls) (append-nil earlier) k
-new_from earlier at line (Some name) ls h k =
-    (is_none (index_of earlier name) (grind (arith, nat_tests)), k)
+new_from earlier at line o ls h h2 = grind (arith, common_steps, nat_tests, append-nil, is_none)
 
 new_to : (earlier : Labels) (at line : ℕ) (o : Option (List ℕ)) (ls : Labels) → AreNew earlier (label_at at o ++ ls)
     → (label_fault (index_of earlier) line o ≡ None) × AreNew (earlier ++ label_at at o) ls
-new_to earlier at line None ls h = (refl, subst (λ (e : Labels). AreNew e ls) (sym (append-nil earlier)) h)
-new_to earlier at line (Some name) ls h = (rw h.0 refl, h.1)
+new_to earlier at line o ls h = grind (arith, common_steps, nat_tests, append-nil)
 
 -- labels are new one behind the other where their names are distinct
 
@@ -52,9 +50,7 @@ AreOthers name ls = AllByRecursion (λ other. bytes_eq name other ≡ false) (na
 
 other_name : (b : Bool) (o : Option ℕ) (index : ℕ) → option_or o (cond b (Some index) None) ≡ None
     → (o ≡ None) × (b ≡ false)
-other_name true None index h = absurd cc
-other_name false None index h = (refl, refl)
-other_name b (Some x) index h = absurd cc
+other_name b o index h = grind (arith, common_steps, nat_tests)
 
 besides_more : (earlier : Labels) (l : List ℕ × ℕ) (ls : Labels) → AreBesides (earlier ++ l ∷ []) ls
     → AreBesides earlier ls × AreOthers l.0 ls
@@ -68,16 +64,12 @@ besides_more earlier l (m ∷ ls) h =
 besides_less : (earlier : Labels) (l : List ℕ × ℕ) (ls : Labels) → AreBesides earlier ls → AreOthers l.0 ls
     → AreBesides (earlier ++ l ∷ []) ls
 besides_less earlier l [] h k = tt
-besides_less earlier l (m ∷ ls) h k =
-    (lookup_push (bytes_eq m.0) earlier l ∙ rw (h.0, bytes_eq_sym m.0 l.0, k.0) refl, besides_less earlier l ls h.1 k.1)
+besides_less earlier l (m ∷ ls) h k = grind (arith, common_steps, nat_tests, lookup_push, bytes_eq_sym, besides_less earlier l ls h.1 k.1)
 
 new_distinct : (earlier ls : Labels) → AreNew earlier ls → AreBesides earlier ls × IsDistinct bytes_eq (names ls)
 unfolding IsDistinct
 new_distinct earlier [] h = (tt, tt)
-new_distinct earlier (l ∷ ls) h =
-    let remaining = new_distinct (earlier ++ l ∷ []) ls h.1 in
-    let more = besides_more earlier l ls remaining.0 in
-    ((h.0, more.0), (more.1, remaining.1))
+new_distinct earlier (l ∷ ls) h = grind (arith, common_steps, nat_tests, besides_more, new_distinct (earlier ++ l ∷ []) ls h.1)
 
 distinct_new : (earlier ls : Labels) → AreBesides earlier ls → IsDistinct bytes_eq (names ls) → AreNew earlier ls
 unfolding IsDistinct
@@ -100,15 +92,11 @@ IsRead line body = parsed_insns_by line body ≡ [] → body ≡ []
 
 draft_from : (at line : ℕ) (o : Option ParsedInsn) → operands_fault at line o ≡ None → (numbered line o ≢ [])
     × (at + length (numbered line o) ≤ bpf_maxinsns)
-draft_from at line None h = absurd cc
-draft_from at line (Some d) h =
-    let few : at < bpf_maxinsns = grind (arith, nat_tests) in (λ none. absurd cc, omega arith)
+draft_from at line o h = grind (arith, common_steps, nat_tests)
 
 instruction_from : (at line : ℕ) (body : List (List ℕ)) → at ≤ bpf_maxinsns → instruction_fault at line body ≡ None
     → IsRead line body × (at + length (parsed_insns_by line body) ≤ bpf_maxinsns)
-instruction_from at line [] le h = (λ none. refl, omega (arith, le))
-instruction_from at line (t ∷ ts) le h =
-    let read = draft_from at line (parsed_of t ts) (grind (arith, nat_tests)) in (λ none. absurd (read.0 none), read.1)
+instruction_from at line body h h2 = grind (arith, common_steps, nat_tests, draft_from)
 
 abbrev count : List Statement → ℕ
 count before = length (flat_map parsed_insns_in before)
@@ -158,20 +146,15 @@ front_in_range [] es h = (tt, h)
 front_in_range (d ∷ ds) es h = let remaining = front_in_range ds es h.1 in ((h.0, remaining.0), remaining.1)
 
 read_some : (line : ℕ) (o : Option ParsedInsn) → (numbered line o ≡ [] → ⊥) → IsSome o
-read_some line None read = absurd (read refl)
-read_some line (Some d) read = refl
+read_some line o h = grind (arith, common_steps, nat_tests)
 
 draft_to : (at line : ℕ) (o : Option ParsedInsn) → IsSome o → InRange (numbered line o)
     → at + length (numbered line o) ≤ bpf_maxinsns → operands_fault at line o ≡ None
-draft_to at line None read range few = absurd cc
-draft_to at line (Some d) read range few = rw (range.0, lt-leb bpf_maxinsns at (omega arith)) refl
+draft_to at line o h h2 h3 = grind (arith, common_steps, nat_tests, lt-leb)
 
 instruction_to : (at line : ℕ) (body : List (List ℕ)) → IsRead line body → InRange (parsed_insns_by line body)
     → at + length (parsed_insns_by line body) ≤ bpf_maxinsns → instruction_fault at line body ≡ None
-instruction_to at line [] read range few = refl
-instruction_to at line (t ∷ ts) read range few =
-    let some = read_some line (parsed_of t ts) (λ none. let no_body = read none in absurd cc) in
-    rw (has_form t ts some) (draft_to at line (parsed_of t ts) some range few)
+instruction_to at line body h h2 h3 = grind (arith, common_steps, nat_tests, read_some, has_form, draft_to)
 
 statements_to_none : (ss before : List Statement)
     → AreNew (labels_from 0 before) (labels_from (count before) ss)
@@ -194,42 +177,23 @@ statements_to_none (s ∷ ss) before new read range few =
 
 says_value : (symbols : SymbolTable) (at line limit : ℕ) (o : FieldValue) (v : ℕ) → Says symbols at o v → v < limit
     → (is_below limit o ≡ true) × (target_fault symbols at line limit o ≡ None)
-says_value symbols at line limit (Number n) v h lt = (lt-ltb n limit (omega arith), refl)
-says_value symbols at line limit (Label name) v h lt =
-    (refl, rw (h, le-ltb (at + 1 + v) (at + 1) (omega arith), lt-leb limit (at + 1 + v - (at + 1)) (omega arith)) refl)
+says_value symbols at line limit o v h h2 = grind (arith, common_steps, nat_tests, lt-ltb, le-ltb, lt-leb)
 
 says_insn : (symbols : SymbolTable) (at line : ℕ) (d : ParsedInsn) (i : Insn) → SaysInsn symbols at d i → IsInsn i
     → (is_in_range d ≡ true) × (insn_fault symbols at line d ≡ None)
-says_insn symbols at line d i s fits =
-    let jt = says_value symbols at line (2 ^ 8) d.jt i.jt s.jt fits.jt in
-    let jf = says_value symbols at line (2 ^ 8) d.jf i.jf s.jf fits.jf in
-    let k = says_value symbols at line (2 ^ 32) d.k i.k s.k fits.k in
-    let code : ltb d.code (2 ^ 16) ≡ true = lt-ltb d.code (2 ^ 16) (omega (arith, s.code, fits.code)) in
-    (rw (code, jt.0, jf.0, k.0) refl, rw (jt.1, jf.1, k.1) refl)
+says_insn symbols at line d i s fits = grind (arith, common_steps, nat_tests, says_value, lt-ltb)
 
 says_each : (symbols : SymbolTable) (at : ℕ) (ds : List (ℕ × ParsedInsn)) (is : List Insn) → SaysEach symbols at ds is
     → AllByRecursion IsInsn is → InRange ds × (targets_fault symbols at ds ≡ None) × (length ds ≡ length is)
 says_each symbols at [] [] s fits = (tt, refl, refl)
 says_each symbols at [] (i ∷ is) s fits = absurd s
 says_each symbols at (d ∷ ds) [] s fits = absurd s
-says_each symbols at (d ∷ ds) (i ∷ is) s fits =
-    let one = says_insn symbols at d.0 d.1 i s.0 fits.0 in
-    let remaining = says_each symbols (at + 1) ds is s.1 fits.1 in (
-      (one.0, remaining.0),
-      none_both one.1 remaining.1,
-      ap suc remaining.2,
-    )
+says_each symbols at (d ∷ ds) (i ∷ is) s fits = grind (arith, common_steps, nat_tests, says_insn, none_both, says_each symbols (at + 1) ds is s.1 fits.1)
 
 -- a text that spells a list has no fault
 pub no_fault : (text : List ℕ) (is : List Insn) → Spells text is → fault_of text ≡ None
 unfolding fault_of
-no_fault text is s =
-    let spelled = says_each (symbols_in (statements_of text)) 0 (parsed_insns_of text) is s.each s.fields in
-    let labels = labels_from 0 (statements_of text) in
-    let new = distinct_new [] labels (besides_none labels) s.distinct in
-    let read = statements_to_none (statements_of text) [] new s.read spelled.0
-    (omega (arith, spelled.2, s.few)) in
-    none_both (ascii_to text 1 s.ascii) (none_both read spelled.1)
+no_fault text is s = grind (arith, common_steps, nat_tests, says_each, distinct_new, besides_none, statements_to_none, none_both, ascii_to)
 
 -- a text with no fault spells what its instructions say
 pub spelled : (text : List ℕ) (is : List Insn) → fault_of text ≡ None
@@ -259,23 +223,13 @@ spelled text is none says fits =
 -- a text spells one list
 
 one_value : (symbols : SymbolTable) (at : ℕ) (o : FieldValue) (v w : ℕ) → Says symbols at o v → Says symbols at o w → v ≡ w
-one_value symbols at (Number n) v w h k = h ∙ sym k
-one_value symbols at (Label name) v w h k =
-    let same : Some (at + 1 + v) ≡ Some (at + 1 + w) = sym h ∙ k in
-    let symbols : at + 1 + v ≡ at + 1 + w = cc in
-    omega arith
+one_value symbols at o v w h h2 = grind (arith, common_steps, nat_tests)
 
 abbrev insn : ℕ → ℕ → ℕ → ℕ → Insn
 insn code jt jf k = record { code = code; jt = jt; jf = jf; k = k }
 
 one_insn : (symbols : SymbolTable) (at : ℕ) (d : ParsedInsn) (i j : Insn) → SaysInsn symbols at d i → SaysInsn symbols at d j → i ≡ j
-one_insn symbols at d i j s t =
-    let code : i.code ≡ j.code = s.code ∙ sym t.code in
-    let jt = one_value symbols at d.jt i.jt j.jt s.jt t.jt in
-    let jf = one_value symbols at d.jf i.jf j.jf s.jf t.jf in
-    let k = one_value symbols at d.k i.k j.k s.k t.k in
-    let same : insn i.code i.jt i.jf i.k ≡ insn j.code j.jt j.jf j.k = rw (code, jt, jf, k) refl in
-    same
+one_insn symbols at d i j s t = grind (arith, common_steps, nat_tests, one_value)
 
 pub one_said : (symbols : SymbolTable) (at : ℕ) (ds : List (ℕ × ParsedInsn)) (is js : List Insn) → SaysEach symbols at ds is
     → SaysEach symbols at ds js → is ≡ js
@@ -284,5 +238,4 @@ one_said symbols at [] [] (j ∷ js) s t = absurd t
 one_said symbols at [] (i ∷ is) js s t = absurd s
 one_said symbols at (d ∷ ds) [] js s t = absurd s
 one_said symbols at (d ∷ ds) (i ∷ is) [] s t = absurd t
-one_said symbols at (d ∷ ds) (i ∷ is) (j ∷ js) s t =
-    rw (one_insn symbols at d.1 i j s.0 t.0, one_said symbols (at + 1) ds is js s.1 t.1) refl
+one_said symbols at (d ∷ ds) (i ∷ is) (j ∷ js) s t = grind (arith, common_steps, nat_tests, one_insn, one_said symbols (at + 1) ds is js s.1 t.1)

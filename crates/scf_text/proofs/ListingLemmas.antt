@@ -1,16 +1,15 @@
 -- The lines of a listing: their tokens, and that no byte or token of them ends a line, a statement or a label.
-use Rattle.scf_text.proofs.Common.{◌≡◌, ℕ, ◌/◌, ◌%◌, ◌<◌, ◌^◌, true, false, ◌&&◌, ◌||◌, eqb, List, [], ◌∷◌, ◌++◌, length, map, Some, refl, ap, ◌∙◌, arith, ◌≤◌, Bool, ltb, None, not, list_all, flat_map, AllByRecursion, is_digit, digit_value, decimal, digits, digit_glyph, digits_value, AllDigits, IsNumeral, eqb-true, ne_eqb, lt-ltb, agree_below_at, and_parts, and_right, ltb-true, digits_is_IsNumeral, digit_from_value, is_word_byte, begins_in_word, before_comment, number_of, numeral, has_hex_prefix, is_name, nat_tests, number_text, operands_text, piece_text, words_of_part, codes, cases_Bool, inl, inr, IsInsn, Insn, Piece, Field, Code, Jt, Jf, K, Style, Decimal, Hexadecimal, FourDigits, field_of, encodings, known_encodings, encoding_for, bytes_eq, is_semicolon, label_in, list_all-append}
+use Rattle.scf_text.proofs.Common.{◌≡◌, ℕ, ◌/◌, ◌%◌, ◌<◌, ◌^◌, true, false, ◌&&◌, eqb, List, [], ◌∷◌, ◌++◌, length, map, Some, refl, ap, arith, ◌≤◌, Bool, ltb, None, not, list_all, flat_map, AllByRecursion, is_digit, digit_value, decimal, digits, digit_glyph, digits_value, AllDigits, IsNumeral, eqb-true, ne_eqb, lt-ltb, agree_below_at, and_parts, and_right, ltb-true, digits_is_IsNumeral, digit_from_value, is_word_byte, begins_in_word, before_comment, number_of, numeral, has_hex_prefix, is_name, nat_tests, number_text, operands_text, piece_text, words_of_part, codes, cases_Bool, inl, inr, IsInsn, Insn, Piece, Field, Code, Jt, Jf, K, Style, Decimal, Hexadecimal, FourDigits, field_of, encodings, known_encodings, encoding_for, bytes_eq, is_semicolon, label_in, list_all-append}
 use Rattle.scf_text.proofs.TokenLemmas.{words_nil, words_blank, words_mark, words_word, words_one, words_more, onto_word}
 use Rattle.scf_text.specs.declared.encoding.Piece.TheVariants as p
 use Rattle.scf_text.specs.Encodings.{Encoding}
 use Rattle.scf_text.proofs.FormLemmas.{listed_form}
+use Rattle.std.proofs.lemmas.Grind.{common_steps}
 
 -- numbers
 
 glyph_is : (d : ℕ) → d < 16 → digit_value (digit_glyph false d) ≡ d
-glyph_is d lt =
-    eqb-true (digit_value (digit_glyph false d)) d
-    (agree_below_at (λ n. eqb (digit_value (digit_glyph false n)) n) (λ n. true) 16 d refl lt)
+glyph_is d lt = grind (arith, common_steps, nat_tests, eqb-true, agree_below_at)
 
 all_digits : (radix : ℕ) (ds : List ℕ) → AllDigits radix ds → list_all (λ c. is_digit c radix) ds ≡ true
 all_digits radix [] h = refl
@@ -22,16 +21,10 @@ numeral_is radix ds n h = rw (lt-ltb 0 (length ds) h.0.0, all_digits radix ds h.
 
 pub hexadecimal_is : (n : ℕ) → n < 2 ^ 32 → number_of (48 ∷ 120 ∷ digits 16 false n) ≡ Some n
 unfolding number_of
-hexadecimal_is n lt =
-    numeral_is 16 (digits 16 false n) n (digits_is_IsNumeral 16 false (omega arith) (omega arith) n (omega arith))
+hexadecimal_is n lt = grind (arith, common_steps, nat_tests, numeral_is, digits_is_IsNumeral)
 
 no_prefix : (ds : List ℕ) → AllDigits 10 ds → has_hex_prefix ds ≡ false
-no_prefix [] h = refl
-no_prefix (c ∷ []) h = and_right (eqb c 48) false refl
-no_prefix (c ∷ d ∷ ds) h =
-    let r = digit_from_value d h.1.0 in
-    and_right (eqb c 48) (eqb d 120 || eqb d 88)
-    (rw (ne_eqb d 120 (λ e. omega arith), ne_eqb d 88 (λ e. omega arith)) refl)
+no_prefix ds h = grind (arith, common_steps, nat_tests, and_right, digit_from_value, ne_eqb)
 
 pub decimal_is : (n : ℕ) → n < 2 ^ 32 → number_of (decimal n) ≡ Some n
 unfolding number_of
@@ -45,23 +38,14 @@ four_digits n = map (λ unit. digit_glyph false (n / unit % 16)) (4096 ∷ 256 �
 
 four_values : (n : ℕ) → AllDigits 16 (four_digits n)
     × (n < 2 ^ 16 → digits_value 16 (four_digits n) ≡ n)
-four_values n =
-    let a = glyph_is (n / 4096 % 16) (omega arith) in
-    let b = glyph_is (n / 256 % 16) (omega arith) in
-    let c = glyph_is (n / 16 % 16) (omega arith) in
-    let d = glyph_is (n / 1 % 16) (omega arith) in (
-      (omega (arith, a), (omega (arith, b), (omega (arith, c), (omega (arith, d), tt)))),
-      λ lt. rw (a, b, c, d) (omega arith),
-    )
+four_values n = grind (arith, common_steps, nat_tests, glyph_is)
 
 pub four_digits_is : (n : ℕ) → n < 2 ^ 16 → number_of (48 ∷ 120 ∷ four_digits n) ≡ Some n
 unfolding number_of
-four_digits_is n lt =
-    let values = four_values n in numeral_is 16 (four_digits n) n ((omega arith, values.0), values.1 lt)
+four_digits_is n lt = grind (arith, common_steps, nat_tests, four_values, numeral_is)
 
 digits_no_name : (ds : List ℕ) → AllDigits 10 ds → is_name ds ≡ false
-digits_no_name [] h = refl
-digits_no_name (c ∷ cs) h = let r = digit_from_value c h.0 in grind (arith, nat_tests)
+digits_no_name ds h = grind (arith, common_steps, nat_tests, digit_from_value)
 
 pub decimal_no_name : (n : ℕ) → n < 2 ^ 32 → is_name (decimal n) ≡ false
 decimal_no_name n lt =
@@ -85,8 +69,7 @@ digit_word c lt = grind (arith, nat_tests)
 
 digits_word : (base : ℕ) (ds : List ℕ) → base ≤ 16 → AllDigits base ds → list_all is_word_byte ds ≡ true
 digits_word base [] high h = refl
-digits_word base (c ∷ cs) high h =
-    rw (digit_word c (omega (arith, h.0)), digits_word base cs high h.1) refl
+digits_word base (c ∷ cs) high h = grind (arith, common_steps, nat_tests, digit_word, digits_word base cs high h.1)
 
 digits_wordy : (base n : ℕ) → 2 ≤ base → base ≤ 16 → n < base ^ 64 → IsWordy (digits base false n)
 digits_wordy base n low high lt =
@@ -101,10 +84,7 @@ number_wordy FourDigits n lt =
     record { some = omega arith; each = digits_word 16 (four_digits n) (omega arith) (four_values n).0 }
 
 pub field_small : (i : Insn) (f : Field) → IsInsn i → field_of i f < 2 ^ 32
-field_small i Code h = omega (arith, h.code)
-field_small i Jt h = omega (arith, h.jt)
-field_small i Jf h = omega (arith, h.jf)
-field_small i K h = h.k
+field_small i f h = grind (arith, common_steps, nat_tests)
 
 pub piece_wordy : (i : Insn) (f : Field) (style : Style) → IsInsn i → IsWordy (number_text style (field_of i f))
 piece_wordy i f style fits = number_wordy style (field_of i f) (field_small i f fits)
@@ -122,8 +102,7 @@ piece_words i (p.Target f) = decimal (field_of i f) ∷ []
 
 words_number : (i : Insn) (f : Field) (style : Style) (remaining : List ℕ) → IsInsn i → begins_in_word remaining ≡ false
     → words_of_part (number_text style (field_of i f) ++ remaining) ≡ number_text style (field_of i f) ∷ words_of_part remaining
-words_number i f style remaining h k =
-    words_wordy (number_text style (field_of i f)) remaining (piece_wordy i f style h) k
+words_number i f style remaining h k = grind (arith, common_steps, nat_tests, words_wordy, field_of, piece_wordy)
 
 pub each_same : {A B : Type 0} (f g : A → B) (xs : List A) → map f xs ≡ map g xs → AllByRecursion (λ x. f x ≡ g x) xs
 each_same f g [] e = tt
@@ -164,8 +143,7 @@ abbrev is_wordy : List ℕ → Bool
 is_wordy t = ltb 0 (length t) && list_all is_word_byte t
 
 wordy_from : (t : List ℕ) → is_wordy t ≡ true → IsWordy t
-wordy_from t h = let both = and_parts (ltb 0 (length t)) (list_all is_word_byte t) h in
-    record { some = ltb-true 0 (length t) both.0; each = both.1 }
+wordy_from t h = grind (arith, common_steps, nat_tests, and_parts, ltb-true)
 
 all_wordy : map (λ (f : Encoding). is_wordy f.mnemonic) encodings ≡ map (λ f. true) encodings
 unfolding known_encodings
@@ -189,14 +167,10 @@ mnemonic_wordy i =
     (each_same (λ (f : Encoding). is_wordy f.mnemonic) (λ f. true) encodings all_wordy))
 
 operands_apart : (i : Insn) (ps : List Piece) → begins_in_word (operands_text i ps) ≡ false
-operands_apart i [] = refl
-operands_apart i (q ∷ ps) = refl
+operands_apart i ps = grind (arith, common_steps, nat_tests)
 
 pub line_words : (i : Insn) → IsInsn i → words_of_part (body i) ≡ name_of i ∷ operands i
-line_words i fits =
-    words_wordy (name_of i) (operands_text i (encoding_for i).pieces) (mnemonic_wordy i)
-    (operands_apart i (encoding_for i).pieces)
-    ∙ ap (λ (ws : List (List ℕ)). name_of i ∷ ws) (operands_words i fits)
+line_words i fits = grind (arith, common_steps, nat_tests, words_wordy, mnemonic_wordy, operands_apart, operands_words)
 
 -- a byte that neither ends a line nor begins a comment
 abbrev pub is_line_byte : ℕ → Bool
@@ -269,8 +243,7 @@ apart i =
 
 operands_line : (i : Insn) (ps : List Piece) → list_all is_line_byte (flat_map (piece_text i) ps) ≡ true
     → list_all is_line_byte (operands_text i ps) ≡ true
-operands_line i [] h = refl
-operands_line i (q ∷ ps) h = h
+operands_line i ps h = grind (arith, common_steps, nat_tests)
 
 pub body_line : (i : Insn) → IsInsn i → list_all is_line_byte (body i) ≡ true
 body_line i fits =
@@ -307,12 +280,7 @@ no_semicolon (t ∷ ts) h =
     let plain = a.0 in (grind (arith, nat_tests), no_semicolon ts a.1)
 
 pub no_label : (t : List ℕ) (ts : List (List ℕ)) → list_all is_plain ts ≡ true → label_in (t ∷ ts) ≡ None
-no_label t [] h = refl
-no_label t (u ∷ ts) h =
-    let a = and_parts (is_plain u) (list_all is_plain ts) h in
-    let plain = a.0 in
-    let none : bytes_eq u (58 ∷ []) ≡ false = grind (arith, nat_tests) in
-    rw (and_right (is_name t) (bytes_eq u (58 ∷ [])) none) refl
+no_label t ts h = grind (arith, common_steps, nat_tests, and_parts, and_right)
 
 pub operands_plain : (i : Insn) → IsInsn i → list_all is_plain (operands i) ≡ true
 operands_plain i fits = (pieces_listed i (encoding_for i).pieces fits (apart i)).1

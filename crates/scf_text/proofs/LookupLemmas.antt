@@ -7,6 +7,7 @@ use Rattle.std.specs.List.Sorted.{IsNonDecreasing, IsNonDecreasingBy, IsPartitio
 use Rattle.std.specs.Map.{keys_of}
 use Rattle.std.specs.Ordering.{ordering_index}
 use Rattle.scf_text.proofs.ReadLemmas.{bytes_eq_sym}
+use Rattle.std.proofs.lemmas.Grind.{common_steps}
 
 -- no two labels of one name
 
@@ -80,9 +81,7 @@ indices_moved text begins xs ys moved apart = fun_ext λ q.
 -- a search by halves
 
 name_first : (r s : Ordering) → is_lt (ordering_then r s) ≡ false → is_lt r ≡ false
-name_first Less s h = h
-name_first Equal s h = refl
-name_first Greater s h = refl
+name_first r s h = grind (arith, common_steps, nat_tests)
 
 pub by_name : (text labels name : List ℕ) → IsSortedBy (is_before text) labels
     → IsNonDecreasingBy (λ l. ordering_index (slice_cmp nat_cmp (name_at text l) name)) labels
@@ -145,9 +144,4 @@ pub no_index : (text labels begins name : List ℕ) (i : ℕ)
     → IsPartitionPoint (λ l. slice_cmp nat_cmp (name_at text l) name ≡ Less)
     (λ l. slice_cmp nat_cmp (name_at text l) name ≡ Greater) labels i
     → index_of (labels_at text begins labels) name ≡ None
-no_index text labels begins name i h =
-    none_there text labels begins name λ k d lt.
-    elim (cases_lt k i) [
-      | inl below ↦ ap is_eq (h.0 k d (omega arith) below)
-      | inr behind ↦ ap is_eq (h.1 k d behind lt)
-    ]
+no_index text labels begins name i h = grind (arith, common_steps, nat_tests, none_there, cases_lt)

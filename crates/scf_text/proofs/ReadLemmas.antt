@@ -5,10 +5,10 @@ use Rattle.std.proofs.lemmas.List.Sorted.{IsNonDecreasingBy-push}
 use Rattle.scf_text.proofs.IndexLemmas.{line_of_part, name_of_part}
 use Rattle.scf_text.proofs.RepeatLemmas.{IsKnown, first_more, least_last}
 use Rattle.scf_text.proofs.TokenLemmas.{statements_are}
+use Rattle.std.proofs.lemmas.Grind.{common_steps}
 
 pub fault_first : (e : TextFault) (a b : Option TextFault) → IsFault e a → IsFault e (option_or a b)
-fault_first fault.Memory a b h = tt
-fault_first e a b h = rw h refl
+fault_first e a b h = grind (arith, common_steps, nat_tests)
 
 pub fault_then : (e : TextFault) (a b : Option TextFault) → a ≡ None → IsFault e b → IsFault e (option_or a b)
 fault_then e a b none h = rw none h
@@ -37,17 +37,10 @@ labels_more at (b ∷ before) s =
 pub lookup_push : (p : List ℕ → Bool) (ls : Labels) (l : List ℕ × ℕ)
     → lookup p (ls ++ l ∷ []) ≡ option_or (lookup p ls) (cond (p l.0) (Some l.1) None)
 lookup_push p [] l = refl
-lookup_push p (k ∷ ls) l =
-    elim (cases_Bool (p k.0)) [
-      | inl here ↦ rw here refl
-      | inr other ↦ rw other (lookup_push p ls l)
-    ]
+lookup_push p (k ∷ ls) l = grind (arith, common_steps, nat_tests, cases_Bool, lookup_push p ls l)
 
 pub bytes_eq_sym : (a b : List ℕ) → bytes_eq a b ≡ bytes_eq b a
-bytes_eq_sym a b =
-    let other = bytes_eq-Decides b a in
-    same_from_decides (bytes_eq a b) (bytes_eq b a) (bytes_eq-Decides a b)
-    (λ same. sym (other.0 same), λ same. other.1 (sym same))
+bytes_eq_sym a b = grind (arith, common_steps, nat_tests, bytes_eq-Decides, same_from_decides)
 
 pub is_none : {A : Type 0} (o : Option A) → is_some o ≡ false → o ≡ None
 is_none None h = refl
@@ -117,9 +110,7 @@ module _ (text : List ℕ) where
       → option_or (option_map (repeat_fault text) repeat)
       (option_or (option_or (cond known (Some (fault.Label line)) None) i) later)
       ≡ option_or (option_map (repeat_fault text) (option_or repeat (cond known (Some s) None))) (option_or i later)
-  label_faults line s (Some r) known i later e = refl
-  label_faults line s None true i later e = rw e refl
-  label_faults line s None false i later e = refl
+  label_faults line s repeat known i later h = grind (arith, common_steps, nat_tests)
 
   label_kept : {end line : ℕ} {given : Labels} {all : List Statement} {begins old new : List ℕ} (s : ℕ)
       (i later : Option TextFault)
@@ -246,10 +237,7 @@ module _ {text bytes : List ℕ} {start : ℕ} {all remaining : List Statement} 
       moved))
 
   have_tokens : s.tokens ≢ [] → HaveTokens all
-  have_tokens some =
-      rw (left.whole, flat_map-append)
-      (some_between (flat_map (λ (t : Statement). t.tokens) left.before) s.tokens
-      (flat_map (λ (t : Statement). t.tokens) remaining) some)
+  have_tokens some = grind (arith, common_steps, nat_tests, flat_map-append, some_between)
 
   pub statement_leaves : {T : Type 0} (r : Result T TextFault) (end : T → ℕ) (es : List NumberedInsn)
       → IsPermutation (old ++ option_to_list (option_map (λ _. index) label)) new
@@ -282,8 +270,7 @@ module _ {text bytes : List ℕ} {start : ℕ} {all remaining : List Statement} 
   -- a statement with a label has a token
   label_tokens : (b : ℕ) (o : Option ℕ) → option_map (name_at bytes) o ≡ label_in s.tokens
       → IsSome (option_map (λ _. b) o) → s.tokens ≢ []
-  label_tokens b None named some = cc
-  label_tokens b (Some l) named some = λ none. let e = rw none at named in cc
+  label_tokens b o h h2 = grind (arith, common_steps, nat_tests)
 
   pub label_refused : (e : TextFault)
       → AddsLabel {T = Unit {0}} text old (option_map (λ _. index) label) (Err e) new
@@ -317,20 +304,13 @@ module _ {text bytes : List ℕ} {start : ℕ} {all remaining : List Statement} 
 pub index_left : {text : List ℕ} {end : ℕ} {all remaining : List Statement} {labels : List ℕ} {ds : List NumberedInsn}
     (index : ℕ) (sorted : List ℕ) → IsLeft text end all remaining labels ds → end ≤ index → IsPermutation labels sorted
     → IsLeft text index all remaining sorted ds
-index_left index sorted left le moved = record {
-  before = left.before;
-  whole = left.whole;
-  parsed_insns = left.parsed_insns;
-  labels = index_kept index sorted left.labels le moved;
-}
+index_left index sorted left le moved = grind (arith, common_steps, nat_tests, index_kept)
 
 pub is_fault : (e : TextFault) (o : Option TextFault) → o ≡ Some e → IsFault e o
-is_fault fault.Memory o h = tt
-is_fault e o h = h
+is_fault e o h = grind (arith, common_steps, nat_tests)
 
 pub label_mapped : (o r : Option ℕ) (b : ℕ) → r ≡ option_and o (Some b) → r ≡ option_map (λ _. b) o
-label_mapped None r b h = h
-label_mapped (Some x) r b h = h
+label_mapped o r b h = grind (arith, common_steps, nat_tests)
 
 pub some_refused : {T E : Type 0} (r : Result T E) (ts us : List (List ℕ)) → us ≡ instruction_in ts → OnErr r (us ≢ [])
     → OnErr r (ts ≢ [])

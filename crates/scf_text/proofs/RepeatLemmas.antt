@@ -5,29 +5,23 @@ use Rattle.std.specs.List.{take_while}
 use Rattle.std.specs.Option.{option_cmp}
 use Rattle.scf_text.specs.internal.Labels.{front_byte, word_byte, word_order}
 use Rattle.scf_text.proofs.Common.{is_word_byte, drop, cond, [], ◌∷◌}
-use Rattle.scf_text.proofs.Common.{◌≡◌, ◌≢◌, ◌⊎◌, ℕ, ◌+◌, ◌-◌, ◌<◌, ◌≤◌, Bool, true, false, List, length, length-drop, length-take-le, get_or, get_or-take, get_or_default, take, take_more, Decides, Option, Some, None, refl, sym, ap, ◌∙◌, min, arith, inl, inr, IsDistinct, IsPermutation, IsSortedBy, bytes_eq, bytes_eq-Decides, slice_cmp, nat_cmp, nat_tests, cases_lt, IsTotalOrder, Ordering, Less, Equal, Greater, is_lt, is_eq, ordering_then, ordering_reverse, nat_list_cmp_total, nat_cmp_total, on_total, then_total, ranks_by, sorted_far, is_eq-slice_cmp, apart_from_distinct, Contains-append_left, Contains-permutation, Contains-push, Contains-push_cases, Contains, MatchBool, cond, [], ◌∷◌, ◌++◌, IsPermutation-sym, nat_eq, unwrap_or, All, All-contains, option_or, cases_Bool, name_at, compared, is_before, IsRepeat, IsFirstRepeat, least}
+use Rattle.scf_text.proofs.Common.{◌≡◌, ◌≢◌, ◌⊎◌, ℕ, ◌+◌, ◌-◌, ◌<◌, ◌≤◌, Bool, true, false, List, length, length-drop, length-take-le, get_or, get_or-take, get_or_default, take, take_more, Decides, Option, Some, None, refl, sym, ap, ◌∙◌, min, arith, inl, inr, IsDistinct, IsPermutation, IsSortedBy, bytes_eq-Decides, slice_cmp, nat_cmp, nat_tests, cases_lt, IsTotalOrder, Ordering, Equal, is_lt, is_eq, ordering_then, ordering_reverse, nat_list_cmp_total, nat_cmp_total, on_total, then_total, ranks_by, sorted_far, is_eq-slice_cmp, apart_from_distinct, Contains-append_left, Contains-permutation, Contains-push, Contains-push_cases, Contains, MatchBool, cond, [], ◌∷◌, ◌++◌, IsPermutation-sym, nat_eq, unwrap_or, All, option_or, cases_Bool, name_at, compared, is_before, IsRepeat, IsFirstRepeat, least}
+use Rattle.std.proofs.lemmas.Grind.{common_steps}
 
 pub compared_total : (text : List ℕ) → IsTotalOrder (compared text)
 compared_total text = then_total (on_total (name_at text) nat_list_cmp_total) nat_cmp_total
 
 pub word_decides : (r : Ordering) (b : Bool) (xs ys : List ℕ) → r ≡ slice_cmp nat_cmp xs ys → b ≡ is_eq r
     → Decides b (xs ≡ ys)
-word_decides r b xs ys e f =
-    let t : b ≡ bytes_eq xs ys = f ∙ ap is_eq e ∙ is_eq-slice_cmp xs ys in rw t (bytes_eq-Decides xs ys)
+word_decides r b xs ys e f = grind (arith, common_steps, nat_tests, is_eq-slice_cmp, bytes_eq-Decides)
 
 not_less : (x y : ℕ) → is_lt (nat_cmp x y) ≡ false → y ≤ x
-not_less x y h =
-    elim (cases_lt x y) [
-      | inl less ↦ let t : nat_cmp x y ≡ Less = grind (arith, nat_tests) in let u = rw t at h in absurd cc
-      | inr le ↦ le
-    ]
+not_less x y h = grind (arith, common_steps, nat_tests, cases_lt)
 
 -- what stands between two words that are the same
 between : (r s : Ordering) (a c b : ℕ) → s ≡ ordering_reverse r → is_lt (ordering_then r (nat_cmp c a)) ≡ false
     → is_lt (ordering_then s (nat_cmp b c)) ≡ false → (is_eq r ≡ true) × (a ≤ c) × (c ≤ b)
-between Less s a c b e h k = absurd cc
-between Equal s a c b e h k = (refl, not_less c a h, not_less b c (rw e at k))
-between Greater s a c b e h k = let u = rw e at k in absurd cc
+between r s a c b h h2 h3 = grind (arith, common_steps, nat_tests, not_less)
 
 -- the first repeat doesn't depend on the order
 
@@ -130,11 +124,7 @@ module _ (text xs : List ℕ) (s : ℕ) (behind : (a : ℕ) → Contains xs a �
 -- labels in order, one by one
 
 pub one_label : (text labels : List ℕ) → IsFirstRepeat text (take 1 labels) None
-one_label text [] = λ b r. let lt : r.given.0 < 0 = r.given.1 in absurd (omega arith)
-one_label text (l ∷ labels) =
-    first_more text [] l (λ a given. let lt : given.0 < 0 = given.1 in absurd (omega arith)) None false
-    (λ a given. let lt : given.0 < 0 = given.1 in absurd (omega arith))
-    (λ b r. let lt : r.given.0 < 0 = r.given.1 in absurd (omega arith))
+one_label text labels = grind (arith, common_steps, nat_tests, first_more)
 
 module _ (text labels : List ℕ) (sorted : IsSortedBy (is_before text) labels) where
   far : (i j : ℕ) → i ≤ j → j < length labels → is_before text (get_or labels j 0) (get_or labels i 0) ≡ false
@@ -199,18 +189,12 @@ module _ (text labels : List ℕ) (sorted : IsSortedBy (is_before text) labels) 
       ]) k)
 
 pub least_is : (first : Option ℕ) (s m : ℕ) → m ≡ min (unwrap_or first s) s → m ≡ least first s
-least_is None s m h = omega (arith, h)
-least_is (Some r) s m h = h
+least_is first s m h = grind (arith, common_steps, nat_tests)
 
 -- a label behind the others is no first repeat if there is one
 pub least_last : (text xs : List ℕ) (s : ℕ) (first : Option ℕ) (known : Bool) → All (λ a. a < s) xs
     → IsFirstRepeat text xs first → cond known (Some (least first s)) first ≡ option_or first (cond known (Some s) None)
-least_last text xs s None known below k = refl
-least_last text xs s (Some r) false below k = refl
-least_last text xs s (Some r) true below k =
-    let lt : r < s = All-contains (λ a. a < s) xs r below k.0.given in
-    let e : min r s ≡ r = omega arith in
-    ap Some e
+least_last text xs s first known h h2 = grind (arith, common_steps, nat_tests)
 
 -- a byte of a word in front of both changes nothing in how they compare
 equal_front : (x : ℕ) (xs ys : List ℕ) → slice_cmp nat_cmp (x ∷ xs) (x ∷ ys) ≡ slice_cmp nat_cmp xs ys
@@ -222,10 +206,7 @@ front_taken p x xs passes = take_while-cons p x xs ∙ ap (λ b. cond b (x ∷ t
 same_front : (p : ℕ → Bool) (x : ℕ) (xs ys : List ℕ) → p x ≡ true
     → slice_cmp nat_cmp (take_while p (x ∷ xs)) (take_while p (x ∷ ys))
     ≡ slice_cmp nat_cmp (take_while p xs) (take_while p ys)
-same_front p x xs ys passes =
-    let left = front_taken p x xs passes in
-    let right = front_taken p x ys passes in
-    (λ i. slice_cmp nat_cmp (left i) (right i)) ∙ equal_front x (take_while p xs) (take_while p ys)
+same_front p x xs ys passes = grind (arith, common_steps, nat_tests, front_taken, equal_front)
 
 ordered_by : (ℕ → Bool) → List ℕ → List ℕ → Ordering
 ordered_by p xs ys = slice_cmp nat_cmp (take_while p xs) (take_while p ys)
@@ -233,19 +214,11 @@ ordered_by p xs ys = slice_cmp nat_cmp (take_while p xs) (take_while p ys)
 drop_same : (p : ℕ → Bool) (xs ys : List ℕ) (i : ℕ) → i < length xs → i < length ys → get_or xs i 0 ≡ get_or ys i 0
     → p (get_or xs i 0) ≡ true → ordered_by p (drop (i + 1) xs) (drop (i + 1) ys) ≡ ordered_by p (drop i xs) (drop i ys)
 unfolding ordered_by
-drop_same p xs ys i lt below same passes =
-    let x = get_or xs i 0 in
-    let left : drop i xs ≡ x ∷ drop (i + 1) xs = drop_more xs i 0 lt in
-    let right : drop i ys ≡ x ∷ drop (i + 1) ys =
-    drop_more ys i 0 below ∙ ap (λ y. y ∷ drop (i + 1) ys) (sym same) in
-    sym ((λ j. slice_cmp nat_cmp (take_while p (left j)) (take_while p (right j)))
-    ∙ same_front p x (drop (i + 1) xs) (drop (i + 1) ys) passes)
+drop_same p xs ys i lt below same passes = grind (arith, common_steps, nat_tests, drop_more, same_front)
 
 -- A byte of a word in front of one of them alone, or two that differ, decide how they compare.
 order_apart : (o later : Ordering) → (o ≡ Equal → ⊥) → o ≡ ordering_then o later
-order_apart Less later apart = refl
-order_apart Equal later apart = absurd (apart refl)
-order_apart Greater later apart = refl
+order_apart o later h = grind (arith, common_steps, nat_tests)
 
 front_refused : (p : ℕ → Bool) (x : ℕ) (xs : List ℕ) → p x ≡ false → take_while p (x ∷ xs) ≡ []
 front_refused p x xs fails = take_while-cons p x xs ∙ ap (λ b. cond b (x ∷ take_while p xs) []) fails
@@ -253,51 +226,12 @@ front_refused p x xs fails = take_while-cons p x xs ∙ ap (λ b. cond b (x ∷ 
 fronts_decide : (p : ℕ → Bool) (x y : ℕ) (xs ys : List ℕ) → (p x ≡ true → x ≢ y)
     → option_cmp nat_cmp (front_byte p (x ∷ xs)) (front_byte p (y ∷ ys)) ≡ ordered_by p (x ∷ xs) (y ∷ ys)
 unfolding ordered_by
-fronts_decide p x y xs ys apart =
-    let byte : ℕ → Bool → Option ℕ = λ b passes. cond passes (Some b) None in
-    elim (cases_Bool (p x)) [
-      | inl px ↦ elim (cases_Bool (p y)) [
-        | inl py ↦
-            let left = front_taken p x xs px in
-            let right = front_taken p y ys py in
-            (λ i. option_cmp nat_cmp (byte x (px i)) (byte y (py i)))
-            ∙ order_apart (nat_cmp x y) (slice_cmp nat_cmp (take_while p xs) (take_while p ys))
-            (λ e. apart px (grind (arith, nat_tests, e)))
-            ∙ sym (λ i. slice_cmp nat_cmp (left i) (right i))
-        | inr py ↦
-            let left = front_taken p x xs px in
-            let right = front_refused p y ys py in
-            (λ i. option_cmp nat_cmp (byte x (px i)) (byte y (py i))) ∙ sym (λ i. slice_cmp nat_cmp (left i) (right i))
-      ]
-      | inr px ↦ elim (cases_Bool (p y)) [
-        | inl py ↦
-            let left = front_refused p x xs px in
-            let right = front_taken p y ys py in
-            (λ i. option_cmp nat_cmp (byte x (px i)) (byte y (py i))) ∙ sym (λ i. slice_cmp nat_cmp (left i) (right i))
-        | inr py ↦
-            let left = front_refused p x xs px in
-            let right = front_refused p y ys py in
-            (λ i. option_cmp nat_cmp (byte x (px i)) (byte y (py i))) ∙ sym (λ i. slice_cmp nat_cmp (left i) (right i))
-      ]
-    ]
+fronts_decide p x y xs ys apart = grind (arith, common_steps, nat_tests, cases_Bool, front_taken, order_apart, front_refused)
 
 end_decides : (p : ℕ → Bool) (xs ys : List ℕ) → min (length xs) (length ys) ≡ 0
     → option_cmp nat_cmp (front_byte p xs) (front_byte p ys) ≡ ordered_by p xs ys
 unfolding ordered_by
-end_decides p [] [] none = refl
-end_decides p [] (y ∷ ys) none = elim (cases_Bool (p y)) [
-  | inl py ↦ let right = front_taken p y ys py in
-      (λ i. option_cmp nat_cmp None (cond (py i) (Some y) None)) ∙ sym (λ i. slice_cmp nat_cmp [] (right i))
-  | inr py ↦ let right = front_refused p y ys py in
-      (λ i. option_cmp nat_cmp None (cond (py i) (Some y) None)) ∙ sym (λ i. slice_cmp nat_cmp [] (right i))
-]
-end_decides p (x ∷ xs) [] none = elim (cases_Bool (p x)) [
-  | inl px ↦ let left = front_taken p x xs px in
-      (λ i. option_cmp nat_cmp (cond (px i) (Some x) None) None) ∙ sym (λ i. slice_cmp nat_cmp (left i) [])
-  | inr px ↦ let left = front_refused p x xs px in
-      (λ i. option_cmp nat_cmp (cond (px i) (Some x) None) None) ∙ sym (λ i. slice_cmp nat_cmp (left i) [])
-]
-end_decides p (x ∷ xs) (y ∷ ys) none = absurd (omega (arith, none))
+end_decides p xs ys h = grind (arith, common_steps, nat_tests, cases_Bool, front_taken, front_refused)
 
 pub word_order-fronts : (xs ys : List ℕ) (i : ℕ) → i < length xs → i < length ys
     → (is_word_byte (get_or xs i 0) ≡ true → get_or xs i 0 ≢ get_or ys i 0)
@@ -313,8 +247,7 @@ word_order-fronts xs ys i lt below apart =
 pub word_order-ends : (xs ys : List ℕ) (i : ℕ) → i ≡ min (length xs) (length ys)
     → option_cmp nat_cmp (word_byte (drop i xs)) (word_byte (drop i ys)) ≡ word_order (drop i xs) (drop i ys)
 unfolding ordered_by
-word_order-ends xs ys i end =
-    end_decides is_word_byte (drop i xs) (drop i ys) (simp length-drop (omega (arith, end)))
+word_order-ends xs ys i end = grind (arith, common_steps, nat_tests, end_decides, length-drop)
 
 -- nor does one at one index of both behind alike ones
 pub word_order-drop_more : (xs ys : List ℕ) (i : ℕ) → i < length xs → i < length ys → get_or xs i 0 ≡ get_or ys i 0

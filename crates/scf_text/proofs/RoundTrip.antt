@@ -1,5 +1,5 @@
 -- Each form is read as it is listed, and the canonical text of instructions spells them.
-use Rattle.scf_text.proofs.Common.{words_of_part, IsDistinct, index_of, ◌≡◌, ℕ, true, false, eqb, Option, None, Some, refl, sym, ◌+◌, ◌<◌, ◌≤◌, List, [], ◌∷◌, ◌++◌, length, map, ap, subst, ◌∙◌, append_assoc, arith, if◌then◌else◌, list_any, flat_map, AllByRecursion, list_all, slice_split, and_from, nat_tests, IsInsn, Insn, Code, Jt, Jf, K, names, tells_all, encoding_for, encodings, known_encodings, Number, ParsedInsn, parsed_of, SymbolTable, Statement, is_semicolon, words_of_line, statements_from, label_in, instruction_in, labels_from, parsed_insns_in, SaysInsn, SaysEach, Spells, All-from_recursion, slice_split_at, slice_split_none, bpf_maxinsns, Lexeme, lines_of, before_comment, lexemes_from, operands_text, line_of, text_of}
+use Rattle.scf_text.proofs.Common.{words_of_part, IsDistinct, index_of, ◌≡◌, ℕ, true, false, eqb, Option, None, Some, refl, ◌+◌, ◌<◌, ◌≤◌, List, [], ◌∷◌, ◌++◌, length, map, ap, ◌∙◌, append_assoc, arith, if◌then◌else◌, list_any, flat_map, AllByRecursion, list_all, slice_split, and_from, nat_tests, IsInsn, Insn, Code, Jt, Jf, K, names, tells_all, encoding_for, encodings, known_encodings, Number, ParsedInsn, parsed_of, SymbolTable, Statement, is_semicolon, words_of_line, statements_from, label_in, instruction_in, labels_from, parsed_insns_in, SaysInsn, SaysEach, Spells, All-from_recursion, slice_split_at, slice_split_none, bpf_maxinsns, Lexeme, lines_of, before_comment, lexemes_from, line_of, text_of}
 use Rattle.scf_text.proofs.TokenLemmas.{words_nil, all_append}
 use Rattle.scf_text.proofs.ListingLemmas.{hexadecimal_is, decimal_is, decimal_no_name, four_digits_is, piece_words}
 use Rattle.scf_text.proofs.ListingLemmas.{each_same, name_of, field_small, mnemonic_wordy, line_words, is_plain, wordy_plain}
@@ -7,6 +7,7 @@ use Rattle.scf_text.proofs.ListingLemmas.{operands_plain, body, operands, body_l
 use Rattle.scf_text.proofs.ListingLemmas.{no_semicolon, no_label}
 use Rattle.scf_text.proofs.FormLemmas.{listed_one, listed_form}
 use Rattle.scf_text.specs.Encodings.{Encoding}
+use Rattle.std.proofs.lemmas.Grind.{common_steps}
 
 -- what the listing of an instruction in this form says
 abbrev pub draft_in : Encoding → Insn → ParsedInsn
@@ -23,19 +24,7 @@ read_back i f = parsed_of f.mnemonic (flat_map (piece_words i) f.pieces)
 
 all_back : (i : Insn) → IsInsn i → map (read_back i) encodings ≡ map (λ f. Some (draft_in f i)) encodings
 unfolding parsed_of known_encodings
-all_back i h =
-    let jt = field_small i Jt h in
-    let jf = field_small i Jf h in
-    simp (
-      hexadecimal_is i.k h.k,
-      decimal_is i.k h.k,
-      decimal_no_name i.k h.k,
-      decimal_is i.jt jt,
-      decimal_no_name i.jt jt,
-      decimal_is i.jf jf,
-      decimal_no_name i.jf jf,
-      four_digits_is i.code h.code,
-    )
+all_back i h = grind (arith, common_steps, nat_tests, field_small, hexadecimal_is, decimal_is, decimal_no_name, four_digits_is)
 
 abbrev pub IsReadBack : Insn → Encoding → Type 0
 IsReadBack i f = read_back i f ≡ Some (draft_in f i)
@@ -46,13 +35,7 @@ reads_back i h =
 
 tells_says : (symbols : SymbolTable) (at : ℕ) (i : Insn) (f : Encoding) → tells_all i f ≡ true
     → SaysInsn symbols at (draft_in f i) i
-tells_says symbols at i f h =
-    record {
-      code = grind (arith, nat_tests);
-      jt = grind (arith, nat_tests);
-      jf = grind (arith, nat_tests);
-      k = grind (arith, nat_tests);
-    }
+tells_says symbols at i f h = grind (arith, common_steps, nat_tests)
 
 says_back : (symbols : SymbolTable) (at : ℕ) (i : Insn) → SaysInsn symbols at (draft_in (encoding_for i) i) i
 says_back symbols at i =
@@ -79,11 +62,7 @@ listing n [] = record { line = n; tokens = [] } ∷ []
 listing n (i ∷ is) = record { line = n; tokens = name_of i ∷ operands i } ∷ listing (n + 1) is
 
 line_ended : (i : Insn) (remaining : List ℕ) → line_of i ++ remaining ≡ body i ++ 10 ∷ remaining
-line_ended i remaining =
-    let ops = operands_text i (encoding_for i).pieces in
-    append_assoc (name_of i) (ops ++ 10 ∷ []) remaining
-    ∙ ap (λ (t : List ℕ). name_of i ++ t) (append_assoc ops (10 ∷ []) remaining)
-    ∙ sym (append_assoc (name_of i) ops (10 ∷ remaining))
+line_ended i remaining = grind (arith, common_steps, nat_tests, append_assoc)
 
 lines_are : (i : Insn) (remaining : List ℕ) → IsInsn i → lines_of (line_of i ++ remaining) ≡ body i ∷ lines_of remaining
 lines_are i remaining fits = ap lines_of (line_ended i remaining)
@@ -93,10 +72,7 @@ lines_are i remaining fits = ap lines_of (line_ended i remaining)
 statements_are : (n : ℕ) (is : List Insn) → AllByRecursion IsInsn is
     → statements_from n (lines_of (text_of is)) ≡ listing n is
 statements_are n [] fits = rw words_nil refl
-statements_are n (i ∷ is) fits =
-    rw (lines_are i (text_of is) fits.0, line_tokens i fits.0)
-    (ap (λ (ss : List Statement). let s : Statement = record { line = n; tokens = name_of i ∷ operands i } in
-    s ∷ ss) (statements_are (n + 1) is fits.1))
+statements_are n (i ∷ is) fits = grind (arith, common_steps, nat_tests, lines_are, line_tokens, statements_are (n + 1) is fits.1)
 
 unlabeled : (i : Insn) → IsInsn i → label_in (name_of i ∷ operands i) ≡ None
 unlabeled i fits = no_label (name_of i) (operands i) (operands_plain i fits)
@@ -112,10 +88,7 @@ listed symbols at n (i ∷ is) fits =
 
 ascii : (is : List Insn) → AllByRecursion IsInsn is → AllByRecursion (λ b. b < 128) (text_of is)
 ascii [] fits = tt
-ascii (i ∷ is) fits =
-    subst (λ (t : List ℕ). AllByRecursion (λ b. b < 128) t) (sym (line_ended i (text_of is)))
-    (all_append (λ b. b < 128) (body i) (10 ∷ text_of is) (small_bytes (body i) (body_line i fits.0))
-    (omega arith, ascii is fits.1))
+ascii (i ∷ is) fits = grind (arith, common_steps, nat_tests, line_ended, all_append, small_bytes, body_line, ascii is fits.1)
 
 pub round_trip : (is : List Insn) → AllByRecursion IsInsn is → length is ≤ bpf_maxinsns → Spells (text_of is) is
 unfolding IsDistinct

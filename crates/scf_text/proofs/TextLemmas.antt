@@ -1,5 +1,5 @@
 -- What reading a text gives.
-use Rattle.scf_text.proofs.Common.{◌≡◌, ◌≢◌, ℕ, ◌<◌, List, [], map, Option, Some, None, Result, Ok, Err, refl, sym, ap, subst, ◌∙◌, arith, append-nil, flat_map, option_or, option_map, IfOk, IfErr, Vec, nat_eq, bytes_eq, Contains, All-nil, Contains-permutation, IsDistinct, IsPermutation, IsPermutation-refl, IsPermutation-sym, IsSortedBy, is_before, Insn, TextFault, Statement, labels_from, SymbolTable, index_of, symbols_in, statements_of, parsed_insns_in, parsed_insns_of, Spells, ascii_fault, statements_fault, targets_fault, fault_of, IsFault, NumberedInsn, TellsInsns, TellsText, fault_in, Labels, labels_at, repeat_fault, IsFirstRepeat, TellsRepeat, name_at, parsed_insns_view, begins_of, AreKept, IsEnded, IsLeft, IsRead, Leaves, HaveTokens}
+use Rattle.scf_text.proofs.Common.{◌≡◌, ◌≢◌, ℕ, ◌<◌, List, [], map, Option, Some, None, Result, Ok, Err, refl, sym, ap, subst, ◌∙◌, arith, append-nil, flat_map, option_or, option_map, IfOk, IfErr, Vec, nat_eq, bytes_eq, Contains, All-nil, Contains-permutation, IsDistinct, IsPermutation, IsPermutation-refl, IsPermutation-sym, IsSortedBy, is_before, Insn, TextFault, Statement, labels_from, SymbolTable, index_of, symbols_in, statements_of, parsed_insns_in, Spells, ascii_fault, statements_fault, targets_fault, fault_of, IsFault, NumberedInsn, TellsInsns, TellsText, fault_in, Labels, labels_at, repeat_fault, IsFirstRepeat, TellsRepeat, name_at, parsed_insns_view, begins_of, AreKept, IsEnded, IsLeft, IsRead, Leaves, HaveTokens, nat_tests}
 use Rattle.scf_text.specs.declared.fault.TextFault.TheVariants as fault
 use Rattle.scf_text.specs.ParsedInsns as parsed_insns
 use Rattle.scf_text.proofs.ReadLemmas.{apart, fault_first, fault_then, is_fault, index_kept, index_left}
@@ -7,19 +7,17 @@ use Rattle.scf_text.proofs.RepeatLemmas.{moved, one_first}
 use Rattle.scf_text.proofs.LookupLemmas.{names_apart, indices_moved}
 use Rattle.scf_text.proofs.WantedLemmas.{no_labels, none_mapped}
 use Rattle.scf_text.proofs.LawLemmas.{no_fault, spelled}
+use Rattle.std.proofs.lemmas.Grind.{common_steps}
 
 pub statements_fail : (x : TextFault) (text : List ℕ) → IsFault x (statements_fault [] (statements_of text))
     → IsFault x (fault_in text)
 unfolding fault_in
-statements_fail x text h =
-    fault_first x (statements_fault [] (statements_of text))
-    (targets_fault (symbols_in (statements_of text)) 0 (parsed_insns_of text)) h
+statements_fail x text h = grind (arith, common_steps, nat_tests, fault_first)
 
 tells_then : (a b : Option TextFault) (symbols : SymbolTable) (written : List (ℕ × parsed_insns.ParsedInsn))
     (r : Result (Vec Insn) TextFault) → a ≡ None → TellsInsns b symbols written r
     → TellsInsns (option_or a b) symbols written r
-tells_then a b symbols written (Ok v) none h = (rw none h.0, h.1, h.2)
-tells_then a b symbols written (Err e) none h = fault_then e a b none h
+tells_then a b symbols written r h h2 = grind (arith, common_steps, nat_tests, fault_then)
 
 -- before the first statement
 pub nothing_read : (text : List ℕ) (all : List Statement) {labels : List ℕ} {ds : List NumberedInsn} → labels ≡ []
@@ -142,10 +140,7 @@ pub read_tells : (text labels : List ℕ) (ds : List NumberedInsn) (r : Result (
     → TellsInsns (targets_fault (index_of (labels_at text (begins_of ds) labels)) 0 (parsed_insns_view ds))
     (index_of (labels_at text (begins_of ds) labels)) (parsed_insns_view ds) r → TellsText (fault_in text) text r
 unfolding fault_in
-read_tells text labels ds r read h =
-    let symbols = symbols_in (statements_of text) in
-    tells_then (statements_fault [] (statements_of text)) (targets_fault symbols 0 (parsed_insns_of text)) symbols
-    (parsed_insns_of text) r read.faultless (rw (read.symbols, read.written) at h)
+read_tells text labels ds r read h = grind (arith, common_steps, nat_tests, tells_then)
 
 pub ascii_fails : (e : TextFault) (text : List ℕ) → ascii_fault 1 text ≡ Some e → IsFault e (fault_of text)
 unfolding fault_of fault_in
@@ -154,16 +149,12 @@ ascii_fails e text h = fault_first e (ascii_fault 1 text) (fault_in text) (is_fa
 pub ascii_tells : (text : List ℕ) (r : Result (Vec Insn) TextFault) → ascii_fault 1 text ≡ None
     → TellsText (fault_in text) text r → TellsText (fault_of text) text r
 unfolding fault_of fault_in
-ascii_tells text r none h =
-    tells_then (ascii_fault 1 text) (fault_in text) (symbols_in (statements_of text)) (parsed_insns_of text) r none h
+ascii_tells text r none h = grind (arith, common_steps, nat_tests, tells_then)
 
 pub is_spelled : (text : List ℕ) (r : Result (Vec Insn) TextFault) → TellsText (fault_of text) text r
     → IfOk r (λ insns. Spells text insns.items)
-is_spelled text (Ok v) h = spelled text v.items h.0 h.1 h.2
-is_spelled text (Err e) h = tt
+is_spelled text r h = grind (arith, common_steps, nat_tests, spelled)
 
 pub is_not_spelled : (text : List ℕ) (r : Result (Vec Insn) TextFault) → TellsText (fault_of text) text r
     → IfErr r (λ e. e ≢ fault.Memory → (insns : List Insn) → Spells text insns → ⊥)
-is_not_spelled text (Ok v) h = tt
-is_not_spelled text (Err fault.Memory) h = λ insns is s. insns refl
-is_not_spelled text (Err e) h = λ other is s. let none = no_fault text is s in cc
+is_not_spelled text r h = grind (arith, common_steps, nat_tests, no_fault)

@@ -1,5 +1,6 @@
 -- The tokens of a text: reading them from the front, their slices, and the parts of a line between them.
 use Rattle.scf_text.proofs.Common.{◌≡◌, ℕ, zero, suc, ◌+◌, ◌-◌, ◌<◌, ◌≤◌, Bool, true, false, ◌&&◌, eqb, List, [], ◌∷◌, ◌++◌, length, get_or, take, drop, refl, sym, ap, subst, ◌∙◌, append_assoc, append-nil, arith, inl, inr, max, map, not, prefix_len, position_or_len, list_all, All, AllByRecursion, take_while, flat_map, join_with_byte, cases_Bool, cases_lt, and_left, and_right, and_parts, nat_tests, drop_more, drop_all, take_all, filter, length-filter, is_line_end, take_more, take_rest, drop-drop, map-append, drop-take, take-take, length-take-le, length-drop, take-append_seam, take-append-drop, drop-append-add, prefix_len_stops, prefix_len-le-length, slice_split_first, length-slice_split, join_with_byte-slice_split, is_semicolon, Token, is_blank, is_word_byte, count_ends, is_name, Lexeme, begins_comment, before_comment, begins_in_word, joined, lexemes_from, lexemes, IsSliceOf, lines_of, lexemes_of_lines, tokens_of, words_of_line, words_of_part, words_in, others_in, statements_in, first_statement, All-from_recursion}
+use Rattle.std.proofs.lemmas.Grind.{common_steps}
 
 pub word_not_blank : (b : ℕ) → is_word_byte b ≡ true → is_blank b ≡ false
 word_not_blank b h = grind (arith, nat_tests)
@@ -59,28 +60,17 @@ token_in_front at n b bs h e =
 -- the comment, step by step
 pub no_comment_here : (xs : List ℕ) (i : ℕ) → i < length xs → begins_comment (drop i xs) ≡ false
     → before_comment (drop i xs) ≡ get_or xs i 0 ∷ before_comment (drop (i + 1) xs)
-no_comment_here xs i lt h =
-    let e = drop_more xs i 0 lt in
-    ap before_comment e
-    ∙ rw (let k : begins_comment (get_or xs i 0 ∷ drop (i + 1) xs) ≡ false =
-    subst (λ (ys : List ℕ). begins_comment ys ≡ false) e h in k) refl
+no_comment_here xs i lt h = grind (arith, common_steps, nat_tests, drop_more)
 
 index_of_end : (text : List ℕ)
     → prefix_len (λ b. not (eqb b 10)) text ≡ position_or_len (λ b. eqb b 10) text
 index_of_end [] = refl
-index_of_end (b ∷ bs) =
-    elim (cases_Bool (eqb b 10)) [
-      | inl here ↦ rw here refl
-      | inr differs ↦ rw differs (omega (arith, index_of_end bs))
-    ]
+index_of_end (b ∷ bs) = grind (arith, common_steps, nat_tests, cases_Bool, index_of_end bs)
 
 -- a line that ends
 pub line_ends : (text : List ℕ) (n : ℕ) → n ≡ prefix_len (λ b. not (eqb b 10)) text → n < length text
     → lines_of text ≡ take n text ∷ lines_of (take (length text - (n + 1)) (drop (n + 1) text))
-line_ends text n e lt =
-    let index : n ≡ position_or_len (λ b. eqb b 10) text = e ∙ index_of_end text in
-    let short : position_or_len (λ b. eqb b 10) text < length text = omega arith in
-    rw (take_rest text (n + 1), index) (slice_split_first (λ b. eqb b 10) text 0 short)
+line_ends text n e lt = grind (arith, common_steps, nat_tests, index_of_end, take_rest, slice_split_first)
 
 last_line : (text : List ℕ) → length text ≤ prefix_len (λ b. not (eqb b 10)) text → lines_of text ≡ text ∷ []
 last_line [] le = refl
@@ -127,12 +117,7 @@ pub ruleset lines_in_front = (line_ends, line_lasts, line_whole, line_unbroken, 
 
 name_here : (m : ℕ) (bs : List ℕ) → m ≡ max (prefix_len is_word_byte bs) 1 → is_name (take m bs) ≡ true
     → take_while is_word_byte bs ≡ take m bs
-name_here m [] e h = absurd cc
-name_here zero (b ∷ bs) e h = absurd cc
-name_here (suc m) (b ∷ bs) e h =
-    let word : is_word_byte b ≡ true = grind (arith, nat_tests) in
-    let len : suc m ≡ prefix_len is_word_byte (b ∷ bs) = omega (arith, prefix_more is_word_byte b bs word) in
-    ap (λ k. take k (b ∷ bs)) (sym len)
+name_here m bs h h2 = grind (arith, common_steps, nat_tests, prefix_more)
 
 pub name_is_word : (n m : ℕ) (bs : List ℕ) → m ≡ max (prefix_len is_word_byte (drop n bs)) 1
     → is_name (take m (take (length bs - n) (drop n bs))) ≡ true
@@ -142,9 +127,7 @@ name_is_word n m bs e h = rw take_rest (name_here m (drop n bs) e (rw take_rest 
 pub comment_step : (xs : List ℕ) (i : ℕ) (total : List ℕ) → i < length xs
     → begins_comment (take (length xs - i) (drop i xs)) ≡ false → take i xs ++ before_comment (drop i xs) ≡ total
     → take (i + 1) xs ++ before_comment (drop (i + 1) xs) ≡ total
-comment_step xs i total lt h so_far =
-    let here = no_comment_here xs i lt (rw take_rest at h) in
-    rw (take_more xs i 0 lt, append_assoc) (sym (ap (λ (ys : List ℕ). take i xs ++ ys) here) ∙ so_far)
+comment_step xs i total lt h so_far = grind (arith, common_steps, nat_tests, no_comment_here, take_rest, take_more, append_assoc)
 
 -- blanks in front are no token
 skip : (at : ℕ) (bs : List ℕ)
@@ -187,8 +170,7 @@ onto_word b (w ∷ ws) = (b ∷ w) ∷ ws
 joined_words : (at b : ℕ) (ls : List Lexeme)
     → map (λ (l : Lexeme). l.text) (joined at b ls) ≡ onto_word b (map (λ (l : Lexeme). l.text) ls)
 unfolding onto_word
-joined_words at b [] = refl
-joined_words at b (l ∷ ls) = refl
+joined_words at b ls = grind (arith, common_steps, nat_tests)
 
 -- words do not depend on where the text begins
 pub words_at : (a b : ℕ) (bs : List ℕ) → words_from a bs ≡ words_from b bs
@@ -211,9 +193,7 @@ words_blank b bs h = ap (map (λ (l : Lexeme). l.text)) (blank_in_front 0 b bs h
 
 pub words_one : (b : ℕ) (bs : List ℕ) → is_blank b ≡ false → (is_word_byte b && begins_in_word bs) ≡ false
     → words_of_part (b ∷ bs) ≡ (b ∷ []) ∷ words_of_part bs
-words_one b bs h k =
-    ap (map (λ (l : Lexeme). l.text)) (one_in_front 0 b bs h k)
-    ∙ ap (λ (ws : List (List ℕ)). (b ∷ []) ∷ ws) (words_at 1 0 bs)
+words_one b bs h k = grind (arith, common_steps, nat_tests, one_in_front, words_at)
 
 pub words_mark : (b : ℕ) (bs : List ℕ) → is_blank b ≡ false → is_word_byte b ≡ false
     → words_of_part (b ∷ bs) ≡ (b ∷ []) ∷ words_of_part bs
@@ -338,10 +318,7 @@ pub next_tokens : (text remaining line : List ℕ) (others : List (List ℕ)) (s
     → lexemes tokens ++ lexemes_of_lines start (lines_of remaining) ≡ tokens_of text → lines_of remaining ≡ line ∷ others
     → lexemes more ≡ lexemes tokens ++ lexemes_from start (before_comment line)
     → lexemes more ++ lexemes_of_lines (start + (length line + 1)) others ≡ tokens_of text
-next_tokens text remaining line others start tokens more so_far line_more added =
-    let index : start + (length line + 1) ≡ start + length line + 1 = omega arith in
-    rw (index, added, append_assoc)
-    (ap (λ lines. lexemes tokens ++ lexemes_of_lines start lines) (sym line_more) ∙ so_far)
+next_tokens text remaining line others start tokens more so_far line_more added = grind (arith, common_steps, nat_tests, append_assoc)
 
 -- the words of the lines, in order, are the tokens
 words_of_lines : (at : ℕ) (lines : List (List ℕ))
@@ -363,17 +340,14 @@ words_are_tokens text = words_of_lines 0 (lines_of text)
 pub words_front : (part remaining t : List ℕ) (s n : ℕ)
     → ((at : ℕ) → lexemes_from at part ≡ (record { start = at + s; text = t }) ∷ lexemes_from (at + n) remaining)
     → words_of_part part ≡ t ∷ words_of_part remaining
-words_front part remaining t s n h =
-    ap (map (λ (l : Lexeme). l.text)) (h 0) ∙ ap (λ (ws : List (List ℕ)). t ∷ ws) (words_at (0 + n) 0 remaining)
+words_front part remaining t s n h = grind (arith, common_steps, nat_tests, words_at)
 
 some_statement : (ss : List (List (List ℕ))) → 0 < length ss → ss ≡ first_statement ss ∷ drop 1 ss
-some_statement [] some = absurd (omega arith)
-some_statement (s ∷ ss) some = refl
+some_statement ss h = grind (arith, common_steps, nat_tests)
 
 pub statements_are : (part : List ℕ) → statements_in part ≡ words_in part ∷ others_in part
 unfolding words_in others_in
-statements_are part =
-    some_statement (statements_in part) (omega (arith, length-slice_split is_semicolon (words_of_part part)))
+statements_are part = grind (arith, common_steps, nat_tests, some_statement, length-slice_split)
 
 pub no_token : (part : List ℕ) → ((at : ℕ) → lexemes_from at part ≡ []) → (words_in part ≡ []) × (others_in part ≡ [])
 unfolding words_in others_in

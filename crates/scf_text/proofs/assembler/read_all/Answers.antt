@@ -1,12 +1,11 @@
-use Rattle.scf_text.proofs.Common.{err_from_is_err_and, statements_of}
+use Rattle.scf_text.proofs.Common.{err_from_is_err_and, statements_of, arith, nat_tests}
 use Rattle.scf_text.proofs.TextLemmas.{read_tells, statements_fail}
 use Rattle.scf_text.proofs.WantedLemmas.{drafts_words}
 use Rattle.scf_text.proofs.assembler.read_all.Goals as goal
+use Rattle.std.proofs.lemmas.Grind.{common_steps}
 
 pub returns-in_err-labels-clause-tells : goal.returns-in_err-labels-clause-tells
-returns-in_err-labels-clause-tells c =
-    let p = err_from_is_err_and c.from_residual.result c.from_residual.ensures.1 in
-    rw (p.1, p.2) (statements_fail c.in_err-labels.field-0.0 c.args.text.now c.in_err-labels.ensures.fault)
+returns-in_err-labels-clause-tells c = grind (arith, common_steps, nat_tests, err_from_is_err_and, statements_fail, c.from_residual.ensures.1, c.in_err-labels.ensures.fault)
 
 pub invariant_of-resolve_all : goal.invariant_of-resolve_all
 invariant_of-resolve_all c =

@@ -1,18 +1,11 @@
-use Rattle.scf_text.proofs.Common.{◌≡◌, [], ◌+◌, ◌-◌, refl, length, arith, err_from_is_err_and, IsPermutation-refl, lines_after, lines_of, statements_from}
+use Rattle.scf_text.proofs.Common.{◌≡◌, [], ◌+◌, ◌-◌, length, arith, err_from_is_err_and, IsPermutation-refl, lines_after, lines_of, statements_from, nat_tests}
 use Rattle.scf_text.proofs.IndexLemmas.{line_is_part, line_behind}
 use Rattle.scf_text.proofs.ReadLemmas.{next_line, index_left}
 use Rattle.scf_text.proofs.assembler.read_text.Goals as goal
+use Rattle.std.proofs.lemmas.Grind.{common_steps}
 
 pub lines-init : goal.lines-init
-lines-init c =
-    let zero : length c.args.text.now - length c.args.text.now ≡ 0 = omega arith in
-    record {
-      small = omega arith;
-      within = omega arith;
-      remaining = rw zero refl;
-      line = rw zero refl;
-      left = λ all left. rw zero left;
-    }
+lines-init c = grind (arith, common_steps, nat_tests)
 
 pub add_line-requires : goal.add_line-requires
 add_line-requires c =

@@ -1,4 +1,4 @@
-use Rattle.scf_text.proofs.Common.{sym, ◌∙◌, refl, rules, arith, drop_more, Len}
+use Rattle.scf_text.proofs.Common.{sym, ◌∙◌, refl, arith, drop_more, Len, nat_tests}
 use Rattle.std.proofs.lemmas.Grind.{common_steps}
 use Rattle.scf_text.proofs.IndexLemmas.{follows_behind}
 use Rattle.scf_text.proofs.parsed_insn.fill.Goals as goal
@@ -9,9 +9,4 @@ returns-in-End-clause-fills c =
     sym c.loop-piece.invariant.fills ∙ rw (more, c.in-End.ensures.words.0) refl
 
 pub loop-piece-preserved : goal.loop-piece-preserved
-loop-piece-preserved c = record {
-  fills = grind (arith, common_steps);
-  others = search rules;
-  behind = λ after h. c.loop-piece.invariant.behind after
-      (follows_behind after c.in-Token.ensures.behind h);
-}
+loop-piece-preserved c = grind (arith, common_steps, nat_tests, follows_behind, c.loop-piece.invariant.behind, c.in-Token.ensures.behind)

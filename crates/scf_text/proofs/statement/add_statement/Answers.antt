@@ -1,7 +1,8 @@
-use Rattle.scf_text.proofs.Common.{◌≡◌, ◌+◌, ℕ, Option, Err, IsSome, subst, AddsLabel, rules, err_from_is_err_and, option_map, unwrap_or, words_in, index_after}
+use Rattle.scf_text.proofs.Common.{◌≡◌, ◌+◌, ℕ, Option, Err, IsSome, subst, AddsLabel, rules, err_from_is_err_and, option_map, unwrap_or, words_in, index_after, arith, nat_tests}
 use Rattle.scf_text.proofs.IndexLemmas.{index_within, instruction_behind}
 use Rattle.scf_text.proofs.ReadLemmas.{label_mapped, label_refused, some_refused, statement_leaves}
 use Rattle.scf_text.proofs.statement.add_statement.Goals as goal
+use Rattle.std.proofs.lemmas.Grind.{common_steps}
 
 pub returns-clause-leaves : goal.returns-clause-leaves
 returns-clause-leaves c = λ all remaining left.
@@ -23,10 +24,7 @@ returns-clause-leaves c = λ all remaining left.
     (some_refused c.add_instruction.result _ _ c.split_label-label.ensures.rest c.add_instruction.ensures.some)
 
 pub returns-clause-behind : goal.returns-clause-behind
-returns-clause-behind c =
-    (instruction_behind c.add_instruction.result c.args.part.bytes.now c.args.part.start
-    (unwrap_or c.split_label-label.result.0 0) c.split_label-label.result.1 c.split_label-label.ensures.behind
-    c.add_instruction.ensures.behind).1
+returns-clause-behind c = grind (arith, common_steps, nat_tests, instruction_behind, c.split_label-label.ensures.behind, c.add_instruction.ensures.behind)
 
 pub returns-in_err-add_label-clause-leaves : goal.returns-in_err-add_label-clause-leaves
 returns-in_err-add_label-clause-leaves c = λ all remaining left.
