@@ -1,5 +1,5 @@
 -- The distinct numbers of a profile's rules: how many there are, and the bounds that their search keeps.
-use Rattle.scf_compile.proofs.Common.{◌≡◌, ℕ, zero, suc, ◌+◌, ◌*◌, ◌/◌, ◌^◌, ◌<◌, ◌≤◌, List, [], ◌∷◌, length, map, ap, arith, inl, inr, sum_by, Contains, cases_eq, eq-eqb, ne_eqb, cases_Bool, max, row_of, refl, sum_by-cons, All-head, All-tail, Rule, IsPlainRule, IsPlainProfile, Profile, IsProfile, IsRule, numbers_of, number_there, rules_of, Answer, NrRange, digits_within, binary_digits, greatest, rule_bound, stub_count, number_count, stub_answer, is_stubbed, AreServed, AreRangesOf, AreSearched, AreSearchesOf, IsSearchOf, IsSearchPut, Insn, Position, Search, code_from, MayBePut, most_ranges, size_bound_of}
+use Rattle.scf_compile.proofs.Common.{◌≡◌, ℕ, zero, suc, ◌+◌, ◌*◌, ◌/◌, ◌^◌, ◌<◌, ◌≤◌, List, [], ◌∷◌, length, map, ap, arith, inl, inr, sum_by, Contains, cases_eq, eq-eqb, ne_eqb, cases_Bool, max, row_of, refl, sum_by-cons, All-head, All-tail, Rule, IsPlainRule, IsPlainProfile, Profile, IsProfile, IsRule, numbers_of, number_there, rules_of, Answer, NrRange, digits_within, binary_digits, greatest, rule_bound, stub_count, number_count, stub_answer, AreServed, AreRangesOf, AreSearched, AreSearchesOf, IsSearchOf, IsSearchPut, Insn, Position, Search, code_from, MayBePut, most_ranges, size_bound_of, nat_tests, common_steps}
 use Rattle.scf_insn.proofs.Architectures.{some_number}
 use Rattle.scf_compile.proofs.Runs.{more}
 use Rattle.scf_compile.proofs.Sizes.{rules_valid, size_small}
@@ -42,8 +42,7 @@ sum_at_most rules nr =
 
 pub some_served : (default : Answer) (wanted : ℕ → List Rule) (low high : ℕ) (ss : List NrRange) → low < high
     → AreServed default wanted low ss high → 0 < length ss
-some_served default wanted low high [] lt serve = absurd (omega arith)
-some_served default wanted low high (s ∷ ss) lt serve = omega arith
+some_served default wanted low high ss h h2 = grind (arith, common_steps, nat_tests)
 
 -- where searches stand, they stay when code is put before them
 pub searches_stay : (before after : List Insn) → length before ≤ length after
@@ -52,24 +51,12 @@ pub searches_stay : (before after : List Insn) → length before ≤ length afte
 searches_stay before after longer stays [] [] each = tt
 searches_stay before after longer stays [] (s ∷ ss) each = each
 searches_stay before after longer stays (p ∷ ps) [] each = each
-searches_stay before after longer stays (p ∷ ps) (s ∷ ss) each =
-    let first = each.0 in (
-      record {
-        architecture = first.architecture;
-        some = first.some;
-        stands = omega (arith, first.stands);
-        ends = λ call fits is_of. rw (stays s.index first.stands) (first.ends call fits is_of);
-      },
-      searches_stay before after longer stays ps ss each.1,
-    )
+searches_stay before after longer stays (p ∷ ps) (s ∷ ss) each = grind (arith, common_steps, nat_tests, searches_stay before after longer stays ps ss each.1)
 
 -- the steps for the rules of a number, or for the stub's rule
 pub own_steps : (p : Profile) (s : Rule) → s.conditions ≡ [] → (nr : ℕ)
     → sum_by rule_bound (own_wanted p s nr) ≤ max (2 * stub_count p.stub) (greatest (map (sum_of p.rules) (numbers_of p.rules)))
-own_steps p s always nr = elim (cases_Bool (is_stubbed p.stub nr)) [
-  | inl stubbed ↦ rw stubbed (omega (arith, stub_bound p s always, stub_there p.stub nr stubbed))
-  | inr unstubbed ↦ rw unstubbed (omega (arith, sum_at_most p.rules nr))
-]
+own_steps p s always nr = grind (arith, common_steps, nat_tests, cases_Bool, stub_bound, stub_there, sum_at_most)
 
 module _ (p : Profile) (valid : IsProfile p) (s : Rule) (rule : IsRule p.architecture s) (always : s.conditions ≡ [])
     (answers : s.answer.0 ≡ stub_answer) (ss : List NrRange) (laid : AreRangesOf p (s ∷ []) ss) where

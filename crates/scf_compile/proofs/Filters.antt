@@ -1,5 +1,5 @@
 -- What is put before the searches of profiles makes them a filter.
-use Rattle.scf_compile.proofs.Common.{◌≡◌, ℕ, zero, suc, ◌+◌, ◌<◌, ◌≤◌, map, List, [], ◌∷◌, length, refl, sym, ap, ◌∙◌, arith, inl, inr, find, cases_Bool, cases_eq, eq-eqb, ne_eqb, subst, All, AllByRecursion, All-tail, Contains, Insn, CallRecord, IsRecord, IsOf, AreApart, Architecture, Answer, Rule, meets, all_hold, rules_of, Profile, AreOfApart, ProfileAnswers, ProfilesAnswer, by_profile, by_none, by_stub, is_stubbed, own_answer, Position, Search, greatest, rules_steps, size_bound_of_each, load_word, AreSearchesOf, AreSearched, IsFilterOf, IsSearched, IsDispatchPut, AllStand, first_answer}
+use Rattle.scf_compile.proofs.Common.{◌≡◌, ℕ, zero, suc, ◌+◌, ◌<◌, ◌≤◌, map, List, [], ◌∷◌, length, refl, sym, ap, ◌∙◌, arith, inl, inr, find, cases_Bool, cases_eq, eq-eqb, ne_eqb, subst, All, AllByRecursion, All-tail, Contains, Insn, CallRecord, IsRecord, IsOf, AreApart, Architecture, Answer, Rule, meets, rules_of, Profile, AreOfApart, ProfileAnswers, ProfilesAnswer, by_profile, by_none, by_stub, is_stubbed, own_answer, Position, Search, greatest, rules_steps, size_bound_of_each, load_word, AreSearchesOf, AreSearched, IsFilterOf, IsSearched, IsDispatchPut, AllStand, first_answer, nat_tests, common_steps}
 use Rattle.std.specs.Option.{option_map_or}
 use Rattle.scf_profile.proofs.Answering.{answered as profile_answers, own_or_foreign}
 use Rattle.scf_compile.proofs.Runs.{more, loads, load_sound}
@@ -9,13 +9,7 @@ first_met : (a : Architecture) (default : Answer) (call : CallRecord) (rs : List
     → first_answer a call default (rules_of call.nr rs)
     ≡ option_map_or (λ (r : Rule). r.answer.0) (find (λ r. meets a r call) rs) default.0
 first_met a default call [] = refl
-first_met a default call (x ∷ xs) =
-    let later = first_met a default call xs in
-    elim (cases_eq x.number call.nr) [
-      | inr differs ↦ rw (ne_eqb x.number call.nr differs, ne_eqb call.nr x.number (λ e. differs (sym e))) later
-      | inl same ↦ rw (eq-eqb x.number call.nr same, eq-eqb call.nr x.number (sym same))
-          (elim (cases_Bool (all_hold a call x.conditions)) [ inl met ↦ rw met refl | inr unmet ↦ rw unmet later ])
-    ]
+first_met a default call (x ∷ xs) = grind (arith, common_steps, nat_tests, cases_eq, ne_eqb, eq-eqb, cases_Bool, first_met a default call xs)
 
 -- what a profile answers to a call of its architecture
 pub own_answered : (p : Profile) (call : CallRecord) → IsOf p.architecture call
@@ -33,9 +27,7 @@ pub all_stand : (code : List Insn) (ps : List Profile) (ss : List Search) → Ar
 all_stand code [] [] each = (tt, refl)
 all_stand code [] (s ∷ ss) each = absurd each
 all_stand code (p ∷ ps) [] each = absurd each
-all_stand code (p ∷ ps) (s ∷ ss) each =
-    let later = all_stand code ps ss each.1 in
-    (((each.0.some, each.0.stands), later.0), omega (arith, later.1))
+all_stand code (p ∷ ps) (s ∷ ss) each = grind (arith, common_steps, nat_tests, all_stand code ps ss each.1)
 
 module _ (call : CallRecord) (fits : IsRecord call) (code : List Insn) (most : ℕ) (some : 0 < most) where
   -- a call of one profile is of none that is apart from it
@@ -117,8 +109,7 @@ steps_few [] most le = tt
 steps_few (p ∷ ps) most le = (omega arith, steps_few ps most (omega arith))
 
 size_of_none : (ps : List Profile) → length ps ≡ 0 → size_bound_of_each ps ≡ 0
-size_of_none [] none = refl
-size_of_none (p ∷ ps) none = absurd (omega arith)
+size_of_none ps h = grind (arith, common_steps, nat_tests)
 
 -- ---- the filter
 

@@ -1,5 +1,5 @@
 -- What is put before searches leads each call to the one of its architecture.
-use Rattle.scf_compile.proofs.Common.{Answers, ◌≡◌, ◌≢◌, ℕ, suc, ◌+◌, ◌-◌, ◌*◌, ◌<◌, ◌≤◌, ◌^◌, Bool, true, eqb, not, filter, List, [], ◌∷◌, ◌++◌, length, refl, sym, ap, ◌∙◌, arith, inl, inr, cases_eq, cases_Bool, eq-eqb, ne_eqb, eqb-true, eqb-false, nil_from_length, le-leb, nat_tests, length-append, length-filter_both, AllByRecursion, Insn, CallRecord, Test, Equal, GreaterOrEqual, JumpIf, Constant, IsPlainOperation, words_of, IsOf, row_of, seccomp_ret_kill_process as kill, Position, Search, load_word, jump_if, return_with, branch_code, skip_code, code_from, IsFirst, IsPut, ArePut, EndsWithin, audit_of, AllStand, IsSearched, AreTestsPut, IsGatePut, IsGated, IsDispatchPut}
+use Rattle.scf_compile.proofs.Common.{Answers, ◌≡◌, ◌≢◌, ℕ, suc, ◌+◌, ◌-◌, ◌*◌, ◌<◌, ◌≤◌, ◌^◌, Bool, true, eqb, not, filter, List, [], ◌∷◌, ◌++◌, length, refl, sym, ap, ◌∙◌, arith, inl, inr, cases_eq, cases_Bool, eq-eqb, ne_eqb, eqb-true, eqb-false, nil_from_length, le-leb, nat_tests, length-append, length-filter_both, AllByRecursion, Insn, CallRecord, Test, Equal, GreaterOrEqual, JumpIf, Constant, IsPlainOperation, words_of, IsOf, row_of, seccomp_ret_kill_process as kill, Position, Search, load_word, jump_if, return_with, branch_code, skip_code, code_from, IsFirst, IsPut, ArePut, EndsWithin, audit_of, AllStand, IsSearched, AreTestsPut, IsGatePut, IsGated, IsDispatchPut, common_steps}
 use Rattle.scf_insn.proofs.Architectures.{reach}
 use Rattle.scf_compile.proofs.Runs.{answers, more, loads, passes, load_sound, pass_sound, return_sound}
 use Rattle.scf_compile.proofs.RuleCode.{return_answers, answers_put, answers_there, from_behind, from_first}
@@ -16,13 +16,7 @@ kill_put put = answers_put (Unit {0}) kill_answers (λ _. tt) put
 
 then_put : {before mid after : List Insn} {p q : Position} → ArePut (Unit {0}) before mid p
     → ArePut (Unit {0}) mid after q → ArePut (Unit {0}) before after q
-then_put earlier later = record {
-  longer = omega (arith, earlier.longer, later.longer);
-  stays = λ p le. later.stays p (omega (arith, earlier.longer)) ∙ earlier.stays p le;
-  some = later.some;
-  near = later.near;
-  sound = λ asked is s. later.sound asked is (earlier.sound asked is s);
-}
+then_put earlier later = grind (arith, common_steps, nat_tests)
 
 -- an index of some code
 abbrev Stands : Position → List Insn → Type 0
@@ -39,31 +33,13 @@ module _ (target : Position) {before after : List Insn} {index : Position}
   -- a jump, or none where the code begins there
   jump_ends : {words : List ℕ} {answer most : ℕ} (a : ℕ) → EndsWithin words (code_from target before) a answer most
       → EndsWithin words after a answer (suc most)
-  jump_ends a e = rw put.whole (elim (cases_eq passed 0) [
-    | inl none ↦ rw (eq-eqb passed 0 none) (more (rw none at e) (omega arith))
-    | inr some ↦ rw (ne_eqb passed 0 some) (passes passed a e)
-  ])
+  jump_ends a e = grind (arith, common_steps, nat_tests, cases_eq, eq-eqb, more, ne_eqb, passes)
 
   jump_few : length after ≤ 1 + length before
-  jump_few = rw put.whole (elim (cases_eq passed 0) [
-    | inl none ↦ rw (eq-eqb passed 0 none) (omega arith)
-    | inr some ↦ rw (ne_eqb passed 0 some) (omega arith)
-  ])
+  jump_few = grind (arith, common_steps, nat_tests, cases_eq, eq-eqb, ne_eqb)
 
   jump_put : ArePut (Unit {0}) before after index
-  jump_put =
-      let longer : length before ≤ length after =
-      omega (arith, ap (λ (l : List Insn). length l) put.whole, length-append (skip_code passed) before) in
-      record {
-        longer = longer;
-        stays = λ p le. ap (code_from p) put.whole ∙ from_behind (skip_code passed) before p le;
-        some = omega (arith, put.first);
-        near = record { stands = omega (arith, put.first); near = omega (arith, put.first) };
-        sound = λ asked is s. rw put.whole (elim (cases_eq passed 0) [
-          | inl none ↦ rw (eq-eqb passed 0 none) s
-          | inr some ↦ rw (ne_eqb passed 0 some) (pass_sound passed (omega arith), s)
-        ]);
-      }
+  jump_put = grind (arith, common_steps, nat_tests, length-append, from_behind, cases_eq, eq-eqb, ne_eqb, pass_sound)
 
 module _ (test : Test) (constant : ℕ) (hit miss : Position) {before after : List Insn} {index : Position}
     (put : IsFirst (branch_code test constant (length before - hit.0) (length before - miss.0)) before after
@@ -82,9 +58,7 @@ module _ (test : Test) (constant : ℕ) (hit miss : Position) {before after : Li
 
   -- a single instruction, where both are near
   branch_one : length before ≤ miss.0 + 255 → length after ≤ 1 + length before
-  branch_one near =
-      let leb = le-leb (length before - miss.0) 255 (omega arith) in
-      let all = rw leb at (ap (λ (l : List Insn). length l) put.whole) in omega arith
+  branch_one near = grind (arith, common_steps, nat_tests, le-leb)
 
 -- ---- tests of the number
 
@@ -283,8 +257,7 @@ both_parts P p (s ∷ ss) matching others =
 pub stand_longer : (before after : List Insn) (ss : List Search) → length before ≤ length after → AllStand ss before
     → AllStand ss after
 stand_longer before after [] longer all = tt
-stand_longer before after (s ∷ ss) longer all =
-    ((all.0.0, omega (arith, all.0.1)), stand_longer before after ss longer all.1)
+stand_longer before after (s ∷ ss) longer all = grind (arith, common_steps, nat_tests, stand_longer before after ss longer all.1)
 
 module _ (audit : ℕ) where
   abbrev pub has : Search → Bool

@@ -1,5 +1,5 @@
 -- Ranges are put one behind another until each number has its rules.
-use Rattle.scf_compile.proofs.Common.{◌≡◌, ℕ, get_or, take, ◌+◌, ◌-◌, ◌*◌, ◌<◌, ◌≤◌, All, List, [], ◌∷◌, ◌++◌, length, map, refl, sym, ap, ◌∙◌, subst, arith, inl, inr, eqb, length-append, length-map, get_or-map, get_or_default, sum_by, Contains, cases_eq, cases_lt, take_all, take_more, All-contains_itself, All-filter, All-push, sum_by-cons, sum_by-append, Answer, Architecture, row_of, All-map, Rule, numbers_of, rules_of, NumberRules, AreNumbersOf, NrRange, AllRules, rule_bound, StandsFor, AreEffective, rules_bound, range_bound, IsServed, AreServed, IsLaid, begins, continues, AreRangesUpTo, AreRangesOfRules, Contains-permutation, sum_by_more, number_there, number_in, own_some, rises, count_of_numbers, sum_of_rules}
+use Rattle.scf_compile.proofs.Common.{◌≡◌, ℕ, get_or, take, ◌+◌, ◌-◌, ◌*◌, ◌<◌, ◌≤◌, All, List, [], ◌∷◌, ◌++◌, length, map, refl, sym, ap, ◌∙◌, arith, inl, inr, eqb, length-append, length-map, get_or-map, get_or_default, sum_by, Contains, cases_eq, cases_lt, take_all, take_more, All-contains_itself, All-filter, All-push, sum_by-cons, sum_by-append, Answer, Architecture, row_of, All-map, Rule, numbers_of, rules_of, NumberRules, AreNumbersOf, NrRange, AllRules, rule_bound, StandsFor, AreEffective, rules_bound, range_bound, IsServed, AreServed, IsLaid, begins, continues, AreRangesUpTo, AreRangesOfRules, Contains-permutation, sum_by_more, number_there, number_in, own_some, rises, count_of_numbers, sum_of_rules, nat_tests, common_steps}
 use Rattle.scf_insn.proofs.Architectures.{some_number}
 
 -- ---- one range more
@@ -7,16 +7,13 @@ use Rattle.scf_insn.proofs.Architectures.{some_number}
 module _ (default : Answer) (wanted : ℕ → List Rule) where
   served_push : (low middle high : ℕ) (ss : List NrRange) (s : NrRange) → AreServed default wanted low ss middle
       → IsServed default wanted s middle high → AreServed default wanted low (ss ++ s ∷ []) high
-  served_push low middle high [] s before is =
-      (high, subst (λ (n : ℕ). IsServed default wanted s n high) (sym before) is, refl)
-  served_push low middle high (t ∷ ts) s before is =
-      (before.0, before.1, served_push before.0 middle high ts s before.2 is)
+  served_push low middle high [] s before is = grind (arith, common_steps, nat_tests)
+  served_push low middle high (t ∷ ts) s before is = grind (arith, common_steps, nat_tests, served_push before.0 middle high ts s before.2 is)
 
   pub served_parts : (low high : ℕ) (ss ts : List NrRange) → AreServed default wanted low (ss ++ ts) high
       → (middle : ℕ) × AreServed default wanted low ss middle × AreServed default wanted middle ts high
   served_parts low high [] ts served = (low, refl, served)
-  served_parts low high (s ∷ ss) ts served =
-      let later = served_parts served.0 high ss ts served.2 in (later.0, (served.0, served.1, later.1), later.2)
+  served_parts low high (s ∷ ss) ts served = grind (arith, common_steps, nat_tests, served_parts served.0 high ss ts served.2)
 
   -- they are in rising order
   served_rising : (low high : ℕ) (ss : List NrRange) → AreServed default wanted low ss high → low ≤ high
@@ -44,16 +41,7 @@ module _ {before after : List NrRange} {next : ℕ} {rules : List Rule} where
   pub laid_few : IsLaid before next rules after
       → (length after ≤ length before + 1)
       × (sum_by range_bound after ≤ sum_by range_bound before + rules_bound rules)
-  laid_few (begins s here is put) = rw put (
-    omega (arith, length-append before (s ∷ [])),
-    omega (
-      arith,
-      ap rules_bound is,
-      sum_by-append range_bound before (s ∷ []),
-      sum_by-cons range_bound s [],
-    ),
-  )
-  laid_few (continues earlier last is alike same) = rw same (omega arith, omega arith)
+  laid_few h = grind (arith, common_steps, nat_tests, length-append, sum_by-append, sum_by-cons)
 
   pub laid_rules : (P : Rule → Type 0) → IsLaid before next rules after → AllRules P before → All P rules
       → AllRules P after
@@ -91,12 +79,7 @@ module _ {before after : List NrRange} {next : ℕ} {rules : List Rule} where
 module _ {default : Answer} {rules : List Rule} {first next most bound : ℕ} {before : List NrRange}
     (laid : AreRangesUpTo first next most bound default before rules) where
   pub laid_within : {end m b : ℕ} → next ≡ end → most ≤ m → bound ≤ b → AreRangesUpTo first end m b default before rules
-  laid_within same few small = record {
-    serve = rw (← same) laid.serve;
-    from_rules = laid.from_rules;
-    few = omega (arith, laid.few);
-    small = omega (arith, laid.small);
-  }
+  laid_within same few small = grind (arith, common_steps, nat_tests)
 
   -- some of the rules apply up to another number
   laid_more : {after : List NrRange} {others : List Rule} (end : ℕ) → IsLaid before next others after → next < end

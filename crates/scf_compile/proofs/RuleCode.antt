@@ -1,5 +1,5 @@
 -- The code of rules, and what is put before some code.
-use Rattle.scf_compile.proofs.Common.{◌≡◌, ℕ, ◌+◌, ◌-◌, ◌*◌, ◌<◌, ◌≤◌, Bool, true, false, cond, leb, List, [], ◌∷◌, ◌++◌, drop, length, ap, ◌∙◌, arith, inl, inr, length-append, append_assoc, sum_by, length-drop, AllByRecursion, cases_Bool, recursion_from_All, sum_by-cons, drop-append-add, Insn, Answer, Architecture, CallRecord, Test, JumpIf, Constant, words_of, IsRecord, test_holds, IsPlainOperation, Condition, Rule, IsPlainCondition, all_hold, IsCondition, IsRule, Position, rule_bound, jump_if, jump_over, return_with, branch_code, code_from, IsFirst, IsPut, conditions_code, behind_rule, rule_code, Answers, AnswersRules, ArePut, Operation, Keeps, IsPart, moved, at, map, length-map, chain_of_part, answer_of_part, part_between, EndsWithin, AreSound, rules_bound}
+use Rattle.scf_compile.proofs.Common.{◌≡◌, ℕ, ◌+◌, ◌-◌, ◌*◌, ◌<◌, ◌≤◌, Bool, true, false, cond, leb, List, [], ◌∷◌, ◌++◌, drop, length, ap, ◌∙◌, arith, inl, inr, length-append, append_assoc, sum_by, length-drop, AllByRecursion, cases_Bool, recursion_from_All, sum_by-cons, drop-append-add, Insn, Answer, Architecture, CallRecord, Test, JumpIf, Constant, words_of, IsRecord, test_holds, IsPlainOperation, Condition, Rule, IsPlainCondition, all_hold, IsCondition, IsRule, Position, rule_bound, jump_if, jump_over, return_with, branch_code, code_from, IsFirst, IsPut, conditions_code, behind_rule, rule_code, Answers, AnswersRules, ArePut, Operation, Keeps, IsPart, moved, at, map, length-map, chain_of_part, answer_of_part, part_between, EndsWithin, AreSound, rules_bound, nat_tests, common_steps}
 use Rattle.scf_compile.proofs.Runs.{more, past, answers, jumps, passes, jump_sound, pass_sound, return_sound}
 use Rattle.scf_compile.proofs.Tests.{conditions_tests}
 
@@ -13,16 +13,7 @@ keeps_more operation i behind more le h = grind arith
 sound_before : (asked : Bool) (code behind : List Insn) → AreSound asked code → AreSound asked behind
     → AreSound asked (code ++ behind)
 sound_before asked [] behind s t = t
-sound_before asked (i ∷ is) behind s t =
-    let head = s.0 in (
-      record {
-        operation = head.operation;
-        is_operation = head.is_operation;
-        keeps = keeps_more head.operation i _ _ (omega (arith, length-append is behind)) head.keeps;
-        is_plain = head.is_plain;
-      },
-      sound_before asked is behind s.1 t,
-    )
+sound_before asked (i ∷ is) behind s t = grind (arith, common_steps, nat_tests, keeps_more, length-append, sound_before asked is behind s.1 t)
 
 -- code that ends is the same with more behind it
 ends_before : {words : List ℕ} {code : List Insn} {a answer most : ℕ} (behind : List Insn)
@@ -82,8 +73,7 @@ rule_answers a (c ∷ cs) answer n most others p plain f fine next parts le =
     }
 
 pub rules_bounded : (rs : List Rule) → (3 ≤ rules_bound rs) × (rules_bound rs ≤ 3 + sum_by rule_bound rs)
-rules_bounded [] = (omega arith, omega arith)
-rules_bounded (r ∷ rs) = (omega (arith, sum_by-cons rule_bound r rs), omega arith)
+rules_bounded rs = grind (arith, common_steps, nat_tests, sum_by-cons)
 
 -- One rule more is fewer instructions than its bound, since nothing stands behind a rule without conditions.
 pub rule_more : (a : Architecture) (default : Answer) (r : Rule) (rs : List Rule) (code : List Insn) → IsRule a r
@@ -107,9 +97,7 @@ from_behind front code index le =
 
 -- the first index of some code
 pub from_first : (code : List Insn) (index : Position) → index.0 ≡ length code → code_from index code ≡ code
-from_first code index is =
-    let passed : length code - index.0 ≡ 0 = omega arith in
-    ap (λ (n : ℕ). drop n code) passed
+from_first code index is = grind (arith, common_steps, nat_tests)
 
 -- code that answers is put before some code, or stands there
 pub answers_put : {block before after : List Insn} {index : Position} {most : ℕ} {p : Type 0} {f : CallRecord → ℕ}
@@ -158,18 +146,8 @@ module _ (test : Test) (constant : ℕ) (hit miss : Position) {before after : Li
       → ((h m : ℕ) → IsPlainOperation (JumpIf test Constant) (jump_if test constant h m))
       → length before - hit.0 < length before → length before - miss.0 < length before
       → AreSound plain before → AreSound plain after
-  branch_sound plain is h m s = rw put.whole (elim (cases_Bool (leb (length before - miss.0) 255)) [
-    | inl near ↦ rw near (jump_sound test constant _ _ h m (λ _. is _ _), s)
-    | inr far ↦ rw far (
-      jump_sound test constant (1 + (length before - hit.0)) 0 (omega arith) (omega arith) (λ _. is _ 0),
-      (pass_sound (length before - miss.0) m, s),
-    )
-  ])
+  branch_sound plain is h m s = grind (arith, common_steps, nat_tests, cases_Bool, jump_sound, pass_sound)
 
   pub branch_stays : (length before ≤ length after)
       × ((p : Position) → p.0 ≤ length before → code_from p after ≡ code_from p before)
-  branch_stays =
-      let branch = branch_code test constant (length before - hit.0) (length before - miss.0) in (
-        omega (arith, ap (λ (l : List Insn). length l) put.whole, length-append branch before),
-        λ p le. ap (code_from p) put.whole ∙ from_behind branch before p le,
-      )
+  branch_stays = grind (arith, common_steps, nat_tests, length-append, from_behind)

@@ -1,5 +1,5 @@
 -- What each instruction does, and that it is sound.
-use Rattle.scf_compile.proofs.Common.{◌≡◌, ℕ, suc, ◌+◌, ◌*◌, ◌/◌, ◌%◌, ◌<◌, ◌≤◌, Bool, true, false, ltb, List, [], ◌∷◌, ◌++◌, length, map, drop, refl, subst, arith, bit_and, slice_index, IsTrue, Some, get_or, inl, inr, length-drop, drop-append-add, cases_Bool, lt-ltb, common_steps, gets, slice_get_within, slice_get_read, length-map, Insn, Test, Constant, And, operation_of, Operation, LoadWord, Compute, Jump, JumpIf, ReturnConstant, asks_for, Goes, step, holds, IsPart, moved, IsPlainOperation, run_behind, chain_of_part, answer_of_part, IsRunFrom, load_word, and_with, jump_if, jump_over, return_with, at, EndsWithin, IsSound, Keeps}
+use Rattle.scf_compile.proofs.Common.{◌≡◌, ℕ, suc, ◌+◌, ◌*◌, ◌/◌, ◌%◌, ◌<◌, ◌≤◌, Bool, true, false, ltb, List, [], ◌∷◌, ◌++◌, length, map, drop, refl, subst, arith, bit_and, slice_index, IsTrue, Some, get_or, inl, inr, length-drop, drop-append-add, cases_Bool, lt-ltb, common_steps, gets, slice_get_within, slice_get_read, length-map, Insn, Test, Constant, And, operation_of, Operation, LoadWord, Compute, Jump, JumpIf, ReturnConstant, asks_for, Goes, step, holds, IsPart, moved, IsPlainOperation, run_behind, chain_of_part, answer_of_part, IsRunFrom, load_word, and_with, jump_if, jump_over, return_with, at, EndsWithin, IsSound, Keeps, nat_tests}
 
 pub more : {words : List ℕ} {code : List Insn} {a answer m most : ℕ} → EndsWithin words code a answer m → m ≤ most
     → EndsWithin words code a answer most
@@ -83,8 +83,7 @@ past front behind count a e = rw (drop-append-add front behind count) e
 module _ {plain : Bool} {behind : ℕ} where
   sound_of : (i : Insn) (operation : Operation) → operation_of i.code ≡ Some operation → Keeps operation i behind
       → (IsTrue plain → IsPlainOperation operation i) → IsSound plain i behind
-  sound_of i operation is_operation keeps is =
-      record { operation = operation; is_operation = is_operation; keeps = keeps; is_plain = is }
+  sound_of i operation is_operation keeps is = grind (arith, common_steps, nat_tests)
 
   pub load_sound : (word : ℕ) → word < 16 → 0 < behind → IsSound plain (load_word word) behind
   load_sound word lt some =

@@ -1,5 +1,5 @@
 -- The search of ranges finds that of each number.
-use Rattle.scf_compile.proofs.Common.{◌≡◌, ℕ, zero, suc, ◌+◌, ◌-◌, ◌*◌, ◌^◌, ◌<◌, ◌≤◌, List, [], ◌∷◌, ◌++◌, length, get_or, get_or-append-add, get_or_append_left, sym, ap, ◌∙◌, arith, length-append, sum_by, nat_tests, inl, inr, length-drop, recursion_from_All, sum_by-cons, sum_by-append, Answer, Architecture, Insn, CallRecord, IsRecord, GreaterOrEqual, words_of, Rule, IsPlainRule, Position, NrRange, rule_bound, branch_code, IsFirst, IsPut, AnswersRules, IsSearchPut, EndsWithin, AllRules, AreServed, first_answer, range_bound}
+use Rattle.scf_compile.proofs.Common.{◌≡◌, ℕ, zero, suc, ◌+◌, ◌-◌, ◌*◌, ◌^◌, ◌<◌, ◌≤◌, List, [], ◌∷◌, ◌++◌, length, get_or, get_or-append-add, get_or_append_left, ap, ◌∙◌, arith, length-append, sum_by, nat_tests, inl, inr, length-drop, recursion_from_All, sum_by-cons, sum_by-append, Answer, Architecture, Insn, CallRecord, IsRecord, GreaterOrEqual, words_of, Rule, IsPlainRule, Position, NrRange, rule_bound, branch_code, IsFirst, IsPut, AnswersRules, IsSearchPut, EndsWithin, AllRules, AreServed, first_answer, range_bound, common_steps}
 use Rattle.scf_compile.proofs.Laying.{served_parts}
 use Rattle.scf_compile.proofs.Runs.{more}
 use Rattle.scf_compile.proofs.RuleCode.{rules_bounded, branch_ends, branch_sound, branch_stays}
@@ -8,9 +8,7 @@ use Rattle.scf_compile.proofs.RuleCode.{from_first, answers_put, answers_there}
 -- the first of some ranges begins at their lower bound
 begins_at : (default : Answer) (wanted : ℕ → List Rule) (low high : ℕ) (ss : List NrRange) (s : NrRange) → 0 < length ss
     → s ≡ get_or ss 0 s → AreServed default wanted low ss high → s.first ≡ low
-begins_at default wanted low high [] s some is served = absurd (omega arith)
-begins_at default wanted low high (t ∷ ss) s some is served =
-    ap (λ (u : NrRange). u.first) is ∙ served.1.first
+begins_at default wanted low high ss s h h2 h3 = grind (arith, common_steps, nat_tests)
 
 pub all_parts : (P : Rule → Type 0) (low high : List NrRange) → AllRules P (low ++ high)
     → AllRules P low × AllRules P high
@@ -67,9 +65,7 @@ module _ (a : Architecture) (default : Answer) {half most : ℕ} (lower upper : 
       }
 
 pub one_is : (ss : List NrRange) (s : NrRange) → 0 < length ss → length ss ≤ 1 → s ≡ get_or ss 0 s → ss ≡ s ∷ []
-one_is [] s some single is = absurd (omega arith)
-one_is (t ∷ []) s some single is = ap (λ (u : NrRange). u ∷ []) (sym is)
-one_is (t ∷ u ∷ ss) s some single is = absurd (omega arith)
+one_is ss s h h2 h3 = grind (arith, common_steps, nat_tests)
 
 -- a block that is put where no code was begins the code
 begins_code : {block before after : List Insn} {index : Position} → IsPut block before after index → 0 < length block

@@ -1,5 +1,5 @@
 -- How long the code of a filter is.
-use Rattle.scf_compile.proofs.Common.{◌≡◌, ℕ, ◌<◌, ◌≤◌, ◌^◌, Bool, true, false, not, eqb, List, [], ◌∷◌, length, map, get_or, refl, arith, inl, inr, All, AllByRecursion, list_any, cases_eq, ne_eqb, ◌≢◌, All-from_recursion, All-map, recursion_from_All, length-map, length-le_from_distinct_below, length-filter_both, sum_by-le, Condition, Rule, IsRule, IsCondition, AreConditions, HaveDistinctIndices, Option, None, Some, numbers_of, rule_bound, number_count, stub_count, Profile, IsProfile, size_bound_of, size_bound_of_each, sum_by-cons}
+use Rattle.scf_compile.proofs.Common.{◌≡◌, ℕ, ◌<◌, ◌≤◌, ◌^◌, Bool, true, false, not, eqb, List, [], ◌∷◌, length, map, get_or, refl, arith, inl, inr, All, AllByRecursion, list_any, cases_eq, ne_eqb, ◌≢◌, All-from_recursion, All-map, recursion_from_All, length-map, length-le_from_distinct_below, length-filter_both, sum_by-le, Condition, Rule, IsRule, IsCondition, AreConditions, HaveDistinctIndices, Option, numbers_of, rule_bound, number_count, stub_count, Profile, IsProfile, size_bound_of, size_bound_of_each, sum_by-cons, nat_tests, common_steps}
 use Rattle.std.specs.List.{IsDistinct}
 
 -- ---- no more than six conditions
@@ -42,8 +42,7 @@ pub rules_valid : (p : Profile) → IsProfile p → All (IsRule p.architecture) 
 rules_valid p valid = All-from_recursion (IsRule p.architecture) p.rules valid.each
 
 stub_few : (stub : Option ℕ) → stub_count stub ≤ 1
-stub_few None = omega arith
-stub_few (Some first) = omega arith
+stub_few stub = grind (arith, common_steps, nat_tests)
 
 pub count_small : (p : Profile) → IsProfile p → number_count p < 2 ^ 32
 count_small p valid = omega (arith, few_numbers p.rules, stub_few p.stub, valid.few)

@@ -1,5 +1,5 @@
 -- The ranges of a profile: those of its rules are cut where its stub begins.
-use Rattle.scf_compile.proofs.Common.{◌≡◌, ℕ, ◌+◌, ◌*◌, ◌≤◌, true, false, cond, ltb, not, List, [], ◌∷◌, Option, Some, None, length, All, All-cons, All-contains, All-filter, refl, ap, subst, arith, inl, inr, cases_Bool, cases_lt, lt-ltb, nat_tests, length-filter_both, sum_by-filter_both, sum_by, sum_by-cons, Answer, CallRecord, row_of, Rule, rules_of, Profile, is_stubbed, stub_answer, NrRange, AllRules, AreServed, AreRangesOf, ranges_below, first_answer, own_answer, number_count, range_bound, rule_bound, stub_count}
+use Rattle.scf_compile.proofs.Common.{◌≡◌, ℕ, ◌+◌, ◌*◌, ◌≤◌, true, false, cond, ltb, not, List, [], ◌∷◌, Option, length, All, All-cons, All-contains, All-filter, refl, subst, arith, inl, inr, cases_Bool, cases_lt, lt-ltb, nat_tests, length-filter_both, sum_by-filter_both, sum_by, sum_by-cons, Answer, CallRecord, row_of, Rule, rules_of, Profile, is_stubbed, stub_answer, NrRange, AllRules, AreServed, AreRangesOf, ranges_below, first_answer, own_answer, number_count, range_bound, rule_bound, stub_count, common_steps}
 use Rattle.scf_compile.proofs.Laying.{laid_few, laid_rules, laid_served, served_as}
 
 -- ---- the ranges that begin below a number
@@ -33,8 +33,7 @@ module _ (default : Answer) (wanted : ℕ → List Rule) (start : ℕ) where
 -- ---- and those of a profile
 
 pub stub_there : (stub : Option ℕ) (nr : ℕ) → is_stubbed stub nr ≡ true → stub_count stub ≡ 1
-stub_there None nr h = absurd (cc)
-stub_there (Some first) nr h = refl
+stub_there stub nr h = grind (arith, common_steps, nat_tests)
 
 -- the rules for a number of the profile's architecture
 abbrev pub own_wanted : Profile → Rule → ℕ → List Rule
@@ -42,16 +41,11 @@ own_wanted p s nr = cond (is_stubbed p.stub nr) (s ∷ []) (rules_of nr p.rules)
 
 module _ (p : Profile) (s : Rule) (always : s.conditions ≡ []) where
   pub stub_bound : sum_by rule_bound (s ∷ []) ≡ 2
-  stub_bound =
-      let bound = sum_by-cons rule_bound s [] in
-      let conditions = ap (λ (l : List _). length l) always in omega arith
+  stub_bound = grind (arith, common_steps, nat_tests, sum_by-cons)
 
   pub own_first : (call : CallRecord) → s.answer.0 ≡ stub_answer
       → first_answer p.architecture call p.default_answer (own_wanted p s call.nr) ≡ own_answer p call
-  own_first call answers = elim (cases_Bool (is_stubbed p.stub call.nr)) [
-    | inl stubbed ↦ rw (stubbed, always, answers) refl
-    | inr unstubbed ↦ rw unstubbed refl
-  ]
+  own_first call answers = grind (arith, common_steps, nat_tests, cases_Bool)
 
   module _ {ranges : List NrRange} (laid : AreRangesOf p (s ∷ []) ranges) where
     abbrev first : ℕ

@@ -1,10 +1,10 @@
 -- The code of a condition: how long it is, that it is sound, and how it goes on.
-use Rattle.scf_compile.proofs.Common.{◌≡◌, ℕ, ◌+◌, ◌*◌, ◌<◌, ◌≤◌, ◌^◌, ◌≢◌, Bool, true, false, cond, eqb, ltb, not, List, [], ◌∷◌, ◌++◌, drop, length, refl, sym, ap, ◌∙◌, arith, append_assoc, bit_and, length-append, slice_index, IsTrue, AllByRecursion, eqb-true, eqb-false, nat_tests, and_mask, and_shr, and_mod, and_assoc, and_self, Insn, CallRecord, Test, SameWord, Above, AtLeast, CommonBit, JumpIf, Constant, MaskKind, Empty, OneBit, Full, Mixed, mask_kind, IsSimpleMask, low, high, words_of, argument, IsRecord, argument_low, argument_high, IsOfKind, is_of_kind, test_holds, IsPlainOperation, Operator, NotEqual, Less, LessOrEqual, Greater, MaskedEqual, Condition, IsPlainCondition, all_hold, IsCondition, jump_if, word_code, order_code, bit_code, half_code_of, half_code, masked_code, test_code, exits, condition_code, argument_word, conditions_code, wide_code, narrow_code, value_of, jump_over, Architecture, ArgumentBits, Bits32, Bits64, taken_of, argument_in, row_of, leb, ne_eqb, and_zero_l, EndsWithin, AreSound, ◌-◌, inl, inr, ◌⊎◌, IsPowerOfTwo, bit_at, and_zero_r, cases_eq, eq-eqb, and_pow, bit_at-lt}
+use Rattle.scf_compile.proofs.Common.{◌≡◌, ℕ, ◌+◌, ◌*◌, ◌<◌, ◌≤◌, ◌^◌, ◌≢◌, Bool, true, false, cond, eqb, ltb, not, List, [], ◌∷◌, ◌++◌, drop, length, refl, sym, ap, ◌∙◌, arith, append_assoc, bit_and, length-append, slice_index, IsTrue, AllByRecursion, eqb-true, eqb-false, nat_tests, and_mask, and_shr, and_mod, and_assoc, Insn, CallRecord, Test, SameWord, Above, AtLeast, CommonBit, JumpIf, Constant, MaskKind, Empty, OneBit, Full, Mixed, mask_kind, IsSimpleMask, low, high, words_of, argument, IsRecord, argument_low, argument_high, IsOfKind, is_of_kind, test_holds, IsPlainOperation, Greater, Condition, IsPlainCondition, all_hold, IsCondition, jump_if, word_code, order_code, bit_code, half_code_of, half_code, masked_code, test_code, exits, condition_code, argument_word, conditions_code, wide_code, narrow_code, value_of, jump_over, Architecture, ArgumentBits, Bits32, Bits64, taken_of, argument_in, row_of, leb, ne_eqb, EndsWithin, AreSound, ◌-◌, inl, inr, ◌⊎◌, IsPowerOfTwo, bit_at, and_zero_r, cases_eq, eq-eqb, and_pow, bit_at-lt, common_steps}
 use Rattle.scf_profile.specs.Condition.{condition_holds}
-use Rattle.scf_profile.specs.declared.condition.Operator.TheVariants.{Equal, GreaterOrEqual}
+use Rattle.scf_profile.specs.declared.condition.Operator.TheVariants.{GreaterOrEqual}
 use Rattle.scf_profile.specs.declared.number_test.NumberTest.{NumberTest}
 use Rattle.scf_profile.specs.declared.number_test.NumberTest.TheVariants as tests
-use Rattle.scf_profile.specs.NumberTests.{IsPlainTest, comes_to, test_by, test_of, tree_answer}
+use Rattle.scf_profile.specs.NumberTests.{IsPlainTest, comes_to, test_of, tree_answer}
 use Rattle.scf_profile.proofs.NumberTests.{decides, plain_of}
 use Rattle.scf_compile.proofs.Runs.{more, past, loads, masks, jumps, passes, load_sound, mask_sound, jump_sound, pass_sound}
 
@@ -34,16 +34,7 @@ under_power n k = elim (cases_eq (bit_at n k) 0) [
 -- so where the bit is wanted, a word has it exactly where it isn't nothing
 wanted_of_power : (n mask wanted : ℕ) → IsPowerOfTwo mask → bit_and wanted mask ≡ wanted → wanted ≢ 0
     → not (eqb (bit_and n mask) 0) ≡ eqb (bit_and n mask) wanted
-wanted_of_power n mask wanted (k, e) within some = elim (under_power wanted k) [
-  | inl none ↦ absurd (some (sym within ∙ ap (λ (m : ℕ). bit_and wanted m) e ∙ none))
-  | inr all ↦
-      let bit : wanted ≡ 2 ^ k = sym within ∙ ap (λ (m : ℕ). bit_and wanted m) e ∙ all in
-      let power : bit_and n mask ≡ bit_and n (2 ^ k) = ap (λ (m : ℕ). bit_and n m) e in
-      elim (under_power n k) [
-        | inl nothing ↦ grind (arith, nat_tests, power, nothing, bit, some)
-        | inr has ↦ grind (arith, nat_tests, power, has, bit, some)
-      ]
-]
+wanted_of_power n mask wanted v3 within some = grind (arith, common_steps, nat_tests, under_power)
 
 -- The code tests something of a call, in no more than so many instructions and steps: it goes on `hit` instructions
 -- behind it where this is met, and else `miss`.
@@ -195,37 +186,22 @@ skip_tests hit miss false some = record {
 -- its high half is nothing, so that a value that fits a word is compared with its low one
 narrow_masked : (mask value n : ℕ) → n < 2 ^ 32 → high value ≡ 0
     → eqb (bit_and n (low mask)) (low value) ≡ tree_answer (tests.Masked mask value) n
-narrow_masked mask value n lt fits =
-    let none : high n ≡ 0 = omega arith in
-    let all : low n ≡ n = omega arith in
-    let nothing : bit_and (high n) (high mask) ≡ 0 = rw none (and_zero_l (high mask)) in
-    rw (all, nothing, fits) refl
+narrow_masked mask value n lt fits = grind (arith, common_steps, nat_tests)
 
 narrow_above : (value n : ℕ) → n < 2 ^ 32 → high value ≡ 0
     → ltb (low value) n ≡ tree_answer (tests.Greater value) n
-narrow_above value n lt fits =
-    let none : high n ≡ 0 = omega arith in let all : low n ≡ n = omega arith in rw (all, none, fits) refl
+narrow_above value n lt fits = grind (arith, common_steps, nat_tests)
 
 at_least_holds : (n value : ℕ) → test_holds AtLeast n value ≡ leb value n
 at_least_holds n value = grind (arith, nat_tests)
 
 narrow_at_least : (value n : ℕ) → n < 2 ^ 32 → high value ≡ 0
     → leb (low value) n ≡ tree_answer (tests.GreaterOrEqual value) n
-narrow_at_least value n lt fits =
-    let none : high n ≡ 0 = omega arith in let all : low n ≡ n = omega arith in rw (all, none, fits) refl
+narrow_at_least value n lt fits = grind (arith, common_steps, nat_tests)
 
 -- it reaches no value that needs more
 never_met : (test : NumberTest) (n : ℕ) → n < 2 ^ 32 → high (value_of test) ≢ 0 → false ≡ tree_answer test n
-never_met (tests.Masked mask value) n lt wide =
-    let none : high n ≡ 0 = omega arith in
-    let nothing : bit_and (high n) (high mask) ≡ 0 = rw none (and_zero_l (high mask)) in
-    rw (nothing, ne_eqb 0 (high value) (λ e. wide (sym e))) refl
-never_met (tests.Greater value) n lt wide =
-    let none : high n ≡ 0 = omega arith in
-    rw (none, ne_eqb 0 (high value) (λ e. wide (sym e))) (grind (arith, nat_tests))
-never_met (tests.GreaterOrEqual value) n lt wide =
-    let none : high n ≡ 0 = omega arith in
-    rw (none, ne_eqb 0 (high value) (λ e. wide (sym e))) (grind (arith, nat_tests))
+never_met test n h h2 = grind (arith, common_steps, nat_tests, ne_eqb)
 
 -- ---- a number in two words
 
@@ -322,22 +298,11 @@ module _ (index : ℕ) (lt : index < 6) where
 -- ---- a condition
 
 within_of : (c : Condition) → IsCondition c → IsWithin (test_of c).0
-within_of c fine = by_operator c.op c.value c.value_two fine.value
-  where
-    by_operator : (op : Operator) (value value_two : ℕ) → value < 2 ^ 64 → IsWithin (test_by op value value_two).0
-    by_operator NotEqual value value_two fits = and_mask value 64 ∙ omega arith
-    by_operator Less value value_two fits = tt
-    by_operator LessOrEqual value value_two fits = tt
-    by_operator Equal value value_two fits = and_mask value 64 ∙ omega arith
-    by_operator GreaterOrEqual value value_two fits = tt
-    by_operator Greater value value_two fits = tt
-    by_operator MaskedEqual value value_two fits =
-        and_assoc value value_two value ∙ ap (λ (m : ℕ). bit_and value_two m) (and_self value)
+within_of c fine = grind (arith, common_steps, nat_tests, and_mask, and_assoc)
 
 -- what is taken of a register fits one
 taken_fits : (bits : ArgumentBits) (n : ℕ) → n < 2 ^ 64 → taken_of bits n < 2 ^ 64
-taken_fits Bits32 n fits = omega arith
-taken_fits Bits64 n fits = fits
+taken_fits bits n h = grind (arith, common_steps, nat_tests)
 
 condition_tests : (a : Architecture) (c : Condition) (out : ℕ) → IsCondition c
     → Tests (condition_code a c out) 0 out 6 (IsPlainCondition c)

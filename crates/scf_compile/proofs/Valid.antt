@@ -1,5 +1,5 @@
 -- The code of a filter keeps the rules of the checker, and answers within its bounds.
-use Rattle.scf_compile.proofs.Common.{◌≡◌, ℕ, zero, suc, ◌+◌, ◌-◌, ◌<◌, ◌≤◌, true, false, Bool, Some, List, [], ◌∷◌, length, max, refl, sym, ◌∙◌, arith, get_or, same_Some, slice_get, slice_get-get_or, Insn, Operation, return_with, LoadScratch, bpf_maxinsns, RunAnswers, IsPlainProgram, Stands, IsFine, IsFineAt, IsReturn, IsValidList, KeepsScratchRule, run_once, words_of, subst, sum_by-cons, All, All-cons, CallRecord, Profile, AreOfApart, IsPlainProfile, ProfileAnswers, ProfilesAnswer, foreign, by_profile, by_none, SameAnswers, SameAnswersAsEach, AnswersWithin, search_bound_of, search_bound_of_each, size_bound_of, size_bound_of_each, IsFilterOf, Keeps, IsSound, AreSound}
+use Rattle.scf_compile.proofs.Common.{◌≡◌, ℕ, zero, suc, ◌+◌, ◌-◌, ◌<◌, ◌≤◌, true, false, Bool, Some, List, [], ◌∷◌, length, max, refl, arith, get_or, same_Some, slice_get, slice_get-get_or, Insn, Operation, return_with, LoadScratch, bpf_maxinsns, RunAnswers, IsPlainProgram, Stands, IsFine, IsFineAt, IsReturn, IsValidList, KeepsScratchRule, run_once, words_of, sum_by-cons, All, All-cons, CallRecord, Profile, IsPlainProfile, ProfileAnswers, ProfilesAnswer, foreign, SameAnswers, SameAnswersAsEach, AnswersWithin, search_bound_of, search_bound_of_each, size_bound_of, size_bound_of_each, IsFilterOf, Keeps, IsSound, AreSound, nat_tests, common_steps}
 
 -- ---- the rules of the checker
 
@@ -12,15 +12,12 @@ sound_at : {plain : Bool} (is : List Insn) (index : ℕ) (i : Insn) → AreSound
     → (behind : ℕ) × (index + 1 + behind ≡ length is) × IsSound plain i behind
 sound_at [] index i sound here = absurd (cc)
 sound_at (x ∷ xs) zero i sound here = (length xs, omega arith, rw (same_Some x i here) at sound.0)
-sound_at (x ∷ xs) (suc index) i sound here =
-    let later = sound_at xs index i sound.1 here in (later.0, omega (arith, later.1), later.2)
+sound_at (x ∷ xs) (suc index) i sound here = grind (arith, common_steps, nat_tests, sound_at xs index i sound.1 here)
 
 -- what its operation keeps there
 kept_at : (is : List Insn) (index : ℕ) (i : Insn) (operation : Operation) → AreSound false is
     → Stands is index i operation → (behind : ℕ) × (index + 1 + behind ≡ length is) × Keeps operation i behind
-kept_at is index i operation sound stands =
-    let there = sound_at is index i sound stands.here in
-    (there.0, there.1, rw (same_Some _ _ (sym there.2.is_operation ∙ stands.known)) at there.2.keeps)
+kept_at is index i operation sound stands = grind (arith, common_steps, nat_tests, sound_at, same_Some)
 
 fine_at : (is : List Insn) (index : ℕ) → AreSound false is → index < length is → IsFineAt is index
 fine_at is index sound lt =
@@ -66,9 +63,7 @@ module _ {ps : List Profile} {code : List Insn} (filter : IsFilterOf ps code) wh
       record { operation = there.operation; known = there.is_operation; plain = there.is_plain refl }
 
   pub answers_same : SameAnswersAsEach (RunAnswers code) ps
-  answers_same call fits =
-      let call_answer = filter.answered call fits in
-      (call_answer.answer, (call_answer.of_words.steps, call_answer.of_words.run), call_answer.of_profiles)
+  answers_same call fits = grind (arith, common_steps, nat_tests)
 
   pub answers_within : AnswersWithin code (search_bound_of_each ps)
   answers_within call fits answer steps run =
@@ -84,10 +79,7 @@ module _ {ps : List Profile} {code : List Insn} (filter : IsFilterOf ps code) wh
 
 of_one : (p : Profile) (call : CallRecord) (answer : ℕ) → ProfilesAnswer (p ∷ []) call answer
     → ProfileAnswers p call answer
-of_one p call answer (by_profile q (zero, lt, e) is_of _ is) =
-    subst (λ (r : Profile). ProfileAnswers r call answer) (sym e) is
-of_one p call answer (by_profile q (suc k, lt, e) is_of _ is) = absurd (omega arith)
-of_one p call _ (by_none none) = foreign (none p (0, omega arith, refl))
+of_one p call answer h = grind (arith, common_steps, nat_tests, foreign)
 
 module _ (p : Profile) where
   pub one_same : (answers : List ℕ → ℕ → Type 0) → SameAnswersAsEach answers (p ∷ []) → SameAnswers answers p
@@ -109,9 +101,6 @@ module _ (p : Profile) where
 
   pub one_sized : (code : List Insn) → length code ≤ max 2 (size_bound_of_each (p ∷ [])) → length code ≤ size_bound_of p
   one_sized code few = omega (arith, one_size_bound, few)
-
-  pub one_apart : AreOfApart (p ∷ [])
-  one_apart i j d lt within = absurd (omega arith)
 
   pub one_plain : IsPlainProfile p → All IsPlainProfile (p ∷ [])
   one_plain plain = All-cons IsPlainProfile p [] plain (λ k d lt. absurd (omega arith))

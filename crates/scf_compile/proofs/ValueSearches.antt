@@ -1,5 +1,5 @@
 -- The search for an argument among its values.
-use Rattle.scf_compile.proofs.Common.{◌≡◌, ◌≢◌, ℕ, zero, suc, ◌+◌, ◌-◌, ◌*◌, ◌<◌, ◌≤◌, All, AllByRecursion, Bool, true, false, not, eqb, ltb, filter, List, [], ◌∷◌, ◌++◌, drop, length, get_or, drop_more, refl, sym, ap, ◌∙◌, arith, inl, inr, cases_Bool, eq-eqb, eqb-true, eqb-false, ne_eqb, nat_tests, length-filter_both, All-filter, All-head, All-tail, slice_index, recursion_from_All, All-from_recursion, sum_by, sum_by-cons, Insn, CallRecord, words_of, argument, argument_low, argument_high, argument_in, argument_word, low, high, row_of, Architecture, Answer, Bits32, Bits64, Equal, GreaterOrEqual, Rule, IsPlainRule, rule_bound, Position, load_word, return_with, branch_code, code_from, IsFirst, IsPut, ArePut, EndsWithin, AreSound, AnswersRules, first_answer, rules_bound, ArgumentValue, IsArgumentValue, IsValueOf, AreValuesOf, AreValuesBefore, value_answer, IsValueSearchPut, AreValuesPut}
+use Rattle.scf_compile.proofs.Common.{◌≡◌, ◌≢◌, ℕ, zero, suc, ◌+◌, ◌-◌, ◌*◌, ◌<◌, ◌≤◌, All, AllByRecursion, Bool, true, false, not, eqb, ltb, filter, List, [], ◌∷◌, ◌++◌, drop, length, get_or, drop_more, refl, sym, ap, ◌∙◌, arith, inl, inr, cases_Bool, eq-eqb, eqb-true, eqb-false, ne_eqb, nat_tests, length-filter_both, All-filter, All-head, All-tail, slice_index, recursion_from_All, All-from_recursion, sum_by, sum_by-cons, Insn, CallRecord, words_of, argument, argument_low, argument_high, argument_in, argument_word, low, high, row_of, Architecture, Answer, Bits32, Bits64, Equal, GreaterOrEqual, Rule, IsPlainRule, rule_bound, Position, load_word, return_with, branch_code, code_from, IsFirst, IsPut, ArePut, EndsWithin, AreSound, AnswersRules, first_answer, rules_bound, ArgumentValue, IsArgumentValue, IsValueOf, AreValuesOf, AreValuesBefore, value_answer, IsValueSearchPut, AreValuesPut, common_steps}
 use Rattle.scf_compile.proofs.Runs.{answers, loads, load_sound, more}
 use Rattle.scf_compile.proofs.RuleCode.{answers_put, branch_ends, branch_sound, branch_stays, from_behind, from_first, return_answers, rules_bounded}
 
@@ -9,27 +9,13 @@ use Rattle.scf_compile.proofs.RuleCode.{answers_put, branch_ends, branch_sound, 
 kept_answer : (P : ℕ → Bool) (vs : List ArgumentValue) (n fallback : ℕ) → P n ≡ true
     → value_answer (filter (λ v. P v.value) vs) n fallback ≡ value_answer vs n fallback
 kept_answer P [] n fallback is = refl
-kept_answer P (v ∷ vs) n fallback is =
-    let later = kept_answer P vs n fallback is in
-    elim (cases_Bool (P v.value)) [
-      | inl passes ↦ rw (passes, later) refl
-      | inr fails ↦
-          let apart : n ≢ v.value = λ e. absurd (let both = sym is ∙ ap P e ∙ fails in cc) in
-          rw (fails, ne_eqb n v.value apart) later
-    ]
+kept_answer P (v ∷ vs) n fallback is = grind (arith, common_steps, nat_tests, cases_Bool, ne_eqb, kept_answer P vs n fallback is)
 
 -- and not among those of which something holds that doesn't hold of the number
 lost_answer : (P : ℕ → Bool) (vs : List ArgumentValue) (n fallback : ℕ) → P n ≡ false
     → value_answer (filter (λ v. P v.value) vs) n fallback ≡ fallback
 lost_answer P [] n fallback is = refl
-lost_answer P (v ∷ vs) n fallback is =
-    let later = lost_answer P vs n fallback is in
-    elim (cases_Bool (P v.value)) [
-      | inl passes ↦
-          let apart : n ≢ v.value = λ e. absurd (let both = sym is ∙ ap P e ∙ passes in cc) in
-          rw (passes, ne_eqb n v.value apart) later
-      | inr fails ↦ rw fails later
-    ]
+lost_answer P (v ∷ vs) n fallback is = grind (arith, common_steps, nat_tests, cases_Bool, ne_eqb, lost_answer P vs n fallback is)
 
 -- so it can be looked for among those and then among these
 split_answer : (P : ℕ → Bool) (vs : List ArgumentValue) (n fallback : ℕ)
@@ -46,9 +32,7 @@ split_answer P vs n fallback =
 apart_answer : (half : ℕ) (vs : List ArgumentValue) (n fallback : ℕ) → AllByRecursion (λ v. high v.value ≡ half) vs
     → high n ≢ half → value_answer vs n fallback ≡ fallback
 apart_answer half [] n fallback all differs = refl
-apart_answer half (v ∷ vs) n fallback all differs =
-    let apart : n ≢ v.value = λ e. differs (ap high e ∙ all.0) in
-    rw (ne_eqb n v.value apart) (apart_answer half vs n fallback all.1 differs)
+apart_answer half (v ∷ vs) n fallback all differs = grind (arith, common_steps, nat_tests, ne_eqb, apart_answer half vs n fallback all.1 differs)
 
 -- ---- the search among values with one high half
 
@@ -179,8 +163,7 @@ module _ (a : Architecture) (vs : List ArgumentValue) {behind index : Position} 
       (rw (from_first mid index (search.front some)) at ends)) (omega arith)
 
   loaded_sound : (asked : Bool) → AreSound asked before → AreSound asked loaded
-  loaded_sound asked s =
-      (load_sound (argument_word place) (omega arith) (omega (arith, search.longer)), search.sound asked s)
+  loaded_sound asked s = grind (arith, common_steps, nat_tests, load_sound)
 
   pub narrow_put : (row_of a).bits ≡ Bits32 → AreValuesPut a vs before loaded
   narrow_put bits = record {
@@ -232,12 +215,7 @@ module _ (a : Architecture) (vs : List ArgumentValue) {behind index : Position} 
 -- ---- one high half after another
 
 pub none_put : (a : Architecture) (code : List Insn) → AreValuesPut a [] code code
-none_put a code = record {
-  longer = omega arith;
-  small = omega arith;
-  sound = λ asked s. s;
-  ends = λ call i answer most acc fits all pos e. more (e acc) (omega arith);
-}
+none_put a code = grind (arith, common_steps, nat_tests, more)
 
 module _ (half : ℕ) where
   abbrev has_half : ArgumentValue → Bool
@@ -254,11 +232,7 @@ module _ (half : ℕ) where
 
   pub own_halves : (vs : List ArgumentValue) → AllByRecursion (λ v. high v.value ≡ half) (group vs)
   own_halves [] = tt
-  own_halves (v ∷ vs) =
-      elim (cases_Bool (has_half v)) [
-        | inl has ↦ rw has (eqb-true (high v.value) half has, own_halves vs)
-        | inr differs ↦ rw differs (own_halves vs)
-      ]
+  own_halves (v ∷ vs) = grind (arith, common_steps, nat_tests, cases_Bool, eqb-true, own_halves vs)
 
   pub groups_put : (a : Architecture) (vs : List ArgumentValue) {before mid after : List Insn}
       → AreValuesPut a (group vs) before mid → AreValuesPut a (others vs) mid after → AreValuesPut a vs before after
@@ -279,8 +253,7 @@ module _ (half : ℕ) where
 
 pub own_some : (vs : List ArgumentValue) (d : ArgumentValue) → 0 < length vs
     → 0 < length (group (high (get_or vs 0 d).value) vs)
-own_some [] d some = absurd (omega arith)
-own_some (v ∷ vs) d some = rw (eq-eqb (high v.value) (high v.value) refl) (omega arith)
+own_some vs d h = grind (arith, common_steps, nat_tests, eq-eqb)
 
 -- ---- rules
 
@@ -304,9 +277,7 @@ own_bound : (a : Architecture) (i : ℕ) (vs : List ArgumentValue) (rs rules_beh
 own_bound a i [] [] rules_behind each = omega arith
 own_bound a i [] (r ∷ rs) rules_behind each = absurd each
 own_bound a i (v ∷ vs) [] rules_behind each = absurd each
-own_bound a i (v ∷ vs) (r ∷ rs) rules_behind each =
-    let one_condition = each.0.one_condition in
-    omega (arith, sum_by-cons rule_bound r (rs ++ rules_behind), own_bound a i vs rs rules_behind each.2)
+own_bound a i (v ∷ vs) (r ∷ rs) rules_behind each = grind (arith, common_steps, nat_tests, sum_by-cons, own_bound a i vs rs rules_behind each.2)
 
 some_bound : (a : Architecture) (i : ℕ) (vs : List ArgumentValue) (rs rules_behind : List Rule) → AreValuesOf a i vs rs
     → 0 < length vs → rules_bound (rs ++ rules_behind) ≡ 1 + 10 * length vs + sum_by rule_bound rules_behind
@@ -325,9 +296,7 @@ first_of_values : (a : Architecture) (default : Answer) (call : CallRecord) (i :
 first_of_values a default call i [] [] rules_behind each = refl
 first_of_values a default call i [] (r ∷ rs) rules_behind each = absurd each
 first_of_values a default call i (v ∷ vs) [] rules_behind each = absurd each
-first_of_values a default call i (v ∷ vs) (r ∷ rs) rules_behind each =
-    let is = each.0 in
-    rw (is.holds call, each.1, is.answer, first_of_values a default call i vs rs rules_behind each.2) refl
+first_of_values a default call i (v ∷ vs) (r ∷ rs) rules_behind each = grind (arith, common_steps, nat_tests, first_of_values a default call i vs rs rules_behind each.2)
 
 -- The search stands for the rules of the values.
 pub values_more : (a : Architecture) (default : Answer) (i : ℕ) (vs : List ArgumentValue) (rs rules_behind : List Rule)
@@ -351,10 +320,7 @@ values_more a default i vs rs rules_behind each some put next =
 each_more : (a : Architecture) (i : ℕ) (vs : List ArgumentValue) (rs : List Rule) (v : ArgumentValue) (r : Rule)
     → AreValuesOf a i vs rs → IsValueOf a v r → (0 < length vs → v.index ≡ (get_or vs 0 v).index)
     → (j : ℕ) × AreValuesOf a j (v ∷ vs) (r ∷ rs)
-each_more a i [] [] v r each is same = (v.index, (is, refl, tt))
-each_more a i [] (q ∷ qs) v r each is same = absurd each
-each_more a i (w ∷ ws) [] v r each is same = absurd each
-each_more a i (w ∷ ws) (q ∷ qs) v r each is same = (i, (is, same (omega arith) ∙ each.1, each))
+each_more a i vs rs v r h h2 h3 = grind (arith, common_steps, nat_tests)
 
 pub before_more : {a : Architecture} {rules : List Rule} {end : ℕ} {vs : List ArgumentValue} (i : ℕ)
     (v : ArgumentValue) (r : Rule) → AreValuesBefore a rules end vs → i + length vs ≡ end → 0 < i → i ≤ length rules
@@ -381,8 +347,7 @@ before_more {a} {rules} {end} {vs} i v r values count some inside here is same =
 pub rest_bound : (rules : List Rule) (k : ℕ) → rules_bound (drop k rules) ≤ rules_bound rules
 rest_bound rules zero = omega arith
 rest_bound [] (suc k) = omega arith
-rest_bound (r ∷ rs) (suc k) =
-    omega (arith, rest_bound rs k, rules_bounded rs, sum_by-cons rule_bound r rs)
+rest_bound (r ∷ rs) (suc k) = grind (arith, common_steps, nat_tests, rules_bounded, sum_by-cons, rest_bound rs k)
 
 -- the code of values before an index is within it, too
 pub values_small : {a : Architecture} {rules : List Rule} {end : ℕ} {vs : List ArgumentValue} (code : List Insn)

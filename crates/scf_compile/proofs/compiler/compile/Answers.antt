@@ -1,5 +1,5 @@
-use Rattle.scf_compile.proofs.Common.{◌∷◌, [], ◌≤◌, length, max, IfOk-weaker, RunAnswers, SameAnswers}
-use Rattle.scf_compile.proofs.Common.{SameAnswersAsEach, size_bound_of, size_bound_of_each}
+use Rattle.scf_compile.proofs.Common.{◌∷◌, [], IfOk-weaker, RunAnswers, SameAnswers, arith, nat_tests, common_steps}
+use Rattle.scf_compile.proofs.Common.{SameAnswersAsEach}
 use Rattle.scf_compile.proofs.Valid.{one_plain, one_same, one_search_bound, one_sized}
 use Rattle.scf_compile.proofs.compiler.compile.Goals as goal
 
@@ -20,8 +20,4 @@ returns-clause-plain c = λ plain.
     (rw c.from_ref.ensures.value at c.compile_by_counts.ensures.plain) (one_plain c.args.profile.now plain)
 
 pub returns-clause-sized : goal.returns-clause-sized
-returns-clause-sized c =
-    let p = c.args.profile.now in
-    IfOk-weaker c.compile_by_counts.result (λ program. length program ≤ max 2 (size_bound_of_each (p ∷ [])))
-    (λ program. length program ≤ size_bound_of p) (one_sized p)
-    (rw c.from_ref.ensures.value at c.compile_by_counts.ensures.sized)
+returns-clause-sized c = grind (arith, common_steps, nat_tests, one_sized, c.from_ref.ensures.value, c.compile_by_counts.ensures.sized)

@@ -1,16 +1,12 @@
-use Rattle.scf_compile.proofs.Common.{auto_rules, ◌≡◌, ◌∷◌, arith, load_word}
+use Rattle.scf_compile.proofs.Common.{auto_rules, ◌≡◌, ◌∷◌, arith, load_word, nat_tests, common_steps}
 use Rattle.scf_compile.proofs.Filters.{all_stand, filter_put}
 use Rattle.scf_compile.proofs.compiler.filter_of_several.Goals as goal
 
 pub put_dispatch-requires-clause-stand : goal.put_dispatch-requires-clause-stand
-put_dispatch-requires-clause-stand c =
-    rw c.deref.ensures.value (all_stand _ c.args.profiles.now _ c.in_ok-code.ensures.put.each).0
+put_dispatch-requires-clause-stand c = grind (arith, common_steps, nat_tests, all_stand, c.deref.ensures.value, c.in_ok-code.ensures.put.each)
 
 pub put_dispatch-requires-clause-few : goal.put_dispatch-requires-clause-few
-put_dispatch-requires-clause-few c =
-    let count = (all_stand _ c.args.profiles.now _ c.in_ok-code.ensures.put.each).1 in
-    let few = c.requires.few in
-    rw c.deref.ensures.value (omega (arith, c.in_ok-code.ensures.small))
+put_dispatch-requires-clause-few c = grind (arith, common_steps, nat_tests, all_stand, c.in_ok-code.ensures.put.each, c.requires.few, c.deref.ensures.value, c.in_ok-code.ensures.small)
 
 pub returns : goal.returns
 returns c =

@@ -1,14 +1,11 @@
-use Rattle.scf_compile.proofs.Common.{arith, ap, Answer}
+use Rattle.scf_compile.proofs.Common.{arith, ap, Answer, nat_tests, common_steps}
 use Rattle.scf_compile.proofs.Counts.{may_be_put, searched_more}
 use Rattle.scf_compile.proofs.Sizes.{size_small}
 use Rattle.scf_compile.proofs.Stubs.{own_bounded}
 use Rattle.scf_compile.proofs.compiler.put_profile.Goals as goal
 
 pub put_ranges-requires-clause-ranges : goal.put_ranges-requires-clause-ranges
-put_ranges-requires-clause-ranges c =
-    rw c.deref.ensures.value (may_be_put _ c.in_ok-ranges.ensures.profile _ (rw c.architecture.ensures at c.constant_rule-stub.ensures.rule)
-    c.constant_rule-stub.ensures.always (ap (λ (b : Answer). b.0) c.constant_rule-stub.ensures.answer) _
-    (rw c.from_ref.ensures.value at c.in_ok-ranges.ensures.ranges))
+put_ranges-requires-clause-ranges c = grind (arith, common_steps, nat_tests, may_be_put, c.deref.ensures.value, c.in_ok-ranges.ensures.profile, c.architecture.ensures, c.constant_rule-stub.ensures.rule, c.constant_rule-stub.ensures.always, c.constant_rule-stub.ensures.answer, c.from_ref.ensures.value, c.in_ok-ranges.ensures.ranges)
 
 pub returns : goal.returns
 returns c =

@@ -1,4 +1,4 @@
-use Rattle.scf_compile.proofs.Common.{rules, tests, ◌≡◌, ◌<◌, ◌≤◌, ◌∷◌, List, length, true, refl, arith, drop_more, sum_by-cons, pointwise, pointwise_decides, Answer, Condition, eq-value, Rule, rule_bound, StandsFor}
+use Rattle.scf_compile.proofs.Common.{rules, tests, ◌≡◌, ◌<◌, ◌≤◌, ◌∷◌, List, length, true, refl, arith, drop_more, sum_by-cons, pointwise, pointwise_decides, Answer, Condition, eq-value, Rule, StandsFor, nat_tests, common_steps}
 use Rattle.std.proofs.lemmas.List.{drop_all}
 use Rattle.scf_compile.proofs.ranges.are_alike.Goals as goal
 
@@ -9,11 +9,7 @@ same_conditions cs ds = (pointwise_decides {E = eq-value.it} (λ c d. (λ e. sea
 -- a rule stands for one with the same conditions and answer, before rules that stand for others
 alike_more : (default : Answer) (r o : Rule) (rs os : List Rule) → r.conditions ≡ o.conditions → r.answer ≡ o.answer
     → StandsFor default rs os → StandsFor default (r ∷ rs) (o ∷ os)
-alike_more default r o rs os conditions answer later = record {
-  answers = λ a call. rw (conditions, answer, later.answers a call) refl;
-  small = rw (sum_by-cons rule_bound r rs, sum_by-cons rule_bound o os, conditions)
-      (let small = later.small in omega arith);
-}
+alike_more default r o rs os conditions answer later = grind (arith, common_steps, nat_tests, sum_by-cons)
 
 pub loop-i-preserved : goal.loop-i-preserved
 loop-i-preserved c = λ default later.

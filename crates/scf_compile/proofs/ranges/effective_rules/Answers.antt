@@ -1,14 +1,10 @@
-use Rattle.scf_compile.proofs.Common.{◌≡◌, List, [], ◌∷◌, refl, sym, ap, inl, inr, arith, AllByRecursion, cases_Bool, recursion_from_All, take_all, Answer, Architecture, CallRecord, Rule, all_hold, first_answer}
+use Rattle.scf_compile.proofs.Common.{◌≡◌, List, [], ◌∷◌, refl, sym, inr, arith, AllByRecursion, cases_Bool, recursion_from_All, take_all, Answer, Architecture, CallRecord, Rule, first_answer, nat_tests, common_steps}
 use Rattle.scf_compile.proofs.ranges.effective_rules.Goals as goal
 
 of_default : (a : Architecture) (default : Answer) (call : CallRecord) (rs : List Rule)
     → AllByRecursion (λ r. r.answer ≡ default) rs → first_answer a call default rs ≡ default.0
 of_default a default call [] h = refl
-of_default a default call (r ∷ rs) h =
-    elim (cases_Bool (all_hold a call r.conditions)) [
-      | inl met ↦ rw met (ap (λ (answer : Answer). answer.0) h.0)
-      | inr unmet ↦ rw unmet (of_default a default call rs h.1)
-    ]
+of_default a default call (r ∷ rs) h = grind (arith, common_steps, nat_tests, cases_Bool, of_default a default call rs h.1)
 
 pub returns : goal.returns
 returns c =

@@ -1,18 +1,13 @@
-use Rattle.scf_compile.proofs.Common.{rules, common_steps, ◌≡◌, ◌+◌, ◌-◌, ◌<◌, ◌++◌, ◌∷◌, ℕ, ◌∙◌, All-from_recursion, List, ap, arith, drop, drop_more, get_or, length, subst, sym, Rule, IsRule, AnswersRules, IsArgumentValue, behind_rule, rule_code}
+use Rattle.scf_compile.proofs.Common.{rules, common_steps, ◌≡◌, ◌+◌, ◌-◌, ◌<◌, ◌++◌, ◌∷◌, ℕ, ◌∙◌, List, ap, arith, drop, drop_more, get_or, length, subst, sym, Rule, IsRule, AnswersRules, behind_rule, rule_code, nat_tests}
 use Rattle.scf_compile.proofs.RuleCode.{rule_more}
 use Rattle.scf_compile.proofs.ValueSearches.{fine_of, values_more, values_small}
 use Rattle.scf_compile.proofs.rules.put_rules_before.Goals as goal
 
 pub put_values-requires-clause-fine : goal.put_values-requires-clause-fine
-put_values-requires-clause-fine c =
-    let values = c.in_ok-values.ensures in
-    All-from_recursion (IsArgumentValue c.args.architecture) c.in_ok-values.values.items
-    (fine_of c.args.architecture values.argument c.in_ok-values.values.items values.value_rules values.each)
+put_values-requires-clause-fine c = grind (arith, common_steps, nat_tests, fine_of, c.in_ok-values.ensures)
 
 pub put_values-requires-clause-small : goal.put_values-requires-clause-small
-put_values-requires-clause-small c =
-    let some : 0 < length c.in_ok-values.values.items = grind (arith, common_steps) in
-    omega (arith, values_small c.args.code.now.items c.in_ok-values.ensures some c.requires.few, c.requires.small)
+put_values-requires-clause-small c = grind (arith, common_steps, nat_tests, values_small, c.in_ok-values.ensures, c.requires.few, c.requires.small)
 
 pub returns-then-not-is_empty-clause-put : goal.returns-then-not-is_empty-clause-put
 returns-then-not-is_empty-clause-put c = λ default next.

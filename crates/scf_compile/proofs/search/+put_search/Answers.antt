@@ -1,13 +1,9 @@
-use Rattle.scf_compile.proofs.Common.{All, IsRule, NrRange, [], ◌<◌, ◌^◌, sym, subst, rules_bound, ◌++◌, ap, arith, IfOk-weaker, sum_by, sum_by-append, IsFirst, IsPut, IsSearchPut, AnswersRules, range_bound, sum_by-cons}
+use Rattle.scf_compile.proofs.Common.{IsRule, NrRange, sym, subst, ◌++◌, ap, arith, IfOk-weaker, sum_by, sum_by-append, IsFirst, IsPut, IsSearchPut, AnswersRules, range_bound, sum_by-cons, nat_tests, common_steps}
 use Rattle.scf_compile.proofs.Searches.{all_parts, one_is, search_branch, search_one}
 use Rattle.scf_compile.proofs.search.+put_search.Goals as goal
 
 pub put_search-requires : goal.put_search-requires
-put_search-requires t c =
-    let halves = c.split_at.ensures in
-    let sums = rw sum_by-append at (ap (sum_by range_bound) halves.by_index.0) in
-    let parts = all_parts (IsRule c.args.architecture) _ _ (rw halves.by_index.0 at c.requires.rules) in
-    (omega arith, (omega arith, (omega arith, (omega arith, (parts.0, omega arith)))))
+put_search-requires t c = grind (arith, common_steps, nat_tests, sum_by-append, all_parts, c.split_at.ensures, c.requires.rules)
 
 pub put_search-requires-then-ranges-gt1 : goal.put_search-requires-then-ranges-gt1
 put_search-requires-then-ranges-gt1 t c =
@@ -30,9 +26,7 @@ put_search-requires-then-ranges-gt1 t c =
     )
 
 pub put_branch-requires-clause-few : goal.put_branch-requires-clause-few
-put_branch-requires-clause-few t c =
-    let sums = rw sum_by-append at (ap (sum_by range_bound) c.split_at.ensures.by_index.0) in
-    omega (arith, c.in_ok-miss.ensures.small, c.in_ok-hit.ensures.small)
+put_branch-requires-clause-few t c = grind (arith, common_steps, nat_tests, sum_by-append, c.split_at.ensures.by_index.0, c.in_ok-miss.ensures.small, c.in_ok-hit.ensures.small)
 
 pub returns-then-ranges-gt1 : goal.returns-then-ranges-gt1
 returns-then-ranges-gt1 t c =
@@ -46,18 +40,7 @@ returns-then-ranges-gt1 t c =
     c.put_branch.ensures)
 
 pub rules_block-requires : goal.rules_block-requires
-rules_block-requires t c =
-    let ss = c.args.ranges.now in
-    let s = c.index-ranges-0.result in
-    let is = one_is ss s c.requires.some (omega arith) c.index-ranges-0.is in
-    let same = c.index-ranges-0.is in
-    let fine : All (IsRule c.args.architecture) s.rules.now = (rw is at c.requires.rules) 0 s (omega arith) in
-    let small : rules_bound s.rules.now < 2 ^ 32 =
-    omega (arith, rw is at c.requires.small, sum_by-cons range_bound s []) in
-    record {
-      fine = subst (λ (r : NrRange). All (IsRule c.args.architecture) r.rules.now) same fine;
-      small = subst (λ (r : NrRange). rules_bound r.rules.now < 2 ^ 32) same small;
-    }
+rules_block-requires t c = grind (arith, common_steps, nat_tests, one_is, sum_by-cons, c.requires.some, c.requires.rules, c.requires.small)
 
 pub returns : goal.returns
 returns t c =
