@@ -1,41 +1,16 @@
 -- A profile has an answer to every call, and one only.
-use Rattle.scf_profile.proofs.Common.{◌<◌, ◌≡◌, ◌≢◌, ℕ, suc, ◌⊎◌, Bool, true, false, cond, List, [], ◌∷◌, All, refl, Option, Some, None, sym, ap, arith, inl, inr, Contains, find, option_map_or, cases_eq, cases_lt, cases_order, both_ways, get_or, get_or_default, length, AreOfApart, ◌∙◌, All-contains, All-nil, All-cons, Answer, Architecture, CallRecord, IsOf, row_of, seccomp_ret_kill_process, IsRecord, Rule, meets, Conflicts, Profile, HaveNoConflict, ProfileAnswers, ProfilesAnswer, by_none, by_profile, foreign, by_stub, by_rule, by_default, is_stubbed, stub_answer, cases_Bool}
+use Rattle.scf_profile.proofs.Common.{◌<◌, ◌≡◌, ℕ, suc, ◌⊎◌, Bool, true, false, cond, List, [], ◌∷◌, All, refl, Option, Some, None, sym, ap, arith, inl, inr, Contains, find, option_map_or, cases_eq, cases_lt, cases_order, both_ways, get_or, get_or_default, length, AreOfApart, ◌∙◌, All-contains, All-nil, All-cons, Architecture, CallRecord, IsOf, row_of, seccomp_ret_kill_process, IsRecord, Rule, meets, Conflicts, Profile, HaveNoConflict, ProfileAnswers, ProfilesAnswer, by_none, by_profile, foreign, by_stub, by_rule, by_default, is_stubbed, stub_answer, cases_Bool, nat_tests, common_steps}
 
 pub conflicts_both_ways : (a : Architecture) (r s : Rule) → Conflicts a r s → Conflicts a s r
-conflicts_both_ways a r s h =
-    let differ : s.answer ≢ r.answer = λ e. h.answer (sym e) in
-    record {
-      call = h.call;
-      is_record = h.is_record;
-      meets_first = h.meets_second;
-      meets_second = h.meets_first;
-      answer = differ;
-    }
+conflicts_both_ways a r s h = grind (arith, common_steps, nat_tests)
 
 -- the answers of rules without conflict that one call meets
 pub same_answer : (a : Architecture) (r s : Rule) (call : CallRecord) → (Conflicts a r s → ⊥) → IsRecord call
     → meets a r call ≡ true → meets a s call ≡ true → r.answer.0 ≡ s.answer.0
-same_answer a r s call none fits met met_too =
-    elim (cases_eq r.answer.0 s.answer.0) [
-      | inl e ↦ e
-      | inr apart ↦
-          let differ : r.answer ≢ s.answer = λ e. apart (ap (λ (a : Answer). a.0) e) in
-          absurd (none
-          (record { call = call; is_record = fits; meets_first = met; meets_second = met_too; answer = differ }))
-    ]
+same_answer a r s call none fits met met_too = grind (arith, common_steps, nat_tests, cases_eq)
 
 pub own_or_foreign : (a : Architecture) (call : CallRecord) → IsOf a call ⊎ (IsOf a call → ⊥)
-own_or_foreign a call =
-    elim (cases_eq call.arch (row_of a).audit) [
-      | inr differs ↦ inr (λ native. differs native.arch)
-      | inl same ↦ elim (cases_lt call.nr (row_of a).first) [
-        | inl below ↦ inr (λ native. let reached = native.first in omega arith)
-        | inr reached ↦ elim (cases_lt (row_of a).last call.nr) [
-          | inl past ↦ inr (λ native. let last = native.last in omega arith)
-          | inr within ↦ inl (record { arch = same; first = reached; last = within })
-        ]
-      ]
-    ]
+own_or_foreign a call = grind (arith, common_steps, nat_tests, cases_eq, cases_lt)
 
 -- a rule among these that the call meets, and none only where it meets none
 abbrev IsFound : Architecture → List Rule → CallRecord → Option Rule → Type 0
@@ -80,25 +55,16 @@ some_answer p call =
 
 module _ (p : Profile) (call : CallRecord) where
   pub only_foreign : (IsOf p.architecture call → ⊥) → {a : ℕ} → ProfileAnswers p call a → a ≡ seccomp_ret_kill_process
-  only_foreign not_native (foreign h) = refl
-  only_foreign not_native (by_stub native stubbed) = absurd (not_native native)
-  only_foreign not_native (by_rule r native unstubbed among met) = absurd (not_native native)
-  only_foreign not_native (by_default native unstubbed unmet) = absurd (not_native native)
+  only_foreign h h2 = grind (arith, common_steps, nat_tests)
 
   module _ (native : IsOf p.architecture call) where
     pub only_stub : is_stubbed p.stub call.nr ≡ true → {a : ℕ} → ProfileAnswers p call a → a ≡ stub_answer
-    only_stub stubbed (foreign h) = absurd (h native)
-    only_stub stubbed (by_stub native_too stubbed_too) = refl
-    only_stub stubbed (by_rule r native_too unstubbed among met) = absurd (both_ways _ unstubbed stubbed)
-    only_stub stubbed (by_default native_too unstubbed unmet) = absurd (both_ways _ unstubbed stubbed)
+    only_stub h h2 = grind (arith, common_steps, nat_tests, both_ways)
 
     module _ (unstubbed : is_stubbed p.stub call.nr ≡ false) where
       pub only_default : ((r : Rule) → Contains p.rules r → meets p.architecture r call ≡ false) → {a : ℕ}
           → ProfileAnswers p call a → a ≡ p.default_answer.0
-      only_default unmet (foreign h) = absurd (h native)
-      only_default unmet (by_stub native_too stubbed) = absurd (both_ways _ unstubbed stubbed)
-      only_default unmet (by_rule r native_too unstubbed_too among met) = absurd (both_ways _ (unmet r among) met)
-      only_default unmet (by_default native_too unstubbed_too unmet_too) = refl
+      only_default v0 v1 = grind (arith, common_steps, nat_tests, both_ways)
 
       pub only_rule : HaveNoConflict p.architecture p.rules → IsRecord call → (r : Rule) → Contains p.rules r
           → meets p.architecture r call ≡ true → {a : ℕ} → ProfileAnswers p call a → a ≡ r.answer.0

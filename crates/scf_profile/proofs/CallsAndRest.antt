@@ -1,5 +1,5 @@
 -- The calls of a table and the ranges between them.
-use Rattle.scf_profile.proofs.Common.{ℕ, ◌+◌, ◌-◌, ◌<◌, ◌≤◌, ◌⊎◌, true, false, Bool, cond, List, [], ◌∷◌, ◌++◌, map, refl, arith, inl, inr, Contains, Contains-append_right, cases_eq, cases_lt, ltb, lt-ltb, CallRecord, IsNative, NamedCall, x32_syscall_bit}
+use Rattle.scf_profile.proofs.Common.{ℕ, ◌+◌, ◌-◌, ◌<◌, ◌≤◌, ◌⊎◌, Bool, cond, List, [], ◌∷◌, ◌++◌, map, refl, arith, inl, inr, Contains, Contains-append_right, cases_eq, cases_lt, ltb, lt-ltb, CallRecord, IsNative, NamedCall, x32_syscall_bit, nat_tests, common_steps}
 use Rattle.scf_profile.specs.CallsAndRest.{CallsAndRest, IsInOneOf, each_and_rest, range_below}
 use Rattle.scf_profile.specs.declared.scope.Scope.{Scope}
 use Rattle.scf_profile.specs.declared.scope.Scope.TheVariants.{Call, Numbers}
@@ -18,21 +18,15 @@ in_either : (some others : List Scope) (call : CallRecord) → IsInOneOf (some +
     → IsInOneOf some call ⊎ IsInOneOf others call
 in_either [] others call within = inr within
 in_either (scope ∷ some) others call (inl here) = inl (inl here)
-in_either (scope ∷ some) others call (inr there) = elim (in_either some others call there) [
-  | inl first ↦ inl (inr first)
-  | inr second ↦ inr second
-]
+in_either (scope ∷ some) others call (inr there) = grind (arith, common_steps, nat_tests, in_either some others call there)
 
 range_has : (first end : ℕ) (call : CallRecord) → IsNative call → first ≤ call.nr → call.nr < end
     → IsInOneOf (range_below first end) call
-range_has first end call native low high =
-    rw (lt-ltb first end (omega arith)) (inl (native, low, omega arith))
+range_has first end call native low high = grind (arith, common_steps, nat_tests, lt-ltb)
 
 only_native : (some : Bool) (first last : ℕ) (call : CallRecord)
     → IsInOneOf (cond some (Numbers first last ∷ []) []) call → IsNative call
-only_native true first last call (inl here) = here.0
-only_native true first last call (inr none) = absurd none
-only_native false first last call none = absurd none
+only_native some first last call h = grind (arith, common_steps, nat_tests)
 
 -- a native record from a number on is in one of the scopes
 covered : (first : ℕ) (numbers : List ℕ) (call : CallRecord) → IsNative call → first ≤ call.nr

@@ -1,5 +1,5 @@
 -- The least of clashes, rule by rule.
-use Rattle.scf_profile.proofs.Common.{◌≡◌, ℕ, length, List, Option, Some, None, All, ◌⊎◌, inl, inr, sym, eqb, arith, refl, get_or, Any, IfSome, Contains, eq-eqb, nat_tests, All-contains, All-contains_itself, Architecture, Clash, NumberRules, AreNumbersOf, ap, ◌∙◌, Rule, IsBoundedBy, IsClashBounded, IsLeastClash, EntriesConflict, Conflicts, rules_of}
+use Rattle.scf_profile.proofs.Common.{◌≡◌, ℕ, length, List, Option, Some, None, All, ◌⊎◌, inl, inr, sym, eqb, arith, refl, get_or, Any, IfSome, Contains, eq-eqb, nat_tests, All-contains, All-contains_itself, Architecture, Clash, NumberRules, AreNumbersOf, ap, ◌∙◌, Rule, IsBoundedBy, IsClashBounded, IsLeastClash, EntriesConflict, Conflicts, rules_of, common_steps}
 use Rattle.scf_profile.proofs.Numbers.{contains_filtered}
 use Rattle.scf_profile.proofs.NumberLists.{number_among, own_all, with_own}
 
@@ -32,8 +32,7 @@ AreBounded a rules least = All (λ later. All (IsClashBounded a least later) rul
 bounded : (a : Architecture) (rules : List Rule) (least : Option Clash) → AreBounded a rules least → (first second number : ℕ)
     → EntriesConflict a rules first second number
     → IsBoundedBy least (record { second = second; first = first; number = number })
-bounded a rules least all first second number (i, rule, i_lt, rule_is, (j, later, j_lt, later_is, clash)) =
-    let held = rw (later_is, rule_is) at (all j later j_lt i rule i_lt) in held _ clash
+bounded a rules least all first second number v7 = grind (arith, common_steps, nat_tests)
 
 pub least_found : (a : Architecture) (rules : List Rule) (least : Option Clash) → AreBounded a rules least
     → IfSome least (λ c. EntriesConflict a rules c.first c.second c.number) → IsLeastClash a rules least

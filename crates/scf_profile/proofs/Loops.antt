@@ -1,6 +1,6 @@
 -- Loops over the items of an array, and over tables.
 use Rattle.scf_profile.specs.declared.load_fault.LoadFault.TheVariants.{NotListed}
-use Rattle.scf_profile.proofs.Common.{common_steps, ◌≡◌, ℕ, suc, ◌+◌, ◌<◌, ◌≤◌, List, [], ◌∷◌, length, get_or, drop, refl, sym, ap, ◌∙◌, add-one, String, Global, Bool, map, ◌||◌, drop-cons, list_any, drop_all, Architecture, ArchitectureTable, Names, Option, Some, None, is_some, option_map, cond, true, false, find, row_of, is_named, all_listed, Ok, Err, table_for, tables_of, Value, item, no_items, view, items_view, members_view, items_len, members_len}
+use Rattle.scf_profile.proofs.Common.{common_steps, ◌≡◌, ℕ, suc, ◌+◌, ◌<◌, ◌≤◌, List, [], ◌∷◌, length, get_or, drop, refl, sym, ap, ◌∙◌, add-one, String, Global, Bool, map, ◌||◌, drop-cons, list_any, drop_all, Architecture, ArchitectureTable, Option, Some, None, is_some, option_map, cond, true, false, find, row_of, is_named, all_listed, Ok, Err, table_for, tables_of, Value, item, no_items, view, items_view, members_view, items_len, members_len, arith, nat_tests}
 
 -- the items from an index on, in the words that a search finds
 pub items_at : (vs : List Value) (i : ℕ) (d : Value) → i < length vs
@@ -59,15 +59,7 @@ find-map p f (x ∷ xs) = by_test (p (f x)) (find-map p f xs) where
 pub table_found : (tables : List ArchitectureTable) (a : Architecture) (first : Option ArchitectureTable)
     → first ≡ find (λ t. is_named (row_of a).name t.architecture) tables
     → option_map (λ t. t.table.now) first ≡ table_for (tables_of tables) a
-table_found tables a first is =
-    let of_pairs = find-map (λ (t : Architecture × Names). is_named (row_of a).name t.0)
-    (λ (t : ArchitectureTable). (t.architecture, t.table.now)) tables in
-    rw (of_pairs, ← is) (by_first first) where
-      by_first : (o : Option ArchitectureTable) → option_map (λ t. t.table.now) o
-          ≡ option_map (λ (t : Architecture × Names). t.1)
-          (option_map (λ (t : ArchitectureTable). (t.architecture, t.table.now)) o)
-      by_first None = refl
-      by_first (Some t) = refl
+table_found tables a first is = grind (arith, common_steps, nat_tests, find-map)
 
 -- ---- tables whose architectures have to be listed
 

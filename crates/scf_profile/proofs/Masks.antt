@@ -1,5 +1,5 @@
 -- Numbers that have a value under a mask: the least, the greatest, and those of two masks.
-use Rattle.scf_profile.proofs.Common.{◌≡◌, ℕ, ◌-◌, ◌<◌, ◌≤◌, ◌^◌, false, eqb, ne_eqb, and_mask, mod-eq_of_lt, ArgumentBits, Bits32, Bits64, greatest_argument, bit_and, sym, ap, ◌∙◌, arith, bit_or, bit_at, and_self, or_add_and, eq-eqb, eqb-true, and_assoc, and_comm, and_le_l, and_or_apart, and-not, or_comm, or_lt, bit_at_and, bit_at_or, same_from_bits, Masked, HaveCommonNumber, IsGreatestOf, IsLeastOf}
+use Rattle.scf_profile.proofs.Common.{◌≡◌, ℕ, ◌-◌, ◌<◌, ◌≤◌, ◌^◌, false, eqb, ne_eqb, and_mask, ArgumentBits, Bits32, Bits64, greatest_argument, bit_and, sym, ap, ◌∙◌, arith, bit_or, bit_at, and_self, or_add_and, eq-eqb, eqb-true, and_assoc, and_comm, and_le_l, and_or_apart, and-not, or_comm, or_lt, bit_at_and, bit_at_or, same_from_bits, Masked, HaveCommonNumber, IsGreatestOf, IsLeastOf, nat_tests, common_steps}
 
 pub masked_twice : (n m : ℕ) → bit_and (bit_and n m) m ≡ bit_and n m
 masked_twice n m = and_assoc m n m ∙ ap (bit_and n) (and_self m)
@@ -12,20 +12,14 @@ none_masked bits mask value n fits beyond = ne_eqb _ _ (λ e. omega (arith, and_
 -- the value itself is the least
 pub least_masked : (bits : ArgumentBits) (mask value : ℕ) → value ≤ greatest_argument bits → bit_and value mask ≡ value
     → IsLeastOf bits (Masked mask value) value
-least_masked bits mask value fits within = record {
-  fits = fits;
-  has = eq-eqb _ _ within;
-  least = λ k h. let e = eqb-true (bit_and k mask) value h in omega (arith, and_le_l k mask);
-}
+least_masked bits mask value fits within = grind (arith, common_steps, nat_tests, eq-eqb, eqb-true, and_le_l)
 
 -- a number up to the greatest has no bits but its own
 within_greatest : (bits : ArgumentBits) (k : ℕ) → k ≤ greatest_argument bits → bit_and k (greatest_argument bits) ≡ k
-within_greatest Bits32 k fits = and_mask k 32 ∙ mod-eq_of_lt (omega arith)
-within_greatest Bits64 k fits = and_mask k 64 ∙ mod-eq_of_lt (omega arith)
+within_greatest bits k h = grind (arith, common_steps, nat_tests, and_mask)
 
 greatest_fits : (bits : ArgumentBits) → greatest_argument bits < 2 ^ 64
-greatest_fits Bits32 = omega arith
-greatest_fits Bits64 = omega arith
+greatest_fits bits = grind (arith, common_steps, nat_tests)
 
 greatest_or : (bits : ArgumentBits) (v w : ℕ) → v ≤ greatest_argument bits → w ≤ greatest_argument bits
     → bit_or v w ≤ greatest_argument bits
@@ -42,11 +36,7 @@ module _ (bits : ArgumentBits) (mask value : ℕ) (mask_fits : mask < 2 ^ 64) wh
 
   -- no bit is in the mask and outside
   apart : bit_and outside mask ≡ 0
-  apart =
-      let none : bit_and (2 ^ 64 - 1 - mask) mask ≡ 0 =
-      omega (arith, and-not 64 mask mask mask_fits mask_fits, and_self mask, and_comm mask (2 ^ 64 - 1 - mask)) in
-      and_assoc mask (greatest_argument bits) (2 ^ 64 - 1 - mask)
-      ∙ ap (bit_and (greatest_argument bits)) none ∙ and_none (greatest_argument bits)
+  apart = grind (arith, common_steps, nat_tests, and-not, and_comm, and_assoc, and_none)
 
   -- what a number up to the greatest has outside the mask
   left_outside : (k : ℕ) → k ≤ greatest_argument bits → bit_and k (2 ^ 64 - 1 - mask) ≤ outside
@@ -97,8 +87,4 @@ two_masks bits m v n w lv lw hv hw h = record {
 
 pub two_masks_agree : (bits : ArgumentBits) (m v n w : ℕ) → HaveCommonNumber bits (Masked m v) (Masked n w)
     → bit_and v n ≡ bit_and w m
-two_masks_agree bits m v n w s =
-    let one = eqb-true (bit_and s.number m) v s.first in
-    let two = eqb-true (bit_and s.number n) w s.second in
-    ap (λ (x : ℕ). bit_and x n) (sym one) ∙ and_assoc n s.number m ∙ ap (bit_and s.number) (and_comm m n)
-    ∙ sym (and_assoc m s.number n) ∙ ap (λ (x : ℕ). bit_and x m) two
+two_masks_agree bits m v n w s = grind (arith, common_steps, nat_tests, eqb-true, and_assoc, and_comm)

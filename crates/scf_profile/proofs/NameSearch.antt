@@ -1,5 +1,5 @@
 -- A binary search among entries in the order of their names finds what the map has.
-use Rattle.scf_profile.proofs.Common.{◌≡◌, ℕ, ◌<◌, ◌≤◌, List, None, Some, refl, sym, ap, subst, ◌∙◌, arith, get, get_or, get_or-map, length, length-map, slice_cmp, keys_of, nat_list_cmp_total, eq_by_cmp_equiv, exact_bytes, Less, inl, inr, cases_order, IsDistinct-from_sorted, AreSorted, names_of, suc}
+use Rattle.scf_profile.proofs.Common.{◌≡◌, ℕ, ◌<◌, ◌≤◌, List, None, Some, refl, sym, ap, subst, ◌∙◌, arith, get, get_or, get_or-map, length, length-map, slice_cmp, keys_of, nat_list_cmp_total, eq_by_cmp_equiv, exact_bytes, Less, inl, inr, cases_order, IsDistinct-from_sorted, AreSorted, names_of, suc, nat_tests, common_steps}
 use Rattle.std.proofs.Common.{nat_cmp}
 use Rattle.std.specs.declared.cmp.Ordering.TheVariants.{Equal, Greater}
 use Rattle.std.specs.Ordering.{ordering_reverse}
@@ -37,9 +37,7 @@ module _ (es : List (List ℕ × ℕ)) (sorted : AreSorted es) where
     there = slice_get_read es (length es) m middle refl inside is
 
     same_entry : (j : ℕ) (e : List ℕ × ℕ) → m ≡ j → slice_get es j ≡ Some e → middle ≡ e
-    same_entry j e same at =
-        sym (get_or_from_slice_get es m middle middle there) ∙ ap (λ (i : ℕ). get_or es i middle) same
-        ∙ get_or_from_slice_get es j e middle at
+    same_entry j e same at = grind (arith, common_steps, nat_tests, get_or_from_slice_get, there)
 
     -- where the name of an entry is above q, so are those behind it
     pub above_from : slice_cmp nat_cmp q middle.0 ≡ Less → AreAbove es q m

@@ -1,5 +1,5 @@
 -- The names under the numbers of a table are the calls of the table.
-use Rattle.scf_profile.proofs.Common.{map-map, ◌≡◌, ℕ, Bool, cond, eqb, List, [], ◌∷◌, map, Option, None, Some, Global, Bor, Vec, refl, sym, ap, ◌∙◌, subst, get_or, ltb, length, ◌<◌, arith, ◌↔◌, IsSome, Contains, is_some, IsOrdered, eq_by_cmp_equiv, slice_cmp, nat_list_cmp_total, get, get-from_entries, AllByRecursion, filter, keys_of, lookup, eq_by_cmp, Ordering, Less, eq-eqb, lt-ltb, nat_tests, nat_cmp_total, All-map, Contains-get_or, IsStrictlySortedBy-filter, option_filter, lookup-filter-values, IsDistinct-from_sorted, IsStrictlyIncreasing-from_sorted, exact_bytes, exact_unsigned, All-found, Contains-keys_from_lookup, IsSome-lookup_from_Contains, btree_map_contains_key_iff, tells_apart, HasItsNames, AreCallsOf, AreSorted, names_of, texts_at, Names, Named, named_call, names_under, names_with, AreByNumber}
+use Rattle.scf_profile.proofs.Common.{map-map, ◌≡◌, ℕ, Bool, cond, eqb, List, [], ◌∷◌, map, Option, Some, Global, Bor, Vec, refl, sym, ap, ◌∙◌, subst, get_or, ltb, length, ◌<◌, arith, ◌↔◌, IsSome, Contains, is_some, IsOrdered, eq_by_cmp_equiv, slice_cmp, nat_list_cmp_total, get, get-from_entries, AllByRecursion, filter, keys_of, lookup, eq_by_cmp, Ordering, Less, eq-eqb, lt-ltb, nat_tests, nat_cmp_total, All-map, Contains-get_or, IsStrictlySortedBy-filter, option_filter, lookup-filter-values, IsDistinct-from_sorted, IsStrictlyIncreasing-from_sorted, exact_bytes, exact_unsigned, All-found, Contains-keys_from_lookup, IsSome-lookup_from_Contains, btree_map_contains_key_iff, tells_apart, HasItsNames, AreCallsOf, AreSorted, names_of, texts_at, Names, Named, named_call, names_under, names_with, AreByNumber, common_steps}
 use Rattle.std.proofs.Common.{nat_cmp}
 use Rattle.std.specs.BTreeMap as tree
 use Rattle.scf_profile.specs.declared.named_call.NamedCall.{NamedCall}
@@ -35,8 +35,7 @@ find_is_lookup q [] = refl
 find_is_lookup q (e ∷ es) = ap (cond (eq_by_cmp by_bytes q e.0) (Some e.1)) (find_is_lookup q es)
 
 is_number : (n : ℕ) (o : Option ℕ) → IsSome (option_filter (eqb n) o) → o ≡ Some n
-is_number n None h = cc
-is_number n (Some m) h = grind (arith, nat_tests)
+is_number n o h = grind (arith, common_steps, nat_tests)
 
 number_is : (n : ℕ) (o : Option ℕ) → o ≡ Some n → IsSome (option_filter (eqb n) o)
 number_is n o e = rw (e, eq-eqb n n refl) refl

@@ -1,5 +1,5 @@
 -- The numbers that rules have, each with its rules.
-use Rattle.scf_profile.proofs.Common.{true, AllPairs, sum, Decides-eqb, filter_passes, AllPairs-cons, AllPairs-filter, AllPairs-from_increasing, sum-map, sum_by-le, Contains-tail, IsDistinct-from_AllPairs, All-cons, All-permutation, map-map, ◌≡◌, ◌≢◌, ℕ, ◌+◌, ◌<◌, ◌⊎◌, false, not, eqb, length, List, [], ◌∷◌, map, get_or, All, refl, sym, ap, ◌∙◌, subst, arith, inl, inr, Contains, cases_eq, eq-eqb, ne_eqb, nat_tests, length-map, get_or-map, All-filter, All-from_recursion, All-map, All-contains, Contains-append_right, IsPermutation, IsStrictlyIncreasing, Rule, numbers_of, rules_of, NumberRules, AreNumbersOf, sum_by, IsPermutation-cons, IsPermutation-refl, IsPermutation-remove, IsPermutation-sym, IsPermutation-trans, IsDistinct, IsDistinct-IsPermutation, IsDistinct-head, IsDistinct-tail, Contains-permutation, length_permutation, sum_by-IsPermutation, sum_by-cons, remove, All-contains_itself, All-weaker, All-head, All-tail, AreUnder, Under, number_rules, rules_under, keys_of, value_of, nat_cmp, nat_cmp_total, exact_unsigned, IsOrdered, IsStrictlyIncreasing-from_sorted, btree_map_contains_key_iff, All-found, is_some, ltb, lt-ltb}
+use Rattle.scf_profile.proofs.Common.{true, AllPairs, sum, Decides-eqb, filter_passes, AllPairs-cons, AllPairs-filter, AllPairs-from_increasing, sum-map, sum_by-le, Contains-tail, IsDistinct-from_AllPairs, All-cons, All-permutation, map-map, ◌≡◌, ◌≢◌, ℕ, ◌+◌, ◌<◌, ◌⊎◌, false, not, eqb, length, List, [], ◌∷◌, map, get_or, All, refl, sym, ap, ◌∙◌, subst, arith, inl, inr, Contains, cases_eq, eq-eqb, ne_eqb, nat_tests, length-map, get_or-map, All-filter, All-from_recursion, All-map, All-contains, Contains-append_right, IsPermutation, IsStrictlyIncreasing, Rule, numbers_of, rules_of, NumberRules, AreNumbersOf, sum_by, IsPermutation-cons, IsPermutation-refl, IsPermutation-remove, IsPermutation-sym, IsPermutation-trans, IsDistinct, IsDistinct-IsPermutation, IsDistinct-head, IsDistinct-tail, Contains-permutation, length_permutation, sum_by-IsPermutation, sum_by-cons, remove, All-contains_itself, All-weaker, All-head, All-tail, AreUnder, Under, number_rules, rules_under, keys_of, value_of, nat_cmp, nat_cmp_total, exact_unsigned, IsOrdered, IsStrictlyIncreasing-from_sorted, btree_map_contains_key_iff, All-found, is_some, ltb, lt-ltb, common_steps}
 use Rattle.scf_profile.proofs.Numbers.{contains_filtered, number_there}
 
 -- ---- lists of distinct numbers
@@ -60,11 +60,7 @@ number_in group = group.number
 
 -- a number of rules is among the distinct ones
 some_rules : (rules : List Rule) (nr : ℕ) → 0 < length (rules_of nr rules) → Contains (numbers_of rules) nr
-some_rules rules nr some =
-    elim (number_there nr rules) [
-      | inl there ↦ there
-      | inr none ↦ absurd (let nothing = ap (λ (rs : List Rule). length rs) none in omega arith)
-    ]
+some_rules rules nr some = grind (arith, common_steps, nat_tests, number_there)
 
 -- what holds of the number of each rule holds of the distinct ones
 numbers_all : (P : ℕ → Type 0) (rules : List Rule) → All (λ r. P r.number) rules → All P (numbers_of rules)
@@ -193,8 +189,7 @@ module _ (numbers : List NumberRules) (rules : List Rule) (are : AreNumbersOf nu
       ]
 
   pub count_of_numbers : length numbers ≡ length (numbers_of rules)
-  count_of_numbers =
-      sym (length-map numbers number_in) ∙ length_permutation (numbers_of rules) (map number_in numbers) are.same
+  count_of_numbers = grind (arith, common_steps, nat_tests, length-map, length_permutation)
 
   pub sum_of_own : (f : List Rule → ℕ)
       → sum_by (λ (group : NumberRules). f group.rules.items) numbers

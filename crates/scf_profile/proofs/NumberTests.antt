@@ -1,7 +1,5 @@
 -- A condition is decided by its test, half by half.
-use Rattle.scf_profile.proofs.Common.{◌≡◌, ℕ, ◌-◌, ◌<◌, ◌^◌, inr, not, eqb, leb, ltb, refl, sym, ap, ◌∙◌, arith, bit_and, nat_tests, compares, IsPlainCondition}
-use Rattle.scf_insn.specs.SimpleMask.{IsSimpleMask}
-use Rattle.scf_insn.specs.Words.{low, high}
+use Rattle.scf_profile.proofs.Common.{◌≡◌, ℕ, ◌-◌, ◌<◌, ◌^◌, not, eqb, leb, ltb, sym, ap, ◌∙◌, arith, bit_and, nat_tests, compares, IsPlainCondition, common_steps}
 use Rattle.std.proofs.lemmas.Nat.{and_mask}
 use Rattle.scf_insn.proofs.Halves.{leb_split, ltb_split, masked_split}
 use Rattle.scf_profile.specs.declared.condition.Operator.{Operator}
@@ -14,8 +12,7 @@ use Rattle.scf_profile.specs.NumberTests.{IsPlainTest, comes_to, test_by, test_o
 
 -- under all bits a number is itself
 equal : (n value : ℕ) → n < 2 ^ 64 → tree_answer (tests.Masked (2 ^ 64 - 1) value) n ≡ eqb n value
-equal n value fits =
-    sym (masked_split n (2 ^ 64 - 1) value) ∙ ap (λ (m : ℕ). eqb m value) (and_mask n 64 ∙ omega arith)
+equal n value fits = grind (arith, common_steps, nat_tests, and_mask)
 
 greater : (n value : ℕ) → tree_answer (tests.Greater value) n ≡ ltb value n
 greater n value = grind (arith, nat_tests, ltb_split value n)
@@ -38,12 +35,4 @@ decides c n fits = by_operator c.op c.value c.value_two n fits
 
 -- of a condition with simple masks the test is plain
 pub plain_of : (c : Condition) → IsPlainCondition c → IsPlainTest (test_of c).0
-plain_of c plain = by_plain c.op c.value c.value_two plain
-  where
-    by_plain : (op : Operator) (value value_two : ℕ)
-        → (op ≡ MaskedEqual → IsSimpleMask (low value) × IsSimpleMask (high value))
-        → IsPlainTest (test_by op value value_two).0
-    by_plain NotEqual value value_two plain = (inr (inr refl), inr (inr refl))
-    by_plain Equal value value_two plain = (inr (inr refl), inr (inr refl))
-    by_plain MaskedEqual value value_two plain = ((plain refl).1, (plain refl).0)
-    by_plain op value value_two plain = tt
+plain_of c plain = grind (arith, common_steps, nat_tests)

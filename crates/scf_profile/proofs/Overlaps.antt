@@ -1,6 +1,5 @@
 -- Conditions on one argument.
-use Rattle.scf_profile.proofs.Common.{◌≡◌, ◌≢◌, ℕ, zero, suc, ◌<◌, ◌≤◌, ◌^◌, ◌↔◌, Bool, true, ◌&&◌, List, [], ◌∷◌, eqb, get_or, Option, Some, None, refl, sym, ap, ◌∙◌, arith, inl, inr, AllByRecursion, find, and_parts, cases_eq, cases_lt, eq-eqb, ne_eqb, get_or_past, All-cons, All-from_recursion, All-head, All-nil, All-tail, AllPass-from_list_all, list_all-from_AllPass, Architecture, ArgumentBits, Bits32, Bits64, greatest_argument, taken_of, row_of, argument_in, CallRecord, IsRecord, argument, Condition, Rule, condition_holds, seccomp_data_args, Conflicts, HaveDistinctIndices, IsCondition, IsRule, all_hold, HoldAt, Overlap}
-use Rattle.scf_insn.proofs.Architectures.{reach}
+use Rattle.scf_profile.proofs.Common.{◌≡◌, ◌≢◌, ℕ, zero, suc, ◌<◌, ◌≤◌, ◌^◌, ◌↔◌, Bool, true, ◌&&◌, List, [], ◌∷◌, eqb, Option, Some, None, refl, sym, ap, ◌∙◌, arith, inl, inr, AllByRecursion, find, and_parts, cases_eq, cases_lt, eq-eqb, ne_eqb, get_or_past, All-cons, All-from_recursion, All-head, All-nil, All-tail, list_all-from_AllPass, Architecture, ArgumentBits, greatest_argument, taken_of, row_of, argument_in, CallRecord, IsRecord, argument, Condition, Rule, condition_holds, seccomp_data_args, Conflicts, HaveDistinctIndices, IsCondition, IsRule, all_hold, HoldAt, Overlap, nat_tests, common_steps}
 
 -- what holds of a condition where it is on the argument
 abbrev HoldsOn : ℕ → ℕ → Condition → Type 0
@@ -40,24 +39,19 @@ hold_by_found cs index n h first is = rw is (hold_by_first cs index n h)
 -- the conditions of a rule that a call meets
 held_at : (a : Architecture) (call : CallRecord) (cs : List Condition) → all_hold a call cs ≡ true → (i : ℕ)
     → HoldAt cs i (argument_in a call i)
-held_at a call cs all i k c below on =
-    rw (← on) (AllPass-from_list_all (λ d. condition_holds d (argument_in a call d.index)) cs all k c below)
+held_at a call cs all i k c below on = grind (arith, common_steps, nat_tests)
 
 -- a call of whose arguments the conditions hold
 all_held : (a : Architecture) (call : CallRecord) (cs : List Condition) → AllByRecursion IsCondition cs
     → ((i : ℕ) → i < seccomp_data_args → HoldAt cs i (argument_in a call i)) → all_hold a call cs ≡ true
-all_held a call cs each held =
-    list_all-from_AllPass (λ c. condition_holds c (argument_in a call c.index)) cs
-    (λ k c below. held (get_or cs k c).index (All-from_recursion IsCondition cs each k c below).index k c below refl)
+all_held a call cs each held = grind (arith, common_steps, nat_tests, list_all-from_AllPass)
 
 -- an argument is all that is taken of it
 taken_whole : (bits : ArgumentBits) (n : ℕ) → n ≤ greatest_argument bits → (taken_of bits n ≡ n) × (n < 2 ^ 64)
-taken_whole Bits32 n fits = (omega arith, omega arith)
-taken_whole Bits64 n fits = (refl, omega arith)
+taken_whole bits n h = grind (arith, common_steps, nat_tests)
 
 argument_fits : (bits : ArgumentBits) (n : ℕ) → n < 2 ^ 64 → taken_of bits n ≤ greatest_argument bits
-argument_fits Bits32 n fits = omega arith
-argument_fits Bits64 n fits = omega arith
+argument_fits bits n h = grind (arith, common_steps, nat_tests)
 
 -- a number for each argument makes a call that meets both rules
 module _ (a : Architecture) (r s : Rule) (of_r : IsRule a r) (of_s : IsRule a s)
@@ -93,17 +87,7 @@ module _ (a : Architecture) (r s : Rule) (of_r : IsRule a r) (of_s : IsRule a s)
       (λ j lt. rw (taken_whole (row_of a).bits (number j lt) (overlap j lt).fits).0 (h j lt)) i lt
 
   fits : IsRecord call
-  fits = record {
-    nr = let below = of_r.last in omega (arith, (reach a).small);
-    arch = omega arith;
-    ip = omega arith;
-    count = refl;
-    args = λ i. elim (cases_lt i seccomp_data_args) [
-      | inl lt ↦ at_arguments (λ j n. n < 2 ^ 64)
-          (λ j lt. (taken_whole (row_of a).bits (number j lt) (overlap j lt).fits).1) i lt
-      | inr past ↦ let none : argument call i ≡ 0 = get_or_past call.args i 0 past in omega arith
-    ];
-  }
+  fits = grind (arith, common_steps, nat_tests, cases_lt, at_arguments, taken_whole, get_or_past)
 
   pub conflict_from : r.number ≡ s.number → r.answer ≢ s.answer → Conflicts a r s
   conflict_from same apart = record {

@@ -22,10 +22,6 @@ behind : (count index v x : ℕ) (xs : List ℕ) → with_bytes count (suc index
 behind zero index v x xs = refl
 behind (suc count) index v x xs = behind count (suc index) _ x xs
 
-nothing_behind : (count index v : ℕ) → with_bytes count (suc index) v [] ≡ with_bytes count index v []
-nothing_behind zero index v = refl
-nothing_behind (suc count) index v = nothing_behind count (suc index) _
-
 -- an empty text is the least
 nothing_least : (count index v w : ℕ) (ys : List ℕ) → v ≤ w
     → with_bytes count index v [] ≤ with_bytes count index w ys

@@ -1,5 +1,5 @@
 -- The reason of an answer.
-use Rattle.scf_profile.proofs.Common.{◌≡◌, ℕ, zero, suc, ◌≤◌, ◌<◌, inl, inr, List, [], ◌∷◌, Option, Some, None, common_steps, refl, ap, arith, min, All, length, Contains, filter, fold, reduce, AllByRecursion, Architecture, cases_lt, false, false_from_ne_true, length-map, All-from_recursion, CallRecord, IsRecord, Reason, Foreign, Stub, Entry, Default, Rule, meets, Profile, HaveNoConflict, ProfileAnswers, entries_met, IsReason, IsAnswerOf}
+use Rattle.scf_profile.proofs.Common.{◌≡◌, ℕ, zero, suc, ◌≤◌, ◌<◌, inl, inr, List, [], ◌∷◌, Option, Some, None, common_steps, refl, ap, arith, min, All, length, Contains, filter, fold, reduce, AllByRecursion, Architecture, cases_lt, false, false_from_ne_true, length-map, CallRecord, IsRecord, Reason, Rule, meets, Profile, HaveNoConflict, ProfileAnswers, entries_met, IsReason, IsAnswerOf, nat_tests}
 use Rattle.std.specs.Option.{unwrap_or}
 use Rattle.scf_profile.proofs.Answering.{only_default, only_foreign, only_rule, only_stub}
 use Rattle.scf_profile.proofs.Numbers.{contains_filtered}
@@ -22,11 +22,7 @@ least_of_fold n (m ∷ numbers) =
 -- the least of numbers is one of them, and none is below it
 pub least_of : (numbers : List ℕ) (least : ℕ) → reduce min numbers ≡ Some least
     → Contains numbers least × All (λ number. least ≤ number) numbers
-least_of [] least e = absurd (cc)
-least_of (n ∷ numbers) least e =
-    let same : fold min n numbers ≡ least = cc in
-    let least_number = least_of_fold n numbers in
-    rw (← same) (least_number.0, All-from_recursion (λ number. fold min n numbers ≤ number) (n ∷ numbers) least_number.1)
+least_of numbers least h = grind (arith, common_steps, nat_tests, least_of_fold)
 
 -- the least of numbers, and of one before them if there is one
 abbrev pub least_with : Option ℕ → List ℕ → Option ℕ
@@ -35,14 +31,10 @@ least_with (Some least) numbers = Some (fold min least numbers)
 
 pub least_with_next : (least : Option ℕ) (n : ℕ) (numbers : List ℕ)
     → least_with least (n ∷ numbers) ≡ least_with (Some (min (unwrap_or least n) n)) numbers
-least_with_next None n numbers =
-    let same : min n n ≡ n = omega arith in
-    rw same refl
-least_with_next (Some least) n numbers = refl
+least_with_next least n numbers = grind (arith, common_steps, nat_tests)
 
 pub least_with_none : (least : Option ℕ) → least_with least [] ≡ least
-least_with_none None = refl
-least_with_none (Some least) = refl
+least_with_none least = grind (arith, common_steps, nat_tests)
 
 pub ruleset least_steps = (common_steps, least_with_next, least_with_none)
 
@@ -59,10 +51,4 @@ unmet_by_none a rules call none r has = false_from_ne_true _ (λ met.
 pub answer_of_reason : (p : Profile) (call : CallRecord) (reason : Reason) (answer : ℕ)
     → HaveNoConflict p.architecture p.rules → IsRecord call → IsReason p call reason → ProfileAnswers p call answer
     → IsAnswerOf p call reason answer
-answer_of_reason p call Foreign answer none fits reason answered = only_foreign p call reason answered
-answer_of_reason p call Stub answer none fits reason answered = only_stub p call reason.0 reason.1 answered
-answer_of_reason p call (Entry index) answer none fits reason answered =
-    λ r has stated met. only_rule p call reason.0 reason.1 none fits r has met answered
-answer_of_reason p call Default answer none fits reason answered =
-    only_default p call reason.0 reason.1
-    (unmet_by_none p.architecture p.rules call reason.2) answered
+answer_of_reason p call reason answer h h2 h3 h4 = grind (arith, common_steps, nat_tests, only_foreign, only_stub, only_rule, only_default, unmet_by_none)

@@ -1,5 +1,5 @@
 -- Profiles that are stated one after another.
-use Rattle.scf_profile.proofs.Common.{◌≡◌, ℕ, ◌+◌, ◌<◌, ◌∙◌, Bool, true, false, ◌||◌, List, [], ◌∷◌, ◌++◌, Option, Some, None, All, option_map, cons_option, filter_map, list_any, map, drop, get_or, length, ltb, refl, arith, add-one, drop-cons, le-ltb, length-map, get_or-map, map-append, append_assoc, list_any-append, false≢true, AllPairs-cons, All-head, All-tail, All-contains, All-cons, All-nil, AllByRecursion, Contains-append_right, Answer, Architecture, AreApart, AreOfApart, X8664, Profile, HaveNoConflict, LoadFault, AreStatedRules, TellsOneTooMany, max_rules, architectures, profile_for, profiles_from, table_for, Tables, Names, stated_profile, effective_of, effective_rules, Reading, NamesLeastConflict, NamesFirstConflict, rules_from, with_stub, is_named, row_of, cond}
+use Rattle.scf_profile.proofs.Common.{◌≡◌, ℕ, ◌+◌, ◌<◌, Bool, true, false, ◌||◌, List, [], ◌∷◌, ◌++◌, Option, Some, None, All, option_map, cons_option, filter_map, list_any, map, drop, get_or, length, ltb, refl, arith, add-one, drop-cons, le-ltb, length-map, get_or-map, map-append, append_assoc, list_any-append, false≢true, AllPairs-cons, All-head, All-tail, All-contains, All-cons, All-nil, AllByRecursion, Contains-append_right, Answer, Architecture, AreApart, AreOfApart, X8664, Profile, HaveNoConflict, LoadFault, AreStatedRules, TellsOneTooMany, max_rules, architectures, profile_for, profiles_from, table_for, Tables, Names, stated_profile, effective_of, effective_rules, Reading, NamesLeastConflict, NamesFirstConflict, rules_from, with_stub, nat_tests, common_steps}
 use Rattle.scf_insn.proofs.Architectures.{EachApart, each_apart}
 use Rattle.scf_profile.specs.declared.entry.Entry.{Entry}
 use Rattle.scf_profile.specs.declared.load_fault.LoadFault.TheVariants as faults
@@ -13,9 +13,7 @@ with_found stated None = stated
 with_found stated (Some rules) = stated ++ rules ∷ []
 
 by_either : (a b c : Bool) → (b || false) ≡ true → (a || (b || c)) ≡ true
-by_either true b c h = refl
-by_either false true c h = refl
-by_either false false c h = absurd (false≢true h)
+by_either a b c h = grind (arith, common_steps, nat_tests, false≢true)
 
 module _ (out : Option Answer) (tables : Tables) (entries : List Entry) (all : List Architecture) (i : ℕ)
     (lt : i < length all) where
@@ -33,34 +31,13 @@ module _ (out : Option Answer) (tables : Tables) (entries : List Entry) (all : L
       → option_map (stated_profile default) rules ≡ here default
       → map (stated_profile default) stated ++ filter_map (profile_for out tables default entries) (drop i all) ≡ whole
       → map (stated_profile default) (with_found stated rules) ++ behind default ≡ whole
-  stated_more default stated rules whole is so_far =
-      by_rules rules (rw (split default, ← is) at so_far) where
-        by_rules : (o : Option StatedRules)
-            → map (stated_profile default) stated ++ cons_option (option_map (stated_profile default) o) (behind default)
-            ≡ whole → map (stated_profile default) (with_found stated o) ++ behind default ≡ whole
-        by_rules None h = h
-        by_rules (Some r) h =
-            rw (map-append (stated_profile default) stated (r ∷ []))
-            (append_assoc (map (stated_profile default) stated) (stated_profile default r ∷ []) (behind default) ∙ h)
+  stated_more default stated rules whole is so_far = grind (arith, common_steps, nat_tests, split, map-append, append_assoc)
 
   -- the rules of one architecture are too many
   pub one_too_many : (default : Answer) (stated : List StatedRules) (whole : List Profile) (fault : LoadFault)
       → map (stated_profile default) stated ++ filter_map (profile_for out tables default entries) (drop i all) ≡ whole
       → TellsOneTooMany (cons_option (here default) []) fault → TellsOneTooMany whole fault
-  one_too_many default stated whole fault so_far tells not_memory =
-      by_one (here default) (tells not_memory) (rw (split default) at so_far) where
-        too_many : Profile → Bool
-        too_many p = ltb max_rules (length p.rules)
-
-        by_one : (o : Option Profile) → (fault ≡ faults.TooMany) × (list_any too_many (cons_option o []) ≡ true)
-            → map (stated_profile default) stated ++ cons_option o (behind default) ≡ whole
-            → (fault ≡ faults.TooMany) × (list_any too_many whole ≡ true)
-        by_one None h is = absurd (false≢true h.1)
-        by_one (Some p) h is = (
-          h.0,
-          rw (← is, list_any-append too_many (map (stated_profile default) stated) (p ∷ behind default))
-              (by_either (list_any too_many (map (stated_profile default) stated)) (too_many p) _ h.1),
-        )
+  one_too_many default stated whole fault so_far tells not_memory = grind (arith, common_steps, nat_tests, split, false≢true, list_any-append, by_either)
 
 -- the rules of one of few tables aren't too many
 pub none_too_many : (default : Answer) (stated : List StatedRules)
@@ -121,10 +98,7 @@ still_apart change profiles same apart i j d lt within =
 
 pub with_stub_keeps_architecture : (a : Architecture) (first : Option ℕ) (p : Profile)
     → (with_stub a first p).architecture ≡ p.architecture
-with_stub_keeps_architecture a first p = keeps (is_named (row_of a).name p.architecture) where
-  keeps : (b : Bool) → (cond b (record p { stub = first }) p).architecture ≡ p.architecture
-  keeps true = refl
-  keeps false = refl
+with_stub_keeps_architecture a first p = grind (arith, common_steps, nat_tests)
 
 -- ---- conflicts of one profile after another
 

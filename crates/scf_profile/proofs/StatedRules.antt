@@ -1,5 +1,5 @@
 -- The rules that entries state: their ranges, and one answer for each entry.
-use Rattle.scf_profile.proofs.Common.{◌≡◌, ℕ, suc, Bool, ◌+◌, ◌<◌, ◌≤◌, ◌^◌, List, [], ◌∷◌, ◌++◌, length, get_or, map, Some, None, Option, All, refl, sym, ap, ◌∙◌, arith, inl, inr, Contains, count_by-le-length, length-filter, option_map, cons_option, All-contains_itself, All-filter, Reading, effective_rules, is_effective, filter, get, cases_order, recursion_from_All, All-nil, All-cons, All-append, All-head, All-tail, All-contains, All-same, All-weaker, filter-append, filter_map-append, Architecture, row_of, Rule, IsEntry, AreStatedRules, Answer, EntriesConflict, max_rules, IsProfile, HaveNoConflict, Conflicts, IsRule, Names, AreCallNumbers, option_map_or, rules_by_each, rules_of_entry, rules_named, rules_from, Condition, IsCondition, AreConditions, HaveDistinctIndices, AllByRecursion, alternatives, has_repeated_index, cond, true, false, list_any, or_parts, eqb, eqb-false, ◌≢◌, append-nil, flat_map-cons}
+use Rattle.scf_profile.proofs.Common.{◌≡◌, ℕ, suc, Bool, ◌+◌, ◌<◌, ◌≤◌, ◌^◌, List, [], ◌∷◌, ◌++◌, length, get_or, map, Some, None, Option, All, refl, sym, ap, ◌∙◌, arith, inl, inr, Contains, count_by-le-length, length-filter, All-contains_itself, All-filter, Reading, effective_rules, is_effective, filter, get, cases_order, recursion_from_All, All-nil, All-cons, All-append, All-head, All-tail, All-contains, All-same, All-weaker, filter-append, filter_map-append, Architecture, row_of, Rule, IsEntry, AreStatedRules, Answer, EntriesConflict, max_rules, IsProfile, HaveNoConflict, Conflicts, IsRule, Names, AreCallNumbers, option_map_or, rules_by_each, rules_of_entry, rules_named, rules_from, Condition, IsCondition, AreConditions, HaveDistinctIndices, AllByRecursion, alternatives, has_repeated_index, cond, true, false, list_any, or_parts, eqb, eqb-false, ◌≢◌, append-nil, flat_map-cons, nat_tests, common_steps}
 use Rattle.std.proofs.lemmas.List.Kept.{AllPairs-cons, AllPairs-filter}
 use Rattle.scf_insn.proofs.Architectures.{number_within}
 use Rattle.scf_profile.specs.declared.entry.Entry.{Entry}
@@ -23,13 +23,7 @@ module _ (a : Architecture) (P : Rule → Type 0) (table : Names) (index : ℕ) 
     → P (rule_for a index conditions answer number)) where
   all_named : (names : List (List ℕ)) → All P (rules_named a table index conditions answer names)
   all_named [] = All-nil P
-  all_named (name ∷ names) = by_number (get table name) refl (all_named names) where
-    by_number : (o : Option ℕ) → get table name ≡ o → All P (rules_named a table index conditions answer names)
-        → All P (cons_option (option_map (rule_for a index conditions answer) o)
-        (rules_named a table index conditions answer names))
-    by_number None is stated = stated
-    by_number (Some number) is stated =
-        All-cons P (rule_for a index conditions answer number) _ (each name number is) stated
+  all_named (name ∷ names) = grind (arith, common_steps, nat_tests, all_named names)
 
 all_unless : (P : Rule → Type 0) (out : Bool) (rules : List Rule) → All P rules → All P (cond out [] rules)
 all_unless P true rules all = All-nil P
@@ -134,31 +128,19 @@ of_entry out a table index e =
 from_index : (out : Option Answer) (a : Architecture) (table : Names) (index : ℕ) (es : List Entry)
     → All (λ r. index ≤ r.entry) (rules_from out a table index es)
 from_index out a table index [] = All-nil (λ (r : Rule). index ≤ r.entry)
-from_index out a table index (e ∷ es) =
-    let P : Rule → Type 0 = λ r. index ≤ r.entry in
-    All-append P (rules_of_entry out a table index e) (rules_from out a table (index + 1) es)
-    (All-weaker (λ (r : Rule). r.entry ≡ index) P (λ r same. omega (arith, same)) (rules_of_entry out a table index e)
-    (of_entry out a table index e))
-    (All-weaker (λ (r : Rule). index + 1 ≤ r.entry) P (λ r le. omega (arith, le)) (rules_from out a table (index + 1) es)
-    (from_index out a table (index + 1) es))
+from_index out a table index (e ∷ es) = grind (arith, common_steps, nat_tests, of_entry, from_index out a table (index + 1) es)
 
 stated_in_order : (out : Option Answer) (a : Architecture) (table : Names) (index : ℕ) (es : List Entry)
     → AreInOrder (rules_from out a table index es)
 stated_in_order out a table index [] = λ i j d lt inside. absurd (omega (arith, lt, inside))
-stated_in_order out a table index (e ∷ es) =
-    in_order_before (rules_of_entry out a table index e) (rules_from out a table (index + 1) es) index
-    (of_entry out a table index e)
-    (All-weaker (λ (r : Rule). index + 1 ≤ r.entry) (λ (r : Rule). index ≤ r.entry) (λ r le. omega (arith, le))
-    (rules_from out a table (index + 1) es) (from_index out a table (index + 1) es))
-    (stated_in_order out a table (index + 1) es)
+stated_in_order out a table index (e ∷ es) = grind (arith, common_steps, nat_tests, in_order_before, of_entry, from_index, stated_in_order out a table (index + 1) es)
 
 -- ---- one name after another
 
 pub rules_first : (a : Architecture) (table : Names) (index : ℕ) (conditions : List Condition) (answer : Answer)
     (name : List ℕ) (names : List (List ℕ)) → rules_named a table index conditions answer (name ∷ names)
     ≡ rules_named a table index conditions answer (name ∷ []) ++ rules_named a table index conditions answer names
-rules_first a table index conditions answer name names =
-    filter_map-append (λ n. option_map (rule_for a index conditions answer) (get table n)) (name ∷ []) names
+rules_first a table index conditions answer name names = grind (arith, common_steps, nat_tests, filter_map-append)
 
 pub skipped_first : (lacks : List ℕ → Bool) (name : List ℕ) (names : List (List ℕ))
     → filter lacks (name ∷ names) ≡ filter lacks (name ∷ []) ++ filter lacks names
@@ -171,8 +153,7 @@ pub ruleset names_first = (rules_first, skipped_first)
 pub by_each_first : (a : Architecture) (table : Names) (index : ℕ) (cs : List Condition)
     (several : List (List Condition)) (answer : Answer) (names : List (List ℕ)) → rules_by_each a table index (cs ∷ several) answer names
     ≡ rules_named a table index cs answer names ++ rules_by_each a table index several answer names
-by_each_first a table index cs several answer names =
-    flat_map-cons (λ conditions. rules_named a table index conditions answer names) cs several
+by_each_first a table index cs several answer names = grind (arith, common_steps, nat_tests, flat_map-cons)
 
 pub by_one : (a : Architecture) (table : Names) (index : ℕ) (cs : List Condition) (answer : Answer)
     (names : List (List ℕ)) → rules_by_each a table index (cs ∷ []) answer names

@@ -1,5 +1,5 @@
 -- The tests of a value give neither `Json` nor `Conflict`, and not `Memory`.
-use Rattle.scf_profile.proofs.Common.{◌≡◌, ◌≢◌, ℕ, Bool, true, false, cond, List, [], ◌∷◌, ◌++◌, Option, Some, None, Result, Ok, Err, inr, IfErr, option_map_or, IfErr-at_err, Data, Items, no_items, item, LoadFault, Loaded, IsText, TestsGive, Reading, RefusesAs, RefusesEachAs, IsFirstConflict, IsLeastConflict, RefusesBy, NamesFirstConflict, NamesLeastConflict, Names, Tables, LoadedProfiles, X8664, ◌+◌, ◌>>=◌, ok_or, each, errno_of, answer_in, no_engine_form, condition_of, entry_of, seccomp_of, head_of, entries_of, all_listed, profile_of, profiles_of}
+use Rattle.scf_profile.proofs.Common.{◌≡◌, ◌≢◌, ℕ, Bool, true, false, cond, List, [], ◌∷◌, ◌++◌, Option, Some, None, Result, Ok, Err, IfErr, option_map_or, Data, Items, no_items, item, LoadFault, Loaded, IsText, TestsGive, Reading, RefusesAs, RefusesEachAs, RefusesBy, NamesFirstConflict, NamesLeastConflict, Names, Tables, LoadedProfiles, X8664, ◌+◌, ◌>>=◌, ok_or, each, errno_of, answer_in, no_engine_form, condition_of, entry_of, seccomp_of, head_of, entries_of, all_listed, profile_of, profiles_of, arith, nat_tests, common_steps}
 use Rattle.scf_profile.specs.declared.load_fault.LoadFault.TheVariants as faults
 
 abbrev pub IsTestFault : LoadFault → Type 0
@@ -71,8 +71,7 @@ profile_test reading table root = search (tests, head_test, entries_test) depth 
 listed_test : (index : ℕ) (names : List (List ℕ)) (tables : Tables) → IsTest (all_listed index names tables)
 unfolding all_listed
 listed_test index names [] = ok_test tt
-listed_test index names (t ∷ tables) =
-    then_test _ _ (cond_test _ _ _ (err_test _ tt) (ok_test tt)) (λ _. listed_test (index + 1) names tables)
+listed_test index names (t ∷ tables) = grind (arith, common_steps, nat_tests, then_test, cond_test, err_test, ok_test, listed_test (index + 1) names tables)
 
 profiles_test : (reading : Reading) (tables : Tables) (root : Data) → IsTest (profiles_of reading tables root)
 unfolding profiles_of
@@ -84,36 +83,23 @@ module _ {A : Type 0} (tests : Data → Result A LoadFault) (is_test : (d : Data
     (HasConflict : A → ℕ → ℕ → ℕ → Type 0) (text : List ℕ) where
   refused : (d : Data) (e : LoadFault) → IsText text d → (e ≢ faults.Memory → tests d ≡ Err e)
       → RefusesBy tests HasConflict text e
-  refused d faults.Memory is_text fails = tt
-  refused d faults.Json is_text fails = absurd (IfErr-at_err IsTestFault (fails (λ h. cc)) (is_test d).fault)
-  refused d (faults.Conflict number first second) is_text fails =
-      absurd (IfErr-at_err IsTestFault (fails (λ h. cc)) (is_test d).fault)
-  refused d faults.TooMany is_text fails = inr (d, is_text, fails (λ h. cc))
-  refused d e is_text fails = (d, is_text, fails (λ h. cc))
+  refused d e h h2 = grind (arith, common_steps, nat_tests)
 
 pub refuses_of_fault : (reading : Reading) (text : List ℕ) (table : Names) (d : Data) (e : LoadFault) → IsText text d
     → (e ≢ faults.Memory → profile_of reading table d ≡ Err e) → RefusesAs reading text table e
-refuses_of_fault reading text table d e is_text fails =
-    refused (profile_of reading table) (profile_test reading table)
-    (λ loaded. IsLeastConflict X8664 loaded.profile.rules) text d e is_text fails
+refuses_of_fault reading text table d e is_text fails = grind (arith, common_steps, nat_tests, refused, profile_test)
 
 pub refuses_each_of_fault : (reading : Reading) (text : List ℕ) (tables : Tables) (d : Data) (e : LoadFault)
     → IsText text d → (e ≢ faults.Memory → profiles_of reading tables d ≡ Err e) → RefusesEachAs reading text tables e
-refuses_each_of_fault reading text tables d e is_text fails =
-    refused (profiles_of reading tables) (profiles_test reading tables)
-    (λ loaded. IsFirstConflict loaded.profiles) text d e is_text fails
+refuses_each_of_fault reading text tables d e is_text fails = grind (arith, common_steps, nat_tests, refused, profiles_test)
 
 -- the least conflict of what the value of a text states
 pub refuses_of_conflict : (reading : Reading) (text : List ℕ) (table : Names) (loaded : Loaded)
     → TestsGive (profile_of reading table) text (Ok loaded) → (e : LoadFault)
     → NamesLeastConflict X8664 loaded.profile.rules e → RefusesAs reading text table e
-refuses_of_conflict reading text table loaded gives (faults.Conflict number first second) k = (loaded, gives, k)
-refuses_of_conflict reading text table loaded gives faults.Memory k = tt
-refuses_of_conflict reading text table loaded gives e k = absurd k
+refuses_of_conflict reading text table loaded h e h2 = grind (arith, common_steps, nat_tests)
 
 pub refuses_each_of_conflict : (reading : Reading) (text : List ℕ) (tables : Tables) (loaded : LoadedProfiles)
     → TestsGive (profiles_of reading tables) text (Ok loaded) → (e : LoadFault)
     → NamesFirstConflict loaded.profiles e → RefusesEachAs reading text tables e
-refuses_each_of_conflict reading text tables loaded gives (faults.Conflict number first second) k = (loaded, gives, k)
-refuses_each_of_conflict reading text tables loaded gives faults.Memory k = tt
-refuses_each_of_conflict reading text tables loaded gives e k = absurd k
+refuses_each_of_conflict reading text tables loaded h e h2 = grind (arith, common_steps, nat_tests)

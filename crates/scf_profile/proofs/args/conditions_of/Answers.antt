@@ -1,16 +1,10 @@
-use Rattle.scf_profile.proofs.Common.{arith, each, All-push, IsCondition}
-use Rattle.scf_profile.proofs.Loops.{items_at, items_end, items_left}
+use Rattle.scf_profile.proofs.Common.{arith, each, nat_tests, common_steps}
+use Rattle.scf_profile.proofs.Loops.{items_at, items_end}
 use Rattle.scf_profile.proofs.args.conditions_of.Goals as goal
 
 pub loop-member-preserved : goal.loop-member-preserved
 unfolding each
-loop-member-preserved c = record {
-  so_far = grind (arith, items_left);
-  range =
-      rw c.in_ok-push.ensures.items
-      (All-push IsCondition c.loop-member.conditions.items c.in_ok-condition.condition c.loop-member.invariant.range
-      c.in_ok-condition.ensures.range);
-}
+loop-member-preserved c = grind (arith, common_steps, nat_tests, c.in_ok-push.ensures.items, c.loop-member.invariant.range, c.in_ok-condition.ensures.range)
 
 pub returns-clause-value : goal.returns-clause-value
 unfolding each

@@ -1,10 +1,9 @@
-use Rattle.scf_profile.proofs.Common.{Any, subst, sym, take_all, All-more, All-same, NumberRules, EntriesConflict}
+use Rattle.scf_profile.proofs.Common.{Any, subst, sym, take_all, All-more, All-same, NumberRules, EntriesConflict, arith, nat_tests, common_steps}
 use Rattle.scf_profile.proofs.LeastClash.{AreBounded, all_bounded, all_found, least_found, one_more, still_bounded}
 use Rattle.scf_profile.proofs.conflict.least_conflict.Goals as goal
 
 pub least_among-least-requires : goal.least_among-least-requires
-least_among-least-requires c =
-    rw (c.deref.ensures, c.group-item.is) (c.requires c.loop-group.group-index c.group-item.result c.loop-group-test.true)
+least_among-least-requires c = grind (arith, common_steps, nat_tests, c.deref.ensures, c.requires)
 
 pub loop-group-preserved : goal.loop-group-preserved
 loop-group-preserved c =

@@ -1,10 +1,9 @@
-use Rattle.scf_profile.proofs.Common.{◌≡◌, ◌⊎◌, Some, subst, sym, inr, Any, All-more, IsClashBounded, IsClashOf}
+use Rattle.scf_profile.proofs.Common.{◌≡◌, ◌⊎◌, Some, subst, sym, inr, Any, All-more, IsClashBounded, IsClashOf, arith, nat_tests, common_steps}
 use Rattle.scf_profile.proofs.LeastClash.{one_of_two}
 use Rattle.scf_profile.proofs.conflict.least_with.Goals as goal
 
 pub clash_of-requires-clause-rule : goal.clash_of-requires-clause-rule
-clash_of-requires-clause-rule c =
-    rw c.rule-item.is (c.requires.rules c.loop-rule.rule-index c.rule-item.result c.loop-rule-test.true)
+clash_of-requires-clause-rule c = grind (arith, common_steps, nat_tests, c.requires.rules)
 
 pub loop-rule-preserved : goal.loop-rule-preserved
 loop-rule-preserved c =

@@ -1,4 +1,4 @@
-use Rattle.scf_profile.proofs.Common.{◌≡◌, ◌∙◌, ap, refl, rules, true, Bool, option_map, option_map_or, eqb, nat_cmp, Option, Some, None, Rule, Answer, is_effective, common_steps, arith}
+use Rattle.scf_profile.proofs.Common.{◌≡◌, ◌∙◌, ap, rules, true, Bool, option_map, option_map_or, eqb, nat_cmp, Option, Rule, Answer, is_effective, common_steps, arith, nat_tests}
 use Rattle.std.specs.BTreeMap.{get}
 use Rattle.std.proofs.lemmas.Fn.{filter_same}
 use Rattle.scf_profile.proofs.effective.effective_rules.Goals as goal
@@ -9,8 +9,7 @@ as_first r first = option_map_or (λ (a : Answer). eqb a.0 r.answer.0) first tru
 
 of_rule : (r : Rule) (first : Option Rule) → as_first r (option_map (λ (s : Rule). s.answer) first)
     ≡ option_map_or (λ (s : Rule). eqb s.answer.0 r.answer.0) first true
-of_rule r None = refl
-of_rule r (Some s) = refl
+of_rule r first = grind (arith, common_steps, nat_tests)
 
 pub returns : goal.returns
 returns c =

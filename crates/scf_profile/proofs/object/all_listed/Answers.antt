@@ -1,4 +1,4 @@
-use Rattle.scf_profile.proofs.Common.{◌∙◌, sym, texts_at, with_machine}
+use Rattle.scf_profile.proofs.Common.{◌∙◌, sym, texts_at, with_machine, arith, nat_tests, common_steps}
 use Rattle.scf_profile.proofs.Loops.{listed_end, listed_here, unlisted_here}
 use Rattle.scf_profile.proofs.object.all_listed.Goals as goal
 
@@ -15,6 +15,4 @@ loop-i-preserved c =
     ∙ c.loop-i.invariant
 
 pub returns : goal.returns
-returns c =
-    sym (listed_end (with_machine c.args.machine (texts_at c.args.names.now)) c.args.tables.now c.loop-i.i c.loop-i-test.false)
-    ∙ c.loop-i.invariant
+returns c = grind (arith, common_steps, nat_tests, listed_end, c.loop-i.invariant)

@@ -1,4 +1,4 @@
-use Rattle.scf_profile.proofs.Common.{◌≡◌, ◌∷◌, [], ◌∙◌, List, length, refl, sym, ap, subst, arith, append_assoc, append-nil, map, map-append, All-push, AreOfApart, AreStatedRules, HaveNoConflict, NamesFirstConflict, Profile, effective_of}
+use Rattle.scf_profile.proofs.Common.{◌≡◌, ◌∷◌, [], ◌∙◌, List, length, refl, sym, ap, subst, arith, append_assoc, append-nil, map, map-append, All-push, AreOfApart, AreStatedRules, HaveNoConflict, NamesFirstConflict, Profile, effective_of, nat_tests, common_steps}
 use Rattle.std.specs.Vec.Iter.{into_iter_items}
 use Rattle.scf_profile.specs.declared.profile_text.StatedRules.{StatedRules}
 use Rattle.scf_profile.proofs.Handed.{handed_fault}
@@ -6,8 +6,7 @@ use Rattle.scf_profile.proofs.Stated.{first_conflict, of_own}
 use Rattle.scf_profile.proofs.profile_text.all_without_conflict.Goals as goal
 
 nothing_left : (rules : List StatedRules) → length rules ≡ 0 → rules ≡ []
-nothing_left [] none = refl
-nothing_left (s ∷ rules) none = absurd (omega arith)
+nothing_left rules h = grind (arith, common_steps, nat_tests)
 
 pub effective_profile-requires-clause-rules : goal.effective_profile-requires-clause-rules
 effective_profile-requires-clause-rules c =

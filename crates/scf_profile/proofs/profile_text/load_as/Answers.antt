@@ -1,4 +1,4 @@
-use Rattle.scf_profile.proofs.Common.{◌≡◌, List, Ok, Architecture, LoadFault, Rule, HaveNoConflict, NamesLeastConflict, RefusesAs, subst, view, TestsGive, effective_rules, loaded_of, profile_of}
+use Rattle.scf_profile.proofs.Common.{◌≡◌, List, Ok, Architecture, LoadFault, Rule, HaveNoConflict, NamesLeastConflict, RefusesAs, subst, view, TestsGive, effective_rules, loaded_of, profile_of, arith, nat_tests, common_steps}
 use Rattle.scf_profile.proofs.Handed.{handed_fault}
 use Rattle.scf_profile.proofs.TestFaults.{refuses_of_conflict, refuses_of_fault}
 use Rattle.scf_profile.proofs.profile_text.load_as.Goals as goal
@@ -19,9 +19,7 @@ returns-clause-ok c =
     )
 
 pub returns-in_err-stated-clause-err : goal.returns-in_err-stated-clause-err
-returns-in_err-stated-clause-err c =
-    handed_fault (RefusesAs c.args.reading c.args.text.now c.args.table.now) _ _ c.from_residual-in_err-stated.ensures.1
-    (refuses_of_fault _ _ _ (view c.in_ok-value.value) _ c.in_ok-value.ensures.ok c.in_err-stated.ensures.value)
+returns-in_err-stated-clause-err c = grind (arith, common_steps, nat_tests, handed_fault, refuses_of_fault, c.from_residual-in_err-stated.ensures.1, c.in_ok-value.ensures.ok, c.in_err-stated.ensures.value)
 
 pub returns-in_err-effective_profile-clause-err : goal.returns-in_err-effective_profile-clause-err
 returns-in_err-effective_profile-clause-err c =

@@ -1,13 +1,10 @@
-use Rattle.scf_profile.proofs.Common.{Ok, RefusesEachAs, view, TestsGive, loaded_profiles_of, profiles_of, tables_of}
+use Rattle.scf_profile.proofs.Common.{Ok, RefusesEachAs, view, TestsGive, loaded_profiles_of, profiles_of, tables_of, arith, nat_tests, common_steps}
 use Rattle.scf_profile.proofs.Handed.{handed_fault}
 use Rattle.scf_profile.proofs.TestFaults.{refuses_each_of_conflict, refuses_each_of_fault}
 use Rattle.scf_profile.proofs.profile_text.load_profiles_as.Goals as goal
 
 pub returns-in_err-stated-clause-err : goal.returns-in_err-stated-clause-err
-returns-in_err-stated-clause-err c =
-    handed_fault (RefusesEachAs c.args.reading c.args.text.now (tables_of c.args.tables.now)) _ _
-    c.from_residual-in_err-stated.ensures.1
-    (refuses_each_of_fault _ _ _ (view c.in_ok-value.value) _ c.in_ok-value.ensures.ok c.in_err-stated.ensures.value)
+returns-in_err-stated-clause-err c = grind (arith, common_steps, nat_tests, handed_fault, refuses_each_of_fault, c.from_residual-in_err-stated.ensures.1, c.in_ok-value.ensures.ok, c.in_err-stated.ensures.value)
 
 pub returns-in_err-all_without_conflict-clause-err : goal.returns-in_err-all_without_conflict-clause-err
 returns-in_err-all_without_conflict-clause-err c =

@@ -1,11 +1,10 @@
-use Rattle.scf_profile.proofs.Common.{refl, head_of, head_stated}
+use Rattle.scf_profile.proofs.Common.{refl, head_of, head_stated, arith, nat_tests, common_steps}
 use Rattle.scf_profile.proofs.Handed.{handed_on}
 use Rattle.scf_profile.proofs.profile_text.read_head.Goals as goal
 
 pub returns-in_err-object-clause-value : goal.returns-in_err-object-clause-value
 unfolding head_of
-returns-in_err-object-clause-value c =
-    handed_on head_stated _ _ _ c.from_residual.ensures.1 (λ not_memory. rw (← c.in_err-object.ensures) refl)
+returns-in_err-object-clause-value c = grind (arith, common_steps, nat_tests, handed_on, c.from_residual.ensures.1, c.in_err-object.ensures)
 
 pub returns-in_err-default_answer-clause-value : goal.returns-in_err-default_answer-clause-value
 unfolding head_of

@@ -1,15 +1,10 @@
-use Rattle.scf_profile.proofs.Common.{◌≡◌, length, take, drop, eqb, false, sym, ◌-◌, ◌+◌, arith, eq-eqb, ne_eqb, take_all, All-more, All-same}
+use Rattle.scf_profile.proofs.Common.{◌≡◌, eqb, false, sym, ◌-◌, arith, eq-eqb, ne_eqb, take_all, All-more, All-same, nat_tests, common_steps}
 use Rattle.std.proofs.lemmas.List.{length-drop}
 use Rattle.scf_profile.proofs.Cuts.{line_ends, last_line}
 use Rattle.scf_profile.proofs.table_line.first_line.Goals as goal
 
 pub returns-then-byte-eq10-clause-lines : goal.returns-then-byte-eq10-clause-lines
-returns-then-byte-eq10-clause-lines c =
-    let xs = c.args.text.now in
-    let whole : take (length xs - (c.loop-i.i + 1)) (drop (c.loop-i.i + 1) xs) ≡ drop (c.loop-i.i + 1) xs =
-    take_all _ _ (omega (arith, length-drop (c.loop-i.i + 1) xs)) in
-    rw (c.strip_carriage_return.ensures, whole)
-    (line_ends xs c.loop-i.i c.loop-i-test.true c.loop-i.invariant (eq-eqb _ 10 c.if-byte-eq10.true))
+returns-then-byte-eq10-clause-lines c = grind (arith, common_steps, nat_tests, take_all, length-drop, line_ends, eq-eqb, c.strip_carriage_return.ensures, c.loop-i.invariant)
 
 pub loop-i-preserved : goal.loop-i-preserved
 loop-i-preserved c =

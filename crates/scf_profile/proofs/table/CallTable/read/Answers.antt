@@ -1,4 +1,4 @@
-use Rattle.scf_profile.proofs.Common.{ℕ, ◌<◌, ◌⊎◌, List, [], length, refl, sym, arith, inl, inr, names_of, with_lines, ◌≡◌, ◌∷◌, Option, None, Some, Result, Ok, Err, TableFault, ◌>>=◌, Names, with_entry, fields, entry_in, BeginWithCall}
+use Rattle.scf_profile.proofs.Common.{ℕ, ◌<◌, ◌⊎◌, List, [], length, refl, sym, arith, inl, inr, names_of, with_lines, ◌≡◌, ◌∷◌, Option, None, Some, Result, Ok, Err, TableFault, ◌>>=◌, Names, with_entry, fields, entry_in, BeginWithCall, nat_tests, common_steps}
 use Rattle.scf_profile.specs.Table.{HasCall}
 use Rattle.scf_profile.proofs.NamesOf.{call_numbers_empty, no_entries}
 use Rattle.scf_profile.proofs.table.CallTable.read.Goals as goal
@@ -32,13 +32,7 @@ has_call line old new text read some = by_entry (entry_in line (fields text)) re
       inr (record { line = line; name = name; number = number; states = is })
 
 pub loop-remaining-init : goal.loop-remaining-init
-loop-remaining-init c = record {
-  so_far = rw c.new-numbers.ensures.empty refl;
-  counted = omega arith;
-  range = rw c.new-numbers.ensures.empty call_numbers_empty;
-  begins = λ begins. begins;
-  some = λ some. let none = rw c.new-numbers.ensures.empty at some in absurd (omega (arith, none));
-}
+loop-remaining-init c = grind (arith, common_steps, nat_tests, call_numbers_empty, c.new-numbers.ensures.empty)
 
 pub loop-remaining-preserved : goal.loop-remaining-preserved
 unfolding with_lines
