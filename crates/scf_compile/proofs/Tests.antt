@@ -34,7 +34,7 @@ under_power n k = elim (cases_eq (bit_at n k) 0) [
 -- so where the bit is wanted, a word has it exactly where it isn't nothing
 wanted_of_power : (n mask wanted : ℕ) → IsPowerOfTwo mask → bit_and wanted mask ≡ wanted → wanted ≢ 0
     → not (eqb (bit_and n mask) 0) ≡ eqb (bit_and n mask) wanted
-wanted_of_power n mask wanted v3 within some = grind (arith, common_steps, nat_tests, under_power)
+wanted_of_power n mask wanted power within some = grind (arith, common_steps, nat_tests, under_power)
 
 -- The code tests something of a call, in no more than so many instructions and steps: it goes on `hit` instructions
 -- behind it where this is met, and else `miss`.

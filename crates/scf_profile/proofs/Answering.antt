@@ -64,7 +64,7 @@ module _ (p : Profile) (call : CallRecord) where
     module _ (unstubbed : is_stubbed p.stub call.nr ≡ false) where
       pub only_default : ((r : Rule) → Contains p.rules r → meets p.architecture r call ≡ false) → {a : ℕ}
           → ProfileAnswers p call a → a ≡ p.default_answer.0
-      only_default v0 v1 = grind (arith, common_steps, nat_tests, both_ways)
+      only_default unmet answered = grind (arith, common_steps, nat_tests, both_ways)
 
       pub only_rule : HaveNoConflict p.architecture p.rules → IsRecord call → (r : Rule) → Contains p.rules r
           → meets p.architecture r call ≡ true → {a : ℕ} → ProfileAnswers p call a → a ≡ r.answer.0

@@ -32,7 +32,7 @@ AreBounded a rules least = All (λ later. All (IsClashBounded a least later) rul
 bounded : (a : Architecture) (rules : List Rule) (least : Option Clash) → AreBounded a rules least → (first second number : ℕ)
     → EntriesConflict a rules first second number
     → IsBoundedBy least (record { second = second; first = first; number = number })
-bounded a rules least all first second number v7 = grind (arith, common_steps, nat_tests)
+bounded a rules least all first second number conflict = grind (arith, common_steps, nat_tests)
 
 pub least_found : (a : Architecture) (rules : List Rule) (least : Option Clash) → AreBounded a rules least
     → IfSome least (λ c. EntriesConflict a rules c.first c.second c.number) → IsLeastClash a rules least
