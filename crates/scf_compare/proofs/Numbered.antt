@@ -14,7 +14,11 @@ use Rattle.scf_profile.specs.declared.reason.Reason.{Reason}
 use Rattle.scf_profile.specs.declared.reason.Reason.TheVariants.{Default, Entry, Foreign, Stub}
 use Rattle.scf_compare.specs.declared.origin.Origin.TheVariants.{Profile as OfReason}
 use Rattle.scf_compare.specs.declared.profile.ProfileNode.TheVariants.{Answer as Answers}
-use Rattle.scf_compare.proofs.Rules.{contains_here, rules_more, unmet_apart}
+use Rattle.scf_compare.proofs.Rules.{all_more, conditions_more, contains_here, fails_by, rules_more, unmet_apart}
+use Rattle.scf_compare.specs.declared.known_argument.KnownArgument.{KnownArgument}
+use Rattle.scf_compare.specs.internal.KnownArguments.{HasHalves, IsRefuted}
+use Rattle.scf_insn.specs.Architectures.{argument_in}
+use Rattle.scf_profile.specs.Condition.{condition_holds}
 use Rattle.scf_insn.specs.declared.answer.Answer.{Answer}
 use Rattle.scf_compare.specs.internal.Laws.{profile_node_counts}
 use Rattle.scf_compare.specs.internal.Profiles.{IsLeftToRules, profile_size}
@@ -161,6 +165,33 @@ module _ (s : NumberedProfile) (call : CallRecord) where
     | inl (own, has, same) ↦ absurd (All-contains (λ o. call.nr ≢ o.number) s.numbers own apart has (sym same))
     | inr none ↦ unmet_own left (rw none (λ k d lt. absurd (omega arith)))
   ]
+
+-- ---- which rules are passed
+
+module _ (rules : List Rule) (index : ℕ) (r : Rule) (here : slice_get rules index ≡ Some r) (known : KnownArgument)
+    (refuted : IsRefuted known r.conditions) where
+  -- a call whose argument refutes a rule is at the next one
+  pub at_next : (s : NumberedProfile) (number argument : ℕ) (call : CallRecord) → own_rules s.numbers number ≡ rules
+      → known.index ≡ argument → HasHalves known (argument_in s.profile.architecture call argument)
+      → IsAtRule s number index call → IsAtRule s number (index + 1) call
+  at_next s number argument call own same has at =
+      let fails : condition_holds refuted.condition (argument_in s.profile.architecture call refuted.condition.index) ≡ false =
+      rw (refuted.index ∙ same) (refuted.fails _ has) in
+      record {
+        by_rules = at.by_rules;
+        own = at.own;
+        unmet = rw own (all_more (λ earlier. meets s.profile.architecture earlier call ≡ false) rules index r here
+            (rw own at at.unmet)
+            (grind (arith, fails_by s.profile.architecture call r.conditions 0 refuted.condition refuted.first fails)));
+      }
+
+  -- and costs two steps less
+  pub costs_less : rules_size (drop (index + 1) rules) + 2 ≤ rules_size (drop index rules)
+  costs_less = omega (
+    arith,
+    rules_more rules index r here,
+    conditions_more r.conditions 0 refuted.condition (rules_size (drop (index + 1) rules)) refuted.first,
+  )
 
 -- ---- answers to calls of other architectures
 

@@ -64,6 +64,18 @@ later_both given first between last from next to one two = record {
   plain = λ masks plain. two.plain masks (one.plain masks plain);
 }
 
+-- what is pending goes on to a node, and that to a later one
+pub passed_pending : {N E : Type 0} (leaves : Leaves E) (given : List ℕ → Type 0) (here there : Tree N) (pending : Step N E)
+    (next to : N) → IsLaterNode given (pending_tree leaves here) pending (pending_tree leaves here) (Next next)
+    → IsLaterNode given here next there to
+    → IsLaterNode given (pending_tree leaves here) pending (pending_tree leaves there) (Next to)
+passed_pending leaves given here there pending next to decided passed = record {
+  node = passed.node;
+  reached = λ words is reached. passed.reached words is (decided.reached words is reached);
+  size = omega (arith, decided.size, passed.size);
+  plain = λ masks plain. passed.plain masks (decided.plain masks plain);
+}
+
 -- a step from a later node to the only next one
 pub passed_on : {N E : Type 0} (leaves : Leaves E) (given : List ℕ → Type 0) (first here there : Tree N) (from node next : N)
     → IsLaterNode given first from here node → IsStep leaves given here node there (Next next)

@@ -8,6 +8,7 @@ pub mod ControlFlow
 pub mod Filters
 pub mod FixedBits
 pub mod Frontier
+pub mod KnownArguments
 pub mod KnownBits
 pub mod Laws
 pub mod Leaves

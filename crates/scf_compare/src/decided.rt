@@ -13,24 +13,27 @@ use scf_facts::{Tell, WordFacts};
 
 /// How many steps are taken at once: enough that a long chain of tests whose answers are known costs few steps, and few
 /// enough that each of those is short.
-const MOST_AT_ONCE: u64 = 8;
+pub(crate) const MOST_AT_ONCE: u64 = 8;
 
-/// The step from a node, behind those that the store decides.
+/// The step from a node, behind those that the store decides. So many of the steps that are taken at once were taken
+/// before it.
 #[tactic(auto, using(crate::proofs::Steps::followed, crate::proofs::Steps::stepped))]
 pub(crate) fn decided_step<T: SideTree, F: WordFacts>(
     side: &T,
     facts: &F,
     known: &mut T::Known,
     node: T::Node,
+    taken: u64,
 ) -> Step<T::Node, SideLeaf>
     requires { (T.tree side.now known.old).is_node node }
     ensures { IsStep (side_leaves (T.behavior side.now))
         (λ words. IsWords words × F.allows facts.now (F.level facts.now) words)
         (T.tree side.now known.old) node (T.tree side.now known.new) result }
 {
-    let passed = side.pass(facts, known, node, MOST_AT_ONCE - 1);
+    let most = MOST_AT_ONCE.saturating_sub(taken);
+    let passed = side.pass(facts, known, node, most.saturating_sub(1));
     let mut step = side.step(facts, known, passed.node);
-    for _count in passed.steps + 1..MOST_AT_ONCE {
+    for _count in passed.steps + 1..most {
         let Some(next) = decided_next(side, facts, known, step) else {
             return step;
         };
@@ -39,13 +42,15 @@ pub(crate) fn decided_step<T: SideTree, F: WordFacts>(
     step
 }
 
-/// The step behind a pending one, or that one itself if it is a leaf or asks what the store doesn't decide.
+/// The step behind a pending one, or that one itself if it is a leaf or asks what the store doesn't decide. So many of
+/// the steps that are taken at once were taken before it.
 #[tactic(auto, using(crate::proofs::Steps::followed_pending))]
 pub(crate) fn follow<T: SideTree, F: WordFacts>(
     side: &T,
     facts: &F,
     known: &mut T::Known,
     pending: Step<T::Node, SideLeaf>,
+    taken: u64,
 ) -> Step<T::Node, SideLeaf>
     requires { IsProper (T.tree side.now known.old) (IsSideLeaf (T.behavior side.now)) pending }
     ensures { let leaves = side_leaves (T.behavior side.now) in IsStep leaves
@@ -53,7 +58,7 @@ pub(crate) fn follow<T: SideTree, F: WordFacts>(
         (pending_tree leaves (T.tree side.now known.old)) pending (T.tree side.now known.new) result }
 {
     match decided_next(side, facts, known, pending) {
-        Some(next) => decided_step(side, facts, known, next),
+        Some(next) => decided_step(side, facts, known, next, taken),
         None => pending,
     }
 }
@@ -74,15 +79,19 @@ pub(crate) fn go_ahead<T: SideTree, F: WordFacts>(
         (pending_tree leaves (T.tree side.now known.old)) pending
         (pending_tree leaves (T.tree side.now known.new)) result }
 {
+    let most = times.saturating_mul(MOST_AT_ONCE);
+    let mut taken = 0;
     let mut step = pending;
-    for _count in 0..times.saturating_mul(MOST_AT_ONCE) {
+    while taken < most {
         let Some(next) = decided_next(side, facts, known, step) else {
             return step;
         };
-        if side.waits_at(known, next) {
-            return Step::Next(next);
+        let passed = side.pass(facts, known, next, most - taken - 1);
+        if side.waits_at(known, passed.node) {
+            return Step::Next(passed.node);
         }
-        step = side.step(facts, known, next);
+        step = side.step(facts, known, passed.node);
+        taken += passed.steps + 1;
     }
     step
 }

@@ -34,19 +34,17 @@ pub(crate) struct FilterLeaf {
     pub(crate) at: usize,
 }
 
-/// The root of a filter's tree, and what is known of the registers there. `open` is of the filters before.
-pub(crate) fn start_in_filter(
-    program: &Program,
-    open: Option<OpenTest>,
-) -> (KnownRegisters, FilterNode)
-    ensures node { filter_is_node program.now result.0 result.1 }
-    ensures reached { (words : List ℕ) → filter_reaches program.now result.0 result.1 words }
-    ensures size { filter_size program.now result.1 ≡ tree_size program.now 0 }
+/// The root of a filter's tree, with what is known of the registers there. The open test is of the filters before.
+pub(crate) fn start_in_filter(program: &Program, registers: &mut KnownRegisters) -> FilterNode
+    ensures node { filter_is_node program.now registers.new result }
+    ensures reached { (words : List ℕ) → filter_reaches program.now registers.new result words }
+    ensures size { filter_size program.now result ≡ tree_size program.now 0 }
     ensures plain { (masks : ℕ) → IsMaskedProgram masks program.now
-        → filter_is_plain program.now result.0 masks result.1 }
+        → filter_is_plain program.now registers.new masks result }
 {
     let _insns = program.insns();
-    (KnownRegisters::at_start(open), FilterNode::At(0))
+    *registers = KnownRegisters::at_start(registers.open);
+    FilterNode::At(0)
 }
 
 /// The step from a node of a filter, and what is known of its registers after it.

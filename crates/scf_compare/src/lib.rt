@@ -63,6 +63,7 @@ mod filter;
 mod finding;
 mod fixed_bits;
 mod frontier;
+mod known_argument;
 mod known_bits;
 mod laws;
 mod origin;

@@ -12,7 +12,7 @@ ghost use Rattle.scf_compare.specs.internal.Pairs.{pair_tree, tree_behind};
 ghost use Rattle.scf_compare.specs.internal.Trees.{IsProper, IsStep};
 
 use crate::comparison::{Comparison, PairLeaf};
-use crate::decided::{follow, go_ahead};
+use crate::decided::{MOST_AT_ONCE, follow, go_ahead};
 use crate::scope::is_in_scope;
 use crate::side_tree::{SideLeaf, SideTree};
 use crate::sources::OpenTest;
@@ -27,6 +27,8 @@ pub(crate) struct PairKnown<K, M, B> {
     pub(crate) left: K,
     pub(crate) right: M,
     pub(crate) ahead: Step<B, SideLeaf>,
+    /// How many of the right side's steps that are taken at once were taken before its node.
+    pub(crate) taken: u64,
 }
 
 impl<K: Copy, M: Copy, B: Copy> Copy for PairKnown<K, M, B> {}
@@ -87,14 +89,17 @@ impl<L: SideTree, R: SideTree> Comparison for Pair<L, R> {
                     known.ahead = go_ahead(&self.right, facts, &mut known.right, known.ahead, 1);
                     Step::Branch(atom, PairNode::AtLeft(if_true), PairNode::AtLeft(if_false))
                 }
-                Step::Leaf(leaf) => self.ask_right(facts, &mut known.right, leaf, known.ahead),
+                Step::Leaf(leaf) => self.ask_right(facts, &mut known.right, leaf, known.ahead, 0),
             },
             PairNode::AtRight(leaf, node) => {
-                self.ask_right(facts, &mut known.right, leaf, Step::Next(node))
+                let taken = known.taken;
+                known.taken = 0;
+                self.ask_right(facts, &mut known.right, leaf, Step::Next(node), taken)
             }
         }
     }
 
+    #[inline(always)]
     fn pass<F: WordFacts>(
         &self,
         facts: &F,
@@ -102,17 +107,28 @@ impl<L: SideTree, R: SideTree> Comparison for Pair<L, R> {
         node: PairNode<L::Node, R::Node>,
         most: u64,
     ) -> Passed<PairNode<L::Node, R::Node>> {
-        let PairNode::AtLeft(left) = node else {
-            return Passed::nothing(node);
-        };
-        let passed = self.left.pass(facts, &mut known.left, left, most);
-        let next = passed.at(PairNode::AtLeft(passed.node));
-        if passed.asked == 0 {
-            return next;
+        match node {
+            PairNode::AtLeft(left) => {
+                let passed = self.left.pass(facts, &mut known.left, left, most);
+                let next = passed.at(PairNode::AtLeft(passed.node));
+                if passed.asked == 0 {
+                    return next;
+                }
+                let right = &self.right;
+                known.ahead = go_ahead(right, facts, &mut known.right, known.ahead, passed.asked);
+                next
+            }
+            PairNode::AtRight(leaf, node) => {
+                let most = most.saturating_mul(MOST_AT_ONCE);
+                let passed = self.right.pass(facts, &mut known.right, node, most);
+                known.taken = passed.steps % MOST_AT_ONCE;
+                Passed {
+                    node: PairNode::AtRight(leaf, passed.node),
+                    steps: passed.steps / MOST_AT_ONCE,
+                    asked: 0,
+                }
+            }
         }
-        let right = &self.right;
-        known.ahead = go_ahead(right, facts, &mut known.right, known.ahead, passed.asked);
-        next
     }
 
     fn open_test(&self, known: &PairKnown<L::Known, R::Known, R::Node>) -> Option<OpenTest> {
@@ -168,27 +184,35 @@ impl<L: SideTree, R: SideTree> Pair<L, R> {
         let (left, start) = self.left.start();
         let (right, right_start) = self.right.start();
         let ahead = Step::Next(right_start);
-        (PairKnown { left, right, ahead }, PairNode::AtLeft(start))
+        let known = PairKnown {
+            left,
+            right,
+            ahead,
+            taken: 0,
+        };
+        (known, PairNode::AtLeft(start))
     }
 
-    /// The right side's step, behind a leaf of the left side's tree.
+    /// The right side's step, behind a leaf of the left side's tree. So many of the steps that are taken at once were
+    /// taken before it.
     fn ask_right<F: WordFacts>(
         &self,
         facts: &F,
         known: &mut R::Known,
         leaf: SideLeaf,
         pending: Step<R::Node, SideLeaf>,
+        taken: u64,
     ) -> Step<PairNode<L::Node, R::Node>, PairLeaf>
         requires step { IsProper (R.tree self.now.right known.old) (IsSideLeaf (R.behavior self.now.right)) pending }
         requires leaf { IsSideLeaf (L.behavior self.now.left) leaf }
-        ensures { (left : L.Known) (ahead : Step R.Node SideLeaf) → let pair = self.now in
+        ensures { (left : L.Known) (ahead : Step R.Node SideLeaf) (over : ℕ) → let pair = self.now in
             let compared = compared_in pair.by pair.over (L.behavior pair.left) (R.behavior pair.right) in
             let tree = pair_tree compared (L.tree pair.left) (R.tree pair.right) in
             IsStep (pair_leaves compared) (F.allows facts.now (F.level facts.now))
             (tree_behind compared (R.tree pair.right) known.old leaf) pending
-            (tree (record { left = left; right = known.new; ahead = ahead })) result }
+            (tree (record { left = left; right = known.new; ahead = ahead; taken = over })) result }
     {
-        match follow(&self.right, facts, known, pending) {
+        match follow(&self.right, facts, known, pending, taken) {
             Step::Next(next) => Step::Next(PairNode::AtRight(leaf, next)),
             Step::Branch(atom, if_true, if_false) => Step::Branch(
                 atom,

@@ -1,6 +1,6 @@
 //! A profile as a tree of questions about the words of a call record.
 
-ghost use Rattle.std.specs.Prelude.{◌≡◌, ◌≢◌, ◌<◌, ◌≤◌, ℕ, List, All, Contains, Some, length, take, drop};
+ghost use Rattle.std.specs.Prelude.{◌≡◌, ◌≢◌, ◌+◌, ◌<◌, ◌≤◌, ℕ, List, All, Contains, Some, length, take, drop};
 ghost use Rattle.std.specs.Prelude.{IfSome, slice_get, slice_index};
 ghost use Rattle.scf_insn.specs.Architectures.{IsOf, argument_in};
 ghost use Rattle.scf_insn.specs.Words.{IsWords, call_of};
@@ -16,15 +16,16 @@ ghost use Rattle.scf_compare.specs.internal.Profiles.{IsAtCondition, IsAtRule, I
 ghost use Rattle.scf_compare.specs.internal.Profiles.{EndsForeign, calls_size, own_conditions, own_rules};
 ghost use Rattle.scf_compare.specs.internal.Profiles.{profile_is_node, profile_reaches};
 ghost use Rattle.scf_compare.specs.internal.Profiles.{profile_size, profile_tree, size_behind, size_of_rest};
-ghost use Rattle.scf_compare.specs.internal.Trees.{IsStep};
+ghost use Rattle.scf_compare.specs.internal.Trees.{IsLaterNode, IsStep};
 
 use crate::asking::{known_word, number_from, word_is};
 use crate::by_number::ByNumber;
+use crate::known_argument::KnownArgument;
 use crate::origin::Origin;
 use crate::question::{ConditionPart, Successor, question_of};
 use crate::side_tree::{SideLeaf, SideTree};
 use crate::sources::OpenTest;
-use crate::step::Step;
+use crate::step::{Passed, Step};
 use scf_facts::{Tell, WordFacts};
 use scf_insn::{Answer, CallRecord};
 use scf_profile::{FOREIGN_ANSWER, Reason, Rule, STUB_ANSWER};
@@ -91,6 +92,17 @@ impl SideTree for ByNumber<'_> {
     ) -> Step<ProfileNode, SideLeaf> {
         let _ = known;
         self.step_from(facts, node)
+    }
+
+    fn pass<F: WordFacts>(
+        &self,
+        facts: &F,
+        known: &mut (),
+        node: ProfileNode,
+        most: u64,
+    ) -> Passed<ProfileNode> {
+        let _ = known;
+        self.pass_from(facts, node, most)
     }
 
     fn open_test(&self, known: &()) -> Option<OpenTest> {
@@ -304,6 +316,66 @@ impl ByNumber<'_> {
             })
         } else {
             ProfileNode::Answer(self.profile().default_answer(), Reason::Default)
+        }
+    }
+
+    /// Passes, from the first condition of a rule on, the rules that want another value of its argument than the store
+    /// allows, in at most so many steps.
+    pub(crate) fn pass_from<F: WordFacts>(
+        &self,
+        facts: &F,
+        node: ProfileNode,
+        most: u64,
+    ) -> Passed<ProfileNode>
+        requires { profile_is_node self.now node }
+        ensures later { (others : ℕ) → IsLaterNode (λ words. IsWords words × F.allows facts.now (F.level facts.now) words)
+            (profile_tree self.now others) node (profile_tree self.now others) result.node }
+        ensures size { (others : ℕ) → profile_size self.now others result.node + result.steps
+            ≤ profile_size self.now others node }
+        ensures most { result.steps ≤ most }
+    {
+        match node {
+            ProfileNode::Condition(at, ConditionPart::High) if at.condition == 0 => {
+                self.pass_rules(facts, at, most)
+            }
+            _ => Passed::nothing(node),
+        }
+    }
+
+    /// Passes the rules from that of a first condition on whose first condition wants another value of this argument
+    /// than the store allows.
+    fn pass_rules<F: WordFacts>(
+        &self,
+        facts: &F,
+        at: ConditionPosition,
+        most: u64,
+    ) -> Passed<ProfileNode>
+        requires stands { StandsAt self.now.numbers at }
+        requires first { at.condition ≡ 0 }
+        ensures later { (others : ℕ) → IsLaterNode (λ words. IsWords words × F.allows facts.now (F.level facts.now) words)
+            (profile_tree self.now others) (ProfileNode.Condition at ConditionPart.High)
+            (profile_tree self.now others) result.node }
+        ensures size { (others : ℕ) → profile_size self.now others result.node + result.steps
+            ≤ profile_size self.now others (ProfileNode.Condition at ConditionPart.High) }
+        ensures most { result.steps ≤ most }
+    {
+        let first = self.rule_at(at).conditions.as_slice()[at.condition];
+        let bits = self.profile().architecture().argument_bits();
+        let argument = KnownArgument::of(facts, bits, first.index);
+        let rules = self.rules_at(at.number);
+        let mut rule = at.rule;
+        let mut steps = 0;
+        while rule < rules.len() && 1 < most - steps {
+            let Some(questions) = argument.refutes(rules[rule].conditions.as_slice()) else {
+                break;
+            };
+            rule += 1;
+            steps += questions;
+        }
+        Passed {
+            node: self.next_rule(at.number, rule),
+            steps,
+            asked: steps,
         }
     }
 

@@ -13,7 +13,7 @@ use crate::origin::Origin;
 use crate::profile::{ProfileNode, leaf_by};
 use crate::side_tree::{SideLeaf, SideTree};
 use crate::sources::OpenTest;
-use crate::step::Step;
+use crate::step::{Passed, Step};
 use ProfilesNode::{At, OfNone};
 use scf_facts::WordFacts;
 use scf_insn::{Answer, CallRecord};
@@ -73,6 +73,21 @@ impl<'a> SideTree for ProfilesSide<'a> {
                 }
             }
         }
+    }
+
+    fn pass<F: WordFacts>(
+        &self,
+        facts: &F,
+        known: &mut &'a [NumberRules],
+        node: ProfilesNode,
+        most: u64,
+    ) -> Passed<ProfilesNode> {
+        let At(index, inner) = node else {
+            return Passed::nothing(node);
+        };
+        let profile = &self.profiles.as_slice()[index];
+        let passed = ByNumber::with_numbers(profile, known).pass_from(facts, inner, most);
+        passed.at(At(index, passed.node))
     }
 
     fn open_test(&self, known: &&'a [NumberRules]) -> Option<OpenTest> {

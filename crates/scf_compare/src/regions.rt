@@ -160,21 +160,21 @@ fn regions_of_pair<C: Comparison, F: Snapshots>(
     let mut node = root;
     let mut first_open = None;
     let mut list = Vec::new(alloc);
-    for steps in 0..limit {
+    let mut steps = 0;
+    while steps < limit {
+        let passed = comparison.pass(&frontier.facts, &mut known, node, limit - steps - 1);
+        steps += passed.steps + 1;
         match region_step(
             comparison,
             &mut frontier,
             &mut known,
-            node,
+            passed.node,
             &mut first_open,
             &mut list,
         )? {
             Stage::At(next) => node = next,
             Stage::AllSeen => {
-                return Ok(Some(Regions {
-                    list,
-                    steps: steps + 1,
-                }));
+                return Ok(Some(Regions { list, steps }));
             }
             Stage::Found(_) => return Ok(None),
         }

@@ -46,10 +46,11 @@ impl SideTree for StackSide<'_> {
     ghost tree = { λ side. stack_tree side.filters.now };
 
     fn start(&self) -> (KnownRegisters, StackNode) {
+        let mut known = KnownRegisters::at_start(None);
         if self.filters.is_empty() {
-            return (KnownRegisters::at_start(None), Empty);
+            return (known, Empty);
         }
-        let (known, node) = start_in_filter(filter_of(self.filters, 0), None);
+        let node = start_in_filter(filter_of(self.filters, 0), &mut known);
         (known, At(0, None, node))
     }
 
@@ -185,8 +186,7 @@ fn step_from<F: WordFacts>(
                     return Step::Leaf(decided);
                 }
                 older = Some(decided);
-                let (known, start) = start_in_filter(filter_of(filters, index), registers.open);
-                *registers = known;
+                let start = start_in_filter(filter_of(filters, index), registers);
                 node = start;
             }
         }

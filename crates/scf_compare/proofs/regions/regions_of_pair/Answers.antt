@@ -1,4 +1,6 @@
 use Rattle.scf_compare.proofs.Common.{AreWordsIn, IsWords-words_of, arith, call_of-words_of, inl, inr, refl, words_of}
+use Rattle.scf_compare.proofs.Branches.{goes_on}
+use Rattle.scf_compare.proofs.Stages.{ahead_later, exact_later}
 use Rattle.scf_compare.proofs.regions.regions_of_pair.Goals as goal
 
 pub loop-steps-init : goal.loop-steps-init
@@ -15,6 +17,7 @@ loop-steps-init g c = record {
   };
   regions = grind arith;
   few = grind arith;
+  most = omega arith;
   size = grind arith;
   decided = λ masks few among plain. (refl, grind arith, grind (arith, c.requires.scope, c.requires.reached));
 }
@@ -24,7 +27,8 @@ returns-in-AllSeen-clause-regions g c =
     let after = c.in_ok-next.ensures in
     let seen = rw c.in-AllSeen.is at after.explores in
     let regions = rw c.in-AllSeen.is at after.regions in
-    let counts = g.met.C.Comparison.counts c.args.comparison.now c.loop-steps.known c.loop-steps.node in
+    let passed = c.pass-passed.ensures in
+    let counts = g.met.C.Comparison.counts c.args.comparison.now c.pass-passed.new.known c.pass-passed.result.node in
     record {
       covered = λ call is within.
           let words = words_of call in
@@ -32,37 +36,44 @@ returns-in-AllSeen-clause-regions g c =
           (IsWords-words_of call is, rw (call_of-words_of call is) within) in
           elim (c.loop-steps.invariant.words words in_scope) [
             | inl before ↦ after.kept words before
-            | inr ahead ↦ seen words ahead
+            | inr ahead ↦ seen words (ahead_later _ _ _ _ _ _ _ passed.later words ahead)
           ];
       each = regions.0;
       disjoint = regions.1;
       counted = omega (arith, c.loop-steps.invariant.few, after.few);
-      within_limit = omega arith;
-      within_size = omega (arith, c.loop-steps.invariant.size, counts, c.requires.size);
+      within_limit = omega (arith, passed.most);
+      within_size = omega (arith, c.loop-steps.invariant.size, passed.size, counts, c.requires.size);
     }
 
 pub returns-in-AllSeen-clause-decided : goal.returns-in-AllSeen-clause-decided
 returns-in-AllSeen-clause-decided g c = λ masks few among plain.
     let before = c.loop-steps.invariant.decided masks few among plain in
-    (c.in_ok-next.ensures.decided masks few before.2 before.0).1 before.1
+    let here = exact_later _ _ _ _ _ _ _ c.pass-passed.ensures.later masks before.2 in
+    (c.in_ok-next.ensures.decided masks few here before.0).1 before.1
 
 pub loop-steps-preserved : goal.loop-steps-preserved
 loop-steps-preserved g c =
     let after = c.in_ok-next.ensures in
     let over = rw c.in-At.is at after.explores in
     let regions = rw c.in-At.is at after.regions in
+    let passed = c.pass-passed.ensures in
     record {
       frontier = over.frontier;
       node = over.node;
       words = λ words within. elim (c.loop-steps.invariant.words words within) [
         | inl before ↦ inl (after.kept words before)
-        | inr ahead ↦ over.words words ahead
+        | inr ahead ↦ over.words words (ahead_later _ _ _ _ _ _ _ passed.later words ahead)
       ];
       whole = regions.1;
       regions = regions.0;
       few = omega (arith, c.loop-steps.invariant.few, after.few);
-      size = omega (arith, c.loop-steps.invariant.size, over.size);
+      most = omega (arith, passed.most);
+      size = omega (arith, c.loop-steps.invariant.size, over.size, passed.size);
       decided = λ masks few among plain.
           let before = c.loop-steps.invariant.decided masks few among plain in
-          let now = after.decided masks few before.2 before.0 in (now.0, now.1 before.1, over.exact masks before.2);
+          let here = exact_later _ _ _ _ _ _ _ passed.later masks before.2 in
+          let now = after.decided masks few here before.0 in (now.0, now.1 before.1, over.exact masks here);
     }
+
+pub region_step-requires-clause-whole : goal.region_step-requires-clause-whole
+region_step-requires-clause-whole g c = goes_on c.loop-steps.invariant.whole c.pass-passed.ensures.later.reached

@@ -1,4 +1,4 @@
-use Rattle.scf_compare.proofs.Common.{length, ◌≡◌, ◌+◌, ◌≤◌, ◌⊎◌, ℕ, All, List, None, AreWordsIn, IsAhead, IsExact, IsFrontier, open_size}
+use Rattle.scf_compare.proofs.Common.{length, ◌≡◌, ◌+◌, ◌-◌, ◌≤◌, ◌⊎◌, ℕ, All, List, None, AreWordsIn, IsAhead, IsExact, IsFrontier, open_size}
 use Rattle.scf_facts.specs.Masks.{AreFew}
 use Rattle.scf_compare.specs.Regions.{IsCovered, IsDecidedRegion}
 use Rattle.scf_compare.specs.internal.Frontier.{IsWhole}
@@ -21,8 +21,12 @@ invariant-loop-steps g l =
       whole : IsWhole store tree l.frontier l.first_open (here.reaches l.node);
       regions : AreRegionsSoFar store compared tree l.frontier l.first_open l.list.items;
       few : length l.list.items ≤ l.steps;
+      most : l.steps ≤ l.limit;
       size : l.steps + (open_size tree l.frontier + here.size l.node) ≤ start.size l.fn.root;
       decided : (masks : ℕ) → AreFew masks → store.refutes_among l.fn.facts 0 masks → start.is_plain masks l.fn.root
           → (l.first_open ≡ None) × All IsDecidedRegion l.list.items
           × IsExact store tree masks l.frontier (here.is_plain masks l.node) (here.reaches l.node);
     }
+
+abbrev pub decreases-loop-steps : goal.decreases-loop-steps
+decreases-loop-steps g l = l.limit - l.steps

@@ -2,7 +2,7 @@ use Rattle.scf_compare.proofs.Common.{arith}
 use Rattle.scf_compare.proofs.pair.Pair.ask_right.Goals as goal
 
 pub returns-in-Next : goal.returns-in-Next
-returns-in-Next g c = λ left ahead.
+returns-in-Next g c = λ left ahead over.
     let step = rw c.in-Next.is at c.follow.ensures in
     record {
       proper = (c.requires.leaf, step.proper);
@@ -12,7 +12,7 @@ returns-in-Next g c = λ left ahead.
     }
 
 pub returns-in-Branch : goal.returns-in-Branch
-returns-in-Branch g c = λ left ahead.
+returns-in-Branch g c = λ left ahead over.
     let step = rw c.in-Branch.is at c.follow.ensures in
     record {
       proper = (step.proper.0, (c.requires.leaf, step.proper.1), (c.requires.leaf, step.proper.2));
@@ -23,7 +23,7 @@ returns-in-Branch g c = λ left ahead.
     }
 
 pub returns-in-Leaf : goal.returns-in-Leaf
-returns-in-Leaf g c = λ left ahead.
+returns-in-Leaf g c = λ left ahead over.
     let step = rw c.in-Leaf.is at c.follow.ensures in
     record {
       proper = (c.requires.leaf, step.proper);

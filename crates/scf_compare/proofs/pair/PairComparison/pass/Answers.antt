@@ -25,8 +25,8 @@ returns-then-passed-eq0 g c =
       most = passed.most;
     })
 
-pub returns : goal.returns
-returns g c =
+pub returns-else-passed-eq0 : goal.returns-else-passed-eq0
+returns-else-passed-eq0 g c =
     let passed = c.pass-passed.ensures in
     let known = c.args.known.now in
     let left = g.L.SideTree.tree c.args.self.now.left in
@@ -50,4 +50,19 @@ returns g c =
       };
       size = omega (arith, size, all);
       most = passed.most;
+    })
+
+pub returns-in-AtRight : goal.returns-in-AtRight
+returns-in-AtRight g c =
+    let passed = c.pass-passed-in-AtRight.ensures in
+    let requires = rw c.in-AtRight.is at c.requires in
+    rw c.in-AtRight.is (record {
+      later = record {
+        node = (requires.0, passed.later.node);
+        reached = λ words allowed r. (r.0, r.1, passed.later.reached words (r.0, allowed) r.2);
+        size = passed.later.size;
+        plain = λ masks plain. (plain.0, passed.later.plain masks plain.1);
+      };
+      size = omega (arith, passed.size);
+      most = omega (arith, passed.most);
     })

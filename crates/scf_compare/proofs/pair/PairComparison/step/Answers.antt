@@ -54,7 +54,7 @@ pub returns-in-Leaf : goal.returns-in-Leaf
 returns-in-Leaf g c =
     let step = rw c.in-Leaf.is at c.step.ensures in
     let known = c.args.known.now in
-    let asked = c.ask_right.ensures c.step.new.known known.ahead in
+    let asked = c.ask_right.ensures c.step.new.known known.ahead known.taken in
     let tree = g.L.SideTree.tree c.args.self.now.left in
     let counts : 1 ≤ (tree known.left).size c.in-AtLeft.node = step.costs in
     let right = g.R.SideTree.tree c.args.self.now.right known.right in
@@ -69,7 +69,7 @@ returns-in-Leaf g c =
 
 pub returns-in-AtRight : goal.returns-in-AtRight
 returns-in-AtRight g c =
-    let asked = c.ask_right-in-AtRight.ensures c.args.known.now.left c.args.known.now.ahead in
+    let asked = c.ask_right-in-AtRight.ensures c.args.known.now.left c.args.known.now.ahead 0 in
     rw c.in-AtRight.is (record {
       proper = asked.proper;
       leads = asked.leads;
