@@ -1,11 +1,14 @@
 """Comparisons of sides that answer alike, small and large: how their cost grows with what they are made of."""
 import functools
 import json
+import os
 import random
+import subprocess
 
 import pairs
 from pairs import ALLOW, EPERM, KILL_PROCESS, X86_64, insn
 
+SCF = os.path.join(pairs.TOP, "crates", "scf", "out", "scf")
 TABLE = b"call_0 0\n"
 
 
@@ -19,13 +22,30 @@ def beside(left, right):
         [part("filter", data) for data in left] + [part("beside", data) for data in right])
 
 
-def with_profile(data, entries):
-    """A filter, and a profile of one syscall that gives EPERM where no entry allows."""
+def profile_of(entries):
+    """The parts of a profile of one syscall that gives EPERM where no entry allows."""
     text = {"defaultAction": "SCMP_ACT_ERRNO", "syscalls": [
         {"names": ["call_0"], "action": "SCMP_ACT_ALLOW",
          "args": [{"index": index, "value": value, "op": f"SCMP_CMP_{operator}"} for index, operator, value in conditions]}
         for conditions in entries]}
-    return ["compare", "--native"], part("filter", data) + part("profile", json.dumps(text).encode()) + part("table", TABLE)
+    return part("profile", json.dumps(text).encode()) + part("table", TABLE)
+
+
+def with_profile(data, entries):
+    """A filter, and such a profile."""
+    return ["compare", "--native"], part("filter", data) + profile_of(entries)
+
+
+def of_compiled(count, shift=0):
+    """As many values of one argument, or of its high half, beside the filter that is compiled of them."""
+    given = profile_of([[(0, "EQ", 3 * number << shift)] for number in range(count)])
+    compiled = subprocess.run([SCF, "compile"], input=given, stdout=subprocess.PIPE, check=True).stdout
+    return ["compare", "--native"], part("filter", compiled) + given
+
+
+def of_equal_arguments(count):
+    """What a profile answers in which as many rules want two arguments to have one value."""
+    return ["answers"], profile_of([[(0, "EQ", number), (1, "EQ", number)] for number in range(count)])
 
 
 def of_one_call(body):
@@ -87,11 +107,26 @@ def of_reversed(count):
     return beside(filters, filters[::-1])
 
 
+def of_ten_tests(count):
+    """As many filters that each refuse ten numbers, by a test of each."""
+    return [b"".join([insn(0x20, 0), *(insn(0x15, 10 * place + number, 10 - number) for number in range(10)),
+                      insn(0x06, ALLOW), insn(0x06, EPERM)]) for place in range(count)]
+
+
 def of_more(count):
     """As many filters beside themselves and one more that changes nothing."""
-    filters = [b"".join([insn(0x20, 0), *(insn(0x15, 10 * place + number, 10 - number) for number in range(10)),
-                         insn(0x06, ALLOW), insn(0x06, EPERM)]) for place in range(count)]
+    filters = of_ten_tests(count)
     return beside(filters, [*filters, filters[0]])
+
+
+def of_themselves(count):
+    """As many filters beside themselves."""
+    return beside(of_ten_tests(count), of_ten_tests(count))
+
+
+def of_answers(count):
+    """What as many filters answer."""
+    return ["answers"], b"".join(part("filter", data) for data in of_ten_tests(count))
 
 
 def of_unequal(count, operator="NE"):
@@ -109,10 +144,15 @@ def of_unequal(count, operator="NE"):
 ROWS = (
     ("values of one argument", of_values, (50, 100, 200, 400)),
     ("  of its high half", functools.partial(of_values, shift=32), (50, 100, 200, 400)),
+    ("values, beside the compiled filter", of_compiled, (256, 512, 1024, 2048)),
+    ("  of its high half", functools.partial(of_compiled, shift=32), (64, 128, 256, 512)),
     ("rules of two conditions", of_pairs, (10, 20, 40, 80)),
     ("numbers, neighbours exchanged", of_exchanged, (100, 200, 400, 800)),
     ("numbers in a drawn order", of_drawn, (100, 200, 400, 800)),
     ("filters, the second stack reversed", of_reversed, (2, 4, 8, 16)),
+    ("rules of two equal arguments, answers", of_equal_arguments, (80, 160, 320, 640)),
+    ("filters of ten tests, themselves", of_themselves, (7, 14, 28, 56)),
+    ("  answers", of_answers, (7, 14, 28, 56)),
     ("filters, and one more", of_more, (7, 14, 28)),
     ("conditions by NE of one rule", of_unequal, (1, 2, 3, 4, 5, 6)),
     ("conditions by GE of one rule", functools.partial(of_unequal, operator="GE"), (1, 2, 3, 4, 5, 6)),
