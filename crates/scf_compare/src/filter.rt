@@ -43,7 +43,7 @@ pub(crate) fn start_in_filter(program: &Program, registers: &mut KnownRegisters)
         → filter_is_plain program.now registers.new masks result }
 {
     let _insns = program.insns();
-    *registers = KnownRegisters::at_start(registers.open);
+    registers.restart();
     FilterNode::At(0)
 }
 

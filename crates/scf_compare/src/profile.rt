@@ -328,7 +328,8 @@ impl ByNumber<'_> {
         most: u64,
     ) -> Passed<ProfileNode>
         requires { profile_is_node self.now node }
-        ensures later { (others : ℕ) → IsLaterNode (λ words. IsWords words × F.allows facts.now (F.level facts.now) words)
+        ensures later { (others : ℕ) → IsLaterNode
+            (λ words. IsWords words × F.allows facts.now (F.level facts.now) words)
             (profile_tree self.now others) node (profile_tree self.now others) result.node }
         ensures size { (others : ℕ) → profile_size self.now others result.node + result.steps
             ≤ profile_size self.now others node }
@@ -352,7 +353,8 @@ impl ByNumber<'_> {
     ) -> Passed<ProfileNode>
         requires stands { StandsAt self.now.numbers at }
         requires first { at.condition ≡ 0 }
-        ensures later { (others : ℕ) → IsLaterNode (λ words. IsWords words × F.allows facts.now (F.level facts.now) words)
+        ensures later { (others : ℕ) → IsLaterNode
+            (λ words. IsWords words × F.allows facts.now (F.level facts.now) words)
             (profile_tree self.now others) (ProfileNode.Condition at ConditionPart.High)
             (profile_tree self.now others) result.node }
         ensures size { (others : ℕ) → profile_size self.now others result.node + result.steps

@@ -28,8 +28,8 @@ pub(crate) struct KnownRegisters {
 }
 
 impl KnownRegisters {
-    /// At the start of a run: both registers are 0, and no scratch word is stored. `open` is of the filters before.
-    pub(crate) fn at_start(open: Option<OpenTest>) -> KnownRegisters
+    /// At the start of the first run: both registers are 0, and no scratch word is stored.
+    pub(crate) fn at_start() -> KnownRegisters
         ensures values { AreValues result }
         ensures describes { (words : List ℕ) → Describes result words start }
         ensures plain { (masks : ℕ) (under : Bool) → IsMaskedValue masks under result.a }
@@ -38,8 +38,19 @@ impl KnownRegisters {
             a: Value::Known(0),
             x: Value::Known(0),
             scratch: [Value::Computed(Computed::UNKNOWN); BPF_MEMWORDS],
-            open,
+            open: None,
         }
+    }
+
+    /// Back at the start of a run. The open test stays.
+    pub(crate) fn restart(&mut self)
+        ensures values { AreValues self.new }
+        ensures describes { (words : List ℕ) → Describes self.new words start }
+        ensures plain { (masks : ℕ) (under : Bool) → IsMaskedValue masks under self.new.a }
+    {
+        self.a = Value::Known(0);
+        self.x = Value::Known(0);
+        self.scratch = [Value::Computed(Computed::UNKNOWN); BPF_MEMWORDS];
     }
 
     /// Sets a register.

@@ -46,7 +46,7 @@ impl SideTree for StackSide<'_> {
     ghost tree = { λ side. stack_tree side.filters.now };
 
     fn start(&self) -> (KnownRegisters, StackNode) {
-        let mut known = KnownRegisters::at_start(None);
+        let mut known = KnownRegisters::at_start();
         if self.filters.is_empty() {
             return (known, Empty);
         }

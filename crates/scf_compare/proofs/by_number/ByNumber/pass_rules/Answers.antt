@@ -1,5 +1,4 @@
-use Rattle.scf_compare.proofs.Common.{◌≡◌, ◌+◌, ◌*◌, ◌∙◌, ap, arith, call_of, conditions_size, drop, length, own_conditions, own_rules, refl, size_behind, slice_get-get_or, sym}
-use Rattle.scf_compare.proofs.Common.{Rule}
+use Rattle.scf_compare.proofs.Common.{◌≡◌, ◌+◌, ◌*◌, ◌∙◌, ap, arith, call_of, conditions_size, drop, length, own_conditions, own_rules, refl, size_behind, slice_get-get_or, sym, Rule}
 use Rattle.scf_compare.proofs.Rules.{conditions_more, read_at}
 use Rattle.scf_compare.proofs.Numbered.{at_next, costs_less, no_condition, rule_size}
 use Rattle.scf_compare.specs.internal.KnownArguments.{IsRefuted}
@@ -26,8 +25,8 @@ loop-rule-preserved g c =
           let has =
           rw (c.argument_bits-bits.ensures, c.architecture.ensures, c.profile.ensures)
           at (c.of-argument.ensures.known words w allowed) in
-          at_next own rule r here known refuted s c.args.at.number _ (call_of words) refl c.of-argument.ensures.index has
-          (c.loop-rule.invariant.met words w allowed at);
+          at_next own rule r here known refuted s c.args.at.number _ (call_of words) refl c.of-argument.ensures.index
+          has (c.loop-rule.invariant.met words w allowed at);
       size = omega (
         arith,
         costs_less own rule r here known refuted,

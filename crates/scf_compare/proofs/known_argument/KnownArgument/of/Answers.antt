@@ -13,6 +13,8 @@ returns-clause-known g c = λ words w allowed.
       low = grind (arith, low, c.known_bits.ensures.known words allowed);
       high = elim c.match-bits.branch [
         | in-Bits32 w32 ↦ grind (arith, w32.of-high.ensures.mask, w32.of-high.ensures.value)
-        | in-Bits64 w64 ↦ grind (arith, half_there words index w Bits64 High refl, w64.known_bits-high.ensures.known words allowed)
+        | in-Bits64 w64 ↦
+            let high = half_there words index w Bits64 High refl in
+            grind (arith, high, w64.known_bits-high.ensures.known words allowed)
       ];
     }
