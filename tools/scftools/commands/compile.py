@@ -1,7 +1,8 @@
 """Prints a filter that answers every syscall as a profile says, or that a text in scf's assembler spells.
 
     scf compile [--native] [--strict] [--runtime runc|crun|docker|podman|sandbox] [--json]
-                [--hot FILE [--no-bitmap]] [--table FILE] [--caps LIST] [--machine NAME] PROFILE >FILTER
+                [--hot FILE [--no-bitmap]] [--table FILE] [--caps LIST] [--machine NAME]
+                PROFILE >FILTER
     scf compile [--as assembler] [--json] TEXT >FILTER
 
 PROFILE is a resolved OCI seccomp profile, or another one as `scf decide` takes it: a file, a pipe, or `-` for standard

@@ -116,7 +116,7 @@ class Limits(Case):
         self.assertEqual((status, out), (0, "same\n"))
 
     def test_a_long_answer(self):
-        """No more than so many bytes of it are read, and it is as if scf had no time."""
+        """No more than so many bytes of it are read."""
         for most, status, is_whole in ((10, program.UNKNOWN, False), (1 << 20, 0, True)):
             done = client.run_scf(["--help"], most=most)
-            self.assertEqual((done.status, bool(done.out)), (status, is_whole))
+            self.assertEqual((done.status, done.out != b"unfinished\n"), (status, is_whole))

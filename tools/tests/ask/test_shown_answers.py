@@ -103,6 +103,6 @@ class Modules(Case):
         run, judge = client.run_scf, audit_judge.StackJudge(Options(table))
         with mock.patch.object(client, "run_scf", lambda words, *more_words, **more: Run(1, text)
                                if words[0] == "compare" else run(words, *more_words, **more)):
-            block = judge.judgement(stack, audit_rows.Expectation(Request(profile_of("read"), table)))
+            block = judge.judgement(stack, audit_rows.Expectation(Request(profile_of("read", "write"), table)))
         self.assertEqual((block.verdict, block.why[:42]),
                          (audit_rows.NOT_KNOWN, "internal error: the filters answer ERRNO 1"))

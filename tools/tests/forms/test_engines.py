@@ -45,10 +45,10 @@ class Hostile(MeasuredCase):
     def test_long_numbers(self):
         for beginning in (b"", b"-", b"1.", b"1e"):
             given = self.pieces((b'{"defaultAction":"A","x":' + beginning, 1), (b"1", MANY), (b"}", 1))
-            self.ends(given, 1, "the number ")
+            self.ends(given, 2, "the number ")
 
     def test_deep_ones(self):
-        self.ends(self.pieces((b"[", MANY)), 1, "nested too deep")
+        self.ends(self.pieces((b"[", MANY)), 2, "nested too deep")
         for depth in (100, 900, 3000, 100000):
             for given in (b'{"defaultAction":"A","flags":%s}', b'{"defaultAction":"A","listenerMetadata":%s}',
                           b'{"defaultAction":"A","syscalls":[{"names":["a"],"action":%s},'
@@ -73,7 +73,7 @@ class Hostile(MeasuredCase):
             for at in range(300000):
                 file.write(b'"%d":0,' % at)
             file.write(b'"299999":0}')
-        self.ends(path, 1, "the member '299999' is repeated in one object")
+        self.ends(path, 2, "the member '299999' is repeated in one object")
 
     def test_many_names(self):
         """Those that are left out are told up to a limit, and counted behind it."""
@@ -107,7 +107,7 @@ class Hostile(MeasuredCase):
                             (engine({"names": ["a"], "action": ALLOW, "errno": bad}), "isn't an errno"),
                             (b'{"\\u001b":1,"\\u001b":2}', "the member '\\x1b' is repeated"),
                             (b'{"\x1b', "isn't JSON"), (b'{"a":"\xff"}', "isn't UTF-8")):
-            self.ends(self.file("given", given), 1, says)
+            self.ends(self.file("given", given), 2, says)
 
     def test_a_closed_output(self):
         read, write = os.pipe()

@@ -528,7 +528,7 @@ class Users(Audited, OwnMachine):
         for path in (f"{mine}/l", f"{mine}/hard"):
             os.chown(path, self.USER, self.USER, follow_symlinks=False)
         for bundle in (f"{mine}/l", os.path.dirname(secret), f"{mine}/hard", f"{mine}/../secret",
-                       f"{mine}/../secret/none", f"{mine}/../../../../root/.ssh"):
+                       f"{mine}/../secret/none", f"{mine}{'/..' * 20}/root/.ssh"):
             self.says("box", self.process("x"), bundle)
             value = self.audit(status=4)
             (row,) = value["rows"]

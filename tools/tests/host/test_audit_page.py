@@ -149,7 +149,7 @@ class Pages(Case):
         for name in ("surface", "compare"):
             words = [first, self.file("p.json", profile_of("read"))] if name == "compare" else [first]
             status, _, err = self.run_tool(name, "--html", f"{self.folder}/none/x.html", *words)
-            self.assertEqual((status, err), (3, f"{name}: '{self.folder}/none/x.html': No such file or directory\n"))
+            self.assertEqual((status, err), (2, f"{name}: '{self.folder}/none/x.html': No such file or directory\n"))
 
     @unittest.skipUnless(CHROMIUM, "there is no chromium here")
     def test_in_a_browser(self):

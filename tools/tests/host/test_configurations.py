@@ -217,6 +217,13 @@ class Names(unittest.TestCase):
             self.assertEqual((str(raised.exception), raised.exception.status), (says, program.TROUBLE))
 
 
+def described(identifier, first, configuration, name=None):
+    """A container of podman, with the settings of its configuration as audit's children answer them."""
+    seccomp = configurations.seccomp_in(configuration, "/box/config.json")
+    return ContainerDescription(identifier, "podman", "crun", first, "/box/config.json",
+                                None if seccomp is None else json.dumps(seccomp), name=name)
+
+
 @here
 class Named(Confined):
     """A container that is named, as audit finds it; the look-up itself is audit's."""
@@ -227,7 +234,7 @@ class Named(Confined):
                 (config("mount"), (), 0, "same"), (config("mount", "ptrace"), ("--no-more",), 1, "more"),
                 ({"linux": {}}, (), 1, "differs"),
                 ({"linux": {}}, (self.file("p.json", refuses("mount")),), 0, "same")):
-            found = ContainerDescription(ONE, "podman", "crun", child.pid, "/box/config.json", profile, name="box")
+            found = described(ONE, child.pid, profile, "box")
             with self.subTest(profile, words=words), \
                     mock.patch.object(verify, "containers_of", lambda *_, found=found: [found]), \
                     mock.patch.object(verify.processes, "container_of",
@@ -238,7 +245,7 @@ class Named(Confined):
 
     def test_without_a_profile_it_is_unconfined_by_configuration(self):
         child = self.child([])
-        found = ContainerDescription(TWO, "podman", "crun", child.pid, "/box/config.json", {"linux": {}}, name=None)
+        found = described(TWO, child.pid, {"linux": {}})
         with mock.patch.object(verify, "containers_of", lambda *_: [found]), \
                 mock.patch.object(verify.processes, "container_of",
                                   lambda *_: containers.Container(b"/box", lambda: [child.pid])):

@@ -147,7 +147,7 @@ class Usage(Linted):
             status, out, _ = self.run_lint(text, *(f"--except={kind}" for kind in ("conflict", "unknown-name")))
             self.assertEqual((status, out.split("\n")[-2]), (2, "# the profile is refused; nothing else was checked"))
         status, out, _ = self.run_lint(profile(), "--table", self.file("bad.table", b"read\n"))
-        self.assertEqual((status, out.split("\n")[-2]), (1, "# the table is refused; nothing else was checked"))
+        self.assertEqual((status, out.split("\n")[-2]), (2, "# the table is refused; nothing else was checked"))
 
     def test_actions_and_operators_that_there_are_not(self):
         """scf names the entry of the first; all of them are found, each with what is like it."""
