@@ -9,7 +9,7 @@ use Rattle.scf_facts.proofs.Common.{take-append-drop}
 use Rattle.scf_insn.specs.declared.architecture.Architecture.{Architecture}
 use Rattle.scf_profile.specs.StatedProfile.{Tables}
 use Rattle.scf_profile.specs.Table.{Names, table_of}
-use Rattle.scf_tool.specs.Commands.{SpellsTable}
+use Rattle.scf_tool.specs.Inputs.{SpellsTable}
 use Rattle.scf_tool.specs.declared.verify_fault.VerifyFault.TheVariants as verifies
 use Rattle.scf_c.specs.Architectures.{architecture_of, texts_of}
 use Rattle.scf_c.specs.Records.{AreNumbers, AreOfCalls, AreOfTable, AreRecords, AreRecordsRefused, AreSomeRecords, of_call, of_calls}

@@ -10,26 +10,15 @@ use Rattle.scf_profile.specs.NamedCalls.{AreCallsOf}
 use Rattle.scf_profile.specs.Scope.{IsInScope}
 use Rattle.scf_profile.specs.Table.{Names, table_of}
 use Rattle.scf_profile.specs.declared.named_call.NamedCall.{NamedCall}
-use Rattle.scf_profile.specs.declared.reading.Reading.{Reading}
 use Rattle.scf_profile.specs.declared.scope.Scope.{Scope}
-use Rattle.scf_request.specs.Bundle.{Held, IsBundle}
 use Rattle.scf_request.specs.Contents.{rest_of_table}
-use Rattle.scf_request.specs.Interpretations.{interpretation_of}
 use Rattle.scf_request.specs.Requests.{HasRecord}
-use Rattle.scf_request.specs.declared.bundle.BundleFault.TheVariants.{Memory}
-use Rattle.scf_request.specs.declared.bundle.BundleForm.{BundleForm}
-use Rattle.scf_request.specs.declared.bundle.BundleForm.TheVariants as forms
 use Rattle.scf_request.specs.declared.contents.TableReader.{TableReader}
-use Rattle.scf_request.specs.declared.request.Comparison.{Comparison}
-use Rattle.scf_request.specs.declared.request.Scopes.{Scopes}
-use Rattle.scf_request.specs.declared.request.Scopes.TheVariants.{AtOnce, EachCall}
-use Rattle.scf_tool.proofs.Common.{Err, Fault, List, Ok, PartReader, Result, [], ap, arith, get_or, inl, inr, length, map, refl, rest_of, sym, ◌∙◌, ◌∷◌, ◌≡◌, ◌⊎◌, ℕ}
+use Rattle.scf_tool.proofs.Common.{List, Ok, PartReader, [], ap, arith, get_or, length, map, refl, rest_of, sym, ◌∙◌, ◌∷◌, ◌≡◌, ◌≢◌, ℕ}
+use Rattle.scf_request.specs.declared.request.Scopes.TheVariants.{AtOnce}
 use Rattle.scf_tool.specs.ArchitectureScopes.{HasRecordAmong, NameNoCall, NamesNoCall, scope_of}
-use Rattle.scf_tool.specs.Commands.{AreSidesOf, Compares, ComparesHeld, ComparesSides, GoesOverNone, GoesOverTables, TakesSides, is_native}
-use Rattle.scf_tool.specs.VerifyingSides.{SideBytes}
-use Rattle.scf_tool.specs.declared.fault.Fault.TheVariants as faults
-use Rattle.scf_tool.specs.declared.reply.Reply.{Reply}
-use Rattle.scf_tool.specs.internal.Bytes.{EndsOnBytes}
+use Rattle.scf_tool.specs.Commands.{GoesOver, GoesOverNone}
+use Rattle.scf_tool.specs.declared.fault.Fault.TheVariants.{Range}
 
 -- ---- architectures
 
@@ -99,47 +88,15 @@ only_names_none (table ∷ []) default text count is = (
 )
 only_names_none (table ∷ second ∷ tables) default text count is = absurd (omega (arith, count))
 
--- ---- faults
+-- several tables or none aren't one without a call
+pub not_only : (tables : List (TableReader PartReader)) → length tables ≢ 1
+    → NameNoCall (map rest_of_table tables) → ⊥
+not_only [] several (table, is, none) = absurd (cc)
+not_only (table ∷ []) several none = several refl
+not_only (table ∷ second ∷ tables) several (only, is, none) = absurd (cc)
 
-abbrev IsOther : Fault → Type 0
-IsOther faults.Calls = ⊥
-IsOther faults.Range = ⊥
-IsOther fault = Unit {0}
-
-none_other : (form : BundleForm) (over : Scopes) (tables : List (Architecture × List ℕ)) (fault : Fault)
-    → IsOther fault → GoesOverNone form over tables fault → ⊥
-none_other form EachCall tables faults.Calls is_other none = is_other
-none_other forms.Architectures (AtOnce scope) tables faults.Range is_other none = is_other
-none_other form over tables fault is_other none = none
-
-goes_over_none : (form : BundleForm) (reading : Reading) (comparison : Comparison) (bytes : List ℕ)
-    (held : Held) (fault : Fault) → IsBundle form bytes held → TakesSides form comparison.scopes held
-    → GoesOverNone form comparison.scopes held.tables fault
-    → EndsOnBytes (Compares form reading comparison) bytes (Err fault)
-goes_over_none form reading comparison bytes held faults.Calls bundle takes none =
-    λ input read. (held, (bytes, read, bundle), takes, none)
-goes_over_none form reading comparison bytes held faults.Range bundle takes none =
-    λ input read. (held, (bytes, read, bundle), takes, none)
-goes_over_none form reading comparison bytes held fault bundle takes none =
-    absurd (none_other form comparison.scopes held.tables fault tt none)
-
--- a comparison that goes over no record, or for which memory is wanting, ends with the fault
-pub ends_over_none : (form : BundleForm) (reading : Reading) (comparison : Comparison) (bytes : List ℕ)
-    (held : Held) (fault : Fault) → IsBundle form bytes held → TakesSides form comparison.scopes held
-    → GoesOverNone form comparison.scopes held.tables fault ⊎ (fault ≡ faults.Bundle Memory)
-    → EndsOnBytes (Compares form reading comparison) bytes (Err fault)
-ends_over_none form reading comparison bytes held fault bundle takes (inl none) =
-    goes_over_none form reading comparison bytes held fault bundle takes none
-ends_over_none form reading comparison bytes held fault bundle takes (inr is) =
-    rw is (λ input read. (bytes, read, tt))
-
--- one that goes over a record ends as that of the sides does
-pub ends_over_some : (form : BundleForm) (reading : Reading) (comparison : Comparison) (held : Held)
-    (ending : Result Reply Fault) → GoesOverTables form comparison.scopes held.tables
-    → ((left right : SideBytes) × AreSidesOf form held left right
-    × ComparesSides (is_native form) comparison (interpretation_of reading held) left right held.tables ending)
-    → ComparesHeld form reading comparison held ending
-ends_over_some form reading comparison held (Ok reply) over sides = (over, sides.0, sides.1, sides.2, sides.3)
-ends_over_some form reading comparison held (Err faults.Calls) over sides = absurd sides.3
-ends_over_some form reading comparison held (Err faults.Range) over sides = absurd sides.3
-ends_over_some form reading comparison held (Err fault) over sides = (over, sides.0, sides.1, sides.2, sides.3)
+-- a scope without a record under the tables
+pub none_under : (of_each : Bool) (scope : Scope) (tables : List (Architecture × List ℕ))
+    → (GoesOver of_each (AtOnce scope) tables → ⊥) → GoesOverNone of_each (AtOnce scope) tables Range
+none_under true scope tables none = none
+none_under false scope tables none = absurd (none tt)

@@ -3,23 +3,15 @@ use Rattle.scf_compare.specs.declared.side.Side.{Side}
 use Rattle.scf_compare.specs.declared.side.Side.TheVariants as sides
 use Rattle.scf_compare.specs.Sides.{Behavior, behavior_of, profile_behavior, profiles_behavior, stack_behavior}
 use Rattle.scf_profile.specs.Profile.{Profile}
-use Rattle.scf_profile.specs.StatedProfile.{Tables}
-use Rattle.scf_request.specs.Interpretations.{Interpretation}
-use Rattle.scf_insn.specs.declared.input.InputFault.TheVariants.{TooLong}
-use Rattle.scf_profile.specs.Limits.{max_text_len}
-use Rattle.scf_tool.proofs.Common.{Bool, Insn, List, arith, false, true, [], length, map, refl, subst, sym, NoReadFailed, ◌<◌, ◌∷◌, ◌≡◌, ◌≢◌, ℕ}
-use Rattle.scf_tool.specs.VerifyingSides.{HasStackOf, IsNoSide, IsSide, SideBytes, behavior_of_input, behavior_of_profiles, fault_of_either, fault_of_right}
-use Rattle.scf_tool.specs.VerifyingSides.SideBytes.{OfFilters, OfProfile}
+use Rattle.scf_tool.proofs.Common.{Bool, Insn, List, None, Some, arith, false, get_or, true, [], length, map, refl, subst, sym, ◌∷◌, ◌≡◌, ◌≢◌}
+use Rattle.scf_tool.specs.Inputs.{HasStackOf, SideBytes, behavior_of_input, behavior_of_profiles, named_of, native_table}
+use Rattle.scf_tool.specs.Inputs.SideBytes.{OfFilters, OfProfile}
 use Rattle.scf_tool.specs.declared.owned_table.OwnedTable.{OwnedTable}
 use Rattle.scf_tool.specs.declared.sides.OpenSide.{OpenSide}
 use Rattle.scf_tool.specs.declared.sides.OpenSide.TheVariants as opens
 use Rattle.scf_tool.specs.declared.sides.SideInput.{SideInput}
 use Rattle.scf_tool.specs.declared.sides.SideInput.TheVariants as inputs
-use Rattle.scf_tool.specs.declared.verify_fault.BesideFault.{BesideFault}
-use Rattle.scf_tool.specs.declared.verify_fault.VerifyFault.{VerifyFault}
-use Rattle.scf_tool.specs.declared.verify_fault.VerifyFault.TheVariants.{ProfileRead}
-use Rattle.scf_tool.specs.internal.Sides.{IsNamed, IsOpen, IsSideOf}
-use Rattle.scf_tool.specs.internal.Verification.{named_of}
+use Rattle.scf_tool.specs.internal.Sides.{IsOpen, IsSideOf}
 
 module _ (P : Behavior → Type 0) where
   -- several profiles are a side of several
@@ -52,29 +44,17 @@ open_has_stack (OfFilters filters) (opens.Stack stack) is = (stack, is)
 open_has_stack (OfFilters filters) (opens.Profile reader) is = absurd is
 open_has_stack (OfProfile profile) side is = tt
 
--- whose fault a profile on the right has, by what is read on the left
-pub right_of : (native : Bool) (by : Interpretation) (tables : Tables) (bytes : SideBytes) (input : SideInput)
-    (fault : VerifyFault) (named : BesideFault) → IsSide native by tables bytes input → IsNamed input fault named
-    → named ≡ fault_of_right bytes fault
-right_of native by tables (OfFilters filters) (inputs.Stack stack) fault named is names = names
-right_of native by tables (OfFilters filters) (inputs.Profile loaded) fault named is names = absurd is
-right_of native by tables (OfFilters filters) (inputs.Profiles loaded) fault named is names = absurd is
-right_of true by tables (OfProfile profile) (inputs.Stack stack) fault named is names = absurd is
-right_of false by tables (OfProfile profile) (inputs.Stack stack) fault named is names = absurd is
-right_of native by tables (OfProfile profile) (inputs.Profile loaded) fault named is names = names
-right_of native by tables (OfProfile profile) (inputs.Profiles loaded) fault named is names = names
+-- the table of a profile for x86-64 alone
+pub native_only : (of_each : Bool) (tables : List OwnedTable) (only : OwnedTable) → of_each ≡ false → length tables ≡ 1
+    → only ≡ get_or tables 0 only → native_table of_each (map named_of tables) ≡ Some only.table
+native_only of_each [] only is count at = absurd (omega (arith, count))
+native_only of_each (table ∷ []) only is count at = rw (is, at) refl
+native_only of_each (table ∷ second ∷ tables) only is count at = absurd (omega (arith, count))
 
--- a profile that is too long is none, whatever the tables are
-pub too_long : (native : Bool) (by : Interpretation) (tables : List OwnedTable) (profile : List ℕ)
-    → (native ≡ true → length tables ≡ 1) → max_text_len < length profile
-    → IsNoSide native by (map named_of tables) (OfProfile profile) (ProfileRead TooLong)
-too_long true by [] profile only long = absurd (omega (arith, only refl))
-too_long true by (table ∷ []) profile only long = (named_of table, refl, long)
-too_long true by (table ∷ second ∷ tables) profile only long = absurd (omega (arith, only refl))
-too_long false by tables profile only long = long
-
--- whose fault that of a profile on the right is says nothing of its reads
-pub right_reads_well : (left : SideBytes) (fault : VerifyFault) → NoReadFailed fault
-    → NoReadFailed (fault_of_either (fault_of_right left fault))
-right_reads_well (OfFilters filters) fault well = well
-right_reads_well (OfProfile profile) fault well = well
+-- or there is none
+pub not_native : (of_each : Bool) (tables : List OwnedTable) → (of_each ≡ false → length tables ≢ 1)
+    → native_table of_each (map named_of tables) ≡ None
+not_native true tables several = refl
+not_native false [] several = refl
+not_native false (table ∷ []) several = absurd (several refl refl)
+not_native false (table ∷ second ∷ tables) several = refl

@@ -1,6 +1,5 @@
 -- Tables of several architectures, one after another.
-use Rattle.scf_tool.proofs.Common.{◌≡◌, ◌≢◌, ℕ, ◌+◌, ◌<◌, Bool, true, false, List, [], ◌∷◌, ◌++◌, length, get_or, take, drop, map, Option, Some, Ok, Err, refl, sym, subst, ap, ◌∙◌, arith, drop_more, map-append, take_more, take-append-drop, AllZip, PartReader, VerifyFault, rest_of}
-use Rattle.std.proofs.lemmas.List.{length-map}
+use Rattle.scf_tool.proofs.Common.{◌≡◌, ◌≢◌, ℕ, ◌+◌, ◌<◌, Bool, true, false, List, [], ◌∷◌, ◌++◌, length, get_or, take, drop, map, Ok, Err, refl, sym, subst, ap, ◌∙◌, arith, drop_more, map-append, take_more, take-append-drop, AllZip, PartReader, VerifyFault}
 use Rattle.std.proofs.lemmas.List.Sums.{sum_by-cons}
 use Rattle.std.proofs.lemmas.Slice.Zip.{all_zipped_more}
 use Rattle.std.specs.Prelude.{count_by}
@@ -11,25 +10,22 @@ use Rattle.scf_profile.specs.declared.table_fault.TableFault.{TableFault}
 use Rattle.scf_profile.specs.declared.table_fault.TableFault.TheVariants as faults
 use Rattle.scf_request.specs.Contents.{rest_of_table, texts_for}
 use Rattle.scf_request.specs.Interpretations.{Interpretation}
-use Rattle.scf_tool.specs.Commands.{CantLoadEach, SpellsTable, known_text}
+use Rattle.scf_compare.specs.Sides.{Behavior}
+use Rattle.scf_request.specs.declared.request.Comparison.{Comparison}
+use Rattle.scf_tool.specs.Commands.{AreCounts, CantLoadEach}
+use Rattle.scf_tool.specs.Comparisons.{AreFoundOfTable}
+use Rattle.scf_tool.specs.JointFindings.{AreCallsOfOnly}
+use Rattle.scf_tool.specs.declared.findings.CallFinding.{CallFinding}
+use Rattle.scf_tool.specs.Inputs.{HasNoTable, IsNoTableOf, IsShort, IsTableOf, SpellsTable, named_of}
 use Rattle.scf_tool.specs.declared.owned_table.OwnedTable.{OwnedTable}
-use Rattle.scf_tool.specs.internal.Verification.{named_of}
 use Rattle.scf_insn.specs.declared.architecture.Architecture.{Architecture}
 use Rattle.scf_profile.specs.StatedProfile.{Tables}
 use Rattle.scf_profile.specs.Table.{Names}
 use Rattle.scf_request.specs.declared.contents.TableReader.{TableReader}
-use Rattle.scf_tool.specs.Verifying.{IsNoTable, IsTable}
-use Rattle.scf_tool.specs.VerifyingArchitectures.{AreTables, HasNoTable, IsTableOf, table_text}
-use Rattle.scf_tool.specs.declared.verify_fault.VerifyFault.TheVariants.{Table}
+use Rattle.scf_tool.specs.VerifyingArchitectures.{table_text}
+use Rattle.scf_tool.specs.declared.verify_fault.VerifyFault.TheVariants.{Check, FilterRead, Memory, Profile as ProfileFault, ProfileRead, Stack, Table, TableRead}
 
 -- ---- tables in memory
-
--- readers of bytes in memory tell them
-pub told_of_tables : {R : Type 0} (text : R → List ℕ) (readers : List (TableReader R))
-    → map (table_text (λ reader. Some (text reader))) readers ≡ map known_text (map (table_text text) readers)
-told_of_tables text [] = refl
-told_of_tables text (reader ∷ readers) =
-    ap (λ texts. known_text (table_text text reader) ∷ texts) (told_of_tables text readers)
 
 -- those of an architecture are counted
 pub texts_counted : (architecture : Architecture) (tables : List (TableReader PartReader))
@@ -70,65 +66,40 @@ module _ {P A : Type 0} (text : P → A) (parts : List P) (i : ℕ) (d : P) (lt 
       (all_zipped_more IsOf (map text (take i parts)) (map named_of owned) (text (get_or parts i d)) (named_of last) before
       is_table)
 
-module _ {R : Type 0} (text : R → List ℕ) (tables : List (TableReader R)) (i : ℕ) (reader : TableReader R)
-    (lt : i < length tables) (is : reader ≡ get_or tables i reader) (owned : List OwnedTable)
-    (before : AllZip SpellsTable (map (table_text text) (take i tables)) (map named_of owned)) where
-  -- one more is spelled
-  pub spelled_more : (pushed : List OwnedTable) (table : Names)
-      → pushed ≡ owned ++ record { architecture = reader.architecture; table = table } ∷ []
-      → table_of (text reader.reader) ≡ Ok table
-      → AllZip SpellsTable (map (table_text text) (take (i + 1) tables)) (map named_of pushed)
-  spelled_more pushed table added spelled =
-      let last : OwnedTable = record { architecture = reader.architecture; table = table } in
-      one_table_more (table_text text) tables i reader lt SpellsTable owned pushed last before added
-      (subst (λ (own : TableReader R). SpellsTable (table_text text own) (named_of last)) is (refl, spelled))
-
-  -- one isn't
-  pub cant_spell : (by : Interpretation) (profile : List ℕ) (fault : TableFault)
-      → (fault ≢ faults.Memory → table_of (text reader.reader) ≡ Err fault)
-      → CantLoadEach by profile (map (table_text text) tables) (Table fault)
-  cant_spell by profile fault refused = λ no_memory. (
-    map (table_text text) (take i tables),
-    table_text text (get_or tables i reader),
-    map (table_text text) (drop (i + 1) tables),
-    texts_split (table_text text) tables i reader lt,
-    map named_of owned,
-    before,
-    subst (λ (own : TableReader R). table_of (text own.reader) ≡ Err fault) is (refused no_memory),
-  )
-
--- what a part is known to have for its table
-abbrev known : TableReader PartReader → Architecture × Option (List ℕ)
-known = table_text (λ reader. Some (rest_of reader))
-
-module _ (parts : List (TableReader PartReader)) (i : ℕ) (d : TableReader PartReader) (lt : i < length parts)
-    (owned : List OwnedTable)
-    (before : AreTables (map known_text (map rest_of_table (take i parts))) (map named_of owned)) where
-  are_before : AreTables (map known (take i parts)) (map named_of owned)
-  are_before = rw (told_of_tables rest_of (take i parts)) before
-
+module _ {R : Type 0} (is_limited : Bool) (text : R → List ℕ) (parts : List (TableReader R)) (i : ℕ)
+    (part : TableReader R) (lt : i < length parts) (is : part ≡ get_or parts i part) (owned : List OwnedTable)
+    (before : AllZip (IsTableOf is_limited) (map (table_text text) (take i parts)) (map named_of owned)) where
   -- one more part is a table
-  pub part_more : (pushed : List OwnedTable) (table : Names)
-      → pushed ≡ owned ++ record { architecture = (get_or parts i d).architecture; table = table } ∷ []
-      → IsTable (Some (rest_of (get_or parts i d).reader)) table
-      → AreTables (map known_text (map rest_of_table (take (i + 1) parts))) (map named_of pushed)
-  part_more pushed table added is_table =
-      rw (told_of_tables rest_of (take (i + 1) parts)) at
-      (one_table_more known parts i d lt IsTableOf owned pushed
-      record { architecture = (get_or parts i d).architecture; table = table } are_before added (refl, is_table))
+  pub part_more : (pushed : List OwnedTable) (names : Names)
+      → pushed ≡ owned ++ record { architecture = part.architecture; table = names } ∷ []
+      → IsShort is_limited (text part.reader) → table_of (text part.reader) ≡ Ok names
+      → AllZip (IsTableOf is_limited) (map (table_text text) (take (i + 1) parts)) (map named_of pushed)
+  part_more pushed names added short stated =
+      let last : OwnedTable = record { architecture = part.architecture; table = names } in
+      let here : IsTableOf is_limited (table_text text part) (named_of last) = (short, (refl, stated)) in
+      one_table_more (table_text text) parts i part lt (IsTableOf is_limited) owned pushed last before added
+      (subst (λ (own : TableReader R). IsTableOf is_limited (table_text text own) (named_of last)) is here)
 
   -- one isn't
-  pub no_part : (fault : VerifyFault) → IsNoTable (Some (rest_of (get_or parts i d).reader)) fault
-      → HasNoTable (map known_text (map rest_of_table parts)) fault
-  no_part fault refused = record {
-    before = map known (take i parts);
-    text = known (get_or parts i d);
-    behind = map known (drop (i + 1) parts);
-    whole = sym (told_of_tables rest_of parts) ∙ texts_split known parts i d lt;
-    tables = map named_of owned;
-    are_tables = are_before;
-    why = refused;
-  }
+  pub no_part : (fault : VerifyFault) → IsNoTableOf is_limited (text part.reader) fault
+      → HasNoTable is_limited (map (table_text text) parts) fault
+  no_part fault refused =
+      let read : List (Architecture × List ℕ) = map (table_text text) (take i parts) in
+      let own : Architecture × List ℕ = table_text text (get_or parts i part) in
+      let later : List (Architecture × List ℕ) = map (table_text text) (drop (i + 1) parts) in
+      let split : map (table_text text) parts ≡ read ++ own ∷ later = texts_split (table_text text) parts i part lt in
+      let are = before in
+      let reason : IsNoTableOf is_limited own.1 fault =
+      subst (λ (reader : TableReader R). IsNoTableOf is_limited (text reader.reader) fault) is refused in
+      record {
+        before = read;
+        text = own;
+        behind = later;
+        whole = split;
+        tables = map named_of owned;
+        are_tables = are;
+        why = reason;
+      }
 
 -- lists of which one is no table aren't counts of calls
 pub no_counts : (before : List (Architecture × List ℕ)) (own : Architecture × List ℕ)
@@ -141,29 +112,63 @@ no_counts (text ∷ texts) own behind fault [] refused each = each
 no_counts (text ∷ texts) own behind fault (table ∷ tables) refused each =
     no_counts texts own behind fault tables refused each.1
 
--- ---- the only table
+-- ---- texts of any length
 
--- so many are read as there are texts
-pub tables_counted : (texts : List (Architecture × Option (List ℕ))) (tables : Tables) → AreTables texts tables
-    → length tables ≡ length texts
-tables_counted [] [] are = refl
-tables_counted [] (table ∷ tables) are = absurd are
-tables_counted (text ∷ texts) [] are = absurd are
-tables_counted (text ∷ texts) (table ∷ tables) are = omega (arith, tables_counted texts tables are.1)
+-- what is a table is one however long texts may be
+pub spelled : (is_limited : Bool) (texts : List (Architecture × List ℕ)) (tables : Tables)
+    → AllZip (IsTableOf is_limited) texts tables → AllZip SpellsTable texts tables
+spelled is_limited [] [] each = each
+spelled is_limited [] (table ∷ tables) each = absurd each
+spelled is_limited (text ∷ texts) [] each = absurd each
+spelled is_limited (text ∷ texts) (table ∷ tables) each = (each.0.1, spelled is_limited texts tables each.1)
 
--- and as there are parts
-pub parts_counted : (parts : List (TableReader PartReader)) (owned : List OwnedTable)
-    → AreTables (map known_text (map rest_of_table parts)) (map named_of owned) → length owned ≡ length parts
-parts_counted parts owned are = omega (
-  arith,
-  tables_counted (map known_text (map rest_of_table parts)) (map named_of owned) are,
-  length-map owned named_of,
-  length-map (map rest_of_table parts) known_text,
-  length-map parts rest_of_table,
+-- why texts aren't loaded
+pub cant_load : (by : Interpretation) (profile : List ℕ) (texts : List (Architecture × List ℕ)) (fault : VerifyFault)
+    → HasNoTable false texts fault → CantLoadEach by profile texts fault
+cant_load by profile texts (Table fault) none = λ other. (
+  none.before,
+  none.text,
+  none.behind,
+  none.whole,
+  none.tables,
+  spelled false none.before none.tables none.are_tables,
+  none.why.1 other,
 )
+cant_load by profile texts (TableRead fault) none = absurd (let limited = none.why.0 in cc)
+cant_load by profile texts (FilterRead fault) none = absurd none.why
+cant_load by profile texts (Check fault) none = absurd none.why
+cant_load by profile texts (Stack fault) none = absurd none.why
+cant_load by profile texts (ProfileRead fault) none = absurd none.why
+cant_load by profile texts (ProfileFault fault) none = absurd none.why
+cant_load by profile texts Memory none = absurd none.why
 
--- the only element of a list
-pub only_element : {A : Type 0} (xs : List A) (d : A) → length xs ≡ 1 → xs ≡ get_or xs 0 d ∷ []
-only_element [] d count = absurd (omega (arith, count))
-only_element (x ∷ []) d count = refl
-only_element (x ∷ y ∷ xs) d count = absurd (omega (arith, count))
+-- texts of which one is no table aren't counts of calls
+pub not_counts : (texts : List (Architecture × List ℕ)) (fault : VerifyFault) → fault ≢ Table faults.Memory
+    → HasNoTable false texts fault → AreCounts texts → ⊥
+not_counts texts (Table fault) other none counts =
+    no_counts none.before none.text none.behind fault counts.0 (none.why.1 (λ is. other (ap Table is)))
+    (rw none.whole at counts.1)
+not_counts texts (TableRead fault) other none counts = absurd (let limited = none.why.0 in cc)
+not_counts texts (FilterRead fault) other none counts = none.why
+not_counts texts (Check fault) other none counts = none.why
+not_counts texts (Stack fault) other none counts = none.why
+not_counts texts (ProfileRead fault) other none counts = none.why
+not_counts texts (ProfileFault fault) other none counts = none.why
+not_counts texts Memory other none counts = none.why
+
+-- ---- the calls of the only table
+
+module _ (comparison : Comparison) (left right : Behavior) where
+  pub of_only : (tables : List OwnedTable) (only : OwnedTable) (calls : List CallFinding) → length tables ≡ 1
+      → only ≡ get_or tables 0 only
+      → AreFoundOfTable comparison.relation only.architecture left right only.table comparison.limits calls
+      → AreCallsOfOnly comparison (map named_of tables) left right calls
+  of_only [] only calls count is are = absurd (omega (arith, count))
+  of_only (table ∷ []) only calls count is are = rw is at are
+  of_only (table ∷ second ∷ tables) only calls count is are = absurd (omega (arith, count))
+
+  pub of_others : (tables : List OwnedTable) (calls : List CallFinding) → length tables ≢ 1 → calls ≡ []
+      → AreCallsOfOnly comparison (map named_of tables) left right calls
+  of_others [] calls several none = none
+  of_others (table ∷ []) calls several none = absurd (several refl)
+  of_others (table ∷ second ∷ tables) calls several none = none

@@ -20,10 +20,14 @@ use Rattle.scf_compare.specs.declared.finding.Finding.TheVariants.{Fails}
 use Rattle.scf_compare.specs.declared.region.Region.{Region}
 use Rattle.scf_compare.specs.declared.regions.Regions.{Regions}
 use Rattle.scf_request.specs.declared.request.Exploration.{Exploration}
+use Rattle.scf_tool.specs.ArchitectureScopes.{scope_of}
+use Rattle.scf_tool.specs.Inputs.{behavior_of_input}
 use Rattle.scf_tool.specs.RegionLines.{listing_text}
 use Rattle.scf_tool.specs.declared.region_lines.RegionFormat.{RegionFormat}
 use Rattle.scf_tool.specs.declared.reply.Reply.{Reply}
 use Rattle.scf_tool.specs.declared.reply.Reply.TheVariants.{Compared}
+use Rattle.scf_tool.specs.declared.sides.SideInput.{SideInput}
+use Rattle.scf_tool.specs.declared.sides.SideInput.TheVariants.{Profiles}
 use Rattle.scf_tool.specs.declared.status.Status.{Status}
 use Rattle.scf_tool.specs.declared.status.Status.TheVariants.{Success, Unknown}
 
@@ -91,6 +95,15 @@ format_of has_both exploration = record { has_both = has_both; has_examples = ex
 abbrev pub ListsWalks : Exploration → (Option (List Regions) → Type 0) → Reply → Type 0
 ListsWalks exploration explores reply =
     (listed : Option (List Regions)) × explores listed × IsListing (format_of false exploration) listed reply
+
+-- what walks over a side come to: over profiles each over the records of its architecture
+abbrev pub ExploresSide : SideInput → Scope → ℕ → Option (List Regions) → Type 0
+ExploresSide (Profiles loaded) scope limit = ExploresEach (scope_of scope) loaded.profiles limit
+ExploresSide side scope limit = ExploresSides (behavior_of_input side) no_side scope limit
+
+abbrev pub ListsSide : Exploration → SideInput → Reply → Type 0
+ListsSide exploration side reply =
+    ListsWalks exploration (ExploresSide side exploration.scope exploration.limit) reply
 
 -- The reply of a walk over two sides.
 abbrev pub ListsDiffering : Exploration → Behavior → Behavior → Reply → Type 0

@@ -213,7 +213,6 @@ fault_row (faults.Bundle fault) = ((codes "bundle", 0), bundle_kind fault)
 fault_row faults.Parts = ((codes "bundle", 0), (Failed, (codes "Parts", 0), none))
 fault_row (faults.Text fault) = text_row fault
 fault_row (faults.Compile fault) = compile_row fault
-fault_row (faults.Verify fault) = verify_row fault
 fault_row (faults.Sides fault) = beside_row fault
 fault_row faults.Answers = ((codes "answers", 0), (Failed, memory, none))
 fault_row faults.Range = ((codes "command", 0), (CommandLine, (codes "Range", 0), none))

@@ -1,5 +1,5 @@
 -- The finding that speaks for several, and its claim on a side and the profiles of several architectures.
-use Rattle.std.specs.Prelude.{◌≡◌, ℕ, Bool, true, false, not, List, find, map, max, Contains, Option}
+use Rattle.std.specs.Prelude.{◌≡◌, ℕ, Bool, true, false, not, List, [], ◌∷◌, find, map, max, Contains, Option}
 use Rattle.std.specs.List.{AllZip, fold}
 use Rattle.std.specs.Option.{option_map_or, option_or}
 use Rattle.scf_insn.specs.declared.architecture.Architecture.{Architecture}
@@ -17,7 +17,15 @@ use Rattle.scf_compare.specs.declared.finding.Finding.TheVariants.{Holds, Fails,
 use Rattle.scf_compare.specs.declared.finding.Which.TheVariants.{Left, Right}
 use Rattle.scf_compare.specs.Sides.{Behavior, profile_behavior}
 use Rattle.scf_tool.specs.declared.findings.CallFinding.{CallFinding}
-use Rattle.scf_tool.specs.Comparisons.{IsFound}
+use Rattle.scf_profile.specs.StatedProfile.{Tables}
+use Rattle.scf_request.specs.declared.request.Comparison.{Comparison}
+use Rattle.scf_tool.specs.ArchitectureScopes.{scope_of}
+use Rattle.scf_tool.specs.Comparisons.{AreAsked, AreFoundOfTable, IsFound, limit_of}
+use Rattle.scf_tool.specs.Inputs.{behavior_of_input, named_of}
+use Rattle.scf_tool.specs.declared.findings.Findings.{Findings}
+use Rattle.scf_tool.specs.declared.sides.SideInput.{SideInput}
+use Rattle.scf_tool.specs.declared.sides.SideInput.TheVariants.{Profiles}
+use Rattle.scf_tool.specs.declared.sides.SidesInput.{SidesInput}
 
 abbrev pub is_holding : Finding → Bool
 is_holding (Holds steps) = true
@@ -73,3 +81,26 @@ pub record IsJointlyFound (relation : Relation) (over : Architecture → Scope) 
       profiles findings
   pub joint : finding ≡ joint_finding findings
   pub holds : IsTrueOfEach relation over side profiles finding
+
+-- ---- what is asked for
+
+-- The finding on the records of a scope: beside the profiles of several architectures the one that speaks for the
+-- records of all of them, where the scope is a range for those with a number of it.
+abbrev pub IsFoundOver : Relation → Limit → SideInput → SideInput → Scope → Finding → Type 0
+IsFoundOver relation limit left (Profiles loaded) scope finding =
+    IsJointlyFound relation (scope_of scope) (behavior_of_input left) loaded.profiles limit finding
+IsFoundOver relation limit left right scope finding =
+    IsFound relation (behavior_of_input left) (behavior_of_input right) scope limit finding
+
+-- each call of the only table has its finding
+abbrev pub AreCallsOfOnly : Comparison → Tables → Behavior → Behavior → List CallFinding → Type 0
+AreCallsOfOnly comparison (table ∷ []) left right calls =
+    AreFoundOfTable comparison.relation table.0 left right table.1 comparison.limits calls
+AreCallsOfOnly comparison tables left right calls = calls ≡ []
+
+-- the findings on two sides that are read, compared as is asked
+abbrev pub AreFindings : Comparison → SidesInput → Findings → Type 0
+AreFindings comparison sides =
+    AreAsked (IsFoundOver comparison.relation (limit_of comparison.limits) sides.left sides.right)
+    (AreCallsOfOnly comparison (map named_of sides.tables.items)
+    (behavior_of_input sides.left) (behavior_of_input sides.right)) comparison.scopes

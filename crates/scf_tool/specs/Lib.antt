@@ -5,6 +5,7 @@ pub mod CompiledFilters
 pub mod Explorations
 pub mod Faults
 pub mod FilterStacks
+pub mod Inputs
 pub mod JointFindings
 pub mod Lines
 pub mod Numerals
@@ -16,6 +17,5 @@ pub mod Statuses
 pub mod Verifying
 pub mod VerifyingArchitectures
 pub mod VerifyingFilters
-pub mod VerifyingSides
 pub mod VerifyingStacks
 pub mod internal

@@ -3,7 +3,7 @@
 ghost use Rattle.std.specs.Prelude.{◌≡◌, ◌↔◌, ◌+◌, ◌<◌, ◌^◌, IfErr, IfOk, IsTrue, map};
 ghost use Rattle.scf_insn.specs.Architectures.{row_of};
 ghost use Rattle.scf_request.specs.Contents.{rest_of_table};
-ghost use Rattle.scf_tool.specs.ArchitectureScopes.{HasRecordAmong, NamesNoCall};
+ghost use Rattle.scf_tool.specs.ArchitectureScopes.{HasRecordAmong, NameNoCall, NamesNoCall};
 ghost use Rattle.scf_tool.specs.ArchitectureScopes as spec;
 
 use scf_insn::Architecture;
@@ -53,7 +53,7 @@ pub(crate) fn has_record_among(tables: &[TableReader<PartReader<'_>>], scope: Sc
 }
 
 /// Whether a text is a syscall table without a syscall. The error: out of memory.
-pub(crate) fn names_no_call(alloc: Global, text: &[u8]) -> Result<bool, BundleFault>
+fn is_without_call(alloc: Global, text: &[u8]) -> Result<bool, BundleFault>
     ensures none { IfOk result (λ none. IsTrue none ↔ NamesNoCall text.now) }
     ensures fault { IfErr result (λ fault. fault ≡ BundleFault.Memory) }
 {
@@ -65,4 +65,18 @@ pub(crate) fn names_no_call(alloc: Global, text: &[u8]) -> Result<bool, BundleFa
         Err(TableFault::Memory) => Err(BundleFault::Memory),
         Err(_) => Ok(false),
     }
+}
+
+/// Whether there is one table, and it is without a syscall. The error: out of memory.
+pub(crate) fn names_no_call(
+    alloc: Global,
+    tables: &[TableReader<PartReader<'_>>],
+) -> Result<bool, BundleFault>
+    ensures none { IfOk result (λ none. IsTrue none ↔ NameNoCall (map rest_of_table tables.now)) }
+    ensures fault { IfErr result (λ fault. fault ≡ BundleFault.Memory) }
+{
+    if tables.len() != 1 {
+        return Ok(false);
+    }
+    is_without_call(alloc, tables[0].reader.rest())
 }

@@ -1,37 +1,28 @@
 //! The program's commands.
 
 ghost use Rattle.std.specs.Prelude.{◌≡◌, map, Ok, Err, IfErr, IfOk, OnOk};
-ghost use Rattle.scf_tool.specs.Commands.{IsTrueReply, ReadsInput};
+ghost use Rattle.scf_tool.specs.Commands.{EndsOnBytes, IsTrueReply, ReadsInput};
 ghost use Rattle.scf_tool.specs.Runs.{Ends, IsRunOfProgram};
 ghost use Rattle.scf_tool.specs.Statuses.{LeavesInput};
 ghost use Rattle.scf_tool.specs.Verifying.{HasEnded, HasFailedWhere};
-ghost use Rattle.scf_tool.specs.internal.Bytes.{EndsOnBytes, TakesWhole};
 
 mod answers;
-mod architectures;
+mod bundle;
 mod compare;
-mod comparison_parts;
-mod differences;
+mod decide;
 mod filter;
-mod parts;
 mod profile;
-mod stack;
 mod text;
 
 use crate::command_line::{explain, report_out_of_memory};
 use crate::fault::Fault;
 use crate::reply::{LINE_ROOM, Reply, status_of, text_of};
 use crate::status::Status;
-use answers::{list_answers, list_architectures};
-use architectures::{ask_architectures, compile_architectures};
-use compare::compare_bundle;
-use differences::list_differences;
+use bundle::answer_bundle;
 use filter::{check_filter, list_filter, run_filter, trace_filter};
-use profile::{ask_profile, compile_profile};
 use scf_insn::{InputFault, Sink, Source, read_input, write_whole};
 use scf_profile::Reading;
-use scf_request::{BundleForm, Request, parse, reading_of, request_of};
-use stack::{decide_stack, decide_stack_at, trace_stack};
+use scf_request::{Request, parse, reading_of, request_of};
 use std::alloc::Global;
 use std::convert::AsStr;
 use text::assemble_text;
@@ -57,46 +48,11 @@ fn answer_bytes(
     request: &Request,
     bytes: &[u8],
 ) -> Result<Reply, Fault>
-    requires { TakesWhole request.now }
-    ensures { EndsOnBytes (IsTrueReply reading request.now) bytes.now result }
+    ensures { EndsOnBytes reading request.now bytes.now result }
 {
     match request {
-        Request::Answers(exploration) => list_answers(alloc, reading, *exploration, bytes),
-        Request::AnswersOfArchitectures(exploration) => {
-            list_architectures(alloc, reading, *exploration, bytes)
-        }
-        Request::Differences { form, exploration } => {
-            list_differences(alloc, reading, *form, *exploration, bytes)
-        }
-        Request::Ask(call) => ask_profile(alloc, reading, call, bytes),
-        Request::AskArchitectures(call) => ask_architectures(alloc, reading, call, bytes),
         Request::Assemble => assemble_text(alloc, bytes),
-        Request::Compare(comparison) => {
-            compare_bundle(alloc, reading, BundleForm::Profile, *comparison, bytes)
-        }
-        Request::CompareBeside(comparison) => {
-            let form = BundleForm::Beside(comparison.scopes);
-            compare_bundle(alloc, reading, form, *comparison, bytes)
-        }
-        Request::CompareArchitectures(comparison) => {
-            compare_bundle(
-                alloc,
-                reading,
-                BundleForm::Architectures,
-                *comparison,
-                bytes,
-            )
-        }
-        Request::Compile { has_left_out } => {
-            compile_profile(alloc, reading, *has_left_out, bytes)
-        }
-        Request::CompileArchitectures { has_left_out } => {
-            compile_architectures(alloc, reading, *has_left_out, bytes)
-        }
-        Request::Decide(call) => decide_stack(alloc, call, bytes),
-        Request::DecideBy(call) => decide_stack_at(alloc, call, bytes),
-        Request::DecidePaths(call) => trace_stack(alloc, call, bytes),
-        Request::Check | Request::List | Request::Run(_) | Request::Trace(_) => unreachable!(),
+        _ => answer_bundle(alloc, reading, request, bytes),
     }
 }
 

@@ -1,9 +1,10 @@
 //! The bytes of the filters of profiles.
 
 ghost use Rattle.std.specs.Prelude.{◌≡◌, ◌<◌, ◌++◌, IfErr, IfOk};
-ghost use Rattle.scf_compile.specs.SizeBound.{size_bound_of, size_bound_of_each};
+ghost use Rattle.scf_compile.specs.SizeBound.{size_bound_of_each};
 ghost use Rattle.scf_insn.specs.Kernel.{bpf_maxinsns};
-ghost use Rattle.scf_tool.specs.Commands.{IsFilterOf, IsFilterOfEach};
+ghost use Rattle.scf_profile.specs.Profile.{AreOfApart};
+ghost use Rattle.scf_tool.specs.Commands.{IsFilterOfEach};
 ghost use Rattle.scf_tool.specs.Reports.{left_out_front};
 
 use crate::buffer::encoding_of;
@@ -14,21 +15,23 @@ use scf_insn::Memory;
 use scf_profile::{Profile, Profiles};
 use std::alloc::Global;
 
-/// The bytes of the filter that answers as a profile does. The errors are those of `compile`.
-pub fn filter_of(
+/// The bytes of the filter that answers as the profiles of several architectures do. The errors are those of
+/// `compile_by_counts`.
+pub(crate) fn filter_of(
     alloc: Global,
-    profile: &Profile,
+    profiles: &[Profile],
     counts: &[CallCount],
 ) -> Result<Vec<u8>, CompileFault>
-    ensures filter { IfOk result (λ bytes. IsFilterOf profile.now bytes.items) }
-    ensures large { IfErr result (λ fault. fault ≡ CompileFault.TooLarge → bpf_maxinsns < size_bound_of profile.now) }
+    requires { AreOfApart profiles.now }
+    ensures filter { IfOk result (λ bytes. IsFilterOfEach profiles.now bytes.items) }
+    ensures large { IfErr result
+        (λ fault. fault ≡ CompileFault.TooLarge → bpf_maxinsns < size_bound_of_each profiles.now) }
 {
-    let program = compile_by_counts(alloc, std::slice::from_ref(profile), counts)?;
+    let program = compile_by_counts(alloc, profiles, counts)?;
     Ok(encoding_of(alloc, program.insns())?)
 }
 
-/// The bytes of the filter that answers as the profiles of several architectures do. The errors are those of
-/// `compile_by_counts`.
+/// The same of profiles that are loaded together.
 pub fn filter_of_each(
     alloc: Global,
     profiles: &Profiles,
@@ -38,8 +41,7 @@ pub fn filter_of_each(
     ensures large { IfErr result
         (λ fault. fault ≡ CompileFault.TooLarge → bpf_maxinsns < size_bound_of_each profiles.now) }
 {
-    let program = compile_by_counts(alloc, profiles.as_slice(), counts)?;
-    Ok(encoding_of(alloc, program.insns())?)
+    filter_of(alloc, profiles.as_slice(), counts)
 }
 
 /// The bytes of a filter behind what was left out of its profile, if that is asked for.

@@ -5,7 +5,7 @@ ghost use Rattle.scf_tool.specs.declared.fault.Fault.TheVariants as faults;
 
 use crate::verify_fault::{BesideFault, VerifyFault};
 use scf_compile::CompileFault;
-use scf_insn::{InputFault, ReadFault};
+use scf_insn::{InputFault, Memory, ReadFault};
 use scf_request::{BundleFault, RequestFault};
 use scf_text::TextFault;
 
@@ -23,11 +23,9 @@ pub(crate) enum Fault {
     Parts,
     Text(TextFault),
     Compile(CompileFault),
-    /// A filter, a stack, a table or a profile is refused, or memory ran out during their comparison.
-    Verify(VerifyFault),
-    /// Two sides weren't compared.
+    /// A filter, a stack, a table or a profile is refused, or memory ran out during a comparison.
     Sides(BesideFault),
-    /// Out of memory while answers were listed.
+    /// Out of memory for what is printed of answers.
     Answers,
     /// No architecture that has a table has a syscall with a number in the range.
     Range,
@@ -60,12 +58,13 @@ impl From<BundleFault> for Fault {
 }
 
 impl From<ReadFault> for Fault {
+    ghost use Rattle.scf_tool.specs.declared.verify_fault.BesideFault.TheVariants as besides;
     ghost use Rattle.scf_tool.specs.declared.verify_fault.VerifyFault.TheVariants as verifies;
 
-    ghost from_gives = { λ fault e. e ≡ faults.Verify (verifies.FilterRead fault) };
+    ghost from_gives = { λ fault e. e ≡ faults.Sides (besides.Verify (verifies.FilterRead fault)) };
 
     fn from(fault: ReadFault) -> Fault {
-        Fault::Verify(VerifyFault::FilterRead(fault))
+        Fault::Sides(BesideFault::Verify(VerifyFault::FilterRead(fault)))
     }
 }
 
@@ -86,10 +85,12 @@ impl From<CompileFault> for Fault {
 }
 
 impl From<VerifyFault> for Fault {
-    ghost from_gives = { λ fault e. e ≡ faults.Verify fault };
+    ghost use Rattle.scf_tool.specs.declared.verify_fault.BesideFault.TheVariants as besides;
+
+    ghost from_gives = { λ fault e. e ≡ faults.Sides (besides.Verify fault) };
 
     fn from(fault: VerifyFault) -> Fault {
-        Fault::Verify(fault)
+        Fault::Sides(BesideFault::Verify(fault))
     }
 }
 
@@ -98,5 +99,13 @@ impl From<BesideFault> for Fault {
 
     fn from(fault: BesideFault) -> Fault {
         Fault::Sides(fault)
+    }
+}
+
+impl From<Memory> for Fault {
+    ghost from_gives = { λ _ e. e ≡ faults.Answers };
+
+    fn from(_: Memory) -> Fault {
+        Fault::Answers
     }
 }

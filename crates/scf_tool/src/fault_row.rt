@@ -302,7 +302,6 @@ impl Fault {
             Fault::Parts => ("bundle", kind(Failed, ("Parts", 0), NONE)),
             Fault::Text(fault) => return text_row(fault),
             Fault::Compile(fault) => return compile_row(fault),
-            Fault::Verify(fault) => return verify_row(fault),
             Fault::Sides(fault) => return beside_row(fault),
             Fault::Answers => ("answers", kind(Failed, MEMORY, NONE)),
             Fault::Range => ("command", kind(CommandLine, ("Range", 0), NONE)),

@@ -3,8 +3,7 @@
 ghost use Rattle.std.specs.Prelude.{List, Ok, map, Some, IfOk, IfErr, OnOk};
 ghost use Rattle.scf_insn.specs.declared.insn.Insn.{Insn};
 ghost use Rattle.scf_machine.specs.Stack.{IsPush};
-ghost use Rattle.scf_tool.specs.Commands.{NoReadFailed};
-ghost use Rattle.scf_tool.specs.FilterStacks.{HasStack, HasNoStack, HaveEnded, HaveStopped, IsNotPushed};
+ghost use Rattle.scf_tool.specs.FilterStacks.{HasStack, HasNoStack, HaveEnded, HaveStopped, IsNotPushed, NoReadFailed};
 ghost use Rattle.scf_tool.specs.Verifying.{HasEnded, IsAcceptedFilter, LeavesFilterReader};
 ghost use Rattle.scf_request.specs.Contents.{rest_of};
 

@@ -1,20 +1,20 @@
 //! Syscall tables of several architectures, and the profiles that they give their numbers.
 
-ghost use Rattle.std.specs.Prelude.{map, IfErr, IfOk, Some};
+ghost use Rattle.std.specs.Prelude.{◌≡◌, ◌≢◌, IfErr, IfOk, Ok, map, true};
+ghost use Rattle.std.specs.List.{AllZip};
 ghost use Rattle.scf_profile.specs.Loading.{RefusesEachAs};
-ghost use Rattle.scf_request.specs.Contents.{rest_of_table};
+ghost use Rattle.scf_profile.specs.Table.{table_of as names_of};
 ghost use Rattle.scf_request.specs.Interpretations.{LoadsEachBy};
-ghost use Rattle.scf_tool.specs.Commands.{NoReadFailed, known_text};
-ghost use Rattle.scf_tool.specs.Verifying.{IsNoTable, IsTable};
-ghost use Rattle.scf_tool.specs.VerifyingArchitectures.{AreTables, HasNoTable};
-ghost use Rattle.scf_tool.specs.internal.Verification.{named_of};
+ghost use Rattle.scf_tool.specs.Inputs.{HasNoTable, IsNoTableOf, IsShort, IsTableOf, IsTooLong, named_of};
+ghost use Rattle.scf_tool.specs.VerifyingArchitectures.{table_text};
 
+use crate::in_memory::InMemory;
 use crate::verify_fault::VerifyFault;
 use scf_insn::{Architecture, InputFault};
 use scf_profile::{
     ArchitectureTable, CallTable, LoadFault, LoadedProfiles, MAX_TEXT_LEN, TableFault,
 };
-use scf_request::{Interpretation, PartReader, TableReader};
+use scf_request::{Interpretation, TableReader};
 use std::alloc::Global;
 
 /// A syscall table, and the architecture whose syscalls it names.
@@ -24,30 +24,39 @@ pub(crate) struct OwnedTable {
     pub table: CallTable,
 }
 
-/// The syscall table that a part of a bundle spells, of at most `MAX_TEXT_LEN` bytes.
-fn table_of(alloc: Global, text: &[u8]) -> Result<CallTable, VerifyFault>
-    ensures table { IfOk result (IsTable (Some text.now)) }
-    ensures refused { IfErr result (λ fault. NoReadFailed fault × IsNoTable (Some text.now) fault) }
+/// Whether a text is too long, if texts are limited to `MAX_TEXT_LEN` bytes.
+pub(crate) fn is_too_long(is_limited: bool, text: &[u8]) -> bool
+    ensures long { result ≡ true → IsTooLong is_limited text.now InputFault.TooLong }
+    ensures short { result ≢ true → IsShort is_limited text.now }
 {
-    if text.len() > MAX_TEXT_LEN {
+    is_limited && text.len() > MAX_TEXT_LEN
+}
+
+/// The syscall table that a text spells.
+fn table_of(alloc: Global, is_limited: bool, text: &[u8]) -> Result<CallTable, VerifyFault>
+    ensures short { IfOk result (λ _. IsShort is_limited text.now) }
+    ensures table { IfOk result (λ table. names_of text.now ≡ Ok table) }
+    ensures refused { IfErr result (IsNoTableOf is_limited text.now) }
+{
+    if is_too_long(is_limited, text) {
         return Err(VerifyFault::TableRead(InputFault::TooLong));
     }
     Ok(CallTable::read(alloc, text)?)
 }
 
-/// The tables of several architectures that parts of a bundle spell, in order.
-pub(crate) fn read_tables(
+/// The tables of several architectures that texts spell, in order.
+pub(crate) fn read_tables<R: InMemory>(
     alloc: Global,
-    parts: &[TableReader<PartReader<'_>>],
+    is_limited: bool,
+    parts: &[TableReader<R>],
 ) -> Result<Vec<OwnedTable>, VerifyFault>
     ensures tables { IfOk result (λ tables.
-        AreTables (map known_text (map rest_of_table parts.now)) (map named_of tables.items)) }
-    ensures refused { IfErr result (λ fault. NoReadFailed fault
-        × HasNoTable (map known_text (map rest_of_table parts.now)) fault) }
+        AllZip (IsTableOf is_limited) (map (table_text R.text) parts.now) (map named_of tables.items)) }
+    ensures refused { IfErr result (HasNoTable is_limited (map (table_text R.text) parts.now)) }
 {
     let mut tables = Vec::new(alloc);
     for part in parts {
-        let table = table_of(alloc, part.reader.rest())?;
+        let table = table_of(alloc, is_limited, part.reader.bytes())?;
         let owned = OwnedTable {
             architecture: part.architecture,
             table,

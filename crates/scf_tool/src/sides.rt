@@ -1,40 +1,33 @@
-//! The sides of a comparison: filters or a profile, read from the parts of a bundle.
+//! The sides of a command: filters or a profile, read from its inputs.
 
-ghost use Rattle.std.specs.Prelude.{◌≡◌, true, length, map, IfErr, IfOk};
-ghost use Rattle.scf_request.specs.Contents.{rest_of_table};
-ghost use Rattle.scf_tool.specs.Commands.{NoReadFailed, known_text};
-ghost use Rattle.scf_tool.specs.VerifyingSides.{
+ghost use Rattle.std.specs.Prelude.{◌≡◌, IfErr, IfOk, IfNone, IfSome, None, Some, map};
+ghost use Rattle.scf_profile.specs.Profile.{AreOfApart};
+ghost use Rattle.scf_tool.specs.Inputs.{
+  AreRead,
   AreRefused,
-  AreSides,
   HasNoStackOf,
   IsNoSide,
   IsSide,
   SideBytes,
-  fault_of_either,
   left_out_of_input,
+  named_of,
+  native_table,
+  profiles_of,
 };
-ghost use Rattle.scf_tool.specs.internal.Sides.{IsNamed, IsOpen, IsSideOf, side_bytes};
-ghost use Rattle.scf_tool.specs.internal.Verification.{named_of};
+ghost use Rattle.scf_tool.specs.Inputs as spec;
+ghost use Rattle.scf_tool.specs.internal.Sides.{IsOpen, IsSideOf, inputs_of, side_bytes};
 
 use crate::filter_stack::stack_of;
-use crate::findings::ComparisonOutcome;
+use crate::inputs::{Inputs, SideParts, TextRules};
 use crate::left_out::LeftOut;
-use crate::owned_table::{OwnedTable, load_under, read_tables};
+use crate::owned_table::{OwnedTable, is_too_long, load_under, read_tables};
 use crate::verify_fault::{BesideFault, VerifyFault};
 use scf_compare::Side;
 use scf_insn::InputFault;
 use scf_machine::FilterStack;
-use scf_profile::{Loaded, LoadedProfiles, MAX_TEXT_LEN, Profiles};
-use scf_request::{Interpretation, PartReader, TableReader};
+use scf_profile::{CallTable, Loaded, LoadedProfiles, Profile};
+use scf_request::PartReader;
 use std::alloc::Global;
-
-/// A side, as the parts of a bundle have it.
-#[derive(Drop)]
-pub(crate) enum SideParts<'a> {
-    /// Readers of filters, the oldest first.
-    Filters(Vec<PartReader<'a>>),
-    Profile(PartReader<'a>),
-}
 
 /// A side whose filters are read, and its profile isn't.
 #[derive(Drop)]
@@ -53,21 +46,14 @@ pub(crate) enum SideInput {
     Profiles(LoadedProfiles),
 }
 
-/// Two sides that are read, and the tables of their profiles and calls.
+/// Two sides that are read, and what stands beside them.
 #[derive(Drop)]
 pub(crate) struct SidesInput {
-    pub tables: Vec<OwnedTable>,
     pub left: SideInput,
     pub right: SideInput,
-}
-
-/// What the comparison of two sides comes to.
-#[derive(Drop)]
-pub(crate) struct SidesOutcome {
-    /// What was left out of the profile on the left, if the left side is one.
-    pub left_out: Option<LeftOut>,
-    /// What comparisons find, and what was left out of the profile on the right.
-    pub outcome: ComparisonOutcome,
+    pub tables: Vec<OwnedTable>,
+    /// Counts of calls by name.
+    pub counts: Vec<OwnedTable>,
 }
 
 /// Several profiles as a side; one stands by itself.
@@ -94,6 +80,18 @@ impl SideInput {
         }
     }
 
+    /// Its profiles.
+    pub(crate) fn profiles(&self) -> &[Profile]
+        ensures profiles { result.now ≡ profiles_of self.now }
+        ensures apart { AreOfApart result.now }
+    {
+        match self {
+            SideInput::Stack(_) => &[],
+            SideInput::Profile(loaded) => std::slice::from_ref(&loaded.profile),
+            SideInput::Profiles(loaded) => loaded.profiles.as_slice(),
+        }
+    }
+
     /// What was left out of the profile, if it is one.
     pub(crate) fn left_out(self) -> Option<LeftOut>
         ensures { result ≡ left_out_of_input self }
@@ -115,7 +113,7 @@ impl SideInput {
 /// Reads the filters of a side.
 fn read_filters<'a>(alloc: Global, side: SideParts<'a>) -> Result<OpenSide<'a>, VerifyFault>
     ensures filters { IfOk result (IsOpen (side_bytes side.entry)) }
-    ensures refused { IfErr result (λ fault. NoReadFailed fault × HasNoStackOf (side_bytes side.entry) fault) }
+    ensures refused { IfErr result (HasNoStackOf (side_bytes side.entry)) }
 {
     match side {
         SideParts::Filters(filters) => {
@@ -126,92 +124,101 @@ fn read_filters<'a>(alloc: Global, side: SideParts<'a>) -> Result<OpenSide<'a>, 
     }
 }
 
-/// Loads a profile of at most `MAX_TEXT_LEN` bytes: for x86-64 alone under the only table, else for each architecture
-/// that has one.
+/// The only table, if a profile is read for x86-64 alone.
+#[tactic(auto, using(crate::proofs::SideLemmas::native_only, crate::proofs::SideLemmas::not_native))]
+fn native_table(of_each: bool, tables: &[OwnedTable]) -> Option<&CallTable>
+    ensures some { IfSome result (λ table. native_table of_each (map named_of tables.now) ≡ Some table.now) }
+    ensures none { IfNone result (native_table of_each (map named_of tables.now) ≡ None) }
+{
+    if of_each {
+        return None;
+    }
+    if tables.len() != 1 {
+        return None;
+    }
+    Some(&tables[0].table)
+}
+
+/// Loads a profile: for x86-64 alone under the only table, or for each architecture that has one.
 fn load(
     alloc: Global,
-    by: &Interpretation,
-    native: bool,
+    rules: &TextRules,
     tables: &[OwnedTable],
     text: &[u8],
 ) -> Result<SideInput, VerifyFault>
-    requires { native ≡ true → length tables.now ≡ 1 }
-    ensures side { IfOk result (IsSide native by.now (map named_of tables.now) (SideBytes.OfProfile text.now)) }
-    ensures refused { IfErr result (λ fault. NoReadFailed fault
-        × IsNoSide native by.now (map named_of tables.now) (SideBytes.OfProfile text.now) fault) }
+    ensures side { IfOk result (IsSide rules.now (map named_of tables.now) (SideBytes.OfProfile text.now)) }
+    ensures refused { IfErr result (IsNoSide rules.now (map named_of tables.now) (SideBytes.OfProfile text.now)) }
 {
-    if text.len() > MAX_TEXT_LEN {
+    if is_too_long(rules.is_limited, text) {
         return Err(VerifyFault::ProfileRead(InputFault::TooLong));
     }
-    if native {
-        let loaded = by.load(alloc, text, &tables[0].table)?;
-        Ok(SideInput::Profile(loaded))
-    } else {
-        let loaded = load_under(alloc, by, text, tables)?;
-        Ok(SideInput::Profiles(loaded))
+    match native_table(rules.of_each, tables) {
+        Some(table) => Ok(SideInput::Profile(rules.by.load(alloc, text, table)?)),
+        None => Ok(SideInput::Profiles(load_under(alloc, &rules.by, text, tables)?)),
     }
 }
 
 /// Reads the profile of a side, if it is one.
 fn read_side(
     alloc: Global,
-    by: &Interpretation,
-    native: bool,
+    rules: &TextRules,
     tables: &[OwnedTable],
     side: OpenSide<'_>,
 ) -> Result<SideInput, VerifyFault>
-    requires { native ≡ true → length tables.now ≡ 1 }
     ensures side { (bytes : SideBytes) → IsOpen bytes side.entry
-        → IfOk result (IsSide native by.now (map named_of tables.now) bytes) }
+        → IfOk result (IsSide rules.now (map named_of tables.now) bytes) }
     ensures refused { (bytes : SideBytes) → IsOpen bytes side.entry
-        → IfErr result (λ fault. NoReadFailed fault × IsNoSide native by.now (map named_of tables.now) bytes fault) }
+        → IfErr result (IsNoSide rules.now (map named_of tables.now) bytes) }
 {
     match side {
         OpenSide::Stack(stack) => Ok(SideInput::Stack(stack)),
-        OpenSide::Profile(profile) => load(alloc, by, native, tables, profile.rest()),
+        OpenSide::Profile(profile) => load(alloc, rules, tables, profile.rest()),
     }
 }
 
-/// The fault of a profile on the right of this side.
-fn fault_of_right(left: &SideInput, fault: VerifyFault) -> BesideFault
-    ensures { IsNamed left.now fault result }
+/// Whether a side is a profile.
+fn is_profile(side: &SideParts<'_>) -> bool
+    ensures { result ≡ spec.is_profile (side_bytes side.now) }
 {
-    match left {
-        SideInput::Stack(_) => BesideFault::Verify(fault),
-        SideInput::Profile(_) | SideInput::Profiles(_) => BesideFault::Beside(fault),
+    matches!(side, SideParts::Profile(_))
+}
+
+/// The fault of a profile on the right, by whether another is on the left.
+fn fault_of_right(is_beside: bool, fault: VerifyFault) -> BesideFault
+    ensures { result ≡ spec.fault_of_right is_beside fault }
+{
+    if is_beside {
+        BesideFault::Beside(fault)
+    } else {
+        BesideFault::Verify(fault)
     }
 }
 
-/// Reads two sides and their tables: the filters on the left, those on the right, the tables, the profile on the left,
-/// the one on the right. The error is the first fault.
-pub(crate) fn read_sides(
-    alloc: Global,
-    by: &Interpretation,
-    native: bool,
-    left: SideParts<'_>,
-    right: SideParts<'_>,
-    tables: &[TableReader<PartReader<'_>>],
-) -> Result<SidesInput, BesideFault>
-    requires { native ≡ true → length tables.now ≡ 1 }
-    ensures sides { IfOk result (λ input. AreSides native by.now (side_bytes left.entry) (side_bytes right.entry)
-        (map known_text (map rest_of_table tables.now)) (map named_of input.tables.items) input.left input.right) }
-    ensures refused { IfErr result (λ fault. NoReadFailed (fault_of_either fault)
-        × AreRefused native by.now (side_bytes left.entry) (side_bytes right.entry)
-        (map known_text (map rest_of_table tables.now)) fault) }
+/// Reads inputs: the filters on the left, those on the right, the tables, the profile on the left, the one on the
+/// right. The error is the first fault.
+pub(crate) fn read_sides(alloc: Global, inputs: Inputs<'_>) -> Result<SidesInput, BesideFault>
+    ensures sides { IfOk result (AreRead (inputs_of inputs.entry)) }
+    ensures refused { IfErr result (AreRefused (inputs_of inputs.entry)) }
 {
-    let open_left = read_filters(alloc, left)?;
-    let open_right = match read_filters(alloc, right) {
+    let is_beside = is_profile(&inputs.left);
+    let rules = inputs.rules;
+    let parts = inputs.tables;
+    let counts = inputs.counts;
+    let open_left = read_filters(alloc, inputs.left)?;
+    let open_right = match read_filters(alloc, inputs.right) {
         Ok(side) => side,
         Err(fault) => return Err(BesideFault::Beside(fault)),
     };
-    let tables = read_tables(alloc, tables)?;
-    let left = read_side(alloc, by, native, &tables, open_left)?;
-    match read_side(alloc, by, native, &tables, open_right) {
-        Ok(right) => Ok(SidesInput {
-            tables,
-            left,
-            right,
-        }),
-        Err(fault) => Err(fault_of_right(&left, fault)),
-    }
+    let tables = read_tables(alloc, rules.is_limited, &parts)?;
+    let left = read_side(alloc, &rules, &tables, open_left)?;
+    let right = match read_side(alloc, &rules, &tables, open_right) {
+        Ok(side) => side,
+        Err(fault) => return Err(fault_of_right(is_beside, fault)),
+    };
+    Ok(SidesInput {
+        left,
+        right,
+        tables,
+        counts,
+    })
 }

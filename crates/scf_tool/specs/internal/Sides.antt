@@ -1,25 +1,35 @@
--- The sides of a comparison while they are read.
+-- The inputs of a command while they are read.
 use Rattle.std.specs.Prelude.{◌≡◌, ◌≢◌, [], ◌∷◌, length, map, Some}
 use Rattle.scf_compare.specs.declared.side.Side.{Side}
 use Rattle.scf_compare.specs.declared.side.Side.TheVariants as sides
-use Rattle.scf_request.specs.Contents.{rest_of}
+use Rattle.scf_request.specs.Contents.{rest_of, rest_of_table}
+use Rattle.scf_tool.specs.FilterStacks.{HasStack}
+use Rattle.scf_tool.specs.Inputs.{Inputs as ReadInputs, SideBytes}
+use Rattle.scf_tool.specs.Inputs.SideBytes.{OfFilters, OfProfile}
+use Rattle.scf_tool.specs.declared.inputs.Inputs.{Inputs}
+use Rattle.scf_tool.specs.declared.inputs.SideParts.{SideParts}
+use Rattle.scf_tool.specs.declared.inputs.SideParts.TheVariants as parts
 use Rattle.scf_tool.specs.declared.sides.OpenSide.{OpenSide}
 use Rattle.scf_tool.specs.declared.sides.OpenSide.TheVariants as opens
 use Rattle.scf_tool.specs.declared.sides.SideInput.{SideInput}
 use Rattle.scf_tool.specs.declared.sides.SideInput.TheVariants as inputs
-use Rattle.scf_tool.specs.declared.sides.SideParts.{SideParts}
-use Rattle.scf_tool.specs.declared.sides.SideParts.TheVariants as parts
-use Rattle.scf_tool.specs.declared.verify_fault.BesideFault.{BesideFault}
-use Rattle.scf_tool.specs.declared.verify_fault.BesideFault.TheVariants.{Verify, Beside}
-use Rattle.scf_tool.specs.declared.verify_fault.VerifyFault.{VerifyFault}
-use Rattle.scf_tool.specs.FilterStacks.{HasStack}
-use Rattle.scf_tool.specs.VerifyingSides.{SideBytes}
-use Rattle.scf_tool.specs.VerifyingSides.SideBytes.{OfFilters, OfProfile}
 
 -- what the readers of a side have still to give
 abbrev pub side_bytes : SideParts → SideBytes
 side_bytes (parts.Filters filters) = OfFilters (map rest_of filters.items)
 side_bytes (parts.Profile reader) = OfProfile (rest_of reader)
+
+abbrev pub sides_bytes : SideParts × SideParts → SideBytes × SideBytes
+sides_bytes sides = (side_bytes sides.0, side_bytes sides.1)
+
+-- what those of inputs have
+abbrev pub inputs_of : Inputs → ReadInputs
+inputs_of inputs = record {
+  left = side_bytes inputs.left;
+  right = side_bytes inputs.right;
+  tables = map rest_of_table inputs.tables.items;
+  rules = inputs.rules;
+}
 
 -- the filters of a side are read as this, its profile isn't
 abbrev pub IsOpen : SideBytes → OpenSide → Type 0
@@ -35,8 +45,3 @@ IsSideOf (inputs.Profiles loaded) (sides.Profile p) = loaded.profiles ≡ p.now 
 IsSideOf (inputs.Profiles loaded) (sides.Profiles profiles) =
     (profiles.now ≡ loaded.profiles) × (length loaded.profiles ≢ 1)
 IsSideOf input side = ⊥
-
--- the fault of a profile on the right of a side that is read
-abbrev pub IsNamed : SideInput → VerifyFault → BesideFault → Type 0
-IsNamed (inputs.Stack stack) fault named = named ≡ Verify fault
-IsNamed input fault named = named ≡ Beside fault

@@ -1,89 +1,50 @@
-//! Commands on a profile and its call table.
+//! Commands on a profile and its tables.
 
-ghost use Rattle.scf_tool.specs.Commands.{Compiles, EndsOnTable, GivesReason};
-ghost use Rattle.scf_tool.specs.internal.Bytes.{EndsOnBytes};
+ghost use Rattle.scf_tool.specs.Commands.{Compiles, GivesReason, Replies};
 
-use crate::commands::parts::open_profile;
 use crate::compilation::{behind_left_out, filter_of};
 use crate::fault::Fault;
-use crate::left_out::LeftOut;
-use crate::loading::{call_counts, load_with_table, table_and_profile};
-use crate::owned_table::OwnedTable;
+use crate::loading::call_counts;
 use crate::reply::Reply;
+use crate::sides::{SideInput, SidesInput};
 use scf_insn::CallRecord;
-use scf_profile::Reading;
-use scf_request::{BundleForm, Interpretation};
 use std::alloc::Global;
 
-/// The filter of a profile and a table, behind what is left out of the profile, if that is asked for.
-fn compiled(
-    alloc: Global,
-    has_left_out: bool,
-    by: &Interpretation,
-    profile: &[u8],
-    table: &[u8],
-    counts: &[OwnedTable],
-) -> Result<Reply, Fault>
-    ensures { Compiles has_left_out by.now profile.now table.now result }
-{
-    let (table, loaded) = table_and_profile(alloc, by, profile, table)?;
-    let calls = call_counts(alloc, std::slice::from_ref(&table), counts)?;
-    let filter = filter_of(alloc, &loaded.profile, &calls)?;
-    let left_out = LeftOut {
-        skipped: loaded.skipped,
-        other_architectures: loaded.other_architectures,
-    };
-    Ok(Reply::Bytes(behind_left_out(alloc, has_left_out, &left_out, filter)?))
-}
-
-/// What the profile that is stated under a table answers to a call, and why.
-fn asked(
-    alloc: Global,
-    by: &Interpretation,
-    profile: &[u8],
-    table: &[u8],
-    call: &CallRecord,
-) -> Result<Reply, Fault>
-    ensures { GivesReason call.now by.now profile.now table.now result }
-{
-    let loaded = load_with_table(alloc, by, profile, table)?;
-    Ok(Reply::Asked {
-        answer: loaded.profile.answer(call),
-        reason: loaded.profile.reason(call),
-    })
-}
-
-/// `compile`: the filter that answers as a profile does.
+/// `compile`: the filter that answers as the profile does, or for each architecture that has a table, behind what is
+/// left out of the profile, if that is asked for.
 pub(super) fn compile_profile(
     alloc: Global,
-    reading: Reading,
+    sides: SidesInput,
     has_left_out: bool,
-    bytes: &[u8],
 ) -> Result<Reply, Fault>
-    ensures { EndsOnBytes (λ input. EndsOnTable reading input (Compiles has_left_out)) bytes.now result }
+    ensures { Compiles has_left_out sides.left result }
 {
-    let parts = open_profile(alloc, reading, BundleForm::Profile, true, bytes)?;
-    let table = parts.tables[0].reader.rest();
-    compiled(
-        alloc,
-        has_left_out,
-        &parts.by,
-        parts.profile.rest(),
-        table,
-        &parts.counts,
-    )
+    let calls = call_counts(alloc, &sides.tables, &sides.counts)?;
+    let filter = filter_of(alloc, sides.left.profiles(), &calls)?;
+    match sides.left.left_out() {
+        Some(left_out) => Ok(Reply::Bytes(behind_left_out(
+            alloc,
+            has_left_out,
+            &left_out,
+            filter,
+        )?)),
+        None => Err(Fault::Parts),
+    }
 }
 
-/// `ask`: what a profile answers to a call, and why.
-pub(super) fn ask_profile(
-    alloc: Global,
-    reading: Reading,
-    call: &CallRecord,
-    bytes: &[u8],
-) -> Result<Reply, Fault>
-    ensures { EndsOnBytes (λ input. EndsOnTable reading input (GivesReason call.now)) bytes.now result }
+/// `ask`: what a profile answers to a call, or that of its architecture, and why.
+pub(super) fn ask_profile(side: &SideInput, call: &CallRecord) -> Result<Reply, Fault>
+    ensures { Replies (GivesReason call.now side.now) result }
 {
-    let parts = open_profile(alloc, reading, BundleForm::Profile, true, bytes)?;
-    let table = parts.tables[0].reader.rest();
-    asked(alloc, &parts.by, parts.profile.rest(), table, call)
+    match side {
+        SideInput::Profile(loaded) => Ok(Reply::Asked {
+            answer: loaded.profile.answer(call),
+            reason: loaded.profile.reason(call),
+        }),
+        SideInput::Profiles(loaded) => Ok(Reply::Asked {
+            answer: loaded.profiles.answer(call),
+            reason: loaded.profiles.reason(call),
+        }),
+        SideInput::Stack(_) => Err(Fault::Parts),
+    }
 }

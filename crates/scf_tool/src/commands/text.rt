@@ -1,7 +1,6 @@
 //! Texts that spell a filter.
 
 ghost use Rattle.scf_tool.specs.Commands.{Assembles};
-ghost use Rattle.scf_tool.specs.internal.Bytes.{EndsOnBytes};
 
 use crate::buffer::encoding_of;
 use crate::fault::Fault;
@@ -11,7 +10,7 @@ use std::alloc::Global;
 
 /// `asm`: the filter that a text spells, which isn't checked.
 pub(super) fn assemble_text(alloc: Global, text: &[u8]) -> Result<Reply, Fault>
-    ensures { EndsOnBytes Assembles text.now result }
+    ensures { Assembles text.now result }
 {
     let insns = assemble(alloc, text)?;
     match encoding_of(alloc, &insns) {

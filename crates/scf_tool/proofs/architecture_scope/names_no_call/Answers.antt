@@ -1,16 +1,16 @@
-use Rattle.std.proofs.Common.{arith}
-use Rattle.std.proofs.lemmas.Bool.{eq-eqb, eqb-true}
-use Rattle.scf_tool.proofs.ScopeLemmas.{no_calls, some_calls}
+use Rattle.scf_tool.proofs.Common.{IfOk-weaker}
+use Rattle.scf_tool.proofs.ScopeLemmas.{not_only, only_names_none}
+use Rattle.std.proofs.lemmas.Bool.{false≢true}
 use Rattle.scf_tool.proofs.architecture_scope.names_no_call.Goals as goal
 
-pub returns-in-Ok-calls-clause-none : goal.returns-in-Ok-calls-clause-none
-returns-in-Ok-calls-clause-none c =
-    let calls = c.in-Ok-calls.calls in
-    let counted = calls.ok.0 in (
-      λ is.
-          let empty = eqb-true calls.len 0 (rw c.is_empty.ensures at is) in
-          no_calls c.args.text.now _ calls.items c.in-Ok.ensures.table c.in-Ok-calls.ensures (omega (arith, counted, empty)),
-      λ none.
-          let empty = some_calls c.args.text.now _ calls.items c.in-Ok.ensures.table c.in-Ok-calls.ensures none in
-          rw c.is_empty.ensures (eq-eqb calls.len 0 (omega (arith, counted, empty))),
-    )
+pub returns-then-tables-ne1-clause-none : goal.returns-then-tables-ne1-clause-none
+returns-then-tables-ne1-clause-none c = (
+  λ is. absurd (false≢true is),
+  λ none. absurd (not_only c.args.tables.now c.if-tables-ne1.true none),
+)
+
+pub returns-clause-none : goal.returns-clause-none
+returns-clause-none c =
+    let only = only_names_none c.args.tables.now _ c.rest.result.now c.if-tables-ne1.false c.rest.ensures in
+    IfOk-weaker c.is_without_call.result _ _
+    (λ none same. (λ is. only.0 (same.0 is), λ named. same.1 (only.1 named))) c.is_without_call.ensures.none

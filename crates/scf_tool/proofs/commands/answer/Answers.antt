@@ -1,14 +1,8 @@
 use Rattle.scf_tool.proofs.Common.{Err, Ok, ReadsInput, err_from_is_err_and}
 use Rattle.scf_tool.proofs.WholeInput.{left_by, left_whole, not_read, takes_whole, true_of_input}
-use Rattle.scf_tool.specs.Commands.{IsTrueReply}
 use Rattle.scf_tool.specs.declared.fault.Fault.TheVariants as faults
 use Rattle.scf_tool.specs.internal.Bytes.{TakesWhole}
 use Rattle.scf_tool.proofs.commands.answer.Goals as goal
-
-pub answer_bytes-requires : goal.answer_bytes-requires
-answer_bytes-requires g c =
-    takes_whole c.args.request.now c.in_default.not-Check c.in_default.not-List c.in_default.not-Run
-    c.in_default.not-Trace
 
 pub returns-in_err-bytes-in_default-clause-answer : goal.returns-in_err-bytes-in_default-clause-answer
 returns-in_err-bytes-in_default-clause-answer g c =
@@ -30,10 +24,13 @@ returns-in_err-bytes-in_default-clause-input g c =
 
 pub returns-in_ok-bytes-in_default-clause-answer : goal.returns-in_ok-bytes-in_default-clause-answer
 returns-in_ok-bytes-in_default-clause-answer g c =
+    let whole : TakesWhole c.args.request.now =
+    takes_whole c.args.request.now c.in_default.not-Check c.in_default.not-List c.in_default.not-Run
+    c.in_default.not-Trace in
     let read : ReadsInput (g.R.Source.remaining c.args.input.now) (Ok c.deref.result.now) =
     rw c.deref.ensures.value c.in_ok-bytes-in_default.ensures.read in
-    true_of_input (IsTrueReply c.args.reading c.args.request.now) c.deref.result.now c.answer_bytes.result
-    (g.R.Source.remaining c.args.input.now) read c.answer_bytes.ensures
+    true_of_input c.args.reading c.args.request.now c.deref.result.now c.answer_bytes.result
+    (g.R.Source.remaining c.args.input.now) whole read c.answer_bytes.ensures
 
 pub returns-in_ok-bytes-in_default-clause-input : goal.returns-in_ok-bytes-in_default-clause-input
 returns-in_ok-bytes-in_default-clause-input g c =
@@ -41,6 +38,5 @@ returns-in_ok-bytes-in_default-clause-input g c =
     takes_whole c.args.request.now c.in_default.not-Check c.in_default.not-List c.in_default.not-Run
     c.in_default.not-Trace in
     left_by g.R.Source.remaining g.R.Source.failures c.args.input.now _ c.args.request.now c.answer_bytes.result whole
-    (left_whole g.R.Source.remaining g.R.Source.failures c.args.input.now _
-    (IsTrueReply c.args.reading c.args.request.now) c.deref.result.now c.answer_bytes.result c.answer_bytes.ensures
-    c.in_ok-bytes-in_default.ensures.ended)
+    (left_whole g.R.Source.remaining g.R.Source.failures c.args.input.now _ c.args.reading c.args.request.now
+    c.deref.result.now c.answer_bytes.result c.answer_bytes.ensures c.in_ok-bytes-in_default.ensures.ended)

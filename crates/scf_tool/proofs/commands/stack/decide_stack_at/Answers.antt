@@ -1,8 +1,0 @@
-use Rattle.scf_request.specs.declared.request.Request.TheVariants as requests
-use Rattle.scf_tool.proofs.Common.{err_from_is_err_and}
-use Rattle.scf_tool.proofs.commands.stack.decide_stack_at.Goals as goal
-
-pub returns-in_err-stack : goal.returns-in_err-stack
-returns-in_err-stack c =
-    let p = err_from_is_err_and c.from_residual.result c.from_residual.ensures.1 in
-    rw (p.1, p.2) (c.in_err-stack.ensures.fault (requests.DecideBy c.args.call.now))

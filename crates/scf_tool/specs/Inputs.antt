@@ -1,0 +1,178 @@
+-- The inputs of a command: two sides, each filters or a profile, and tables, from their bytes.
+use Rattle.std.specs.Prelude.{◌≡◌, ◌≢◌, ◌≤◌, ◌<◌, ◌++◌, ℕ, Bool, true, false, List, [], ◌∷◌, length, map, Option, None, Some, Ok, Err}
+use Rattle.std.specs.List.{AllZip}
+use Rattle.scf_insn.specs.declared.architecture.Architecture.{Architecture}
+use Rattle.scf_insn.specs.declared.input.InputFault.{InputFault}
+use Rattle.scf_insn.specs.declared.input.InputFault.TheVariants.{TooLong}
+use Rattle.scf_insn.specs.declared.insn.Insn.{Insn}
+use Rattle.scf_profile.specs.Limits.{max_text_len}
+use Rattle.scf_profile.specs.Loading.{RefusesAs, RefusesEachAs}
+use Rattle.scf_profile.specs.Profile.{Profile as StatedProfile}
+use Rattle.scf_profile.specs.StatedProfile.{Tables}
+use Rattle.scf_profile.specs.Table.{Names, table_of}
+use Rattle.scf_profile.specs.declared.load_fault.LoadFault.{LoadFault}
+use Rattle.scf_profile.specs.declared.table_fault.TableFault.TheVariants as tables
+use Rattle.scf_compare.specs.Sides.{Behavior, profile_behavior, profiles_behavior, stack_behavior}
+use Rattle.scf_request.specs.Interpretations.{Interpretation, LoadsBy, LoadsEachBy}
+use Rattle.scf_tool.specs.FilterStacks.{HasStack, HasNoStack, NoReadFailed}
+use Rattle.scf_tool.specs.declared.inputs.TextRules.{TextRules}
+use Rattle.scf_tool.specs.declared.left_out.LeftOut.{LeftOut}
+use Rattle.scf_tool.specs.declared.owned_table.OwnedTable.{OwnedTable}
+use Rattle.scf_tool.specs.declared.sides.SideInput.{SideInput}
+use Rattle.scf_tool.specs.declared.sides.SideInput.TheVariants.{Stack, Profile, Profiles}
+use Rattle.scf_tool.specs.declared.sides.SidesInput.{SidesInput}
+use Rattle.scf_tool.specs.declared.verify_fault.BesideFault.{BesideFault}
+use Rattle.scf_tool.specs.declared.verify_fault.BesideFault.TheVariants.{Verify, Beside}
+use Rattle.scf_tool.specs.declared.verify_fault.VerifyFault.{VerifyFault}
+use Rattle.scf_tool.specs.declared.verify_fault.VerifyFault.TheVariants.{Profile as ProfileFault, ProfileRead, Table, TableRead}
+
+-- ---- the bytes
+
+-- the bytes of a side: filters, the oldest first, or a profile
+pub data SideBytes : Type 0 where
+  OfFilters : (filters : List (List ℕ)) → SideBytes
+  OfProfile : (profile : List ℕ) → SideBytes
+
+-- A command on one side has no filters on the right.
+pub record Inputs : Type 0 where
+  pub left : SideBytes
+  pub right : SideBytes
+  pub tables : List (Architecture × List ℕ)
+  pub rules : TextRules
+
+-- ---- tables
+
+-- a text is short enough, where texts are limited
+abbrev pub IsShort : Bool → List ℕ → Type 0
+IsShort true text = length text ≤ max_text_len
+IsShort false text = Unit {0}
+
+-- it isn't
+abbrev pub IsTooLong : Bool → List ℕ → InputFault → Type 0
+IsTooLong is_limited text fault = (is_limited ≡ true) × (max_text_len < length text) × (fault ≡ TooLong)
+
+-- a call table of an architecture, however long its text is
+abbrev pub SpellsTable : Architecture × List ℕ → Architecture × Names → Type 0
+SpellsTable text table = (text.0 ≡ table.0) × (table_of text.1 ≡ Ok table.1)
+
+-- one whose text is short enough
+abbrev pub IsTableOf : Bool → Architecture × List ℕ → Architecture × Names → Type 0
+IsTableOf is_limited text table = IsShort is_limited text.1 × SpellsTable text table
+
+-- why a text is none, or memory runs out
+abbrev pub IsNoTableOf : Bool → List ℕ → VerifyFault → Type 0
+IsNoTableOf is_limited text (TableRead fault) = IsTooLong is_limited text fault
+IsNoTableOf is_limited text (Table fault) =
+    IsShort is_limited text × (fault ≢ tables.Memory → table_of text ≡ Err fault)
+IsNoTableOf is_limited text fault = ⊥
+
+-- Of these texts, the first that is none.
+pub record HasNoTable (is_limited : Bool) (texts : List (Architecture × List ℕ)) (fault : VerifyFault) : Type 0 where
+  pub before : List (Architecture × List ℕ)
+  pub text : Architecture × List ℕ
+  pub behind : List (Architecture × List ℕ)
+  pub whole : texts ≡ before ++ text ∷ behind
+  pub tables : Tables
+  pub are_tables : AllZip (IsTableOf is_limited) before tables
+  pub why : IsNoTableOf is_limited text.1 fault
+
+-- a table with its architecture
+abbrev pub named_of : OwnedTable → Architecture × Names
+named_of owned = (owned.architecture, owned.table)
+
+-- ---- sides
+
+-- the filters of a side are a stack; a profile has none
+abbrev pub HasStackOf : SideBytes → Type 0
+HasStackOf (OfFilters filters) = (stack : List (List Insn)) × HasStack (map Some filters) stack
+HasStackOf (OfProfile profile) = Unit {0}
+
+-- why they are none
+abbrev pub HasNoStackOf : SideBytes → VerifyFault → Type 0
+HasNoStackOf (OfFilters filters) fault = NoReadFailed fault × HasNoStack (map Some filters) fault
+HasNoStackOf (OfProfile profile) fault = ⊥
+
+-- the only table, where a profile is for x86-64 alone
+abbrev pub native_table : Bool → Tables → Option Names
+native_table false (table ∷ []) = Some table.1
+native_table of_each tables = None
+
+-- what the text of a profile states: for x86-64 alone under the table, else for each architecture that has a table
+abbrev pub States : Option Names → Interpretation → Tables → List ℕ → SideInput → Type 0
+States (Some names) by tables text (Profile loaded) = LoadsBy by text names loaded
+States None by tables text (Profiles loaded) = LoadsEachBy by text tables loaded
+States native by tables text input = ⊥
+
+-- why it states nothing
+abbrev pub StatesNone : Option Names → Interpretation → Tables → List ℕ → LoadFault → Type 0
+StatesNone (Some names) by tables text fault = RefusesAs by.reading text names fault
+StatesNone None by tables text fault = RefusesEachAs by.reading text tables fault
+
+-- the bytes of a side are read as this
+abbrev pub IsSide : TextRules → Tables → SideBytes → SideInput → Type 0
+IsSide rules tables (OfFilters filters) (Stack stack) = HasStack (map Some filters) stack
+IsSide rules tables (OfFilters filters) input = ⊥
+IsSide rules tables (OfProfile text) input = States (native_table rules.of_each tables) rules.by tables text input
+
+-- why the profile of a side is refused under tables
+abbrev pub IsNoSide : TextRules → Tables → SideBytes → VerifyFault → Type 0
+IsNoSide rules tables (OfProfile text) (ProfileRead fault) = IsTooLong rules.is_limited text fault
+IsNoSide rules tables (OfProfile text) (ProfileFault fault) =
+    IsShort rules.is_limited text × StatesNone (native_table rules.of_each tables) rules.by tables text fault
+IsNoSide rules tables bytes fault = ⊥
+
+abbrev pub is_profile : SideBytes → Bool
+is_profile (OfFilters filters) = false
+is_profile (OfProfile profile) = true
+
+-- the fault of a profile on the right: its own where another profile is on the left
+abbrev pub fault_of_right : Bool → VerifyFault → BesideFault
+fault_of_right false fault = Verify fault
+fault_of_right true fault = Beside fault
+
+-- The inputs are read as this.
+pub record AreRead (inputs : Inputs) (sides : SidesInput) : Type 0 where
+  pub are_tables : AllZip (IsTableOf inputs.rules.is_limited) inputs.tables (map named_of sides.tables.items)
+  pub is_left : IsSide inputs.rules (map named_of sides.tables.items) inputs.left sides.left
+  pub is_right : IsSide inputs.rules (map named_of sides.tables.items) inputs.right sides.right
+
+-- Why they aren't, the first of these: the filters on the left, those on the right, the tables, the profile on the
+-- left, the one on the right.
+pub data AreRefused (inputs : Inputs) : BesideFault → Type 0 where
+  by_left_filters : (fault : VerifyFault) → HasNoStackOf inputs.left fault → AreRefused inputs (Verify fault)
+  by_right_filters : (fault : VerifyFault) → HasStackOf inputs.left → HasNoStackOf inputs.right fault
+      → AreRefused inputs (Beside fault)
+  by_tables : (fault : VerifyFault) → HasStackOf inputs.left → HasStackOf inputs.right
+      → HasNoTable inputs.rules.is_limited inputs.tables fault → AreRefused inputs (Verify fault)
+  by_left_profile : (fault : VerifyFault) (tables : Tables) → HasStackOf inputs.left → HasStackOf inputs.right
+      → AllZip (IsTableOf inputs.rules.is_limited) inputs.tables tables → IsNoSide inputs.rules tables inputs.left fault
+      → AreRefused inputs (Verify fault)
+  by_right_profile : (fault : VerifyFault) (tables : Tables) (input : SideInput) → HasStackOf inputs.right
+      → AllZip (IsTableOf inputs.rules.is_limited) inputs.tables tables → IsSide inputs.rules tables inputs.left input
+      → IsNoSide inputs.rules tables inputs.right fault → AreRefused inputs (fault_of_right (is_profile inputs.left) fault)
+
+-- ---- what sides that are read answer
+
+-- several profiles on a side, of which one stands by itself
+abbrev pub behavior_of_profiles : List StatedProfile → Behavior
+behavior_of_profiles (p ∷ []) = profile_behavior p
+behavior_of_profiles profiles = profiles_behavior profiles
+
+abbrev pub behavior_of_input : SideInput → Behavior
+behavior_of_input (Stack stack) = stack_behavior stack
+behavior_of_input (Profile loaded) = profile_behavior loaded.profile
+behavior_of_input (Profiles loaded) = behavior_of_profiles loaded.profiles
+
+-- the profiles of a side
+abbrev pub profiles_of : SideInput → List StatedProfile
+profiles_of (Stack stack) = []
+profiles_of (Profile loaded) = loaded.profile ∷ []
+profiles_of (Profiles loaded) = loaded.profiles
+
+-- what was left out of the profile of a side, if it is one
+abbrev pub left_out_of_input : SideInput → Option LeftOut
+left_out_of_input (Stack stack) = None
+left_out_of_input (Profile loaded) =
+    Some (record { skipped = loaded.skipped; other_architectures = loaded.other_architectures })
+left_out_of_input (Profiles loaded) =
+    Some (record { skipped = loaded.skipped; other_architectures = loaded.other_architectures })
