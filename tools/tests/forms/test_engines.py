@@ -60,11 +60,11 @@ class Hostile(MeasuredCase):
                 if depth == 100 and b'"x"' in given:
                     self.ends(path, 0, "nothing reads 'x'")
                 elif depth == 100:
-                    self.ends(path, 1, " isn't a")
+                    self.ends(path, 2, " isn't a")
                 elif depth == 100000:
-                    self.ends(path, 1, "nested too deep")
+                    self.ends(path, 2, "nested too deep")
                 else:
-                    self.ends(path, (0, 1), "")
+                    self.ends(path, (0, 2), "")
 
     def test_many_members(self):
         path = self.file("given", b"")

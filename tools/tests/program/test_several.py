@@ -459,7 +459,7 @@ class Worked(Case):
                                                 "syscalls": entries}))
         for tool, words in (("compare", (self.filter(),)), ("ask", ()), ("lint", ())):
             status, out, _ = self.run_tool(tool, *words, given)
-            self.assertEqual((status, out.split("\n")[0]), (1, "fault profile Conflict number 7 first 0 second 1"),
+            self.assertEqual((status, out.split("\n")[0]), (2, "fault profile Conflict number 7 first 0 second 1"),
                              tool)
             self.assertIn("# the syscall is waitpid (7) of the architecture i386\n", out)
             self.assertFalse(self.run_tool(tool, "--native", *words, given)[1].startswith("fault"), tool)
