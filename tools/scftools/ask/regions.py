@@ -139,6 +139,15 @@ class Region(Side):
                 return False
         return True
 
+    def has_bits(self, index: int, bits: int) -> bool:
+        """Whether some of its records may have these bits of the lower half of an argument."""
+        word = self.words.get(ARGUMENTS + 2 * index, FREE)
+        try:
+            return not bits & word.mask & ~word.bits and bool(
+                Word(word.intervals, word.mask | bits, word.bits | bits, word.refuted).within(0, GREATEST_WORD))
+        except TooManyRanges:
+            return True
+
     @functools.cached_property
     def call(self) -> Call | None:
         """The record that scf shows; of an open region it may show none, since it may have none."""

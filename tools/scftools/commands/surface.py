@@ -12,7 +12,8 @@ stands for the filter that scf compiles of it. Each syscall in the table is alwa
 delegated (to a supervisor or tracer), or it depends on the arguments; then an example of each is shown. The first line
 counts them; a line before it names a filter that is for another machine. The next lines say whether any syscall of
 another ABI of the machine is allowed, with the same counts of an ABI of which one is, and how many numbers that the
-table doesn't name are allowed. With --machine arm64 all this is said of aarch64 and arm, with --arch of that
+table doesn't name are allowed; and how many of the syscalls that make a sandbox useless (tables/dangerous.calls) are
+allowed, denied and so on, with the names of those that aren't denied. With --machine arm64 all this is said of aarch64 and arm, with --arch of that
 architecture alone. Then come the syscalls by purpose (tables/calls.groups), on a terminal as a table, otherwise a line
 each: the group, the disposition, the number, the names, and an answer. --beside shows the syscalls that differ under
 another stack of filters; it stands last. --html writes the same as a page without scripts, which replaces FILE at once.

@@ -5,10 +5,13 @@ import os
 from collections.abc import Iterable, Iterator, Sequence
 
 from ..base import program
+from ..base.values import dataclass
 from ..model.answers import ALLOWED, DENIED, DEPENDS
 from ..model.architectures import NATIVE
+from ..model.dangerous_calls import Dangerous, dangerous
 from ..ask import other_abis
 from ..ask.explanation import join_names
+from ..ask.verdicts import UNDECIDED
 from .surfaces import ROW_WORDS, Row, Surface
 
 # The width of a terminal that doesn't report one, and the least width of a column of names beside others.
@@ -32,6 +35,58 @@ class Groups:
     def of_call(self, names: Iterable[str]) -> str:
         """The group of a syscall with these names."""
         return next((self.of_names[name] for name in names if name in self.of_names), OTHER_GROUP)
+
+
+@dataclass(frozen=True)
+class Danger:
+    """What becomes of a dangerous syscall; or of those calls of it that are dangerous, if others get another
+    disposition."""
+
+    row: Row
+    name: str
+    reason: str
+    said: str
+    where: str = ""
+
+    def describe(self) -> str:
+        """The disposition, and of which calls it is."""
+        if self.where or self.row.conditions is None:
+            return f"{self.said} where {self.where}" if self.where else self.said
+        return self.row.conditions.describe()
+
+    def as_json(self) -> dict[str, object]:
+        return {"number": self.row.number, "name": self.name, "disposition": self.said,
+                **({"where": self.where} if self.where else {}), "reason": self.reason}
+
+
+def _danger(row: Row, name: str, danger: Dangerous) -> Danger:
+    if row.said != DEPENDS or not danger.conditions:
+        return Danger(row, name, danger.reason, row.said)
+    from .row_conditions import condition_text  # pylint: disable=import-outside-toplevel
+
+    condition, = danger.conditions
+    met = {region.answer.disposition if region.is_decided else UNDECIDED for region in row.regions
+           if region.has_bits(condition.index, condition.value)}
+    where, _, _ = condition_text(condition, name, (), row.architecture.oci, row.architecture.bits).partition(" == ")
+    return Danger(row, name, danger.reason, met.pop() if len(met) == 1 else DEPENDS, where)
+
+
+def dangers(surface: Surface) -> list[Danger]:
+    """The dangerous syscalls that the table names."""
+    rows = {name: row for row in surface.rows for name in row.names}
+    return [_danger(rows[name], name, danger) for name, danger in dangerous().items() if name in rows]
+
+
+def danger_lines(surface: Surface) -> Iterator[str]:
+    """How many dangerous syscalls are allowed, denied and so on, and which, but for those that are always denied."""
+    counts, found = [], dangers(surface)
+    for said in ROW_WORDS:
+        alike = [danger for danger in found if danger.said == said]
+        names = [f"{danger.name} where {danger.where}" if danger.where else danger.name
+                 for danger in alike if danger.where or said != DENIED]
+        if alike:
+            counts.append(f"{said} {len(alike)}" + (f" ({', '.join(names)})" if names else ""))
+    yield from [f"dangerous syscalls: {', '.join(counts)}"] * bool(counts)
 
 
 def width_of_terminal() -> int | None:
@@ -143,7 +198,7 @@ def as_table(rows: Iterable[Row], groups: Groups, width: int) -> Iterator[str]:
 
 def surface_lines(surface: Surface, groups: Groups, width: int | None) -> Iterator[str]:
     """The text output for a surface."""
-    yield from fitted(whole_lines(surface), width)
+    yield from fitted([*whole_lines(surface), *danger_lines(surface)], width)
     yield from plain(surface.rows, groups) if width is None else as_table(surface.rows, groups, width)
 
 
@@ -172,4 +227,5 @@ def surface_json(surface: Surface, groups: Groups) -> dict[str, object]:
     return {**_counts_json(surface), **({"other_abis": others} if others else {}),
             **({"is_for": [architecture.name for architecture in machines]} if machines else {}),
             "foreign": [access.as_json() for access in surface.foreign],
-            "unnamed": surface.unnamed.as_json(), "calls": [row_json(row, groups) for row in surface.rows]}
+            "unnamed": surface.unnamed.as_json(), "dangerous": [danger.as_json() for danger in dangers(surface)],
+            "calls": [row_json(row, groups) for row in surface.rows]}

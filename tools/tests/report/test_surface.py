@@ -422,12 +422,28 @@ class Program(Case):
         own_table = tables.read_table(None)
         status, lines = self.said([filter_of([own_table.number_of(name) for name in allowed])], table=False)
         self.assertEqual(status, 0)
-        rows = [line.split() for line in lines[3:]]
+        self.assertTrue(lines[3].startswith("dangerous syscalls: allowed 4 (init_module, keyctl, mount, ptrace), denied "))
+        rows = [line.split() for line in lines[4:]]
         self.assertEqual(sorted(int(row[2]) for row in rows), sorted(own_table.numbers()))
         self.assertEqual({row[0]: row[3] for row in rows if row[1] == "allowed"},
                          {"files": "read", "mounts": "mount", "tracing": "ptrace", "keys": "keyctl",
                           "time": "clock_settime", "modules": "init_module"})
         self.assertEqual(lines[0], f"allowed {len(allowed)}, depends 0, denied {len(rows) - len(allowed)}")
+
+    def test_dangerous_syscalls(self):
+        """clone is dangerous with CLONE_NEWUSER (0x10000000 of linux/sched.h), and CLONE_NEWNS is 0x20000."""
+        table = self.file("few", b"clone 56\nread 0\nptrace 101\n")
+        for bits, answers_of_clone, disposition in ((0x10000000, (EPERM, ALLOW), R), (0x10020000, (EPERM, ALLOW), R),
+                                                    (0x10000000, (ALLOW, EPERM), M), (0x20000, (EPERM, ALLOW), D)):
+            code = load(16) + insn(0x45, bits, 0, 1) + b"".join(map(ret, answers_of_clone))
+            filters = [of_number(56, code, EPERM)]
+            clone = "clone where flags & CLONE_NEWUSER"
+            line = f"dangerous syscalls: denied 2 ({clone})" if disposition == R else \
+                f"dangerous syscalls: {disposition} 1 ({clone}), denied 1"
+            self.assertEqual(self.said(filters, "--table", table, table=False)[1][3], line)
+            shown = json.loads(self.said(filters, "--json", "--table", table, table=False)[1][0])["dangerous"]
+            self.assertEqual([(call["name"], call["disposition"], call.get("where")) for call in shown],
+                             [("clone", disposition, "flags & CLONE_NEWUSER"), ("ptrace", R, None)])
 
     def test_examples(self):
         """A call of each region, with the answer of the other machine: all answers that there are."""
@@ -581,7 +597,7 @@ class Terminal(Case):
     def test_no_width_is_told(self):
         lines = self.shown(0, self.file("f.bpf", filter_of([READ])))[1]
         self.assertLessEqual(max(map(len, lines)), 80)
-        self.assertRegex(lines[3], r"\Afiles +allowed +read\Z")
+        self.assertRegex(lines[4], r"\Afiles +allowed +read\Z")
 
     def test_beside(self):
         first, second = self.file("f.bpf", filter_of([READ])), self.file("g.bpf", filter_of([READ, WRITE]))
