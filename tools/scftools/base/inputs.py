@@ -25,6 +25,15 @@ LIMITS = {"bundle": 1 << 24, "filter": 1 << 15, "profile": 1 << 22, "table": 1 <
 PROCESS, UNIT = "pid:", "unit:"
 # The most bytes that are read of a line of a log or of rows.
 LONGEST_LINE = 1 << 16
+# What was read, by the name of each input, if a page is to say its hash. scf's own tables aren't inputs.
+kept: dict[str, bytes] | None = None
+OWN_TABLES = os.path.join(program.TOP, "tables", "")
+
+
+def keep(name: str, data: bytes) -> None:
+    """Keeps what an input had, if a page is to say its hash."""
+    if kept is not None and not name.startswith(OWN_TABLES):
+        kept[name] = data
 
 
 def label(name: str) -> str:
@@ -44,7 +53,9 @@ def why(name: str, kind: str, error: OSError) -> str:
 def read_input(name: str, kind: str, most: int | None = None) -> bytes:
     """The bytes of an input (`-` is standard input): at most one more than its kind may have, or than `most`. Raises
     ToolError if it can't be read."""
-    return b"".join(input_pieces(name, kind, (LIMITS[kind] if most is None else most) + 1))
+    data = b"".join(input_pieces(name, kind, (LIMITS[kind] if most is None else most) + 1))
+    keep(name, data)
+    return data
 
 
 def input_pieces(name: str, kind: str, room: int) -> Iterator[bytes]:

@@ -15,7 +15,7 @@ The first lines are scf's; the lines after them are marked by `# `. If the sides
 entry of a profile that decides it with the conditions that it meets, and the last tests on its path through a filter,
 at most 12; then each syscall in the tables that differs, as with --calls, with its architecture before it if that isn't
 x86-64. With --json one object says the same; --html also writes it as a page without scripts, which replaces FILE at
-once. Each distinct stack of a process has a block; a thread without a filter is `unconfined`.
+once and names each input with its SHA-256. Each distinct stack of a process has a block; a thread without a filter is `unconfined`.
 
 Beside a profile, the syscalls of each architecture that it names are compared, as far as scf has a table of it (`scf
 call-table -h` names those); of two profiles, those of either. A profile without a list is for x86-64. A runtime kills a
@@ -51,7 +51,7 @@ Examples:
 """
 import sys
 
-from ..base import output, program
+from ..base import inputs, output
 from ..model import profiles, tables
 from ..ask import verdicts
 from ..cli import words
@@ -124,20 +124,16 @@ def judge(side, wanted, options, table):
 
 def write_page(options, judgement):
     """Writes the page of --html."""
-    import shlex  # pylint: disable=import-outside-toplevel
-
     from ..report import pages  # pylint: disable=import-outside-toplevel
 
     comparison, report = judgement.comparison, judgement.comparison.printed(judgement.report)
-    words_of_record = [word for at, word in enumerate(sys.argv[1:]) if word not in ("--json", "--html")
-                       and sys.argv[at] != "--html"]
-    page = pages.comparison_page(comparison, report, [*comparison_notes(comparison, judgement.report, judgement.scope)],
-                                 shlex.join([program.name(), *words_of_record]))
+    page = pages.comparison_page(comparison, report, [*comparison_notes(comparison, judgement.report, judgement.scope)])
     output.replace_file(options.html, page)
 
 
 def main():
     parser, options = read_words()
+    inputs.kept = {} if options.html is not None else None
     actual, wanted, table = actual_of(options), wanted_of(options), tables.read_table(options.table)
     if not any(isinstance(side, ProfileInput) for side in (actual, *wanted)):
         for name in ("--caps", "--verbose", "--strict", "--runtime", "--machine", "--also"):

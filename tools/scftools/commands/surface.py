@@ -16,7 +16,8 @@ table doesn't name are allowed; and how many of the syscalls that make a sandbox
 allowed, denied and so on, with the names of those that aren't denied. With --machine arm64 all this is said of aarch64 and arm, with --arch of that
 architecture alone. Then come the syscalls by purpose (tables/calls.groups), on a terminal as a table, otherwise a line
 each: the group, the disposition, the number, the names, and an answer. --beside shows the syscalls that differ under
-another stack of filters; it stands last. --html writes the same as a page without scripts, which replaces FILE at once.
+another stack of filters; it stands last. --html writes the same as a page without scripts, which replaces FILE at once:
+it says which inputs it is of, each with its SHA-256, and the conditions as --conditions does.
 
 With --conditions a syscall with several answers has them all instead of examples, with the conditions on its arguments:
 
@@ -59,7 +60,7 @@ Examples:
 """
 import types
 
-from ..base import output
+from ..base import inputs, output
 from ..model import architectures, tables
 from ..ask import client, other_abis
 from ..cli import words
@@ -104,6 +105,7 @@ def read_words():
 
 def main():
     options = read_words()
+    inputs.kept = {} if options.html is not None else None
     machine = engines.MACHINE_NAMES[options.machine or engines.machine_here()]
     architecture = architectures.judged_in(options.arch or machine)
     of_engine = types.SimpleNamespace(caps=options.caps, machine=options.caps and options.machine, force=options.force,
@@ -130,5 +132,5 @@ def main():
         from ..report import pages  # pylint: disable=import-outside-toplevel
 
         made.sort(key=lambda surface: client.rank(surface.status))
-        output.replace_file(options.html, pages.surfaces_page(made, table))
+        output.replace_file(options.html, pages.surfaces_page(made, table, beside))
     return status

@@ -32,7 +32,11 @@ def read(word: str, options: Any = None) -> Filter | ProfileInput | Inspection:
     (`runtime`, `caps`, `machine`, `strict`) and whether threads are stopped by force (`force`), as far as the command
     has that."""
     if is_process(word):
-        return process_of(word, *(getattr(options, name, False) for name in ("force", "json")))
+        given = process_of(word, *(getattr(options, name, False) for name in ("force", "json")))
+        for at, stack in enumerate(given.stacks):
+            for bpf_filter in stack.named:
+                inputs.keep(f"{word} stack {at} {bpf_filter.name}", bpf_filter.data)
+        return given
     data = profile_inputs.read_text(word)
     if not word.startswith(inputs.UNIT) and not profile_inputs.looks_like_profile(data):
         return filters.filter_in(word, data)

@@ -184,7 +184,9 @@ def read_text(name: str, kind: str | None = None) -> bytes:
     if name.startswith(inputs.UNIT):
         from scfhost import unit_profiles  # pylint: disable=import-outside-toplevel
 
-        return unit_profiles.profile_of_unit(name.removeprefix(inputs.UNIT), program.say)
+        data = unit_profiles.profile_of_unit(name.removeprefix(inputs.UNIT), program.say)
+        inputs.keep(name, data)
+        return data
     if name.startswith(inputs.PROCESS):
         raise program.ToolError(f"'{name}' is a process, not a profile: `scf profile-of {name}` prints the profile of "
                                 "its filters")

@@ -9,19 +9,22 @@ import base64
 import functools
 import hashlib
 import html
+import shlex
+import sys
 import time
 from collections import Counter
 from collections.abc import Iterable, Iterator, Sequence
 
-from ..base import output
-from ..base.values import Any, dataclass
+from ..base import inputs, output, program
+from ..base.values import dataclass
 from ..model import dangerous_calls
 from ..model.answers import ALLOWED, DELEGATED, DENIED, DEPENDS
 from ..model.calls import Call
 from ..model.tables import Table
 from ..ask import client
 from ..ask.verdicts import Report
-from . import surface_output
+from ..forms.filters import Filter
+from . import row_conditions, surface_output, surfaces
 from .compare import Pair
 from .stack_surfaces import StackSurface
 from .surface_output import Groups
@@ -48,14 +51,13 @@ h3 { font-size: 1rem; margin: 1rem 0 .25rem; }
 p, ul, dl { margin: .4rem 0; } ul { padding-left: 1.2rem; } dt { color: var(--faint); } dd { margin: 0 0 .3rem 0; }
 a { color: var(--link); } small, .faint { color: var(--faint); }
 code, pre { font: .875rem/1.4 ui-monospace, monospace; }
-pre { overflow-x: auto; background: var(--band); padding: .6rem; border-radius: .3rem; margin: .4rem 0;
-  overflow-wrap: normal; }
+pre { white-space: pre-wrap; background: var(--band); padding: .6rem; border-radius: .3rem; margin: .4rem 0;
+  overflow-wrap: anywhere; }
 table { border-collapse: collapse; width: 100%; } th, td { text-align: left; vertical-align: top;
   padding: .35rem .6rem; border-bottom: 1px solid var(--line); } thead th { background: var(--band); }
-.scroll { overflow-x: auto; } .scroll td, .scroll th { white-space: nowrap; overflow-wrap: normal; line-height: 1.5rem;
-  padding: .375rem .625rem; }
+.scroll { overflow-x: auto; } .scroll td, .scroll th { min-width: 8rem; line-height: 1.5rem; padding: .375rem .625rem; }
 table.scroll { border-collapse: separate; border-spacing: 0; }
-.scroll td:first-child, .scroll th:first-child { position: sticky; left: 0; max-width: 9rem; white-space: normal; }
+.scroll td:first-child, .scroll th:first-child { position: sticky; left: 0; min-width: 0; white-space: nowrap; }
 .scroll td:first-child { background: var(--page); }
 .bad { color: var(--bad); font-weight: 600; } .warn { color: var(--warn); font-weight: 600; }
 .good { color: var(--good); font-weight: 600; }
@@ -135,6 +137,24 @@ def _made_by() -> Markup:
     return tag("p", f"{at} · {version}")
 
 
+def _quoted(word: str) -> str:
+    """A word as a shell takes it."""
+    if output.escaped(word) == word:
+        return shlex.quote(word)
+    return "$'" + output.escaped(word.replace("\\", "\\\\").replace("'", "\\'")) + "'"
+
+
+def _made_of() -> Iterator[Markup]:
+    """The inputs with their hashes, and the command that made the page, without what writes it."""
+    words = [word for at, word in enumerate(sys.argv[1:]) if sys.argv[at] != "--html" and word not in
+             ("--html", "--json") and not word.startswith("--html=")]
+    yield tag("h2", "Inputs")
+    yield table(["input", "SHA-256"], ([inputs.label(name).strip("'"), tag("code", hashlib.sha256(data).hexdigest())]
+                                       for name, data in (inputs.kept or {}).items()), "rows")
+    yield tag("p", "To repeat it:")
+    yield preformatted([" ".join([program.name(), *map(_quoted, words)])])
+
+
 def c_call(call: Call, table: Table) -> str:
     """A syscall as a statement in C; one of another ABI as a comment, since only assembly makes it."""
     names = table.names_of(call.number) if call.is_native else []
@@ -144,8 +164,8 @@ def c_call(call: Call, table: Table) -> str:
     return f"syscall({f'SYS_{names[0]}' if names else call.number}, {arguments});"
 
 
-def comparison_page(comparison: Pair, report: Report, added: Sequence[str], command: str) -> str:
-    """The page of a comparison, with the lines that `scf compare` adds, and the command that made it."""
+def comparison_page(comparison: Pair, report: Report, added: Sequence[str]) -> str:
+    """The page of a comparison, with the lines that `scf compare` adds."""
     verdict = report.verdict
     word = comparison.word(verdict.word) if verdict is not None else report.lines[0] if report.lines else "nothing"
     colour = "good" if verdict is not None and verdict.holds else "bad"
@@ -153,46 +173,16 @@ def comparison_page(comparison: Pair, report: Report, added: Sequence[str], comm
     return document(f"comparison: {word}", tag("h1", tag("span", word, class_=colour)), _made_by(),
                     listed(f"{each.name}: {each.count} instructions" for side in comparison.sides
                            for each in side.filters), *shown,
-                    preformatted([*report.brief, *(f"# {line}" for line in added)]), tag("p", "To repeat it:"),
-                    preformatted([command]), tag("p", OF_COMPARISON, class_="faint"))
-
-
-@dataclass(frozen=True)
-class ShownRow:
-    """A syscall on a page: its names, what holds of it, and what decides."""
-
-    names: Sequence[str]
-    said: str
-    details: Sequence[str]
-
-
-@dataclass(frozen=True)
-class ShownSurface:
-    """What a stack allows, as a page shows it: the lines on all of it, and its syscalls."""
-
-    whole: Sequence[str]
-    rows: Sequence[ShownRow]
-
-    @classmethod
-    def of(cls, surface: Surface) -> ShownSurface:
-        return cls(surface_output.whole_lines(surface), [
-            ShownRow(row.names, row.said, surface_output.details(row)) for row in surface.rows])
-
-    @classmethod
-    def of_json(cls, value: Any) -> ShownSurface:
-        return cls(value["whole"], [ShownRow(**row) for row in value["rows"]])
-
-    def as_json(self) -> dict[str, object]:
-        rows = [{"names": row.names, "said": row.said, "details": row.details} for row in self.rows]
-        return {"whole": self.whole, "rows": rows}
+                    preformatted([*report.brief, *(f"# {line}" for line in added)]),
+                    tag("p", OF_COMPARISON, class_="faint"), *_made_of())
 
 
 @dataclass(frozen=True)
 class Named:
-    """What a stack allows, None if that wasn't looked at, with what the page calls it."""
+    """What a stack allows, None if scf refuses it, with what the page calls it."""
 
     name: str
-    surface: ShownSurface | None
+    surface: Surface | None
     description: str
     digest: str | None = None
 
@@ -201,7 +191,7 @@ class Named:
         return self.name.replace(" ", "-")
 
 
-def _cell(rows: Sequence[ShownRow]) -> str:
+def _cell(rows: list[surfaces.Row]) -> str:
     counts = Counter(row.said for row in rows)
     if set(counts) == {DENIED}:
         return ALL_DENIED
@@ -219,12 +209,12 @@ def stack(named: Named, groups: Groups) -> Iterator[Markup]:
     if named.digest is not None:
         yield tag("p", "SHA-256 ", tag("code", named.digest, class_="long"))
     if named.surface is None:
-        yield tag("p", "It wasn't looked at: that takes too long.")
+        yield tag("p", "scf refuses this stack.")
         return
-    yield listed(named.surface.whole)
+    yield listed(surface_output.whole_lines(named.surface))
     for group, rows in surface_output.grouped(named.surface.rows, groups):
-        calls = listed(joined([tag("code", " or ".join(row.names)), f" {row.said}",
-                               *(f"; {detail}" for detail in row.details)]) for row in rows)
+        calls = listed(joined([tag("code", " or ".join(row.names)), " ", "; ".join(
+            [row.said] * (row.conditions is None) + surface_output.details(row))]) for row in rows)
         yield tag("details", tag("summary", f"{group}: {_cell(rows)}"), tag("div", calls, id=f"{named.anchor}-{group}"))
 
 
@@ -243,31 +233,43 @@ def matrix(stacks: Sequence[Named], groups: Groups) -> Iterator[Markup]:
 def dangerous(stacks: Sequence[Named], table_of: Table) -> Iterator[Markup]:
     """The dangerous syscalls by stacks."""
     yield tag("h2", "Dangerous syscalls by stack")
-    rows_of = [{name: row for row in named.surface.rows for name in row.names} if named.surface is not None else {}
-               for named in stacks]
+    found = [{danger.name: danger for danger in surface_output.dangers(named.surface)} if named.surface is not None
+             else {} for named in stacks]
     lines: list[list[object]] = []
+    denied: list[str] = []
     for name, danger in dangerous_calls.dangerous().items():
-        if table_of.number_of(name) is None:
+        shown = [(of[name].said, of[name].describe()) if name in of else ("", "not known") for of in found]
+        if table_of.number_of(name) is None or all(text == DENIED for _, text in shown):
+            denied += [name] * (table_of.number_of(name) is not None)
             continue
-        only = "".join(f" if argument {condition.index} has {condition.value:#x}" for condition in danger.conditions)
-        lines.append([joined([tag("code", name), only]),
-                      *(tag("span", rows[name].said, class_="good" if rows[name].said == DENIED else "warn")
-                        if name in rows else "not known" for rows in rows_of), danger.reason])
-    yield table(["syscall", *(named.name for named in stacks), "why"], lines, "scroll")
+        lines.append([tag("code", name), *(tag("span", text, class_="good" if said == DENIED else "warn")
+                                           for said, text in shown), danger.reason])
+    if lines:
+        yield table(["syscall", *(named.name for named in stacks), "why it is dangerous"], lines, "scroll")
+    if denied:
+        yield tag("p", f"Always denied{' by every stack' * (len(stacks) > 1)}: ", tag("code", ", ".join(denied)), ".")
 
 
-def of_blocks(blocks: Sequence[StackSurface]) -> Iterator[Named]:
+def of_blocks(blocks: Sequence[StackSurface], beside: Sequence[Filter]) -> Iterator[Named]:
     """The stacks of `scf surface`, and those that they are compared with."""
-    for at, block in enumerate(block for block in blocks if block.filters):
-        names = ", ".join(bpf_filter.name for bpf_filter in block.filters)
-        yield Named(f"stack {at}", ShownSurface.of(block.surface), names)
+    stacks = [block for block in blocks if block.filters]
+    for at, block in enumerate(stacks):
+        known_names, other_names = ([bpf_filter.name for bpf_filter in filters] for filters in (block.filters, beside))
+        name = f"stack {at}" if len(stacks) > 1 else output.some(known_names, 1)
+        yield Named(name, block.surface, ", ".join(known_names))
         if block.beside is not None:
-            yield Named(f"beside {at}", ShownSurface.of(block.beside.sides[1]), "the filters beside it")
+            other = name if len(stacks) > 1 else output.some(other_names, 1)
+            yield Named(f"beside {other}", block.beside.sides[1], ", ".join(other_names))
 
 
-def surfaces_page(blocks: Sequence[StackSurface], table_of: Table) -> str:
-    """The page of blocks."""
-    groups, stacks = Groups(), list(of_blocks(blocks))
+def surfaces_page(blocks: Sequence[StackSurface], table_of: Table, beside: Sequence[Filter]) -> str:
+    """The page of blocks. Its syscalls have conditions where scf proves them."""
+    for block in blocks:
+        for surface in block.beside.sides if block.beside is not None else (block.surface,):
+            if surface is not None and not any(row.conditions for row in surface.rows):
+                row_conditions.add(surface)
+    groups, stacks = Groups(), list(of_blocks(blocks, beside))
     return document("What these filters allow", tag("h1", "What these filters allow"), _made_by(),
-                    tag("p", OF_SURFACES, class_="faint"), *matrix(stacks, groups), *dangerous(stacks, table_of),
-                    tag("h2", "Stacks"), *(piece for named in stacks for piece in stack(named, groups)))
+                    tag("p", OF_SURFACES, class_="faint"), *_made_of(), *dangerous(stacks, table_of),
+                    *matrix(stacks, groups), tag("h2", "Syscalls by stack"),
+                    *(piece for named in stacks for piece in stack(named, groups)))

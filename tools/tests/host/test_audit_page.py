@@ -8,7 +8,7 @@ import shutil
 import subprocess
 import unittest
 
-from support.common import Case, filter_of, profile_of
+from support.common import ALLOW, EPERM, Case, filter_of, gate, insn, jeq, load, profile_of, ret
 from host.test_audit import process
 from scftools.model import tables
 from scftools.ask import verdicts
@@ -132,20 +132,29 @@ class Pages(Case):
         self.assertNotIn("Dangerous syscalls", text)
 
     def test_a_surface_and_a_comparison(self):
-        first, two = self.file("one.bpf", filter_of([0, 1])), self.file("<two>.bpf", filter_of([0]))
+        # clone (56) is denied with CLONE_NEWUSER
+        data = gate(jeq(56, 0, 4) + load(16) + insn(0x45, 0x10000000, 0, 1) + ret(EPERM) + ret(ALLOW) + ret(EPERM))
+        first, two = self.file("one.bpf", data), self.file("<two>.bpf", filter_of([0]))
         path = os.path.join(self.folder, "page.html")
         self.assertEqual(self.run_tool("surface", "--html", path, first, "--beside", two)[0], 1)
         with open(path, encoding="utf-8") as file:
             text = Page(file.read(), self).check()
-        self.assertIn("some: 2 allowed of ", text)
+        self.assertIn("some: 1 depends of ", text)
+        self.assertIn("clonedenied where flags & CLONE_NEWUSERdenied", text)
+        self.assertIn("denied (EPERM) where flags & CLONE_NEWUSER == CLONE_NEWUSER, else allowed", text)
+        self.assertIn(f"surface {first} --beside '{two}'", text)
+        for content in (data, filter_of([0])):
+            self.assertIn(hashlib.sha256(content).hexdigest(), text)
         profile = self.file("p&q.json", profile_of("read", "write"))
-        status, out, _ = self.run_tool("compare", "--html", path, two, profile)
+        status, out, _ = self.run_tool("compare", f"--html={path}", "-", profile, given=filter_of([0]))
         with open(path, encoding="utf-8") as file:
             text = Page(file.read(), self).check()
         self.assertEqual(status, 1)
         self.assertIn(out, text + "\n")
         self.assertIn("syscall(SYS_write, ", text)
-        self.assertIn(f"compare '{two}' '{profile}'", text)
+        self.assertIn(f"compare - '{profile}'", text)
+        self.assertIn(hashlib.sha256(profile_of("read", "write")).hexdigest(), text)
+        self.assertIn(f"standard input{hashlib.sha256(filter_of([0])).hexdigest()}", text)
         for name in ("surface", "compare"):
             words = [first, self.file("p.json", profile_of("read"))] if name == "compare" else [first]
             status, _, err = self.run_tool(name, "--html", f"{self.folder}/none/x.html", *words)
