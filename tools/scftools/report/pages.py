@@ -63,7 +63,7 @@ table.scroll { border-collapse: separate; border-spacing: 0; }
 .good { color: var(--good); font-weight: 600; }
 details { margin: .25rem 0; } summary { cursor: pointer; }
 @media (min-width: 60rem) {
-  .rows th:nth-child(4) { width: 22%; } .rows th:nth-child(n+6) { width: 8.5rem; } }
+  .rows th:nth-child(4) { width: 22%; } .rows th:last-child:nth-child(-n+4) { width: 50%; } .rows th:nth-child(n+6) { width: 8.5rem; } }
 @media (max-width: 60rem) {
   .rows thead { display: none; } .rows, .rows tbody { display: block; }
   .rows tr, .rows td { display: block; border: 0; padding: .1rem 0; }
@@ -131,12 +131,6 @@ def document(title: str, *pieces: object) -> str:
             + "\n".join(escaped(piece) for piece in pieces) + "\n</body>\n</html>\n")
 
 
-def _made_by() -> Markup:
-    """When a page is made, and by which scf."""
-    at, version = time.strftime("%Y-%m-%dT%H:%M:%SZ", time.gmtime()), client.run_scf(["--version"]).text.strip()
-    return tag("p", f"{at} · {version}")
-
-
 def _quoted(word: str) -> str:
     """A word as a shell takes it."""
     if output.escaped(word) == word:
@@ -144,14 +138,14 @@ def _quoted(word: str) -> str:
     return "$'" + output.escaped(word.replace("\\", "\\\\").replace("'", "\\'")) + "'"
 
 
-def _made_of() -> Iterator[Markup]:
-    """The inputs with their hashes, and the command that made the page, without what writes it."""
+def _made_by() -> Iterator[Markup]:
+    """When a page is made, by which scf, of which inputs, and by which command, without what writes the page."""
+    at, version = time.strftime("%Y-%m-%dT%H:%M:%SZ", time.gmtime()), client.run_scf(["--version"]).text.strip()
     words = [word for at, word in enumerate(sys.argv[1:]) if sys.argv[at] != "--html" and word not in
              ("--html", "--json") and not word.startswith("--html=")]
-    yield tag("h2", "Inputs")
-    yield table(["input", "SHA-256"], ([inputs.label(name).strip("'"), tag("code", hashlib.sha256(data).hexdigest())]
-                                       for name, data in (inputs.kept or {}).items()), "rows")
-    yield tag("p", "To repeat it:")
+    yield tag("p", f"{at} · {version}")
+    yield listed(joined([inputs.label(name).strip("'"), ": SHA-256 ", tag(
+        "code", hashlib.sha256(data).hexdigest(), class_="long")]) for name, data in (inputs.kept or {}).items())
     yield preformatted([" ".join([program.name(), *map(_quoted, words)])])
 
 
@@ -170,11 +164,9 @@ def comparison_page(comparison: Pair, report: Report, added: Sequence[str]) -> s
     word = comparison.word(verdict.word) if verdict is not None else report.lines[0] if report.lines else "nothing"
     colour = "good" if verdict is not None and verdict.holds else "bad"
     shown = [preformatted([c_call(verdict.call, comparison.table)])] if verdict is not None and verdict.call else []
-    return document(f"comparison: {word}", tag("h1", tag("span", word, class_=colour)), _made_by(),
-                    listed(f"{each.name}: {each.count} instructions" for side in comparison.sides
-                           for each in side.filters), *shown,
+    return document(f"comparison: {word}", tag("h1", tag("span", word, class_=colour)), *_made_by(), *shown,
                     preformatted([*report.brief, *(f"# {line}" for line in added)]),
-                    tag("p", OF_COMPARISON, class_="faint"), *_made_of())
+                    tag("p", OF_COMPARISON, class_="faint"))
 
 
 @dataclass(frozen=True)
@@ -245,7 +237,8 @@ def dangerous(stacks: Sequence[Named], table_of: Table) -> Iterator[Markup]:
         lines.append([tag("code", name), *(tag("span", text, class_="good" if said == DENIED else "warn")
                                            for said, text in shown), danger.reason])
     if lines:
-        yield table(["syscall", *(named.name for named in stacks), "why it is dangerous"], lines, "scroll")
+        head = ["syscall", *(named.name for named in stacks), "why it is dangerous"]
+        yield table(head, lines, "rows" if len(stacks) <= 2 else "scroll")
     if denied:
         yield tag("p", f"Always denied{' by every stack' * (len(stacks) > 1)}: ", tag("code", ", ".join(denied)), ".")
 
@@ -269,7 +262,7 @@ def surfaces_page(blocks: Sequence[StackSurface], table_of: Table, beside: Seque
             if surface is not None and not any(row.conditions for row in surface.rows):
                 row_conditions.add(surface)
     groups, stacks = Groups(), list(of_blocks(blocks, beside))
-    return document("What these filters allow", tag("h1", "What these filters allow"), _made_by(),
-                    tag("p", OF_SURFACES, class_="faint"), *_made_of(), *dangerous(stacks, table_of),
+    return document("What these filters allow", tag("h1", "What these filters allow"), *_made_by(),
+                    tag("p", OF_SURFACES, class_="faint"), *dangerous(stacks, table_of),
                     *matrix(stacks, groups), tag("h2", "Syscalls by stack"),
                     *(piece for named in stacks for piece in stack(named, groups)))

@@ -154,7 +154,7 @@ class Pages(Case):
         self.assertIn("syscall(SYS_write, ", text)
         self.assertIn(f"compare - '{profile}'", text)
         self.assertIn(hashlib.sha256(profile_of("read", "write")).hexdigest(), text)
-        self.assertIn(f"standard input{hashlib.sha256(filter_of([0])).hexdigest()}", text)
+        self.assertIn(f"standard input: SHA-256 {hashlib.sha256(filter_of([0])).hexdigest()}", text)
         for name in ("surface", "compare"):
             words = [first, self.file("p.json", profile_of("read"))] if name == "compare" else [first]
             status, _, err = self.run_tool(name, "--html", f"{self.folder}/none/x.html", *words)
