@@ -67,7 +67,7 @@ install: $(PROGRAM) uninstall
 	install -m 644 docs/scf.1 "$(MAN)"
 	umask 022; dev/manual "$(MAN)" && dev/completion "$(BASH)/scf" "$(ZSH)/_scf" "$(FISH)/scf.fish"
 	for tool in $(TOOLS); do ln -sf scf "$(BASH)/scf-$$tool" && ln -sf scf.fish "$(FISH)/scf-$$tool.fish" || exit 1; done
-	install -m 644 LICENSE CONTRIBUTING.md docs/*.md docs/scf.schema.json "$(DOC)"
+	install -m 644 LICENSE CONTRIBUTING.md docs/*.md docs/*.png docs/scf.schema.json "$(DOC)"
 	install -m 644 conformance/README.md "$(DOC)/CONFORMANCE.md"
 	umask 022; $(FLAT) README.md >"$(DOC)/README.md"
 	install -m 644 contrib/systemd/scf-audit.timer "$(UNITS)"

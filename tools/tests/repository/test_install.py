@@ -15,7 +15,7 @@ MODULES = sorted(os.path.relpath(path, os.path.join(TOP, "tools"))
                  for path in glob.glob(os.path.join(TOP, "tools", "scf*", "**", "*.py"), recursive=True))
 TABLES = os.listdir(os.path.join(TOP, "tables"))
 DOCUMENTS = ["LICENSE", "README.md", "CONTRIBUTING.md", "CONFORMANCE.md", "scf.schema.json",
-             *(name for name in os.listdir(os.path.join(TOP, "docs")) if name.endswith(".md"))]
+             *(name for name in os.listdir(os.path.join(TOP, "docs")) if name.endswith((".md", ".png")))]
 
 
 class Install(Case):
