@@ -15,7 +15,8 @@ The first lines are scf's; the lines after them are marked by `# `. If the sides
 entry of a profile that decides it with the conditions that it meets, and the last tests on its path through a filter,
 at most 12; then each syscall in the tables that differs, as with --calls, with its architecture before it if that isn't
 x86-64. With --json one object says the same; --html also writes it as a page without scripts, which replaces FILE at
-once and names each input with its SHA-256. Each distinct stack of a process has a block; a thread without a filter is `unconfined`.
+once and names each input with its SHA-256. Each distinct stack of a process has a block; a thread without a filter is
+`unconfined`.
 
 Beside a profile, the syscalls of each architecture that it names are compared, as far as scf has a table of it (`scf
 call-table -h` names those); of two profiles, those of either. A profile without a list is for x86-64. A runtime kills a

@@ -13,11 +13,12 @@ delegated (to a supervisor or tracer), or it depends on the arguments; then an e
 counts them; a line before it names a filter that is for another machine. The next lines say whether any syscall of
 another ABI of the machine is allowed, with the same counts of an ABI of which one is, and how many numbers that the
 table doesn't name are allowed; and how many of the syscalls that make a sandbox useless (tables/dangerous.calls) are
-allowed, denied and so on, with the names of those that aren't denied. With --machine arm64 all this is said of aarch64 and arm, with --arch of that
-architecture alone. Then come the syscalls by purpose (tables/calls.groups), on a terminal as a table, otherwise a line
-each: the group, the disposition, the number, the names, and an answer. --beside shows the syscalls that differ under
-another stack of filters; it stands last. --html writes the same as a page without scripts, which replaces FILE at once:
-it says which inputs it is of, each with its SHA-256, and the conditions as --conditions does.
+allowed, denied and so on, with the names of those that aren't denied. With --machine arm64 all this is said of aarch64
+and arm, with --arch of that architecture alone. Then come the syscalls by purpose (tables/calls.groups), on a terminal
+as a table, otherwise a line each: the group, the disposition, the number, the names, and an answer. --beside shows the
+syscalls that differ under another stack of filters; it stands last. --html writes the same as a page without scripts,
+which replaces FILE at once: it says which inputs it is of, each with its SHA-256, and the conditions as --conditions
+does.
 
 With --conditions a syscall with several answers has them all instead of examples, with the conditions on its arguments:
 

@@ -63,7 +63,8 @@ table.scroll { border-collapse: separate; border-spacing: 0; }
 .good { color: var(--good); font-weight: 600; }
 details { margin: .25rem 0; } summary { cursor: pointer; }
 @media (min-width: 60rem) {
-  .rows th:nth-child(4) { width: 22%; } .rows th:last-child:nth-child(-n+4) { width: 50%; } .rows th:nth-child(n+6) { width: 8.5rem; } }
+  .rows th:nth-child(4) { width: 22%; } .rows th:last-child:nth-child(-n+4) { width: 50%; }
+  .rows th:nth-child(n+6) { width: 8.5rem; } }
 @media (max-width: 60rem) {
   .rows thead { display: none; } .rows, .rows tbody { display: block; }
   .rows tr, .rows td { display: block; border: 0; padding: .1rem 0; }

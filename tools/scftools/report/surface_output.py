@@ -129,7 +129,9 @@ def whole_lines(surface: Surface) -> list[str]:
     denied = [surface.asker.architecture.name, *(access.abi.name for access in surface.foreign)]
     of_others = [f"it is for {join_names(names)}, which --arch lists: every {join_names(denied)} syscall is denied"] \
         if names else []
-    foreign = ["; ".join(other_abis.access_lines(surface.foreign))] if surface.foreign else []
+    counted = [beside.asker.architecture for beside in surface.others if {*beside.counts} != {DENIED}]
+    remaining = [access for access in surface.foreign if access.abi not in counted or access.not_denied is None]
+    foreign = ["; ".join(other_abis.access_lines(remaining))] if remaining else []
     others = [f"{_summary(beside)} (--arch {beside.asker.architecture.name} lists them)" for beside in surface.others]
     return [*of_others, _summary(surface), *foreign, *others,
             f"numbers without a name: {surface.unnamed.describe()}"]

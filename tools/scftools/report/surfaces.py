@@ -142,13 +142,13 @@ class Unnamed:
 
     def describe(self) -> str:
         if self.are_allowed:
-            return f"all {self.count} are always allowed"
+            return "all allowed"
         if self.undecided:
             least = f"at least {self.not_denied} of {self.count} are allowed or delegated with some arguments" \
                     f"{self._as_shown}; " if self.not_denied else ""
             return f"{least}{self.undecided} are undecided"
         if not self.not_denied:
-            return f"all {self.count} are always denied"
+            return "all denied"
         which = f"all {self.count}" if self.not_denied == self.count else f"{self.not_denied} of {self.count}"
         return f"{which} are allowed or delegated with some arguments{self._as_shown}"
 

@@ -243,7 +243,7 @@ class Rows(Case):
     def test_a_table_without_names(self):
         surface = of([ret(ALLOW)], table=b"# none\n")
         self.assertEqual((surface.rows, surface_output.whole_lines(surface)[0]), ([], "allowed 0, depends 0, denied 0"))
-        self.assertEqual(surface.unnamed.describe(), f"all {X32} are always allowed")
+        self.assertEqual(surface.unnamed.describe(), "all allowed")
 
 
 class Unnamed(unittest.TestCase):
@@ -253,9 +253,9 @@ class Unnamed(unittest.TestCase):
         return of(filters, **more).unnamed.describe()
 
     def test_none_and_all(self):
-        self.assertEqual(self.describe(filter_of([READ, EXIT_GROUP])), f"all {OTHERS} are always denied")
-        self.assertEqual(self.describe(ret(ALLOW)), f"all {OTHERS} are always allowed")
-        self.assertEqual(self.describe(of_number(READ, EPERM, LOG)), f"all {OTHERS} are always allowed")
+        self.assertEqual(self.describe(filter_of([READ, EXIT_GROUP])), "all denied")
+        self.assertEqual(self.describe(ret(ALLOW)), "all allowed")
+        self.assertEqual(self.describe(of_number(READ, EPERM, LOG)), "all allowed")
         self.assertEqual(self.describe(ret(USER_NOTIF)), f"all {OTHERS} {SOME} 2: USER_NOTIF")
 
     def test_some(self):
@@ -332,7 +332,7 @@ class Program(Case):
         status, lines = self.said(filters)
         self.assertEqual((status, lines), (0, [
             "allowed 0, depends 1, denied 4", NO_FOREIGN,
-            f"numbers without a name: all {OTHERS} are always denied", "files denied 0 read,too ERRNO 1",
+            "numbers without a name: all denied", "files denied 0 read,too ERRNO 1",
             "files denied 1 write ERRNO 1", lines[5], "processes denied 39 getpid ERRNO 1",
             "processes denied 231 exit_group ERRNO 1"]))
         match = re.fullmatch(r"network depends 41 socket ((?:allowed|denied) args .*) ((?:allowed|denied) args .*)",
@@ -345,14 +345,18 @@ class Program(Case):
             self.assertEqual(" ".join(arguments[6:]), {"allowed": "ALLOW", "denied": "ERRNO 1"}[disposition])
 
     def test_foreign_calls(self):
-        for name, says in (("all is made", "i386: some syscalls are allowed, such as restart_syscall (0): ALLOW; x32: "
-                                           "some syscalls are allowed, such as read (0x40000000 + 0): ALLOW; other ABIs: "
-                                           "the kernel has no others"),
-                           ("some are made", NO_FOREIGN)):
-            self.assertEqual(self.said(KNOWN[name][0])[1][1], says)
-        gone = load(4) + jeq(I386, 0, 1) + ret(ALLOW) + ret(KILL_PROCESS)
-        self.assertEqual(self.said([gone])[1][1], "i386: some syscalls are allowed, such as restart_syscall (0): "
-                         "ALLOW; x32: every syscall is denied; other ABIs: the kernel has no others")
+        """An ABI is counted if one of its syscalls is allowed; if only a number without a name is, that is shown."""
+        self.assertEqual(self.said(KNOWN["some are made"][0])[1][1], NO_FOREIGN)
+        every, none = "allowed 461, depends 0, denied 0 (--arch i386 lists them)", "allowed 0, depends 0, denied 461 ("
+        lines = self.said(KNOWN["all is made"][0])[1]
+        self.assertEqual((lines[1], lines[2][:5]), (f"i386: {every}", "x32: "))
+        by_number = load(0) + jeq(0x3FFFFFFF, 1, 0) + ret(EPERM) + ret(ALLOW)
+        unnamed = "i386: some syscalls are allowed, such as number 1073741823: ALLOW; x32: every syscall is denied; "
+        for code, access, counts in ((ret(ALLOW), "", every), (by_number, unnamed, none)):
+            lines = self.said([load(4) + jeq(I386, 0, len(code) // 8) + code + ret(KILL_PROCESS)])[1]
+            self.assertEqual(lines[1], f"{access}other ABIs: the kernel has no others" if access else
+                             "other ABIs: every x32 syscall is denied; the kernel has no others")
+            self.assertTrue(lines[2].startswith(f"i386: {counts}"), lines[2])
 
     def test_calls_that_no_kernel_makes(self):
         """-1, other numbers with bit 31 and other architectures are no hole, by an argument of libseccomp's, or by
@@ -400,7 +404,7 @@ class Program(Case):
         words = ("surface", "--caps", "CAP_KILL", "--machine", "arm64", self.file("e.json", json.dumps(engines)))
         status, out, _ = self.run_tool(*words)
         self.assertEqual((status, out.splitlines()[0].split(",")[0]), (0, "aarch64: allowed 1"))
-        self.assertTrue(out.splitlines()[2].startswith("arm: allowed 1, "), out)
+        self.assertTrue(out.splitlines()[1].startswith("arm: allowed 1, "), out)
         status, out, err = self.run_tool("surface", self.file("p.json", json.dumps(engines)))
         self.assertEqual((status, out), (2, ""))
         self.assertIn("surface: 'p.json': fault profile EngineForm", err.replace(f"{self.folder}/", ""))
@@ -422,7 +426,7 @@ class Program(Case):
         own_table = tables.read_table(None)
         status, lines = self.said([filter_of([own_table.number_of(name) for name in allowed])], table=False)
         self.assertEqual(status, 0)
-        self.assertTrue(lines[3].startswith("dangerous syscalls: allowed 4 (init_module, keyctl, mount, ptrace), denied "))
+        self.assertTrue(lines[3].startswith("dangerous syscalls: allowed 4 (init_module, keyctl, mount, ptrace), "))
         rows = [line.split() for line in lines[4:]]
         self.assertEqual(sorted(int(row[2]) for row in rows), sorted(own_table.numbers()))
         self.assertEqual({row[0]: row[3] for row in rows if row[1] == "allowed"},
@@ -464,7 +468,7 @@ class Program(Case):
 
     def test_names_that_no_group_has(self):
         lines = self.said([ret(ALLOW)], "--table", self.file("t", b"look 7\n"))[1]
-        self.assertEqual(lines[5:], ["other allowed 7 look ALLOW"])
+        self.assertEqual(lines[4:], ["other allowed 7 look ALLOW"])
 
     def test_another_architecture(self):
         """Its syscalls have the numbers of its table; x32's have 0x40000000 more in a record. Where one is allowed,
@@ -481,8 +485,7 @@ class Program(Case):
             self.assertEqual((status, lines[0]), (0, f"{shown}: allowed 1, depends 0, denied {denied}"))
             self.assertEqual([line.split()[1:] for line in lines if " allowed " in line][1:],
                              [["allowed", str(number), name, "ALLOW"]])
-            remaining = architectures.JUDGED[f"SCMP_ARCH_{oci}"].last - first + 1 - denied - 1
-            self.assertEqual(lines[1], f"numbers without a name: all {remaining} are always denied")
+            self.assertEqual(lines[1], "numbers without a name: all denied")
             report = json.loads(self.said([only], "--arch", word, "--json", table=False)[1][0])
             self.assertEqual((report["architecture"], report["counts"][M], report["foreign"]), (shown, 1, []))
             lines = self.said([only], table=False)[1]
@@ -691,7 +694,7 @@ class Beside(Case):
             "allowed 1, depends 0, denied 4\nbeside: allowed 1, depends 0, denied 4\n"
             f"{NO_FOREIGN}\n"
             f"numbers without a name: 1 of {OTHERS} {SOME} 400: ALLOW\n"
-            f"beside: numbers without a name: all {OTHERS} are always denied\n"
+            "beside: numbers without a name: all denied\n"
             "syscalls that differ: 2\n"
             "files 0 read,too allowed ALLOW beside denied ERRNO 1\nfiles 1 write denied ERRNO 1 beside allowed ALLOW\n"
             "numbers without a name: some get different answers\n"),
