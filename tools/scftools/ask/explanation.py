@@ -78,8 +78,7 @@ def explain_skipped(report: Report, judged: Tables, default_lets_through: bool) 
     if not report.skipped:
         return
     classified = tables.classify(report.skipped, judged)
-    why = "the table doesn't have them" if len(judged.of) == 1 else "no table has them"
-    yield (f"names in the profile that were skipped because {why}: {len(report.skipped)}"
+    yield (f"names in the profile that were skipped because no table has them: {len(report.skipped)}"
            + (", all of them syscalls of other architectures" if not classified.left_out and not classified.unknown
               else ""))
     for name in classified.left_out[:tables.MOST_LISTED]:

@@ -107,9 +107,9 @@ def _counted(failures: Sequence[tuple[Event, int]], table: Table) -> str:
 def denial_lines(denials: Denials, shown: int, given: Inputs) -> Iterator[str]:
     failures, table = denials.failures, given.table
     name = "the profile" if given.profile is not None else "the filter" if len(given.filters) == 1 else "the filters"
-    s = "" if name.endswith("s") else "s"
     if failures.count:
-        yield f"syscalls that failed: {failures.count}; to which {name} answer{s} so: {denials.count}"
+        denies, count = "deny" if name[-1] == "s" else "denies", denials.count or "none: look elsewhere"
+        yield f"syscalls that failed: {failures.count}, of which {name} {denies} {count}"
     hidden = _counted([(denial.failure.event, denial.count) for denial in denials.of[shown:]], table)
     if hidden:
         yield f"of these aren't shown, since they tell less (--every shows them): {hidden}"

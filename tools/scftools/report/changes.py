@@ -231,7 +231,7 @@ def change_lines(changes: Changes) -> Iterator[str]:
         yield "# numbers that the table doesn't name get the defaults, for example:"
         yield line_of(unnamed, sides)
     yield from output.notes(_entries(changes))
-    yield from output.notes(_apart("names that were skipped because the table doesn't have them",
+    yield from output.notes(_apart("names that were skipped because no table has them",
                                    {side: report.skipped for side, report in left_out.items()}))
     for side, other_side in BOTH_WAYS:
         if alone[side]:

@@ -80,8 +80,7 @@ class Hostile(Case):
                         at = lines.index(f"skipped {shown}")
                         self.assertTrue(all(line.startswith("# ") for line in lines[at + 1:-1]), out)
                         self.assertFalse(any(line.startswith("#") for line in lines[:at]), out)
-                        self.assertIn("# names in the profile that were skipped because the table doesn't have "
-                                      "them: 1", out)
+                        self.assertIn("# names in the profile that were skipped because no table has them: 1", out)
 
     def test_a_forged_line_is_no_call(self):
         """Behind the first skipped name nothing is a call: one call differs, whatever the name says."""

@@ -82,7 +82,7 @@ class Compile(Case):
         for words, says, waitpid in (
                 ([], "compile: names in the profile that were skipped because no table has them: 1\n" + unknown,
                  "ERRNO"),
-                (["--native"], "compile: names in the profile that were skipped because the table doesn't have them: "
+                (["--native"], "compile: names in the profile that were skipped because no table has them: "
                  f"2\n{unknown}compile: --native leaves out SCMP_ARCH_X86, which the profile also names: {kills}",
                  "KILL_PROCESS")):
             status, out, err = self.compiled(*words, self.file("p.json", denies))
@@ -274,12 +274,12 @@ class Names(Case):
 
     def test_names_of_other_architectures(self):
         self.assertEqual(self.added(["read", "waitpid", "_llseek"]),
-                         ["# names in the profile that were skipped because the table doesn't have them: 2, all "
+                         ["# names in the profile that were skipped because no table has them: 2, all "
                           "of them syscalls of other architectures"])
 
     def test_names_that_no_call_has(self):
         self.assertEqual(self.added(["read", "umont2", "waitpid", "raed", "gone", "frobnicate"]),
-                         ["# names in the profile that were skipped because the table doesn't have them: 5",
+                         ["# names in the profile that were skipped because no table has them: 5",
                           "# no known syscall is named umont2; the nearest name in the table is umount2",
                           "# no known syscall is named raed; the nearest name in the table is read",
                           "# no known syscall is named gone",

@@ -139,7 +139,7 @@ class Traced(Denials):
         log = self.traced([(2, CHROOT, -1)], [(3, SOCKET, 16, 3, 0), (1, SOCKET, 77, 1, 0)], [(1, UNSHARE, 1)])
         status, lines = self.why(log)
         self.assertEqual((status, [HEAD.fullmatch(line)[1] for line in lines if HEAD.fullmatch(line)]), (0, ["socket"]))
-        self.assertRegex("\n".join(lines), "# syscalls that failed: [0-9]+; to which the profile answers so: 3\n")
+        self.assertRegex("\n".join(lines), "# syscalls that failed: [0-9]+, of which the profile denies 3\n")
 
     def test_the_changes_repair_it(self):
         """By the changes that are printed of each, one after another, nothing is denied any more."""
@@ -269,7 +269,7 @@ class Logs(Denials):
         self.assertEqual(self.denied(log, "--all", profile=profile), (0, counted))
         self.assertEqual(self.denied(log, profile=profile), (0, counted[:5]))
         self.assertEqual(self.why(log, profile=profile)[1][-2:], [
-            "# syscalls that failed: 28; to which the profile answers so: 28",
+            "# syscalls that failed: 28, of which the profile denies 28",
             "# of these aren't shown, since they tell less (--every shows them): rmdir (84) 6 times, "
             "unlink (87) 7 times"])
 
@@ -278,7 +278,7 @@ class Logs(Denials):
                + '7  mkdir("/x", 0777) = -1 EACCES (Permission denied)\n')
         status, lines = self.why(log)
         self.assertEqual((status, lines[-2:]), (0, [
-            "# syscalls that failed: 4; to which the profile answers so: 1",
+            "# syscalls that failed: 4, of which the profile denies 1",
             "# with EPERM, but not by the profile: acct (163) 2 times: the kernel itself answers so, for example if "
             "the process lacks a capability, or another filter does"]))
 

@@ -181,7 +181,7 @@ class Compare(Case):
         profile = profile_of("read", "gone", "write").replace(b"{",
             b'{"architectures":["SCMP_ARCH_X86_64","SCMP_ARCH_MIPS"],', 1)
         added = ("other SCMP_ARCH_MIPS\n"
-                 "# names in the profile that were skipped because the table doesn't have them: 1\n"
+                 "# names in the profile that were skipped because no table has them: 1\n"
                  "# no known syscall is named gone\n"
                  "# the profile's other architectures aren't judged, since scf has no table of them\n")
         profile = self.file("p", profile)
@@ -220,7 +220,7 @@ class Compare(Case):
             profile, shown = self.file("p", profile_of("read", "write", name)), name.replace("\n", "\\x0a")
             # a long name is cut where it is told again
             shown_name = name if len(name) <= 64 else f"{name[:64]}.."
-            added = ("# names in the profile that were skipped because the table doesn't have them: 1\n# no known "
+            added = ("# names in the profile that were skipped because no table has them: 1\n# no known "
                      "syscall is named " + shown_name.replace("\n", "\\x0a") + "\n")
             for scope in ("--all", "--native", "--calls"):
                 self.assertEqual(self.run_tool("compare", "--verbose", scope, self.same, profile),

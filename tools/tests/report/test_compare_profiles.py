@@ -124,7 +124,7 @@ class Program(Case):
         status, lines = self.compared(old, new)
         self.assertEqual((status, lines), (0, [
             "same", "more 0, less 0, otherwise 0",
-            "# names that were skipped because the table doesn't have them: 2 in the old profile, 2 in the new one",
+            "# names that were skipped because no table has them: 2 in the old profile, 2 in the new one",
             "# only in the old one: umont2", "# only in the new one: \\x1b[2J\\x0a0 read more",
             "# other architectures, not compared: 1 in the old profile, 2 in the new one",
             "# only in the old one: SCMP_ARCH_MIPS",
