@@ -16,7 +16,7 @@ from collections import Counter
 from collections.abc import Iterable, Iterator, Sequence
 
 from ..base import inputs, output, program
-from ..base.values import dataclass
+from ..base.values import Any, dataclass
 from ..model import dangerous_calls
 from ..model.answers import ALLOWED, DELEGATED, DENIED, DEPENDS
 from ..model.calls import Call
@@ -24,7 +24,7 @@ from ..model.tables import Table
 from ..ask import client
 from ..ask.verdicts import Report
 from ..forms.filters import Filter
-from . import row_conditions, surface_output, surfaces
+from . import row_conditions, surface_output
 from .compare import Pair
 from .stack_surfaces import StackSurface
 from .surface_output import Groups
@@ -34,6 +34,8 @@ OF_COMPARISON = ("The first lines are scf's: the verdict is proved for all sysca
                  "explain it.")
 # How a cell of the matrix says what holds for all syscalls of a group.
 ALL_DENIED, SOME, ALL_ALLOWED = "all denied", "some", "all allowed"
+# What stands before conditions.
+WHERE = " where "
 OF_SURFACES = ("What is allowed, delegated or denied is proved for all x86-64 syscalls and arguments by scf, which "
                "also gives the examples.")
 STYLE = """
@@ -171,11 +173,52 @@ def comparison_page(comparison: Pair, report: Report, added: Sequence[str]) -> s
 
 
 @dataclass(frozen=True)
+class ShownRow:
+    """A syscall on a page: its names, what holds of it, and what decides: conditions, of a dangerous one first of those
+    calls that are dangerous, or else examples."""
+
+    names: Sequence[str]
+    said: str
+    details: Sequence[str]
+
+    @property
+    def by_conditions(self) -> str | None:
+        """The first of its conditions, if it has any."""
+        return next((detail for detail in self.details if WHERE in detail), None)
+
+
+@dataclass(frozen=True)
+class ShownSurface:
+    """What a stack allows, as a page shows it: the lines on all of it, and its syscalls."""
+
+    whole: Sequence[str]
+    rows: Sequence[ShownRow]
+
+    @classmethod
+    def of(cls, surface: Surface) -> ShownSurface:
+        """That of a surface, which gets conditions where scf proves them."""
+        if not any(row.conditions for row in surface.rows):
+            row_conditions.add(surface)
+        of_dangers = {danger.row.number: [f"{danger.said}{WHERE}{danger.where}"]
+                      for danger in surface_output.dangers(surface) if danger.where}
+        return cls(surface_output.whole_lines(surface), [ShownRow(
+            row.names, row.said, of_dangers.get(row.number, []) + surface_output.details(row)) for row in surface.rows])
+
+    @classmethod
+    def of_json(cls, value: Any) -> ShownSurface:
+        return cls(value["whole"], [ShownRow(**row) for row in value["rows"]])
+
+    def as_json(self) -> dict[str, object]:
+        rows = [{"names": row.names, "said": row.said, "details": row.details} for row in self.rows]
+        return {"whole": self.whole, "rows": rows}
+
+
+@dataclass(frozen=True)
 class Named:
-    """What a stack allows, None if scf refuses it, with what the page calls it."""
+    """What a stack allows, None if scf refuses it or that wasn't looked at, with what the page calls it."""
 
     name: str
-    surface: Surface | None
+    surface: ShownSurface | Surface | None
     description: str
     digest: str | None = None
 
@@ -183,8 +226,12 @@ class Named:
     def anchor(self) -> str:
         return self.name.replace(" ", "-")
 
+    @functools.cached_property
+    def shown(self) -> ShownSurface | None:
+        return ShownSurface.of(self.surface) if isinstance(self.surface, Surface) else self.surface
 
-def _cell(rows: list[surfaces.Row]) -> str:
+
+def _cell(rows: Sequence[ShownRow]) -> str:
     counts = Counter(row.said for row in rows)
     if set(counts) == {DENIED}:
         return ALL_DENIED
@@ -201,20 +248,20 @@ def stack(named: Named, groups: Groups) -> Iterator[Markup]:
     yield tag("h3", f"{named.name}: ", named.description, id=named.anchor)
     if named.digest is not None:
         yield tag("p", "SHA-256 ", tag("code", named.digest, class_="long"))
-    if named.surface is None:
-        yield tag("p", "scf refuses this stack.")
+    if named.shown is None:
+        yield tag("p", "It isn't known: scf refuses this stack, or looking at it takes too long.")
         return
-    yield listed(surface_output.whole_lines(named.surface))
-    for group, rows in surface_output.grouped(named.surface.rows, groups):
+    yield listed(named.shown.whole)
+    for group, rows in surface_output.grouped(named.shown.rows, groups):
         calls = listed(joined([tag("code", " or ".join(row.names)), " ", "; ".join(
-            [row.said] * (row.conditions is None) + surface_output.details(row))]) for row in rows)
+            [row.said] * (row.by_conditions is None) + list(row.details))]) for row in rows)
         yield tag("details", tag("summary", f"{group}: {_cell(rows)}"), tag("div", calls, id=f"{named.anchor}-{group}"))
 
 
 def matrix(stacks: Sequence[Named], groups: Groups) -> Iterator[Markup]:
     """Groups of syscalls by stacks."""
     yield tag("h2", "Groups of syscalls by stack")
-    by_stack = [dict(surface_output.grouped(named.surface.rows, groups)) if named.surface is not None else {}
+    by_stack = [dict(surface_output.grouped(named.shown.rows, groups)) if named.shown is not None else {}
                 for named in stacks]
     head = ["group", *(tag("a", named.name, href=f"#{named.anchor}") for named in stacks)]
     lines = [[group, *(tag("a", _cell(rows[group]), href=f"#{named.anchor}-{group}") if group in rows else DENIED
@@ -226,17 +273,20 @@ def matrix(stacks: Sequence[Named], groups: Groups) -> Iterator[Markup]:
 def dangerous(stacks: Sequence[Named], table_of: Table) -> Iterator[Markup]:
     """The dangerous syscalls by stacks."""
     yield tag("h2", "Dangerous syscalls by stack")
-    found = [{danger.name: danger for danger in surface_output.dangers(named.surface)} if named.surface is not None
-             else {} for named in stacks]
+    rows_of = [{name: row for row in named.shown.rows for name in row.names} if named.shown is not None else {}
+               for named in stacks]
     lines: list[list[object]] = []
     denied: list[str] = []
     for name, danger in dangerous_calls.dangerous().items():
-        shown = [(of[name].said, of[name].describe()) if name in of else ("", "not known") for of in found]
-        if table_of.number_of(name) is None or all(text == DENIED for _, text in shown):
-            denied += [name] * (table_of.number_of(name) is not None)
+        shown = [rows[name].by_conditions or rows[name].said if name in rows else "not known" for rows in rows_of]
+        if table_of.number_of(name) is None:
             continue
-        lines.append([tag("code", name), *(tag("span", text, class_="good" if said == DENIED else "warn")
-                                           for said, text in shown), danger.reason])
+        if {*shown} == {DENIED}:
+            denied.append(name)
+            continue
+        are_denied = [text.startswith(DENIED) and ", else " not in text for text in shown]
+        lines.append([tag("code", name), *(tag("span", text, class_="good" if is_denied else "warn")
+                                           for text, is_denied in zip(shown, are_denied)), danger.reason])
     if lines:
         head = ["syscall", *(named.name for named in stacks), "why it is dangerous"]
         yield table(head, lines, "rows" if len(stacks) <= 2 else "scroll")
@@ -257,11 +307,7 @@ def of_blocks(blocks: Sequence[StackSurface], beside: Sequence[Filter]) -> Itera
 
 
 def surfaces_page(blocks: Sequence[StackSurface], table_of: Table, beside: Sequence[Filter]) -> str:
-    """The page of blocks. Its syscalls have conditions where scf proves them."""
-    for block in blocks:
-        for surface in block.beside.sides if block.beside is not None else (block.surface,):
-            if surface is not None and not any(row.conditions for row in surface.rows):
-                row_conditions.add(surface)
+    """The page of blocks."""
     groups, stacks = Groups(), list(of_blocks(blocks, beside))
     return document("What these filters allow", tag("h1", "What these filters allow"), *_made_by(),
                     tag("p", OF_SURFACES, class_="faint"), *dangerous(stacks, table_of),

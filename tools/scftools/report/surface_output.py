@@ -48,12 +48,6 @@ class Danger:
     said: str
     where: str = ""
 
-    def describe(self) -> str:
-        """The disposition, and of which calls it is."""
-        if self.where or self.row.conditions is None:
-            return f"{self.said} where {self.where}" if self.where else self.said
-        return self.row.conditions.describe()
-
     def as_json(self) -> dict[str, object]:
         return {"number": self.row.number, "name": self.name, "disposition": self.said,
                 **({"where": self.where} if self.where else {}), "reason": self.reason}
