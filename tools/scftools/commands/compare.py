@@ -18,9 +18,9 @@ x86-64. With --json one object says the same; --html also writes it as a page wi
 once and names each input with its SHA-256. Each distinct stack of a process has a block; a thread without a filter is
 `unconfined`.
 
-Beside a profile, the syscalls of each architecture that it names are compared, as far as scf has a table of it (`scf
-call-table -h` names those); of two profiles, those of either. A profile without a list is for x86-64. A runtime kills a
-program that makes a syscall of another ABI of the machine, such as i386 or x32 on x86-64, that the profile doesn't
+If one side is a profile, the syscalls of each architecture that it names are compared, as far as scf has a table of it
+(`scf call-table -h` names those); if both are, those of either. A profile without a list is for x86-64. A runtime kills
+a program that makes a syscall of another ABI of the machine, such as i386 or x32 on x86-64, that the profile doesn't
 name: the filters must deny all of these, by whatever answer, or they differ (with --no-more, allow more). --also gives
 another profile of the same unit, for other architectures, and all are judged. --native compares x86-64's syscalls
 alone, and --calls each syscall that a table names by itself. --all compares each possible record, as filters beside

@@ -32,13 +32,13 @@ syscalls is allowed: engines' filters kill for them, and scf's answer is `KILL_P
 i386 program does by socketcall or ipc by its own name, such as socket; without -n both syscalls are judged.
 
 An argument is known from strace if it is printed as a number or by names of tables/arguments.symbols, such as AF_INET
-and CLONE_NEWUSER|SIGCHLD; `strace -X raw` prints numbers in place of names. A log of `record` has whole registers. Else
-strace prints of many arguments the lower half alone: if bit 31 is set, the upper half is tried both as zero and as the
-sign, otherwise it is taken as zero. Of the other logs only sys_enter has all arguments, and audit records of syscalls
-the first four. If a condition tests an argument that isn't known, all of its values are judged: `depends on arg
-N` means that the syscall is allowed with some and not with others, and shows both. Of i386, x32 and arm conditions
-compare the lower half alone. Syscalls of an architecture that scf has no table of, names that a table doesn't have, and
-lines that can't be read aren't judged, and are reported so. sysdig has one name for some syscalls, such as pipe and
+and CLONE_NEWUSER|SIGCHLD; `strace -X raw` prints numbers in place of names. A log of `record` has whole registers.
+strace's own log has only the lower half of many arguments: if bit 31 is set, the upper half is tried both as zero and
+as the sign, otherwise it is taken as zero. sys_enter has all arguments, audit records of syscalls the first four, and
+the other logs none. If a condition tests an argument that isn't known, all of its values are judged: `depends on arg N`
+means that the syscall is allowed with some and not with others, and shows both. Conditions on syscalls of i386, x32 and
+arm compare the lower half alone. Syscalls of an architecture that scf has no table of, names that a table doesn't have,
+and lines that can't be read aren't judged, and are reported so. sysdig has one name for some syscalls, such as pipe and
 pipe2: they aren't judged.
 
 If a log of strace shows a filter being loaded, as that of a container's start does, only processes and threads that

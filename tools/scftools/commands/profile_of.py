@@ -32,10 +32,10 @@ Some filters answer as no profile can: by the instruction pointer, by two argume
 or with data that a profile has no place for. Then the output is two profiles, and not JSON as a whole: the nearest that
 is nowhere stricter than the filters, and the nearest that is nowhere more permissive. This is proved. Lines marked by
 `# ` say which syscalls get another answer, and why, with an example where the profile is more permissive or stricter.
-If one profile is both, as of runc's filters, whose ENOSYS no profile says, it is printed alone, and standard error says
-this. With --no-less only the first profile is printed, with --no-more the second.
+If one profile is both, it is printed alone, and standard error says so: runc's filters have such a one, since no
+profile says their ENOSYS. With --no-less only the first profile is printed, with --no-more the second.
 
-Of filters that take too many steps to follow the output says `unfinished`, and has the profiles that are proved all the
+If filters take too many steps to follow, the output says `unfinished`, and has the profiles that are proved all the
 same; --limit N gives them N steps, if that is more than they have. Those of chromium and firefox take fewer; but their
 profiles have so many entries that `compile` has no room for them in a filter: they are there to be read and compared.
 

@@ -43,7 +43,7 @@ Regions that have the same answer at the same instruction under the same conditi
 half of a register, `a0 >> 32` the upper one, and `ip` the instruction pointer. Where a test isn't decided, the regions
 behind it are `open`: a record that meets several of them gets the answer of one, and none may meet one of them. The
 answer `unknown` is computed. With --examples a line after each, marked by `# `, has a syscall of the region, if one is
-found. Without a FILTER standard input is read, one filter or a bundle, of a profile too; of a bundle the program's own
+found. Without a FILTER standard input is read: one filter, or a bundle, also of a profile, for which the program's own
 lines are printed.
 
 Each disposition is proved: by the regions of all records, as --regions lists them, which also have the examples;

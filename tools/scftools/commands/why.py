@@ -28,14 +28,14 @@ it isn't under this profile. At the end stand changes of the profile that allow 
 known, but for addresses, and with all that the entry denies. scf has proved of each that no other answer to an x86-64
 syscall changes. With --native the profile is judged for x86-64 alone, otherwise for each architecture that it names.
 
-Of what strace wrote each SIGSYS is judged, and each syscall that failed as PROFILE, or else the FILTERs, answer to it.
-The failed ones are counted by syscall and entry, and the most telling stand first: the last one of a process that ended
-with a failure, then those that were tried least often, since libraries try some again and again and ignore the failure.
-Five are shown, and the others counted; --every shows each. The changes of the profile are then those that allow what
-all of a count have in common. If the log shows a filter being loaded (seccomp, prctl), only processes and threads that
-loaded it, or were made by one that did, are judged, and from then on. What failed with EPERM though PROFILE allows it
-is named at the end: the kernel itself answers so if a process lacks a capability. If none is answered so, the last
-syscall is judged, if it failed.
+A strace log is judged by each SIGSYS in it, and by each syscall that failed as PROFILE, or else the FILTERs, answer to
+it. The failed ones are counted by syscall and entry, and the most telling stand first: the last one of a process that
+ended with a failure, then those that were tried least often, since libraries try some again and again and ignore the
+failure. Five are shown, and the others counted; --every shows each. The changes of the profile are then those that
+allow what all of a count have in common. If the log shows a filter being loaded (seccomp, prctl), only processes and
+threads that loaded it, or were made by one that did, are judged, and from then on. What failed with EPERM though
+PROFILE allows it is named at the end: the kernel itself answers so if a process lacks a capability. If the profile
+denies none of them, the last syscall is judged, if it failed.
 
 A record doesn't have the arguments. If the profile or the filters test them, all of their values are judged, and a call
 that is answered as the record says is shown as an example. Nor does it have the data of an action: an errno
