@@ -199,8 +199,8 @@ class ShownSurface:
         """That of a surface, which gets conditions where scf proves them."""
         if not any(row.conditions for row in surface.rows):
             row_conditions.add(surface)
-        of_dangers = {danger.row.number: [f"{danger.said}{WHERE}{danger.where}"]
-                      for danger in surface_output.dangers(surface) if danger.where}
+        of_dangers = {danger["number"]: [f"{danger['disposition']}{WHERE}{danger['where']}"]
+                      for danger in surface_output.dangers(surface) if "where" in danger}
         return cls(surface_output.whole_lines(surface), [ShownRow(
             row.names, row.said, of_dangers.get(row.number, []) + surface_output.details(row)) for row in surface.rows])
 

@@ -5,10 +5,11 @@ import os
 from collections.abc import Iterable, Iterator, Sequence
 
 from ..base import program
-from ..base.values import dataclass
+from ..base.values import Any
 from ..model.answers import ALLOWED, DENIED, DEPENDS
 from ..model.architectures import NATIVE
-from ..model.dangerous_calls import Dangerous, dangerous
+from ..model.dangerous_calls import dangerous
+from ..model.entries import Condition
 from ..ask import other_abis
 from ..ask.explanation import join_names
 from ..ask.verdicts import UNDECIDED
@@ -37,50 +38,40 @@ class Groups:
         return next((self.of_names[name] for name in names if name in self.of_names), OTHER_GROUP)
 
 
-@dataclass(frozen=True)
-class Danger:
-    """What becomes of a dangerous syscall; or of those calls of it that are dangerous, if others get another
-    disposition."""
-
-    row: Row
-    name: str
-    reason: str
-    said: str
-    where: str = ""
-
-    def as_json(self) -> dict[str, object]:
-        return {"number": self.row.number, "name": self.name, "disposition": self.said,
-                **({"where": self.where} if self.where else {}), "reason": self.reason}
-
-
-def _danger(row: Row, name: str, danger: Dangerous) -> Danger:
-    if row.said != DEPENDS or not danger.conditions:
-        return Danger(row, name, danger.reason, row.said)
+def _of_bits(row: Row, name: str, condition: Condition) -> tuple[str, str]:
+    """What becomes of the calls of a syscall that have some bits, and the text of that condition."""
     from .row_conditions import condition_text  # pylint: disable=import-outside-toplevel
 
-    condition, = danger.conditions
     met = {region.answer.disposition if region.is_decided else UNDECIDED for region in row.regions
            if region.has_bits(condition.index, condition.value)}
-    where, _, _ = condition_text(condition, name, (), row.architecture.oci, row.architecture.bits).partition(" == ")
-    return Danger(row, name, danger.reason, met.pop() if len(met) == 1 else DEPENDS, where)
+    text = condition_text(condition, name, (), row.architecture.oci, row.architecture.bits)
+    return met.pop() if len(met) == 1 else DEPENDS, text.partition(" == ")[0]
 
 
-def dangers(surface: Surface) -> list[Danger]:
-    """The dangerous syscalls that the table names."""
-    rows = {name: row for row in surface.rows for name in row.names}
-    return [_danger(rows[name], name, danger) for name, danger in dangerous().items() if name in rows]
+def dangers(surface: Surface) -> list[dict[str, Any]]:
+    """What becomes of the dangerous syscalls that the table names, as objects: where calls of one differ, of those that
+    are dangerous."""
+    rows, found = {name: row for row in surface.rows for name in row.names}, []
+    for name, danger in dangerous().items():
+        if name in rows:
+            said, where = rows[name].said, {}
+            if said == DEPENDS and danger.conditions:
+                said, where["where"] = _of_bits(rows[name], name, danger.conditions[0])
+            found.append({"number": rows[name].number, "name": name, "disposition": said, **where,
+                          "reason": danger.reason})
+    return found
 
 
-def danger_lines(surface: Surface) -> Iterator[str]:
+def danger_lines(surface: Surface) -> list[str]:
     """How many dangerous syscalls are allowed, denied and so on, and which, but for those that are always denied."""
     counts, found = [], dangers(surface)
     for said in ROW_WORDS:
-        alike = [danger for danger in found if danger.said == said]
-        names = [f"{danger.name} where {danger.where}" if danger.where else danger.name
-                 for danger in alike if danger.where or said != DENIED]
+        alike = [danger for danger in found if danger["disposition"] == said]
+        names = [danger["name"] + (f" where {danger['where']}" if "where" in danger else "")
+                 for danger in alike if "where" in danger or said != DENIED]
         if alike:
             counts.append(f"{said} {len(alike)}" + (f" ({', '.join(names)})" if names else ""))
-    yield from [f"dangerous syscalls: {', '.join(counts)}"] * bool(counts)
+    return [f"dangerous syscalls: {', '.join(counts)}"] if counts else []
 
 
 def width_of_terminal() -> int | None:
@@ -223,5 +214,5 @@ def surface_json(surface: Surface, groups: Groups) -> dict[str, object]:
     return {**_counts_json(surface), **({"other_abis": others} if others else {}),
             **({"is_for": [architecture.name for architecture in machines]} if machines else {}),
             "foreign": [access.as_json() for access in surface.foreign],
-            "unnamed": surface.unnamed.as_json(), "dangerous": [danger.as_json() for danger in dangers(surface)],
+            "unnamed": surface.unnamed.as_json(), "dangerous": dangers(surface),
             "calls": [row_json(row, groups) for row in surface.rows]}
