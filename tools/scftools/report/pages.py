@@ -36,8 +36,8 @@ OF_COMPARISON = ("The first lines are scf's: the verdict is proved for all sysca
 ALL_DENIED, SOME, ALL_ALLOWED = "all denied", "some", "all allowed"
 # What stands before conditions.
 WHERE = " where "
-OF_SURFACES = ("What is allowed, delegated or denied is proved for all x86-64 syscalls and arguments by scf, which "
-               "also gives the examples.")
+OF_SURFACES = ("scf has proved for all x86-64 syscalls and arguments what is allowed, delegated or denied, and under which "
+               "conditions.")
 STYLE = """
 :root { color-scheme: light dark; --text: #1c1c1c; --page: #fdfdfc; --faint: #5c5c5c; --line: #cfcfca; --band: #f1f1ee;
   --bad: #a3140f; --warn: #7a4b00; --good: #1b5e2b; --link: #0b4f9e; }
