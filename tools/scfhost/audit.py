@@ -2,22 +2,21 @@
 whether its processes are confined as configured.
 
 The expected profile of a container is that of its config.json as its runtime applies it, that of a unit is what its
-settings state, and of other programs nothing is expected. For each row of root's, and for each user with all rows, one
-child copies filters and another one judges them (`child`), within some seconds: root's first.
+settings state, and of other programs nothing is expected. For all rows of root's, one after another, and for each user,
+one child copies filters and another one judges them (`child`), within some seconds: root's first.
 """
 from __future__ import annotations
 
 import time
-from collections.abc import Iterable, Iterator
+from collections.abc import Iterable, Iterator, Sequence
 
 from scftools.base import child
-from scftools.base.values import dataclass
 from scftools.model import tables
 from scftools.model.architectures import JUDGED
 from scftools.forms.stacks import Stack
 from scftools.report.pages import ShownSurface
-from . import hold, machine
-from .audit_judge import Judges
+from . import hold, machine, machine_pass
+from .audit_judge import Judges, Task
 from .audit_rows import (BY_CONFIGURATION, NOT_KNOWN, UNCONFINED_THOUGH, Audit, AuditRow, Expectation, RowPart,
                          StackJudgement, StackShape)
 from .container_files import described_containers
@@ -44,21 +43,12 @@ def unconfined_judgement(expected: Expectation) -> StackJudgement:
     return StackJudgement(UNCONFINED_THOUGH if expected.is_stated else BY_CONFIGURATION, is_unconfined=True)
 
 
-@dataclass
-class Task:
-    """What is looked at at once: a row of root's, or all of a user's."""
-
-    user: int | None
-    rows: list[AuditRow]
-    copies: Copies
-
-
 class Assessor:
     """Looks at rows: first at root's, one by one, then at each user's."""
 
     def __init__(self, kernel: Kernel, snapshot: Snapshot, judges: Judges, why: str | None) -> None:
         self.kernel, self.snapshot, self.judges, self.why = kernel, snapshot, judges, why
-        self.budgets = child.Budget(SECONDS_OF_ROOT), child.Budget(SECONDS_OF_USERS)
+        self.of_root, self.of_users = child.Budget(SECONDS_OF_ROOT), child.Budget(SECONDS_OF_USERS)
         self.surfaces: dict[str, ShownSurface] = {}
 
     def fill(self, rows: Iterable[AuditRow]) -> None:
@@ -68,10 +58,11 @@ class Assessor:
             by_user.setdefault(row.user, []).append(row)
         of_root = [self.task(None, [row]) for row in by_user.pop(None, ())]
         of_users = [self.task(user, by_user[user]) for user in sorted(by_user)]
-        for budget, tasks in zip(self.budgets, (of_root, of_users)):
-            late = [task for task, seconds in budget.shares(tasks) if self.look(task, seconds)]
-            for task, seconds in budget.shares(late if budget.remaining > 0 else ()):
-                self.look(task, seconds)
+        for budget, batches in ((self.of_root, [of_root]), (self.of_users, [[task] for task in of_users])):
+            for _ in range(2):
+                late = [self.look(tasks, child.Budget(seconds))
+                        for tasks, seconds in budget.shares(filter(None, batches), budget.remaining)]
+                batches = late if budget.remaining > 0 else []
         self.snapshot.notes += [note for task in of_root for note in task.copies.notes]
 
     def task(self, user: int | None, rows: list[AuditRow]) -> Task:
@@ -79,37 +70,44 @@ class Assessor:
         confined = sorted((process for row in rows for process in row.processes if process.is_confined),
                           key=lambda process: (process.is_stuck, len(process.threads), process.number))
         return Task(user, rows, Copies(self.kernel, (process.number for process in confined),
-                                       self.judges.options.is_forced))
+                                       self.judges.options.is_forced), self.surfaces)
 
-    def look(self, task: Task, seconds: float) -> bool:
-        """Looks at what is left of a task; whether more time may help."""
-        until = time.monotonic() + seconds
-        copies = task.copies
-        why = self.why or copies.read(seconds)
-        of_row = {process.number: at for at, row in enumerate(task.rows) for process in row.processes}
-        stacks = list(copies.stacks.values())
-        threads: list[dict[int, dict[int, list[int]]]] = [{} for _ in task.rows]
-        for index, stack in enumerate(stacks):
-            for number in sorted(stack.threads):
-                threads[of_row[number]].setdefault(index, {})[number] = stack.threads[number]
-        for row, its in zip(task.rows, threads):
-            row.judged = {index: row.judged.get(index) for index in its if stacks[index].filters}
-        judging = self.judges.judge(task.rows, stacks, self.surfaces, max(until - time.monotonic(), 0.01),
-                                    task.user is None)
-        for row, its in zip(task.rows, threads):
-            waiting = {**dict.fromkeys(copies.waiting, why), **copies.unread}
+    def look(self, tasks: Sequence[Task], budget: child.Budget) -> list[Task]:
+        """Looks at what is left of tasks, at once at as many as have few bytes of filters; those that came too late."""
+        late: list[Task] = []
+        while tasks:
+            began, count, whys = time.monotonic(), len(tasks), {}
+            if self.why is None and any(task.copies.waiting for task in tasks):
+                count, whys = machine_pass.read_each([task.copies for task in tasks],
+                                                     child.Budget(budget.remaining / 2))
+            share = (budget.remaining + began - time.monotonic()) * count / len(tasks)
+            judging = self.judges.judge(tasks[:count], child.Budget(share))
+            late += [task for at, task in enumerate(tasks[:count])
+                     if self.is_late(task, whys.get(at, self.why), judging.get(at))]
+            budget.remaining += began - time.monotonic()
+            tasks = tasks[count:]
+        return late
+
+    def is_late(self, task: Task, why: str | None, judging: str | None) -> bool:
+        """Adds the parts of a task's rows; whether it has some for which the time wasn't enough, by these reasons."""
+        for row, its in zip(task.rows, task.threads):
+            waiting = {**dict.fromkeys(task.copies.waiting, why), **task.copies.unread}
             row.parts = [RowPart(StackShape(), {process.number: []}, StackJudgement(NOT_KNOWN, waiting[process.number]))
                          for process in row.processes if process.number in waiting
                          and ticks_at_start(process.number) == process.start]
-            row.parts += self.parts_of(row, [(stacks[index], index, its[index]) for index in its], judging)
+            row.parts += self.parts_of(row, [(task.stacks[index], index, its[index]) for index in its], judging)
             row.parts.sort(key=lambda part: part.judgement.order)
-            self.forget_ended(row)
+            alive = {number for part in row.parts for number in part.threads}
+            for process in row.processes:
+                if process.number not in alive:
+                    self.snapshot.processes.pop(process.number, None)
+            row.processes = [process for process in row.processes if process.number in alive]
         is_late = self.why is None and (why or judging) is not None
         if is_late and task.user is not None:
             self.snapshot.leave_out("not all of its rows could be looked at", task.user)
         if not is_late:
-            copies.forget()
-        return is_late and seconds < child.LONGEST
+            task.copies.forget()
+        return is_late
 
     def parts_of(self, row: AuditRow, stacks: list[tuple[Stack, int, dict[int, list[int]]]],
                  judging: str | None) -> Iterator[RowPart]:
@@ -125,14 +123,6 @@ class Assessor:
             yield RowPart(StackShape(lengths, stack.is_strict, digest), threads, judgement)
         if plain:
             yield RowPart(StackShape(), dict(sorted(plain.items())), unconfined_judgement(row.expected))
-
-    def forget_ended(self, row: AuditRow) -> None:
-        """Forgets the processes of a row that have ended meanwhile."""
-        alive = {number for part in row.parts for number in part.threads}
-        for process in row.processes:
-            if process.number not in alive:
-                self.snapshot.processes.pop(process.number, None)
-        row.processes = [process for process in row.processes if process.number in alive]
 
     def look_again(self, rows: Iterable[AuditRow]) -> None:
         """Reads those processes again that have no filter though one is configured, since they may just be starting."""

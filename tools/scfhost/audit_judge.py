@@ -1,15 +1,16 @@
-"""Judges stacks of filters by what is expected of them, in a child with no rights (`child`), which is started for a
-row of root's, or for all of a user's."""
+"""Judges stacks of filters by what is expected of them, in a child with no rights (`child`), which is started for all
+rows of root's, or of a user's."""
 from __future__ import annotations
 
 import json
 import os
-from collections.abc import Collection, Sequence
+from collections.abc import Sequence
 from itertools import islice
 
-from scftools.base import child, program
+from scftools.base import child, output, program
 from scftools.base.values import Any, replace
 from scftools.model import architectures
+from scftools.model.bundles import stack_bundle
 from scftools.model.profiles import not_compared_of
 from scftools.ask import client, verdicts
 from scftools.ask.verdicts import NO_LESS, NO_MORE, OTHERWISE, SAME, Verdict
@@ -19,9 +20,9 @@ from scftools.report.compare import Comparison, left_out
 from scftools.report.pages import ShownSurface
 from . import verify
 from .audit_rows import (AS_CONFIGURED, AUDIT_VERDICTS, NOT_KNOWN, STRICTER, WEAKER, AuditRow, Expectation,
-                         StackJudgement, sha256, stack_digest)
-from .container_files import Send
+                         StackJudgement)
 from .expectations import Options, of_settings
+from .machine_pass import Copies
 from .verify import Request
 
 # Of several verdicts on the filters of one stack the first of these is that on all of them.
@@ -45,6 +46,38 @@ class StackJudge:
 
     def __init__(self, options: Options) -> None:
         self.options = options
+        # what settings mean; and the verdicts, by what is expected and stacks
+        self.resolved: dict[str, Expectation] = {}
+        self.judgements: dict[tuple[str, str], StackJudgement] = {}
+
+    def send_all(self, of: Task, send: child.Send, seconds: float) -> None:
+        """Judges, in a child, what waits, and sends that."""
+        client.begin_limits(seconds * SHARE_OF_SCF, False)
+        digests = {}
+        for at, (row, key) in enumerate(zip(of.rows, of.keys)):
+            expected = row.expected
+            if row.waits and expected.settings is not None:
+                if key not in self.resolved:
+                    self.resolved[key] = of_settings(json.loads(expected.settings), expected.runtime, expected.source,
+                                                     self.options)
+                expected = self.resolved[key]
+                send({"row": at, "digest": expected.digest, "why": expected.why})
+            for number, known in row.judged.items():
+                filters = of.stacks[number].filters
+                digests[number] = known[0] if known is not None else output.sha256(stack_bundle(filters))
+                if known is None:
+                    its_key = key, of.stack_keys[number]
+                    if its_key not in self.judgements:
+                        self.judgements[its_key] = self.judgement(of.stacks[number], expected)
+                    judgement = self.judgements[its_key]
+                    shown = [] if judgement.shown is None else verdicts.Report.of(judgement.shown).lines
+                    send({"row": at, "stack": number, "digest": digests[number], "judgement": {
+                        **{name: getattr(judgement, name) for name in JUDGEMENT}, "shown": shown}})
+        for number, digest in digests.items() if self.options.has_surfaces else ():
+            if digest not in of.surfaces_of:
+                surface = ShownSurface.of(surfaces.surface_of_filters(of.stacks[number].filters, self.options.table))
+                of.surfaces_of[digest] = surface
+                send({"stack": number, **surface.as_json()})
 
     def judgement(self, stack: Stack, expected: Expectation) -> StackJudgement:
         """The verdict on a stack with filters; whatever is raised meanwhile, it isn't known."""
@@ -131,9 +164,8 @@ def _of_answer(value: Any) -> StackJudgement:
                              "not_compared": tuple(value["not_compared"])})
 
 
-def _send_all(send: Send, options: Options, rows: Sequence[AuditRow], stacks: Sequence[Stack],
-              surfaces_known: Collection[str], seconds: float) -> None:
-    """Judges, in a child, what waits for it, and sends that."""
+def _begin() -> None:
+    """What a child that judges does first."""
     path = client.built_program()
     if path is not None:
         # (it may be where only root can look for it)
@@ -141,30 +173,46 @@ def _send_all(send: Send, options: Options, rows: Sequence[AuditRow], stacks: Se
         os.set_inheritable(file, True)
         client.PROGRAMS = (f"/proc/self/fd/{file}",)
     child.become(child.NOBODY)
-    client.begin_limits(seconds * SHARE_OF_SCF, False)
-    judge, digests = StackJudge(options), {}
-    resolved: dict[str, Expectation] = {}
-    judgements: dict[tuple[str, int], StackJudgement] = {}
-    for at, row in enumerate(rows):
-        expected, key = row.expected, row.expected.key
-        if row.waits and expected.settings is not None:
-            if key not in resolved:
-                resolved[key] = of_settings(json.loads(expected.settings), expected.runtime, expected.source, options)
-            expected = resolved[key]
-            send({"row": at, "digest": expected.digest, "why": expected.why})
-        for number, known in row.judged.items():
-            digests[number] = known[0] if known is not None else stack_digest(stacks[number].filters)
-            if known is None:
-                if (key, number) not in judgements:
-                    judgements[key, number] = judge.judgement(stacks[number], expected)
-                judgement = judgements[key, number]
-                shown = [] if judgement.shown is None else verdicts.Report.of(judgement.shown).lines
-                send({"row": at, "stack": number, "digest": digests[number], "judgement": {
-                    **{name: getattr(judgement, name) for name in JUDGEMENT}, "shown": shown}})
-    for number, digest in digests.items() if options.has_surfaces else ():
-        if digest not in surfaces_known:
-            surface = ShownSurface.of(surfaces.surface_of_filters(stacks[number].filters, options.table))
-            send({"stack": number, **surface.as_json()})
+
+
+class Task:
+    """A row of root's, or all rows of a user's; what stacks allow is kept by the SHA-256 of their bundles."""
+
+    def __init__(self, user: int | None, rows: Sequence[AuditRow], copies: Copies,
+                 surfaces_of: dict[str, ShownSurface]) -> None:
+        self.user, self.rows, self.copies, self.surfaces_of = user, rows, copies, surfaces_of
+        self.keys = [row.expected.key for row in rows]
+
+    def begin(self) -> None:
+        """Before the stacks are judged that were copied."""
+        self.digests: dict[int, str] = {}
+        self.stacks = list(self.copies.stacks.values())
+        filters = {data: output.sha256(data) for stack in self.stacks for data in stack.filters}
+        self.stack_keys = [output.sha256("".join(map(filters.get, stack.filters)).encode()) for stack in self.stacks]
+        # of each row the threads of its processes by the indexes of their stacks
+        self.threads: list[dict[int, dict[int, list[int]]]] = [{} for _ in self.rows]
+        of_row = {process.number: at for at, row in enumerate(self.rows) for process in row.processes}
+        for index, stack in enumerate(self.stacks):
+            for number in sorted(stack.threads):
+                self.threads[of_row[number]].setdefault(index, {})[number] = stack.threads[number]
+        for row, its in zip(self.rows, self.threads):
+            row.judged = {index: row.judged.get(index) for index in its if self.stacks[index].filters}
+
+    def receive(self, value: Any) -> None:
+        """Takes a child's answer."""
+        value = child.checked(value, ANSWER)
+        if "whole" in value:
+            self.surfaces_of.setdefault(self.digests[value["stack"]], ShownSurface.of_json(value))
+        elif "stack" not in value:
+            row = self.rows[value["row"]]
+            row.expected = replace(row.expected, dropped=value["digest"], why=value["why"])
+        elif self.rows[value["row"]].judged[value["stack"]] is None:
+            self.digests[value["stack"]] = value["digest"]
+            self.rows[value["row"]].judged[value["stack"]] = value["digest"], _of_answer(value["judgement"])
+
+    @property
+    def is_over(self) -> bool:
+        return not any(row.waits for row in self.rows)
 
 
 class Judges:
@@ -178,47 +226,37 @@ class Judges:
         self.resolved: dict[str, str] = {}
         self.surfaces: dict[str, ShownSurface] = {}
 
-    def judge(self, rows: Sequence[AuditRow], stacks: Sequence[Stack], surfaces_of: dict[str, ShownSurface],
-              seconds: float, is_root: bool) -> str | None:
-        """Adds the verdicts that rows wait for, and what stacks allow; says why some still wait, or None."""
-        filters = {data: sha256(data) for stack in stacks for data in stack.filters}
-        stack_keys = [sha256("".join(map(filters.get, stack.filters)).encode()) for stack in stacks]
-        keys = [row.expected.key for row in rows]
-        for row, key in zip(rows, keys):
-            if row.expected.is_unresolved and key in self.resolved:
-                row.expected = replace(row.expected, dropped=self.resolved[key])
-            row.judged = {number: judged or self.known.get((key, stack_keys[number]))
-                          for number, judged in row.judged.items()}
-        digests = {number: judged[0] for row in rows for number, judged in row.judged.items() if judged is not None}
-        surfaces_of.update((digest, self.surfaces[digest]) for digest in digests.values() if digest in self.surfaces)
-        if not any(row.waits for row in rows) and (not self.options.has_surfaces or
-                                                   surfaces_of.keys() >= {*digests.values()}):
-            return None
-
-        def receive(value: Any) -> None:
-            value = child.checked(value, ANSWER)
-            if "whole" in value:
-                surfaces_of.setdefault(digests[value["stack"]], ShownSurface.of_json(value))
-            elif "stack" not in value:
-                row = rows[value["row"]]
-                row.expected = replace(row.expected, dropped=value["digest"], why=value["why"])
-            elif rows[value["row"]].judged[value["stack"]] is None:
-                digests[value["stack"]] = value["digest"]
-                rows[value["row"]].judged[value["stack"]] = value["digest"], _of_answer(value["judgement"])
-
-        surfaces_known, why = set(surfaces_of), None
-        try:
-            child.ask(lambda send: _send_all(send, self.options, rows, stacks, surfaces_known, seconds), seconds,
-                      receive)
-        except child.Lost as lost:
-            why = str(lost)
+    def judge(self, tasks: Sequence[Task], budget: child.Budget) -> dict[int, str]:
+        """Adds the verdicts that rows wait for, and what stacks allow; says of which some still wait, and why."""
+        lacking, judge = [at for at, task in enumerate(tasks) if self.lacks(task)], StackJudge(self.options)
+        lost = child.ask_each(
+            [lambda send, seconds, task=task: judge.send_all(task, send, seconds) for task in tasks],
+            budget.shares(lacking), lambda at, value: tasks[at].receive(value), _begin)
         if len(self.known) > MOST_KEPT:
             for kept in (self.known, self.resolved, self.surfaces):
                 kept.clear()
-        self.surfaces.update(surfaces_of if is_root else {})
-        for row, key in zip(rows, keys) if is_root else ():
+        for task in tasks:
+            self.keep(task)
+        return {at: why for at, why in lost.items() if not tasks[at].is_over}
+
+    def lacks(self, of: Task) -> bool:
+        """Whether something is to be found out that isn't known from rows of root's."""
+        of.begin()
+        for row, key in zip(of.rows, of.keys):
+            if row.expected.is_unresolved and key in self.resolved:
+                row.expected = replace(row.expected, dropped=self.resolved[key])
+            row.judged = {number: judged or self.known.get((key, of.stack_keys[number]))
+                          for number, judged in row.judged.items()}
+            of.digests.update((number, judged[0]) for number, judged in row.judged.items() if judged is not None)
+        of.surfaces_of.update((digest, self.surfaces[digest]) for digest in of.digests.values()
+                              if digest in self.surfaces)
+        return not of.is_over or self.options.has_surfaces and not of.surfaces_of.keys() >= {*of.digests.values()}
+
+    def keep(self, of: Task) -> None:
+        """Keeps what was found out of a row of root's."""
+        self.surfaces.update(of.surfaces_of if of.user is None else {})
+        for row, key in zip(of.rows, of.keys) if of.user is None else ():
             if row.expected.dropped is not None:
                 self.resolved[key] = row.expected.dropped
-            self.known.update(((key, stack_keys[number]), judged) for number, judged in row.judged.items()
+            self.known.update(((key, of.stack_keys[number]), judged) for number, judged in row.judged.items()
                               if judged is not None and judged[1].verdict != NOT_KNOWN)
-        return why if any(row.waits for row in rows) else None

@@ -3,7 +3,6 @@ from __future__ import annotations
 
 import os
 import re
-import time
 from collections import Counter
 from collections.abc import Iterable, Iterator
 from itertools import islice
@@ -12,24 +11,13 @@ from scftools.base import output
 from scftools.base.values import Any, dataclass
 from scftools.model.tables import Table
 from .audit_rows import (AUDIT_VERDICTS, CONTAINER, OTHER_PROGRAM, ROW_KINDS, STRICTER, UNIT, Audit, AuditRow, RowPart,
-                         StackJudgement, is_only_counted, sha256)
+                         StackJudgement, is_only_counted)
 
-# At most so many processes of a row are named in a line, and so many characters of a name, or of a label, are printed.
-MOST_PROCESSES, MOST_OF_NAME, MOST_OF_LABEL = 3, 200, 256
+# At most so many processes of a row are named in a line, and so many characters of a name are printed.
+MOST_PROCESSES, MOST_OF_NAME = 3, 200
 # After the path of a container's config.json.
 CHANGED = "has changed: judged is the profile that the container was started with"
 PLURALS = {CONTAINER: "containers", UNIT: "units", OTHER_PROGRAM: "other confined programs"}
-# A metric's name and help, and its values with their labels.
-Metric = "tuple[str, str, list[tuple[list[tuple[str, str | int | None]], object]]]"
-
-
-def time_text(seconds: float) -> str:
-    """A time as in RFC 3339, in UTC."""
-    return time.strftime("%Y-%m-%dT%H:%M:%SZ", time.gmtime(seconds))
-
-
-def number_text(count: int, word: str, plural: str | None = None) -> str:
-    return f"{count} {word if count == 1 else plural or word + 's'}"
 
 
 def short(identifier: str) -> str:
@@ -82,7 +70,7 @@ def _processes_text(names: dict[int, bytes], part: RowPart) -> str:
 def row_lines(row: AuditRow, table: Table, row_of_reason: dict[tuple[int | None, str], str]) -> Iterator[str]:
     """A line for a row, and for each further verdict in it one more. A reason that stands at an earlier row of the same
     user isn't repeated: `row_of_reason` has the rows by their users and reasons."""
-    yield f"{row.verdict}: {row_text(row)}: {number_text(len(row.processes), 'process', 'processes')}"
+    yield f"{row.verdict}: {row_text(row)}: {output.count_text(len(row.processes), 'process', 'processes')}"
     if row.container is not None and row.container.has_changed:
         yield f"    {output.escaped(row.container.config)} {CHANGED}"
     firsts: dict[str, RowPart] = {}
@@ -146,7 +134,7 @@ class Earlier:
 
     @classmethod
     def of(cls, audit: Audit) -> Earlier:
-        return cls(time_text(audit.time), {(row.kind, row.user, row.id): EarlierRow(
+        return cls(output.time_text(audit.time), {(row.kind, row.user, row.id): EarlierRow(
             output.escaped(row_text(row)), row.verdict, row.is_only_counted) for row in audit.rows})
 
     @classmethod
@@ -238,7 +226,7 @@ def head_json(audit: Audit, earlier: Earlier | None = None) -> dict[str, object]
     system = os.uname()
     since = {} if earlier is None else {"since": {
         "time": output.escaped(earlier.time), "changes": [*changes(earlier, audit)]}}
-    return {"status": audit.status, "host": system.nodename, "kernel": system.release, "time": time_text(audit.time),
+    return {"status": audit.status, "host": system.nodename, "kernel": system.release, "time": output.time_text(audit.time),
             "seconds": round(audit.seconds, 3),
             "verdicts": {kind: {verdict: audit.counts[kind, verdict] for verdict in AUDIT_VERDICTS}
                          for kind in ROW_KINDS},
@@ -261,15 +249,7 @@ def json_lines(audit: Audit, table: Table, earlier: Earlier | None = None) -> It
     yield head_json(audit, earlier)
 
 
-def _label(text: str) -> str:
-    """A label's value in Prometheus's text format. Different texts have different ones: control characters are escaped,
-    and so is the backslash by which they are; one that is too long is cut, and ends with its SHA-256."""
-    if len(text) > MOST_OF_LABEL:
-        text = f"{text[:MOST_OF_LABEL]}..{sha256(text.encode('utf-8', 'surrogatepass'))}"
-    return output.escaped(text.replace("\\", "\\\\")).replace("\\", "\\\\").replace('"', '\\"')
-
-
-def _metrics(audit: Audit) -> Iterator[Metric]:
+def _metrics(audit: Audit) -> Iterator[output.Metric]:
     """Each has a label for the user whose things it is about, empty for root, but for those on the audit itself."""
     def by_user(numbers: Iterable[int]) -> Counter[int | None]:
         return Counter(process.owner or None for process in map(audit.snapshot.processes.get, numbers) if process)
@@ -306,10 +286,4 @@ def _metrics(audit: Audit) -> Iterator[Metric]:
 
 def metrics(audit: Audit) -> str:
     """The audit in Prometheus's text format."""
-    lines_of = []
-    for name, help_text, samples in _metrics(audit):
-        lines_of += [f"# HELP {name} {help_text}\n", f"# TYPE {name} gauge\n"]
-        for labels, value in samples:
-            shown = ",".join(f'{label}="{_label("" if text is None else str(text))}"' for label, text in labels)
-            lines_of.append(f"{name}{{{shown}}} {value}\n" if shown else f"{name} {value}\n")
-    return "".join(lines_of)
+    return output.prometheus(_metrics(audit))

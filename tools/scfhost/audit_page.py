@@ -47,7 +47,7 @@ def _head(audit: Audit) -> Iterator[Markup]:
     system = os.uname()
     version = client.run_scf(["--version"]).text.strip()
     yield tag("h1", f"seccomp audit of {output.escaped(system.nodename)}")
-    yield tag("p", f"{audit_output.time_text(audit.time)} · Linux {system.release} · {version} · "
+    yield tag("p", f"{output.time_text(audit.time)} · Linux {system.release} · {version} · "
                    f"{audit.seconds:.2f} seconds")
     yield listed(audit_output.summary(audit))
     yield tag("p", PROVED, class_="faint")
@@ -75,7 +75,7 @@ def _row(row: AuditRow, numbers: dict[str | None, int]) -> list[object]:
     source += [" ", tag("code", digest[:DIGITS], title=digest)] if digest else []
     source += [" ", expected.why] if expected.why is not None else []
     processes = [f"{number} {output.escaped(name)}" for number, name in row.names.items()]
-    count = audit_output.number_text(len(processes), "process", "processes")
+    count = output.count_text(len(processes), "process", "processes")
     return [_coloured(row.verdict), joined([row.kind, " ", tag("strong", row.name, class_="long")]),
             ", ".join(audit_output.about(row)), tag("span", *source, class_="long"), _stacks_of(row, numbers),
             tag("details", tag("summary", str(len(capabilities))), " ".join(capabilities)) if capabilities else "none",

@@ -4,11 +4,9 @@ from __future__ import annotations
 
 import os
 from collections import Counter
-from collections.abc import Sequence
 
 from scftools.base import output, program
 from scftools.base.values import dataclass, field
-from scftools.model import bundles
 from scftools.model.profiles import not_compared_of, reading_of
 from scftools.ask.verdicts import OTHERWISE, Verdict
 from scftools.forms import engines
@@ -25,12 +23,6 @@ AUDIT_VERDICTS = (UNCONFINED_THOUGH, BY_CONFIGURATION, WEAKER, NOT_KNOWN, OTHERW
 # The verdicts that don't bear on the exit status.
 WITHOUT_CONSEQUENCE = (OTHERWISE, STRICTER, AS_CONFIGURED)
 CONTAINER, UNIT, OTHER_PROGRAM = ROW_KINDS = ("container", "unit", "program")
-
-
-def sha256(data: bytes) -> str:
-    import hashlib  # pylint: disable=import-outside-toplevel
-
-    return hashlib.sha256(data).hexdigest()
 
 
 def is_only_counted(kind: str, is_stated: bool, verdict: str) -> bool:
@@ -69,13 +61,13 @@ class Expectation:
         """What tells it from others with another meaning."""
         requests = [(request.profile, reading_of(request.profile), not_compared_of(request.profile), request.elsewhere,
                      request.applied and request.applied.stub) for request in (self.asked, *self.others) if request]
-        return sha256(repr((self.settings, self.runtime, requests, self.doubt, self.beside)).encode(
+        return output.sha256(repr((self.settings, self.runtime, self.why, requests, self.doubt, self.beside)).encode(
             "utf-8", "surrogatepass"))
 
     @property
     def digest(self) -> str | None:
         """The SHA-256 of the profile as scf is given it."""
-        return sha256(self.asked.profile) if self.asked is not None else self.dropped
+        return output.sha256(self.asked.profile) if self.asked is not None else self.dropped
 
     @property
     def is_stated(self) -> bool:
@@ -262,8 +254,3 @@ class Audit:
                 if part.stack.digest is not None:
                     stacks.setdefault(part.stack.digest, part.stack)
         return stacks
-
-
-def stack_digest(filters: Sequence[bytes]) -> str:
-    """The SHA-256 of the bundle of a stack's filters."""
-    return sha256(bundles.stack_bundle(filters))

@@ -133,14 +133,13 @@ CONTAINER = {"identifier": str, "engine": str, "runtime": (str, None), "first": 
              "config": str, "seccomp": (int, None), "why": (str, None), "has_changed": bool, "name": (str, None),
              "image": (str, None), "pod": (str, None), "folder": str, "groups": [str]}
 ANSWER = (CONTAINER, {"settings": str}, {"left_out": str}, {"note": str}, {"user": int, "folder": str})
-Send = Callable[[object], object]
 
 
 class Reader:
     """Reads the files of containers, in a child, and sends what they say: root's own files, or all that a user may read
     who is this process's."""
 
-    def __init__(self, send: Send, is_root: bool) -> None:
+    def __init__(self, send: child.Send, is_root: bool) -> None:
         self.send, self.read = send, owned_files.read_own if is_root else owned_files.read_file
         self.names = Names(self.read)
         self.settings: dict[str | None, int | None] = {None: None}
@@ -242,7 +241,7 @@ def _number(value: Any) -> int | None:
     return value if type(value) is int and 0 < value < 1 << 62 else None
 
 
-def _send_roots(send: Send, more_roots: Sequence[str]) -> None:
+def _send_roots(send: child.Send, more_roots: Sequence[str]) -> None:
     """Sends the containers that root's own files describe, and the folders of users."""
     import glob  # pylint: disable=import-outside-toplevel
 
@@ -275,7 +274,7 @@ def _send_roots(send: Send, more_roots: Sequence[str]) -> None:
         send({"left_out": line})
 
 
-def _send_users(send: Send, user: int, folders: Sequence[str]) -> None:
+def _send_users(send: child.Send, user: int, folders: Sequence[str]) -> None:
     """Sends the containers that a user's files describe."""
     owned_files.leave_users_mounts()
     child.become(user)
@@ -293,7 +292,7 @@ def described_containers(kernel: Kernel, snapshot: Snapshot, more_roots: Sequenc
     by_first: dict[int, ContainerDescription] = {}
     folders_of_users: dict[int, list[str]] = {}
 
-    def ask(work: Callable[[Send], object], seconds: float, user: int | None) -> None:
+    def ask(work: Callable[[child.Send], object], seconds: float, user: int | None) -> None:
         """Takes the answers of a child that reads root's files, or a user's."""
         settings: list[str] = []
 

@@ -24,7 +24,6 @@ from .owned_files import UnreadableFile
 from .processes import Kernel
 from .verify import Request
 
-
 # The IDs of users who aren't the system's (UIDS-GIDS of systemd): from the first on, without those of services.
 FIRST_USER, OF_SERVICES = 1000, range(61184, 65520)
 

@@ -9,7 +9,7 @@ from __future__ import annotations
 import base64
 import os
 import time
-from collections.abc import Callable, Iterable, Iterator
+from collections.abc import Callable, Iterable, Iterator, Sequence
 
 from scftools.base import child
 from scftools.base.values import Any
@@ -24,8 +24,8 @@ from .restart import Restarts
 # how long is waited for programs that are being executed, in seconds.
 SECONDS_TO_STOP, TO_STOP_AGAIN, TO_EXECUTE = 1.0, 6.0, 2.0
 # How many threads of a process are stopped at a time, so that none is for long; how many may be read that started
-# meanwhile; and how many bytes the distinct filters may have that are read at once.
-MOST_HELD, MOST_NEW, MOST_FILTER_BYTES = 200, 400, 8 << 20
+# meanwhile; and how many bytes the distinct filters may have of a row, and of those that are judged at once.
+MOST_HELD, MOST_NEW, MOST_FILTER_BYTES, MOST_AT_ONCE = 200, 400, 8 << 20, 32 << 20
 # What a thread waits in whose control group of version 1 is frozen (proc_pid_wchan(5)): it can't be stopped.
 REFRIGERATOR = b"__refrigerator"
 # Why a process wasn't read.
@@ -148,15 +148,28 @@ class Copies:
         self.stacks.clear()
         self.filters.clear()
 
-    def read(self, seconds: float) -> str | None:
-        """Reads the processes that wait, within so many seconds; why some still wait, or None."""
-        try:
-            if self.waiting:
-                child.ask(lambda send: _Reader(self.kernel.tool, self.is_forced, self.filters, send).read_all(
-                    list(self.waiting)), seconds, self.receive)
-        except child.Lost as why:
-            # (the first may be what it waits for)
-            for number in list(self.waiting)[:1]:
-                self.waiting[number] = self.waiting.pop(number)
-            return str(why)
-        return None
+    def send(self, send: Callable[[Any], object], _: float) -> None:
+        """Sends, in a child, what waits."""
+        _Reader(self.kernel.tool, self.is_forced, self.filters, send).read_all(list(self.waiting))
+
+
+def read_each(each: Sequence[Copies], budget: child.Budget) -> tuple[int, dict[int, str]]:
+    """Has a child read the processes that wait, of one after another until there are many bytes: of how many, and by
+    their indexes why some still wait."""
+    count = 0
+
+    def turns() -> Iterator[tuple[int, float]]:
+        nonlocal count
+        room = MOST_AT_ONCE
+        for at, seconds in budget.shares(range(len(each))):
+            yield at, seconds
+            count, room = at + 1, room - sum(map(len, each[at].filters))
+            if room < 0:
+                return
+
+    lost = child.ask_each([copies.send for copies in each], turns(), lambda at, value: each[at].receive(value))
+    for at in lost:
+        # (the first may be what it waits for)
+        for number in list(each[at].waiting)[:1]:
+            each[at].waiting[number] = each[at].waiting.pop(number)
+    return count, lost

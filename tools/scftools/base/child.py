@@ -13,7 +13,7 @@ import os
 import select
 import struct
 import time
-from collections.abc import Callable, Iterable, Iterator
+from collections.abc import Callable, Iterable, Iterator, Sequence
 
 from .values import Any, NoReturn, dataclass
 
@@ -85,9 +85,10 @@ def run_in_child(work: Callable[..., Any], seconds: float, receive: Callable[[An
     return result
 
 
-def read_child(write: Callable[[int], object], seconds: float, take: Callable[[bytes], object]) -> None:
-    """Has a function write into a file in a child process, and takes what it wrote as soon as it is there. The child
-    has a process group of its own, which is killed at the end. Raises Late."""
+def read_child(write: Callable[[int], object], seconds: float, take: Callable[[bytes], float | None]) -> None:
+    """Has a function write into a file in a child process, and takes what it wrote as soon as it is there. Where `take`
+    returns seconds, the child has these from then on, and none if they are 0. The child has a process group of its own,
+    which is killed at the end. Raises Late."""
     until = time.monotonic() + seconds
     heeded = {number for number in ENDING if signal.getsignal(number) != signal.SIG_IGN}
     parent = os.getpid()
@@ -101,8 +102,7 @@ def read_child(write: Callable[[int], object], seconds: float, take: Callable[[b
         os.close(ends[1])
         signal.pthread_sigmask(signal.SIG_SETMASK, mask | heeded)
         try:
-            for piece in _output_of(child, ends[0], heeded - mask, until):
-                take(piece)
+            _take_output(child, ends[0], heeded - mask, until, take)
         finally:
             os.close(ends[0])
             _end(child)
@@ -124,8 +124,8 @@ def _send(file: int, is_well: bool | None, value: object) -> None:
     write_all(file, LENGTH.pack(len(data)) + data)
 
 
-def _output_of(child: int, file: int, heeded: set[int], until: float) -> Iterator[bytes]:
-    """All that the child writes; signals that end this process are passed on to it, and it ends soon then."""
+def _take_output(child: int, file: int, heeded: set[int], until: float, take: Callable[[bytes], float | None]) -> None:
+    """Takes all that the child writes; signals that end this process are passed on to it, and it ends soon then."""
     late: Exception = Late()
     while True:
         remaining = until - time.monotonic()
@@ -135,9 +135,11 @@ def _output_of(child: int, file: int, heeded: set[int], until: float) -> Iterato
             piece = os.read(file, 1 << 16)
             if not piece and isinstance(late, Interrupted):
                 raise late
-            if not piece:
+            seconds = take(piece) if piece else 0
+            if seconds == 0:
                 return
-            yield piece
+            if seconds is not None and isinstance(late, Late):
+                until = time.monotonic() + seconds
         came = signal.sigtimedwait(heeded, 0) if heeded else None
         if came:
             os.kill(child, came.si_signo)
@@ -185,6 +187,11 @@ def _be_child(work: Callable[[], Any], seconds: float, parent: int) -> NoReturn:
         os._exit(0)
 
 
+# What sends a value from a child, and what a child does with it in so many seconds.
+Send = Callable[[object], object]
+Work = Callable[[Send, float], object]
+
+
 class Lost(Exception):
     """A child ended without all of its answers, and why."""
 
@@ -203,59 +210,97 @@ def become(user: int) -> None:
             raise OSError("rights can't be given up")
 
 
-def ask(work: Callable[[Callable[[object], object]], object], seconds: float,
-        receive: Callable[[Any], object]) -> None:
-    """Has a function send values from a child: each is received as soon as it is there. Raises Lost."""
-    import json  # pylint: disable=import-outside-toplevel
+class _Turns:
+    """What a child does, one thing after another, and has been taken of it."""
 
-    pending, count = bytearray(), 0
+    def __init__(self, turns: Iterable[tuple[int, float]], receive: Callable[[int, Any], object]) -> None:
+        self.turns, self.receive = iter(turns), receive
+        self.pending = bytearray()
+        self.next()
 
-    def take(piece: bytes) -> None:
-        nonlocal count
-        count += len(piece)
-        pending.extend(piece)
-        *lines, last = pending.split(b"\n") if b"\n" in piece else [pending]
-        if count > MOST_OF_ANSWER or max(map(len, (*lines, last))) > MOST_OF_LINE:
-            raise Lost("it answers too much")
+    def next(self) -> None:
+        """Goes on to the next thing, which has so many seconds."""
+        self.count = 0
+        self.at, self.seconds = next(self.turns, (None, 0.0))
+
+    def take(self, piece: bytes) -> float | None:
+        """Receives what is whole; the seconds of what comes next, if something came to its end."""
+        import json  # pylint: disable=import-outside-toplevel
+
+        self.pending.extend(piece)
+        *lines, last = self.pending.split(b"\n") if b"\n" in piece else [self.pending]
         if lines:
-            pending[:] = last
+            self.pending = last
+        before = self.at
         for line in lines:
+            self.check(len(line))
             try:
                 value = json.loads(line)
                 if isinstance(value, str):
                     raise Lost(value)
-                receive(value)
+                if value is None:
+                    self.next()
+                elif self.at is not None:
+                    self.receive(self.at, value)
             except (ValueError, LookupError, TypeError, RecursionError) as error:
                 raise Lost("its answer isn't what it should be") from error
+            self.count += len(line)
+        self.check(len(self.pending))
+        return self.seconds if self.at != before else None
 
-    try:
-        read_child(lambda file: _work(work, file), seconds, take)
-    except Late as late:
-        raise Lost(f"it takes longer than {seconds:.2g} seconds") from late
-    if bytes(pending) != b"done":
-        raise Lost("who looks at it was ended")
+    def check(self, length: int) -> None:
+        if length > MOST_OF_LINE or self.count + length > MOST_OF_ANSWER:
+            raise Lost("it answers too much")
+
+    def work(self, begin: Callable[[], object], works: Sequence[Work], file: int) -> None:
+        """What the child does: it sends values, and at the end of each thing None, or a text that says why not."""
+        import json  # pylint: disable=import-outside-toplevel
+        import resource  # pylint: disable=import-outside-toplevel
+
+        def send(value: object) -> None:
+            write_all(file, json.dumps(value).encode() + b"\n")
+
+        resource.setrlimit(resource.RLIMIT_AS, (MEMORY, MEMORY))
+        try:
+            begin()
+            while self.at is not None:
+                signal.setitimer(signal.ITIMER_REAL, self.seconds + TIMER_DELAY)
+                works[self.at](send, self.seconds)
+                send(None)
+                self.next()
+        except MemoryError:
+            send(f"it takes more than {MEMORY >> 20} MB of memory")
+        except Interrupted:
+            raise
+        except Exception as error:  # pylint: disable=broad-exception-caught
+            send(f"it can't be looked at: {type(error).__name__}")
 
 
-def _work(work: Callable[[Callable[[object], object]], object], file: int) -> None:
-    """What a child does: it sends values, and a text says why there are no more."""
-    import json  # pylint: disable=import-outside-toplevel
-    import resource  # pylint: disable=import-outside-toplevel
+def ask_each(works: Sequence[Work], turns: Iterable[tuple[int, float]], receive: Callable[[int, Any], object],
+             begin: Callable[[], object] = lambda: None) -> dict[int, str]:
+    """Has functions send values from a child, one after another: each that has a turn, by its index and within its
+    seconds, which it is told. Values are received with the index. Says of which not all came, and why: behind each of
+    these a new child goes on. `begin` is what each child does first."""
+    taken, lost = _Turns(turns, receive), {}
+    while taken.at is not None:
+        why = "who looks at it was ended"
+        taken.pending.clear()
+        try:
+            read_child(lambda file: taken.work(begin, works, file), taken.seconds, taken.take)
+        except Late:
+            why = f"it takes longer than {taken.seconds:.2g} seconds"
+        except Lost as error:
+            why = str(error)
+        if taken.at is not None:
+            lost[taken.at] = why
+            taken.next()
+    return lost
 
-    resource.setrlimit(resource.RLIMIT_AS, (MEMORY, MEMORY))
 
-    def send(value: object) -> None:
-        write_all(file, json.dumps(value).encode() + b"\n")
-
-    try:
-        work(send)
-    except MemoryError:
-        send(f"it takes more than {MEMORY >> 20} MB of memory")
-    except Interrupted:
-        raise
-    except Exception as error:  # pylint: disable=broad-exception-caught
-        send(f"it can't be looked at: {type(error).__name__}")
-    else:
-        write_all(file, b"done")
+def ask(work: Callable[[Send], object], seconds: float, receive: Callable[[Any], object]) -> None:
+    """Has one function send values from a child. Raises Lost."""
+    for why in ask_each([lambda send, _: work(send)], [(0, seconds)], lambda _, value: receive(value)).values():
+        raise Lost(why)
 
 
 def checked(value: Any, form: Any) -> Any:
@@ -282,10 +327,11 @@ class Budget:
 
     remaining: float
 
-    def shares(self, items: Iterable[Any]) -> Iterator[tuple[Any, float]]:
-        """Each of some things with the seconds that it has: no more than are left for each of those that are left."""
+    def shares(self, items: Iterable[Any], most: float | None = None) -> Iterator[tuple[Any, float]]:
+        """Each of some things with the seconds that it has: no more than `most`, or than a child may take, and than
+        are left for each of those that are left."""
         waiting = list(items)
         for at, item in enumerate(waiting):
             began = time.monotonic()
-            yield item, max(0.01, min(LONGEST, self.remaining / (len(waiting) - at)))
+            yield item, max(0.01, min(most or LONGEST, self.remaining / (len(waiting) - at)))
             self.remaining -= time.monotonic() - began

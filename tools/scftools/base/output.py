@@ -9,6 +9,7 @@ import codecs
 import errno
 import os
 import sys
+import time
 from collections.abc import Iterable, Iterator, Sequence
 
 from .values import Pattern
@@ -16,6 +17,11 @@ from .values import Pattern
 # C0, DEL and C1; and the characters that change the direction of text or end a line (Unicode's Bidi_Control, LINE
 # SEPARATOR and PARAGRAPH SEPARATOR), which make text look different than it is.
 CONTROL = Pattern("[\x00-\x1f\x7f-\x9f\u061c\u200e\u200f\u2028-\u202e\u2066-\u2069]")
+
+# The most characters of a label's value.
+MOST_OF_LABEL = 256
+# A metric's name and help, and its values with their labels.
+Metric = "tuple[str, str, list[tuple[list[tuple[str, str | int | None]], object]]]"
 
 
 def _of_surrogates(error: UnicodeError) -> tuple[bytes, int]:
@@ -46,6 +52,21 @@ def cut(text: str, most: int = 64) -> str:
 def some(texts: Sequence[str], most: int) -> str:
     """The first texts of a list, so many, and how many more there are."""
     return ", ".join(texts[:most]) + (f" and {len(texts) - most} more" if len(texts) > most else "")
+
+
+def count_text(count: int, word: str, plural: str | None = None) -> str:
+    return f"{count} {word if count == 1 else plural or word + 's'}"
+
+
+def time_text(seconds: float) -> str:
+    """A time as in RFC 3339, in UTC."""
+    return time.strftime("%Y-%m-%dT%H:%M:%SZ", time.gmtime(seconds))
+
+
+def sha256(data: bytes) -> str:
+    import hashlib  # pylint: disable=import-outside-toplevel
+
+    return hashlib.sha256(data).hexdigest()
 
 
 def runs(numbers: Iterable[int]) -> list[tuple[int, int]]:
@@ -169,3 +190,22 @@ def _replace_in(folder: int, name: str, text: str) -> None:
         except OSError:
             pass
         raise
+
+
+def _label(text: str) -> str:
+    """A label's value in Prometheus's text format. Different texts have different ones: control characters are escaped,
+    and so is the backslash by which they are; one that is too long is cut, and ends with its SHA-256."""
+    if len(text) > MOST_OF_LABEL:
+        text = f"{text[:MOST_OF_LABEL]}..{sha256(text.encode('utf-8', 'surrogatepass'))}"
+    return escaped(text.replace("\\", "\\\\")).replace("\\", "\\\\").replace('"', '\\"')
+
+
+def prometheus(metrics: Iterable[Metric]) -> str:
+    """Metrics in Prometheus's text format."""
+    lines_of = []
+    for name, help_text, samples in metrics:
+        lines_of += [f"# HELP {name} {help_text}\n", f"# TYPE {name} gauge\n"]
+        for labels, value in samples:
+            shown = ",".join(f'{label}="{_label("" if text is None else str(text))}"' for label, text in labels)
+            lines_of.append(f"{name}{{{shown}}} {value}\n" if shown else f"{name} {value}\n")
+    return "".join(lines_of)

@@ -143,7 +143,7 @@ def _quoted(word: str) -> str:
 
 def _made_by() -> Iterator[Markup]:
     """When a page is made, by which scf, of which inputs, and by which command, without what writes the page."""
-    at, version = time.strftime("%Y-%m-%dT%H:%M:%SZ", time.gmtime()), client.run_scf(["--version"]).text.strip()
+    at, version = output.time_text(time.time()), client.run_scf(["--version"]).text.strip()
     words = [word for at, word in enumerate(sys.argv[1:]) if sys.argv[at] != "--html" and word not in
              ("--html", "--json") and not word.startswith("--html=")]
     yield tag("p", f"{at} · {version}")

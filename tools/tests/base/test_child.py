@@ -112,6 +112,48 @@ class Child(Case):
             values, actual = self.answers(work)
             self.assertEqual((values[0], actual), ([7], why))
 
+    def each(self, works, seconds=600.0, turns=None):
+        """What one child after another answers to several things, and of which not all, and why."""
+        values = [[] for _ in works]
+        began, forks, fork = [], [], os.fork
+
+        def forked():
+            forks.append(1)
+            return fork()
+
+        with mock.patch.object(child.os, "fork", forked):
+            lost = child.ask_each([lambda send, _, work=work: work(send) for work in works],
+                                  ((at, seconds) for at in range(len(works) if turns is None else turns)),
+                                  lambda at, value: values[at].append(value), lambda: began.append(1))
+        self.assertEqual(began, [])
+        return values, lost, len(forks)
+
+    def test_several_things(self):
+        """One child does them; behind one that isn't whole a new one goes on, and nothing else is lost."""
+        def seven(send):
+            send(7)
+
+        def much(send):
+            for _ in range(20):
+                send(["x" * (1 << 20)])
+
+        self.assertEqual(self.each([seven, lambda _: None, seven]), ([[7], [], [7]], {}, 1))
+        self.assertEqual(self.each([seven] * 3, turns=2), ([[7], [7], []], {}, 1))
+        self.assertEqual(self.each([]), ([], {}, 0))
+        # (each may answer so much)
+        self.assertEqual(self.each([much, much, seven])[1:], ({}, 1))
+        bad = {lambda send: (send(1), 1 / 0): "it can't be looked at: ZeroDivisionError",
+               lambda send: (send(1), os._exit(0)): "who looks at it was ended",
+               lambda send: (send(1), os.kill(os.getpid(), signal.SIGKILL)): "who looks at it was ended",
+               lambda send: (send(1), bytearray(1 << 29)): "it takes more than 256 MB of memory",
+               lambda send: (send(1), send("no")): "no"}
+        for work, why in bad.items():
+            self.assertEqual(self.each([seven, work, seven, seven]), ([[7], [1], [7], [7]], {1: why}, 2))
+            self.assertEqual(self.each([work, work]), ([[1], [1]], {0: why, 1: why}, 2))
+        # (a child that sleeps is late, however slow the machine is)
+        lost = self.each([lambda send: send(1), lambda _: time.sleep(10000), lambda send: send(1)], 5.0)
+        self.assertEqual(lost[1:], ({1: "it takes longer than 5 seconds"}, 2))
+
     def test_one_that_is_stopped(self):
         """And what it started ends with it."""
         read, write = os.pipe()

@@ -104,6 +104,29 @@ class ComeAndGo(Audits):
             self.assertEqual(answer["object"]["processes"]["unread"], 0)
 
 
+class Apart(Audits):
+    """Rows of root's, which one child after another judges."""
+
+    def test_who_judges_is_ended(self):
+        """One row isn't known, and no other: who is given its filter is ended by scf."""
+        path = self.file("scf", f"""#!/bin/sh
+grep -qa pots /proc/self/fd/0 && kill -KILL $PPID
+exec {TOP}/crates/scf/out/scf "$@" </proc/self/fd/0
+""")
+        os.chmod(path, 0o755)
+        os.chmod(self.folder, 0o755)
+        marked = {"names": ["chroot"], "action": "SCMP_ACT_ERRNO", "args": [
+            {"index": 0, "value": 0x73746F70, "op": "SCMP_CMP_EQ"}]}
+        for at in range(5):
+            entry = marked if at == 2 else {"names": ["mount"], "action": "SCMP_ACT_ERRNO", "errnoRet": 1 + at}
+            self.container("runc", f"c{at}", {**STATED, "syscalls": [entry]})
+        for answer in self.audits(**{"scftools.ask.client.PROGRAMS": [path]}):
+            rows = {row["name"]: row for row in answer["object"]["rows"]}
+            self.assertEqual({name: row["verdict"] for name, row in rows.items()},
+                             {f"c{at}": "not known" if at == 2 else "as configured" for at in range(5)})
+            self.assertEqual([part["why"] for part in rows["c2"]["parts"]], ["who looks at it was ended"])
+
+
 class Attacks(Audits):
     """On a machine on which root has a container, and a program with a filter."""
 
@@ -341,5 +364,6 @@ be(b"stops", bytes.fromhex("{mark.hex()}") + ALLOW)
 ready()
 """, **{"scftools.ask.client.PROGRAMS": [path], "scfhost.audit.SECONDS_OF_USERS": 1.0})
         (row,) = self.rows_of_user(answer)
-        self.assertEqual([(part["verdict"], part.get("why")) for part in row["parts"]],
-                         [("not known", "it takes longer than 1 seconds")])
+        ((verdict, why),) = [(part["verdict"], part.get("why")) for part in row["parts"]]
+        self.assertEqual(verdict, "not known")
+        self.assertRegex(why, r"\Ait takes longer than \S+ seconds\Z")

@@ -1069,22 +1069,32 @@ class Kept(Case):
     def setUp(self):
         super().setUp()
         self.judges, self.asked = audit_judge.Judges(Options(tables.read_table(None))), []
-        patch = mock.patch.object(audit_judge.child, "ask", self.ask)
+        patch = mock.patch.object(audit_judge.child, "ask_each", self.ask_each)
         patch.start()
         self.addCleanup(patch.stop)
-        self.stacks = [Stack((filter_of([0]),), False)]
+        self.copies = audit_judge.Copies(processes.Kernel(), (), False)
+        self.copies.stacks = {None: Stack((filter_of([0]),), False, {7: [7]})}
 
-    def ask(self, _, seconds, receive):
-        self.asked.append(seconds)
+    def task(self, is_root):
+        row = audit_rows.AuditRow(audit_rows.UNIT, "x", [mock.Mock(number=7)], audit_rows.Expectation())
+        return audit_judge.Task(None if is_root else 12345, [row], self.copies, {})
+
+    def ask_each(self, works, turns, receive, _):
+        for at, _ in turns:
+            self.asked.append(works[at])
+            self.answer(lambda value, at=at: receive(at, value))
+        return {}
+
+    def answer(self, receive):
         receive({"row": 0, "stack": 0, "digest": "ab", "judgement": {
             "verdict": self.verdict, "why": None, "shown": [], "not_compared": [], "lines": [], "architecture": None,
             "is_of_baseline": False}})
 
     def judged(self, verdict, is_root):
         self.verdict = verdict
-        row = audit_rows.AuditRow(audit_rows.UNIT, "x", [], audit_rows.Expectation(), judged={0: None})
-        self.assertIsNone(self.judges.judge([row], self.stacks, {}, 1.0, is_root))
-        return row.judged[0][1].verdict
+        task = self.task(is_root)
+        self.assertEqual(self.judges.judge([task], audit_judge.child.Budget(1.0)), {})
+        return task.rows[0].judged[0][1].verdict
 
     def test_whose_they_are(self):
         """Those on a user's things aren't taken for anything, the others for any row, but for what isn't known."""
@@ -1095,11 +1105,10 @@ class Kept(Case):
         self.assertEqual(len(self.asked), 3)
 
     def test_answers_of_another_form(self):
-        row = audit_rows.AuditRow(audit_rows.UNIT, "x", [], audit_rows.Expectation(), judged={0: None})
-        self.verdict = "fine"
+        task, self.verdict = self.task(True), "fine"
         with self.assertRaises(ValueError):
-            self.judges.judge([row], self.stacks, {}, 1.0, True)
-        self.assertEqual((row.judged, self.judges.known), ({0: None}, {}))
+            self.judges.judge([task], audit_judge.child.Budget(1.0))
+        self.assertEqual((task.rows[0].judged, self.judges.known), ({0: None}, {}))
 
 
 def unit(name, verdict="weaker", why=None, threads=(), kind=audit_rows.UNIT, expected=None):

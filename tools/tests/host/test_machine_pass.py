@@ -22,11 +22,11 @@ for name, value in json.loads(sys.argv[2]).items():
 kernel = processes.Kernel()
 every = machine.read_machine(kernel, None).processes.values()
 copies = machine_pass.Copies(kernel, (process.number for process in every if process.is_confined), False)
-why = copies.read(600)
+_, lost = machine_pass.read_each([copies], machine_pass.child.Budget(600))
 print(json.dumps({
     "read": [[[len(it) // 8 for it in key[0]], sorted(stack.threads), sum(map(len, stack.threads.values()))]
              for key, stack in copies.stacks.items()],
-    "unread": copies.unread, "why": why, "waiting": list(copies.waiting), "filters": len(copies.filters)}))
+    "unread": copies.unread, "why": lost.get(0), "waiting": list(copies.waiting), "filters": len(copies.filters)}))
 """
 # Starts processes that wait in execve(2) for ever, so many, each with a filter of one instruction: the kernel waits for
 # all other threads to end, and one of them is traced by this process, which never waits for it. Prints their numbers.
@@ -114,12 +114,13 @@ class Ended(unittest.TestCase):
         """What it answered before is kept; what may have ended it is read last the next time."""
         copies = machine_pass.Copies(processes.Kernel(), (6, 7, 8), False)
 
-        def ask(_, seconds, receive):
-            receive({"process": 6, "why": "x"})
-            raise machine_pass.child.Lost("y")
+        def ask_each(_, turns, receive):
+            for at, _ in turns:
+                receive(at, {"process": 6, "why": "x"})
+            return {0: "y"}
 
-        with mock.patch.object(machine_pass.child, "ask", ask):
-            self.assertEqual(copies.read(1), "y")
+        with mock.patch.object(machine_pass.child, "ask_each", ask_each):
+            self.assertEqual(machine_pass.read_each([copies], machine_pass.child.Budget(1)), (1, {0: "y"}))
         self.assertEqual((list(copies.waiting), copies.unread), ([8, 7], {6: "x"}))
 
     def test_answers_of_another_form(self):
