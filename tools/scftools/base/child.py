@@ -19,6 +19,8 @@ from .values import Any, NoReturn, dataclass
 
 # linux/prctl.h
 PR_SET_PDEATHSIG, PR_SET_DUMPABLE, PR_SET_NO_NEW_PRIVS = 1, 4, 38
+# malloc.h: how many arenas there may be (mallopt(3)); and the bytes of the stack of a thread.
+M_ARENA_MAX, THREAD_STACK = -8, 1 << 18
 # The signals that end a tool unless they are ignored.
 ENDING = (signal.SIGHUP, signal.SIGINT, signal.SIGQUIT, signal.SIGTERM)
 # In seconds: how often the tool looks for signals while it waits for the child, and how long a child may take to end by
@@ -254,12 +256,17 @@ class _Turns:
 
     def work(self, begin: Callable[[], object], works: Sequence[Work], file: int) -> None:
         """What the child does: it sends values, and at the end of each thing None, or a text that says why not."""
+        import ctypes  # pylint: disable=import-outside-toplevel
         import json  # pylint: disable=import-outside-toplevel
         import resource  # pylint: disable=import-outside-toplevel
+        import threading  # pylint: disable=import-outside-toplevel
 
         def send(value: object) -> None:
             write_all(file, json.dumps(value).encode() + b"\n")
 
+        # (else a few threads have all of the address space: each may take 8 MB for its stack, and 64 for malloc(3))
+        threading.stack_size(THREAD_STACK)
+        getattr(ctypes.CDLL(None), "mallopt", lambda *_: 0)(M_ARENA_MAX, 1)
         resource.setrlimit(resource.RLIMIT_AS, (MEMORY, MEMORY))
         try:
             begin()

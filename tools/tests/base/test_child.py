@@ -2,6 +2,7 @@
 import fcntl
 import os
 import signal
+import threading
 import time
 import unittest
 from unittest import mock
@@ -153,6 +154,22 @@ class Child(Case):
         # (a child that sleeps is late, however slow the machine is)
         lost = self.each([lambda send: send(1), lambda _: time.sleep(10000), lambda send: send(1)], 5.0)
         self.assertEqual(lost[1:], ({1: "it takes longer than 5 seconds"}, 2))
+
+    def test_threads(self):
+        """Many fit into the memory of a child, at once and one after another."""
+        def work(send):
+            for _ in range(3):
+                held = threading.Lock()
+                with held:
+                    threads = [threading.Thread(target=lambda held=held: bytes(100000) and held.acquire() and
+                                                held.release(), daemon=True) for _ in range(100)]
+                    for thread in threads:
+                        thread.start()
+                for thread in threads:
+                    thread.join()
+            send([1])
+
+        self.assertEqual(self.answers(work), ([[1]], None))
 
     def test_one_that_is_stopped(self):
         """And what it started ends with it."""
