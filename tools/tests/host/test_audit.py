@@ -345,9 +345,10 @@ class Containers(Audited, OwnMachine):
         """The other threads of its process are the container's, though the kernel shows the process as a zombie in the
         root group."""
         self.container("runc", "box", STATED)
-        script = f"/usr/bin/python3 -c '{WITHOUT_MAIN}' {' '.join(self.groups_of('box').values())} & sleep 1"
-        number = int(self.on("sh", "-c", script)[1])
-        self.assertRegex(self.on("cat", f"/proc/{number}/status")[1], r"\nState:\tZ ")
+        out = f"{self.folder}/number"
+        script = (f"/usr/bin/python3 -c '{WITHOUT_MAIN}' {' '.join(self.groups_of('box').values())} >{out} & "
+                  f"until grep -qs 'State:.Z' /proc/$(cat {out})/status; do sleep 0.05; done; cat {out}")
+        number = int(self.on("timeout", "300", "sh", "-c", script)[1])
         (row,) = self.audit(status=1)["rows"]
         (process,) = row["parts"][0]["processes"]
         self.assertEqual((row["verdict"], process["process"], process["threads"]),
@@ -551,8 +552,9 @@ class Users(Audited, OwnMachine):
         for name in ("web", "other"):
             self.container("runc", name, STATED)
         for where in (f"/run/user/{self.USER}/crun", f"{self.folder}/bundles/other"):
-            script = f"mkdir -p {where}; timeout 100 /usr/bin/python3 -c '{HANGING}' {where} & sleep 1"
-            if self.on("sh", "-c", script)[1] != "0\n":
+            script = (f"mkdir -p {where}; timeout 1000 /usr/bin/python3 -c '{HANGING}' {where} >{where}.out & "
+                      f"until [ -s {where}.out ] || ! kill -0 $!; do sleep 0.05; done; cat {where}.out")
+            if self.on("timeout", "300", "sh", "-c", script)[1] != "0\n":
                 self.skipTest("no file system in user space can be mounted here")
             self.addCleanup(self.on, "umount", "-l", where)
         value = self.audit(status=4)

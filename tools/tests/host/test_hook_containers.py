@@ -27,7 +27,7 @@ WITHOUT = ["unshare", "--mount", "--propagation", "private", "sh", "-c", f'umoun
 ALONE = WITHOUT if os.path.ismount(HYBRID) else []
 PATH = {"env": [f"PATH={os.environ['PATH']}"]}
 # A pause that is over soon; what needs longer hangs.
-SECONDS = 60
+SECONDS = 600
 
 
 def state_of(pid):
@@ -266,9 +266,9 @@ class Runtimes(Containers):
 
     def test_one_whose_hook_is_ended_by_its_timeout(self):
         """crun ends the hook while that waits for a filter: the container is killed nevertheless."""
-        with self.begun(timeout=2, loaded=None, args=["sleep", "996"]) as pid:
+        with self.begun(timeout=10, loaded=None, args=["sleep", "996"]) as pid:
             self.assertTrue(self.runs(pid))
-        with self.begun("--kill", timeout=2, loaded=None, args=["sleep", "996"]) as pid:
+        with self.begun("--kill", timeout=10, loaded=None, args=["sleep", "996"]) as pid:
             self.assertTrue(comes(lambda: has_ended(pid)))
 
     def test_one_that_executes_itself_again_and_again(self):
@@ -338,7 +338,8 @@ class Podman(Containers):
         actual = json.loads(self.run_tool("verify-process", "--runtime", runtime, "--json", pid, path)[1])
         self.assertEqual((actual["status"], actual["verdict"]), (status, word))
         rows = json.loads(self.run_tool("audit", "--json")[1])["rows"]
-        self.assertEqual([row["verdict"] for row in rows if row.get("id") == identifier], [expected])
+        rows = [row for row in rows if row.get("id") == identifier]
+        self.assertEqual([row["verdict"] for row in rows], [expected], rows)
         actual, out, err = self.run_tool("filters-of", pid, f"filters-{identifier}")
         self.assertEqual((actual, len(out.splitlines()), err), (0, 1, "") if word == "same" else
                          (1, 0, f"filters-of: process {pid} has no filter\n"))

@@ -500,9 +500,9 @@ class OfTime(Hook):
     def test_a_confined_one_runs_on(self):
         """Also behind the deadline of the watchdog, which is dismissed."""
         child = self.child([refusing(MOUNT)])
-        hook = self.begin(child, "--kill", "--wait=0", "--deadline=2")
+        hook = self.begin(child, "--kill", "--wait=0", "--deadline=10")
         self.assertEqual(hook.wait(PATIENCE), 0, hook.stderr.read())
-        time.sleep(2.1 + hooks.GRACE)
+        time.sleep(10.1 + hooks.GRACE)
         self.runs_on(child)
 
     def test_it_is_killed_before_it_is_explained(self):
@@ -529,9 +529,9 @@ class OfTime(Hook):
         read, write = os.pipe()
         for file in (read, write):
             self.addCleanup(os.close, file)
-        for given, says in ((read, "didn't come on standard input within 0.2 seconds"),
-                            (os.open("/dev/zero", os.O_RDONLY), "has more than 1048576 bytes")):
-            status, _, err = self.run_tool("oci-hook", "--kill", "--deadline=0.2", "--wait=0", given=given)
+        for given, deadline, says in ((read, "0.2", "didn't come on standard input within 0.2 seconds"),
+                                      (os.open("/dev/zero", os.O_RDONLY), "60", "has more than 1048576 bytes")):
+            status, _, err = self.run_tool("oci-hook", "--kill", f"--deadline={deadline}", "--wait=0", given=given)
             self.assertEqual(status, 2)
             self.assertIn(says, err)
         done = subprocess.run(["sh", "-c", 'exec "$0" "$@" <&-', tool("oci-hook"), "--kill"], stderr=subprocess.PIPE,
