@@ -10,9 +10,10 @@
  * writes what another one leads to, during the call alone. A pointer may be NULL only if it is that of a list and the
  * list's length is 0. What a call writes must not overlap anything else that it is handed.
  *
- * Results. Every result is set however a call ends. With a status other than SCF_OK the fault says why, and everything
- * else is 0. Texts, filters and other lists are handed out as snprintf does: at most `room` elements of the front are
- * written, and *needed is the whole length; if that is more than `room`, repeat the call with more. No 0 is appended.
+ * Results. Every result is set however a call ends. With a status other than SCF_OK nothing of a list or a text is
+ * written, all else is 0, and the fault says why; of SCF_WRONG_ARGUMENT it is 0, too. Texts, filters and other lists are
+ * handed out as snprintf does: at most `room` elements of the front are written, and *needed is the whole length; if
+ * that is more than `room`, repeat the call with more. No 0 is appended.
  *
  * Threads, signals, fork. Calls may run side by side in any number of threads, also on the same inputs. As for malloc,
  * none but scf_load may be made in a signal handler, or in the child of a fork of a process with threads before it runs
@@ -352,7 +353,7 @@ enum scf_verdict {
     SCF_NO_VERDICT = 0, /* nothing was compared: the call didn't end with SCF_OK */
     SCF_HOLDS = 1,      /* proved for every call of the scope */
     SCF_FAILS = 2,      /* `call` shows it, with both answers */
-    SCF_UNDECIDED = 3,  /* not known: runs of a filter end at `at`, and their answers aren't decided */
+    SCF_UNDECIDED = 3,  /* not known; a run of a filter can end at `at` */
     SCF_UNFINISHED = 4  /* a limit was reached */
 };
 
@@ -360,8 +361,8 @@ struct scf_finding {
     uint32_t verdict; /* enum scf_verdict */
     uint32_t left;    /* of SCF_FAILS: the answer of the left side */
     uint32_t right;   /* of SCF_FAILS: the answer of the right side */
-    uint32_t side;    /* of SCF_UNDECIDED: 1 by a filter of the left side, 2 by one of the right side */
-    uint64_t at;      /* of SCF_UNDECIDED: the index of an instruction where runs of that side can end */
+    uint32_t side;    /* of SCF_UNDECIDED: 1 the left side, 2 the right side */
+    uint64_t at;      /* of SCF_UNDECIDED: the index of an instruction where a run of that side can end, or 0 */
     struct scf_call call;
 };
 
@@ -397,9 +398,9 @@ struct scf_listing {
     struct scf_left_out left_out;
 };
 
-/* Calls that a side answers alike, from one place. Each call of the scope lies in a region. An exact one has no other
- * calls than those that it is about, and no call of another exact one; in a region that isn't exact a test wasn't
- * decided, so that some of its calls may lie in others. */
+/* Calls that a side answers from one place, and alike if the answer is known. Each call of the scope lies in a region.
+ * An exact one has no other calls than those that it is about, and no call of another exact one; in a region that isn't
+ * exact a test wasn't decided, so that some of its calls may lie in others. */
 struct scf_region {
     uint32_t answer;      /* SECCOMP_RET_.., if it is known */
     uint32_t is_known;
@@ -407,8 +408,8 @@ struct scf_region {
     uint32_t has_example;
     uint32_t reason;      /* of a profile: enum scf_reason, with the entry */
     uint32_t entry;
-    uint64_t filter;      /* of filters: the index of the one that answers, 0 the oldest, and the instruction's */
-    uint64_t index;
+    uint64_t filter;      /* of filters, if the answer is known: the index of the one that answers, 0 the oldest */
+    uint64_t index;       /* that of its instruction; if the answer isn't known, of one where a run can end */
     uint64_t fact_count;  /* how many of the facts are about it: they stand in the order of the regions */
     struct scf_call example;
     uint64_t reserved[4];
