@@ -11,9 +11,9 @@
  * list's length is 0. What a call writes must not overlap anything else that it is handed.
  *
  * Results. Every result is set however a call ends. With a status other than SCF_OK nothing of a list or a text is
- * written, all else is 0, and the fault says why; of SCF_WRONG_ARGUMENT it is 0, too. Texts, filters and other lists are
- * handed out as snprintf does: at most `room` elements of the front are written, and *needed is the whole length; if
- * that is more than `room`, repeat the call with more. No 0 is appended.
+ * written, all else is 0, and the fault says why; of SCF_WRONG_ARGUMENT it is 0, too. Texts, filters and other lists
+ * are handed out as snprintf does: at most `room` elements of the front are written, and *needed is the whole length;
+ * if that is more than `room`, repeat the call with more. No 0 is appended.
  *
  * Threads, signals, fork. Calls may run side by side in any number of threads, also on the same inputs. As for malloc,
  * none but scf_load may be made in a signal handler, or in the child of a fork of a process with threads before it runs
@@ -324,8 +324,9 @@ struct scf_question {
 
 /* The calls that are compared; a finding says nothing of others. One number is a range. A range without a number that
  * the architecture's calls can have is SCF_WRONG_ARGUMENT, and so are SCF_EACH_ARCHITECTURE without a table and
- * SCF_EACH_CALL where no table has a syscall. SCF_EACH_ARCHITECTURE leaves out what the profile doesn't list, and what
- * it lists without a table (not_looked_at); SCF_EACH_CALL also the numbers that no table names.
+ * SCF_EACH_CALL where no table has a syscall. SCF_EACH_ARCHITECTURE leaves out what the only profile doesn't list, and
+ * what it lists without a table (not_looked_at); SCF_EACH_CALL also the numbers that no table names. Beside two
+ * profiles all tables count.
  *
  * So two questions prove that filters are a profile's: SCF_SAME over SCF_EACH_ARCHITECTURE, where not_looked_at has to
  * be 0; and SCF_NO_MORE over SCF_NUMBERS of x86-64 (0 to 0x3fffffff), i386 (0 to 0xfffffffe) and x32 (0x40000000 to

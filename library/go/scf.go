@@ -139,7 +139,7 @@ type Verdict uint32
 const (
 	Holds Verdict = iota + 1
 	Fails
-	Undecided  // not known: runs of a filter end at an instruction, and their answers aren't decided
+	Undecided  // not known; a run of a filter can end at an instruction
 	Unfinished // a limit was reached
 )
 
