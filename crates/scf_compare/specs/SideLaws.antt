@@ -1,6 +1,7 @@
 -- Laws of comparisons of two sides.
 use Rattle.std.specs.Prelude.{ℕ, ◌+◌, All}
 use Rattle.scf_insn.specs.declared.answer.Answer.{Answer}
+use Rattle.scf_insn.specs.declared.architecture.Architecture.{Architecture}
 use Rattle.scf_insn.specs.declared.record.CallRecord.{CallRecord}
 use Rattle.scf_insn.specs.Words.{IsRecord, words_of}
 use Rattle.scf_profile.specs.Profile.{AreOfApart, HaveNoConflict, IsProfile}
@@ -81,10 +82,10 @@ HoldsThrough =
     → AllRelated (compared_sides by over first second) → AllRelated (compared_sides by over second third)
     → AllRelated (compared_sides by over first third)
 
--- what holds over two ranges of numbers, of which the second begins behind the first, holds over both
+-- what holds over two ranges of an architecture's numbers, of which the second begins behind the first, holds over both
 abbrev pub HoldsOverRanges : Type 0
 HoldsOverRanges =
-    (by : Relation) (first middle last : ℕ) (left right : Side)
-    → AllRelated (compared_sides by (Numbers first middle) left right)
-    → AllRelated (compared_sides by (Numbers (middle + 1) last) left right)
-    → AllRelated (compared_sides by (Numbers first last) left right)
+    (by : Relation) (architecture : Architecture) (first middle last : ℕ) (left right : Side)
+    → AllRelated (compared_sides by (Numbers architecture first middle) left right)
+    → AllRelated (compared_sides by (Numbers architecture (middle + 1) last) left right)
+    → AllRelated (compared_sides by (Numbers architecture first last) left right)

@@ -1,13 +1,12 @@
 //! The scope of a comparison.
 
-ghost use Rattle.std.specs.Prelude.{◌≡◌, ◌↔◌, ℕ, List, IsTrue, IfOk, slice_index};
+ghost use Rattle.std.specs.Prelude.{◌≡◌, ◌↔◌, ℕ, List, IsTrue, IfOk};
 ghost use Rattle.scf_insn.specs.Architectures.{IsOf};
 ghost use Rattle.scf_insn.specs.Words.{IsWords, call_of};
 ghost use Rattle.scf_profile.specs.Scope.{IsInScope};
 
 use crate::asking::{number_from, word_is};
 use scf_facts::{Atom, WordFacts};
-use scf_insn::kernel::AUDIT_ARCH_X86_64;
 use scf_insn::{Architecture, CallRecord, Memory};
 use scf_profile::Scope;
 use std::alloc::Global;
@@ -23,16 +22,7 @@ pub(crate) fn facts_of<F: WordFacts>(alloc: Global, scope: Scope) -> Result<F, M
     match scope {
         Scope::All => F::all(alloc),
         Scope::Native => facts_of_architecture(alloc, Architecture::X8664),
-        Scope::Call(number) => {
-            let mut of_call: F = facts_of_audit(alloc, AUDIT_ARCH_X86_64)?;
-            of_call.learn(word_is(0, number), true)?;
-            Ok(of_call)
-        }
-        Scope::Numbers { first, last } => {
-            facts_of_numbers(alloc, Architecture::X8664, first, last)
-        }
-        Scope::Of(architecture) => facts_of_architecture(alloc, architecture),
-        Scope::NumbersOf {
+        Scope::Numbers {
             architecture,
             first,
             last,
@@ -47,12 +37,7 @@ pub(crate) fn is_in_scope(scope: Scope, call: &CallRecord) -> bool
     match scope {
         Scope::All => true,
         Scope::Native => Architecture::X8664.has(call),
-        Scope::Call(number) => call.arch == AUDIT_ARCH_X86_64 && call.nr == number,
-        Scope::Numbers { first, last } => {
-            Architecture::X8664.has(call) && first <= call.nr && call.nr <= last
-        }
-        Scope::Of(architecture) => architecture.has(call),
-        Scope::NumbersOf {
+        Scope::Numbers {
             architecture,
             first,
             last,
@@ -62,7 +47,7 @@ pub(crate) fn is_in_scope(scope: Scope, call: &CallRecord) -> bool
 
 /// A store that allows exactly the words of an architecture's records. It learns the answers to what a profile's tree
 /// asks first, so that every store knows them.
-#[tactic(auto, using(scf_insn::proofs::CallWords::word_below))]
+#[tactic(auto, using(crate::proofs::Bits::whole_words, scf_insn::proofs::CallWords::word_below))]
 fn facts_of_architecture<F: WordFacts>(
     alloc: Global,
     architecture: Architecture,
@@ -72,27 +57,15 @@ fn facts_of_architecture<F: WordFacts>(
         → F.allows facts 0 words ↔ (IsWords words × IsOf architecture (call_of words))) }
     ensures among { IfOk result (λ facts. IsTrue F.starts_exact → (masks : ℕ) → F.refutes_among facts 0 masks) }
 {
-    let reaches_first = number_from(architecture.first());
     let last = architecture.last();
-    let mut facts: F = facts_of_audit(alloc, architecture.audit())?;
-    facts.learn(reaches_first, true)?;
+    let mut facts: F = F::all(alloc)?;
+    facts.learn(word_is(1, architecture.audit()), true)?;
+    facts.learn(number_from(architecture.first()), true)?;
     if last == u32::MAX {
         return Ok(facts);
     }
     let passes_last = number_from(last + 1);
     facts.learn(passes_last, false)?;
-    Ok(facts)
-}
-
-/// A store that allows exactly the words of the records with an audit value.
-fn facts_of_audit<F: WordFacts>(alloc: Global, audit: u32) -> Result<F, Memory>
-    ensures unmarked { IfOk result (λ facts. F.level facts ≡ 0) }
-    ensures scope { IfOk result (λ facts. (words : List ℕ)
-        → F.allows facts 0 words ↔ (IsWords words × (slice_index words 1 ≡ audit))) }
-    ensures among { IfOk result (λ facts. IsTrue F.starts_exact → (masks : ℕ) → F.refutes_among facts 0 masks) }
-{
-    let mut facts = F::all(alloc)?;
-    facts.learn(word_is(1, audit), true)?;
     Ok(facts)
 }
 
@@ -106,7 +79,7 @@ fn facts_of_numbers<F: WordFacts>(
     ensures unmarked { IfOk result (λ facts. F.level facts ≡ 0) }
     ensures scope { IfOk result (λ facts. (words : List ℕ)
         → F.allows facts 0 words
-        ↔ (IsWords words × IsInScope (Scope.NumbersOf architecture first last) (call_of words))) }
+        ↔ (IsWords words × IsInScope (Scope.Numbers architecture first last) (call_of words))) }
     ensures among { IfOk result (λ facts. IsTrue F.starts_exact → (masks : ℕ) → F.refutes_among facts 0 masks) }
 {
     let is_past_last = Atom::Gt {

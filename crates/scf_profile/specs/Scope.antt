@@ -2,25 +2,20 @@
 use Rattle.std.specs.Prelude.{◌≡◌, ◌≤◌, ℕ, List}
 use Rattle.scf_insn.specs.Architectures.{IsOf}
 use Rattle.scf_insn.specs.declared.record.CallRecord.{CallRecord}
-use Rattle.scf_insn.specs.Kernel.{audit_arch_x86_64}
 use Rattle.scf_insn.specs.Words.{IsRecord}
 use Rattle.scf_profile.specs.Profile.{Profile, IsNative}
 use Rattle.scf_profile.specs.SameAnswers.{AnswersRelated, AreSame}
 use Rattle.scf_profile.specs.declared.relation.Relation.{Relation}
 use Rattle.scf_profile.specs.declared.scope.Scope.{Scope}
-use Rattle.scf_profile.specs.declared.scope.Scope.TheVariants.{All, Native, Call, Numbers, Of, NumbersOf}
+use Rattle.scf_profile.specs.declared.scope.Scope.TheVariants.{All, Native, Numbers}
 use Rattle.scf_profile.specs.Relation.{IsRelated}
 
--- every record, those of x86-64 with a number that x32 calls don't have, those of x86-64 with one number, the native
--- ones with a number of a range, whose ends belong to it, those of an architecture, or those of one with a number of a
--- range
+-- every record, those of x86-64 with a number that x32 calls don't have, or those of an architecture with a number of a
+-- range, whose ends belong to it
 abbrev pub IsInScope : Scope → CallRecord → Type 0
 IsInScope All call = Unit {0}
 IsInScope Native call = IsNative call
-IsInScope (Call number) call = (call.arch ≡ audit_arch_x86_64) × (call.nr ≡ number)
-IsInScope (Numbers first last) call = IsNative call × (first ≤ call.nr) × (call.nr ≤ last)
-IsInScope (Of architecture) call = IsOf architecture call
-IsInScope (NumbersOf architecture first last) call = IsOf architecture call × (first ≤ call.nr) × (call.nr ≤ last)
+IsInScope (Numbers architecture first last) call = IsOf architecture call × (first ≤ call.nr) × (call.nr ≤ last)
 
 -- a relation holds of the answers to every call record of the scope
 abbrev pub AllAreRelated : (ℕ → ℕ → Type 0) → (CallRecord → Type 0) → (List ℕ → ℕ → Type 0) → Profile → Type 0

@@ -1,9 +1,8 @@
 //! Laws of conditions, of profiles' answers, of relations and of scopes. Each function does nothing: its contract is
 //! the law.
 
-ghost use Rattle.std.specs.Prelude.{◌≡◌, ◌↔◌, ◌-◌, ◌<◌, ◌≤◌, ◌^◌, ℕ, List, All};
+ghost use Rattle.std.specs.Prelude.{◌≡◌, ◌↔◌, ◌<◌, ◌^◌, ℕ, List, All};
 ghost use Rattle.scf_insn.specs.declared.record.CallRecord.{CallRecord};
-ghost use Rattle.scf_insn.specs.Kernel.{x32_syscall_bit};
 ghost use Rattle.scf_insn.specs.Words.{IsRecord};
 ghost use Rattle.scf_profile.specs.declared.condition.Condition.{Condition};
 ghost use Rattle.scf_profile.specs.declared.reason.Reason.{Reason};
@@ -14,10 +13,8 @@ ghost use Rattle.scf_profile.specs.Profile.{AreOfApart, Profile, HaveNoConflict}
 ghost use Rattle.scf_profile.specs.ProfileAnswers.{ProfileAnswers, ProfilesAnswer};
 ghost use Rattle.scf_profile.specs.Reasons.{IsAnswerOf, IsReason};
 ghost use Rattle.scf_profile.specs.Relation.{IsRelated};
-ghost use Rattle.scf_profile.specs.Scope.{IsInScope};
 
 use crate::relation::Relation;
-use crate::scope::Scope;
 
 /// A condition holds exactly if its test, decided half by half, has the expected result.
 #[tactic(auto, using(crate::proofs::NumberTests::decides))]
@@ -58,16 +55,6 @@ pub fn answer_of_reason()
 pub fn same_disposition_is_no_more_and_no_less()
     ensures { (left right : ℕ) → IsRelated Relation.SameDisposition left right
         ↔ (IsRelated Relation.NoMore left right × IsRelated Relation.NoLess left right) }
-{}
-
-/// A range of numbers within another one has no other records, and the range of all numbers has all native ones.
-pub fn numbers_are_native()
-    ensures within { (first last f l : ℕ) (call : CallRecord) → f ≤ first → last ≤ l
-        → IsInScope (Scope.Numbers first last) call → IsInScope (Scope.Numbers f l) call }
-    ensures all { (call : CallRecord) → IsInScope (Scope.Numbers 0 (x32_syscall_bit - 1)) call
-        ↔ IsInScope Scope.Native call }
-    ensures one { (number : ℕ) (call : CallRecord) → number < x32_syscall_bit
-        → IsInScope (Scope.Numbers number number) call ↔ IsInScope (Scope.Call number) call }
 {}
 
 /// Each syscall of a table by itself, and the ranges of numbers between them, have all native records and no others.

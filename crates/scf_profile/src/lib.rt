@@ -38,8 +38,8 @@ mod texts;
 pub use architecture_table::ArchitectureTable;
 pub use condition::{Condition, Conditions, Operator};
 pub use laws::{
-    answer_of_reason, calls_and_rest, condition_by_halves, numbers_are_native, one_answer,
-    one_answer_among, same_disposition_is_no_more_and_no_less, some_answer,
+    answer_of_reason, calls_and_rest, condition_by_halves, one_answer, one_answer_among,
+    same_disposition_is_no_more_and_no_less, some_answer,
 };
 pub use limits::{MAX_RULES, MAX_TEXT_LEN};
 pub use load_fault::LoadFault;

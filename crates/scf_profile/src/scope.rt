@@ -9,18 +9,9 @@ pub enum Scope {
     All,
     /// x86-64's own: arch is AUDIT_ARCH_X86_64, and nr is below 0x40000000, where x32's begin.
     Native,
-    /// x86-64's own with this syscall number.
-    Call(u32),
-    /// x86-64's own with a syscall number from `first` to `last`, both included; none if `first` is above `last`.
-    Numbers {
-        first: u32,
-        last: u32,
-    },
-    /// Those of an architecture.
-    Of(Architecture),
     /// Those of an architecture with a syscall number, as a record has it, from `first` to `last`, both included; none
     /// if `first` is above `last`.
-    NumbersOf {
+    Numbers {
         architecture: Architecture,
         first: u32,
         last: u32,
