@@ -1,5 +1,5 @@
 -- Parts of a bundle: one list of them at most is spelled, and a fault stands where none is.
-use Rattle.scf_request.proofs.Common.{◌≡◌, ◌≢◌, ℕ, zero, suc, get_or, Option, ◌+◌, ◌-◌, ◌<◌, ◌≤◌, List, [], ◌∷◌, ◌++◌, length, take, drop, refl, sym, ap, ◌∙◌, append_assoc, append-nil, arith, length-append, length-drop, append_cancel_left, take_all, take-append-drop, length-take-le, take-append_seam, take-add, IfNone, Part, BundleFault, Header, Short, Memory, IsHeader, PartKind, Contains, IsBundlePart, SpellsParts, IsPartFault, AreNoParts, kind_word, split_kinds}
+use Rattle.scf_request.proofs.Common.{◌≡◌, ◌≢◌, ℕ, zero, suc, get_or, ◌+◌, ◌-◌, ◌<◌, ◌≤◌, List, [], ◌∷◌, ◌++◌, length, take, drop, refl, sym, ap, ◌∙◌, append_assoc, append-nil, arith, length-append, length-drop, append_cancel_left, take_all, take-append-drop, length-take-le, take-append_seam, take-add, Part, BundleFault, Header, Short, Memory, IsHeader, PartKind, Contains, IsBundlePart, SpellsParts, IsPartFault, AreNoParts, kind_word, split_kinds}
 use Rattle.scf_request.proofs.HeaderLemmas.{same_header, header_some}
 
 same_front : (a b r s : List ℕ) → length a ≡ length b → a ++ r ≡ b ++ s → a ≡ b
@@ -15,9 +15,6 @@ pub record SamePart (p q : Part) (a b r s : List ℕ) : Type 0 where
   pub size : p.length ≡ q.length
   pub bytes : a ≡ b
   pub behind : r ≡ s
-
-pub if_none : {T : Type 0} (o : Option T) (P : Type 0) → P → IfNone o P
-if_none o P h = grind arith
 
 pub some_left : (o : ℕ) (bs : List ℕ) → o < length bs → drop o bs ≢ []
 some_left o bs lt e = omega (arith, length-drop o bs, ap length e)

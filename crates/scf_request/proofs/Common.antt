@@ -15,30 +15,27 @@ pub use Rattle.std.proofs.Math.Nat.{pow-le-pow_right}
 pub use Rattle.std.proofs.Math.Seq.{take-add, take-append_seam}
 pub use Rattle.std.proofs.lemmas.Bool.{ltb-true, not-true}
 pub use Rattle.std.proofs.lemmas.Int.Digits.{digits_value-lt}
-pub use Rattle.std.proofs.lemmas.List.{append_cancel_left, append_cancel_right, length-take-le, map_more, map_push}
+pub use Rattle.std.proofs.lemmas.List.{append_cancel_left, length-take-le, map_more, map_push}
 pub use Rattle.std.proofs.lemmas.List.Folds.{list_all-append}
 pub use Rattle.std.proofs.lemmas.Option.{cond_some}
-pub use Rattle.std.proofs.lemmas.Slice.Eq.{strip_prefix_is}
 pub use Rattle.std.specs.List.{filter_map}
-pub use Rattle.std.specs.Option.{IfNone, MatchOption}
 pub use Rattle.std.specs.Str.Parse.{AllDigits}
 pub use Rattle.scf_insn.proofs.Common.{ReadsNumber, and_from, and_parts, digits_value, drop_more, is_digit, list_all, ne_eqb, numeral, take-append-drop, take_all, take_more}
 pub use Rattle.scf_insn.specs.Architectures.{architectures, row_of}
 pub use Rattle.scf_insn.specs.declared.architecture.Architecture.{Architecture}
 pub use Rattle.scf_insn.specs.declared.architecture.Architecture.TheVariants.{X8664, X86}
 pub use Rattle.scf_insn.specs.declared.number.NumeralFault.{NumeralFault}
-pub use Rattle.scf_profile.proofs.Common.{All-contains, All-more, IfOk-weaker, err_from_is_err_and, false≢true, filter_map-append, map-append, option_map_or, nat_tests}
+pub use Rattle.scf_profile.proofs.Common.{All-contains, All-more, IfOk-weaker, err_from_is_err_and, filter_map-append, map-append, option_map_or, nat_tests}
 pub use Rattle.scf_request.specs.Bundle.{AreNoParts, HasHeader, Held, IsBundlePart, IsHeader, IsPartFault, SpellsParts, architecture_kinds, content_of, contents_by, contents_of, held_of, is_beside, is_beside_profile, is_filter, is_profile, kind_word, split_kinds, counts_architecture, stub_architecture, table_architecture}
 pub use Rattle.scf_request.specs.Options.{NumberOption, choice_in, first_wrong, chosen_of, is_given, number_by, number_in, one_of}
-pub use Rattle.scf_request.specs.Requests.{Command as Asked, command_word}
-pub use Rattle.scf_request.specs.Requests.Command.{Answers, Ask, Asm, Check, Compare, Compile, Decide, Dis, Run}
+pub use Rattle.scf_request.specs.Requests.{CommandName as Asked, command_word}
+pub use Rattle.scf_request.specs.Requests.CommandName.{Answers, Ask, Asm, Check, Compare, Compile, Decide, Dis, Run}
 pub use Rattle.scf_request.specs.CommandLine.{flag_rule, option_rule, rules_of_options, scf, scf_shape, shape_for}
 pub use Rattle.scf_request.specs.declared.bundle.BundleFault.{BundleFault}
 pub use Rattle.scf_request.specs.declared.bundle.BundleFault.TheVariants.{Header, Memory, Short}
 pub use Rattle.scf_request.specs.declared.bundle.Part.{Part}
 pub use Rattle.scf_request.specs.declared.bundle.PartKind.{PartKind}
 pub use Rattle.scf_request.specs.declared.bundle.PartKind.TheVariants.{Beside, BesideProfile, CountsOf, Filter, Profile, StubOf, Table, TableOf}
-pub use Rattle.scf_request.specs.declared.options.NumberOption.{NumberOption as Kept}
 pub use Rattle.scf_request.specs.Contents.{held_by, rest_of_table}
 pub use Rattle.scf_request.specs.declared.contents.PartReader.{PartReader}
 pub use Rattle.scf_request.specs.declared.contents.TableReader.{TableReader}

@@ -1,5 +1,6 @@
 -- A header ends at the first line end, so bytes begin with at most one.
-use Rattle.scf_request.proofs.Common.{nat_tests, ◌≡◌, ◌≢◌, ℕ, zero, suc, ◌+◌, ◌<◌, ◌≤◌, ◌^◌, true, List, [], ◌∷◌, ◌++◌, not, eqb, length, get_or, take, drop, Bor, codes, Option, None, Some, Err, refl, sym, ap, ◌∙◌, append_assoc, arith, length-append, list_all, MatchOption, list_all-append, is_digit, digits_value, AllDigits, and_from, and_parts, ltb-true, ne_eqb, cond_some, append_cancel_left, append_cancel_right, drop_more, take-append-drop, digits_value-lt, pow-le-pow_right, numeral, ReadsNumber, NumeralFault, PartKind, kind_word, IsHeader, HasHeader}
+use Rattle.scf_request.proofs.Common.{nat_tests, ◌≡◌, ◌≢◌, ℕ, zero, suc, ◌+◌, ◌<◌, ◌≤◌, ◌^◌, true, List, [], ◌∷◌, ◌++◌, not, eqb, length, get_or, take, drop, codes, Some, Err, refl, sym, ap, ◌∙◌, append_assoc, arith, length-append, list_all, list_all-append, is_digit, digits_value, AllDigits, and_from, and_parts, ltb-true, ne_eqb, cond_some, append_cancel_left, drop_more, take-append-drop, take_more, digits_value-lt, pow-le-pow_right, numeral, ReadsNumber, NumeralFault, PartKind, kind_word, IsHeader, HasHeader}
+use Rattle.std.proofs.Math.Seq.{get_or-append_seam}
 
 -- ---- the digits of a header
 
@@ -51,12 +52,43 @@ same_before end [] (y ∷ b) r s h k e = grind (arith, nat_tests, and_parts)
 same_before end (x ∷ a) [] r s h k e = grind (arith, nat_tests, and_parts)
 same_before end (x ∷ a) (y ∷ b) r s h k e = grind (arith, nat_tests, and_parts, same_before end a b r s)
 
--- the bytes in front of the first line end are a line
-pub line_before : (bs : List ℕ) (n : ℕ) → n ≤ length bs → ((k : ℕ) → k < n → get_or bs k 0 ≢ 10) → IsLine (take n bs)
-line_before bs zero le h = refl
-line_before [] (suc n) le h = refl
-line_before (b ∷ bs) (suc n) le h =
-    rw (ne_eqb b 10 (h 0 (omega arith))) (line_before bs n (omega arith) (λ k lt. h (suc k) (omega arith)))
+-- the bytes in front of the first of a byte
+pub none_before : (end : ℕ) (bs : List ℕ) (n : ℕ) → n ≤ length bs → ((k : ℕ) → k < n → get_or bs k 0 ≢ end)
+    → HasNo end (take n bs)
+none_before end bs zero le h = refl
+none_before end [] (suc n) le h = refl
+none_before end (b ∷ bs) (suc n) le h =
+    rw (ne_eqb b end (h 0 (omega arith))) (none_before end bs n (omega arith) (λ k lt. h (suc k) (omega arith)))
+
+-- bytes around one of them
+around : (end : ℕ) (bs : List ℕ) (n : ℕ) → n < length bs → get_or bs n 0 ≡ end
+    → bs ≡ take n bs ++ end ∷ drop (n + 1) bs
+around end bs n inside here =
+    sym (take-append-drop n bs) ∙ ap (λ (xs : List ℕ). take n bs ++ xs)
+    (drop_more bs n 0 inside ∙ ap (λ (b : ℕ). b ∷ drop (n + 1) bs) here)
+
+-- what ends before the first of a byte
+first_part : (end : ℕ) (bs before behind : List ℕ) (n : ℕ) → bs ≡ before ++ end ∷ behind → HasNo end before
+    → n < length bs → get_or bs n 0 ≡ end → ((k : ℕ) → k < n → get_or bs k 0 ≢ end)
+    → (take n bs ≡ before) × (drop (n + 1) bs ≡ behind)
+first_part end bs before behind n whole none inside here first =
+    let whole_here = around end bs n inside here in
+    let same : take n bs ≡ before = same_before end (take n bs) before (drop (n + 1) bs) behind
+    (none_before end bs n (omega arith) first) none (sym whole_here ∙ whole) in
+    let rest : end ∷ drop (n + 1) bs ≡ end ∷ behind =
+    append_cancel_left before (end ∷ drop (n + 1) bs) (end ∷ behind)
+    (ap (λ (xs : List ℕ). xs ++ end ∷ drop (n + 1) bs) (sym same) ∙ sym whole_here ∙ whole) in
+    (same, cc)
+
+-- a byte that stands between others is found
+pub is_found : (end : ℕ) (bs before behind : List ℕ) → bs ≡ before ++ end ∷ behind
+    → ((k : ℕ) → k < length bs → get_or bs k 0 ≢ end) → ⊥
+is_found end bs before behind whole none =
+    let long : length before < length bs =
+    omega (arith, ap (λ (xs : List ℕ). length xs) whole, length-append before (end ∷ behind)) in
+    let here : get_or bs (length before) 0 ≡ end =
+    ap (λ (xs : List ℕ). get_or xs (length before) 0) whole ∙ get_or-append_seam before end behind 0 in
+    none (length before) long here
 
 -- ---- headers
 
@@ -102,55 +134,54 @@ same_header h g k l m n r s a b e =
 pub header_some : (h : List ℕ) (k : PartKind) (n : ℕ) → IsHeader h k n → 0 < length h
 header_some h k n a = rw (a.text, length-append) (omega arith)
 
--- the header in front ends at the first line end
-pub header_by_line : (bs : List ℕ) (k : PartKind) (n end : ℕ) → end < length bs → get_or bs end 0 ≡ 10
-    → ((i : ℕ) → i < end → get_or bs i 0 ≢ 10) → HasHeader bs k n → IsHeader (take end bs ++ codes "\n") k n
-header_by_line bs k n end inside here before front =
+-- a header in front, up to its line end
+line_of : (bs : List ℕ) (k : PartKind) (n : ℕ) (front : HasHeader bs k n)
+    → bs ≡ (kind_word k ++ (codes " " ++ front.is_header.digits)) ++ 10 ∷ front.content
+line_of bs k n front =
+    let line = kind_word k ++ (codes " " ++ front.is_header.digits) in
+    front.whole ∙ ap (λ (xs : List ℕ). xs ++ front.content) front.is_header.text
+    ∙ append_assoc line (codes "\n") front.content
+
+pub no_line_end : (bs : List ℕ) (k : PartKind) (n : ℕ) → ((i : ℕ) → i < length bs → get_or bs i 0 ≢ 10)
+    → HasHeader bs k n → ⊥
+no_line_end bs k n none front = is_found 10 bs _ front.content (line_of bs k n front) none
+
+-- it is the first line, which is its word, a blank and its digits
+pub first_line : (bs : List ℕ) (k : PartKind) (n end : ℕ) → end < length bs → get_or bs end 0 ≡ 10
+    → ((i : ℕ) → i < end → get_or bs i 0 ≢ 10) → HasHeader bs k n
+    → (digits : List ℕ) × IsCount digits n × (take end bs ≡ kind_word k ++ 32 ∷ digits)
+first_line bs k n end inside here first front =
     let a = front.is_header in
-    let line = kind_word k ++ (codes " " ++ a.digits) in
-    let left : bs ≡ line ++ 10 ∷ front.content =
-    front.whole ∙ ap (λ (xs : List ℕ). xs ++ front.content) a.text ∙ append_assoc line (codes "\n") front.content in
-    let right : bs ≡ take end bs ++ 10 ∷ drop (end + 1) bs =
-    sym (take-append-drop end bs) ∙ ap (λ (xs : List ℕ). take end bs ++ xs)
-    (drop_more bs end 0 inside ∙ ap (λ (b : ℕ). b ∷ drop (end + 1) bs) here) in
-    let same : line ≡ take end bs = same_before 10 line (take end bs) front.content (drop (end + 1) bs)
-    (header_is_line k a.digits n a.is_count) (line_before bs end (omega arith) before) (sym left ∙ right) in
-    record { digits = a.digits; is_count = a.is_count; text = ap (λ (xs : List ℕ). xs ++ codes "\n") (sym same) }
+    let line = first_part 10 bs (kind_word k ++ (codes " " ++ a.digits)) front.content end (line_of bs k n front)
+    (header_is_line k a.digits n a.is_count) inside here first in
+    (a.digits, a.is_count, line.0)
 
--- ---- what a header's reader asks
+pub no_blank : (line : List ℕ) (k : PartKind) (n : ℕ) → ((i : ℕ) → i < length line → get_or line i 0 ≢ 32)
+    → ((digits : List ℕ) × IsCount digits n × (line ≡ kind_word k ++ 32 ∷ digits)) → ⊥
+no_blank line k n none (digits, is_count, whole) = is_found 32 line (kind_word k) digits whole none
 
--- a prefix of two pieces
-pub after_both : (line word first digits : List ℕ) (whole : line ≡ word ++ first) → first ≡ codes " " ++ digits
-    → line ≡ word ++ (codes " " ++ digits)
-after_both line word first digits whole tail = rw whole (ap (λ (xs : List ℕ). word ++ xs) tail)
+pub at_blank : (line : List ℕ) (k : PartKind) (n blank : ℕ) → blank < length line → get_or line blank 0 ≡ 32
+    → ((i : ℕ) → i < blank → get_or line i 0 ≢ 32)
+    → ((digits : List ℕ) × IsCount digits n × (line ≡ kind_word k ++ 32 ∷ digits))
+    → (take blank line ≡ kind_word k) × IsCount (drop (blank + 1) line) n
+at_blank line k n blank inside here first (digits, is_count, whole) =
+    let parts = first_part 32 line (kind_word k) digits blank whole (word_has_no k).1 inside here first in
+    (parts.0, rw parts.1 is_count)
 
--- a word in two parts, of which a line begins with neither or with both
-pub no_first : (line first second tail : List ℕ) → ((behind : List ℕ) → line ≢ first ++ behind)
-    → line ≢ (first ++ second) ++ tail
-no_first line first second tail none is = none (second ++ tail) (is ∙ append_assoc first second tail)
-
-pub behind_both : (line first second : List ℕ) (behind : List ℕ) (stripped : Option (Bor (List ℕ)))
-    → line ≡ first ++ behind
-    → MatchOption stripped ((tail : List ℕ) → behind ≢ second ++ tail) (λ tail. behind ≡ second ++ tail.now)
-    → MatchOption stripped ((tail : List ℕ) → line ≢ (first ++ second) ++ tail)
-    (λ tail. line ≡ (first ++ second) ++ tail.now)
-behind_both line first second behind None is none = λ tail whole.
-    none tail (append_cancel_left first behind (second ++ tail) (sym is ∙ whole ∙ append_assoc first second tail))
-behind_both line first second behind (Some stripped) is tail =
-    is ∙ ap (λ (xs : List ℕ). first ++ xs) tail ∙ sym (append_assoc first second stripped.now)
+-- a line that is a word, a blank and digits is a header
+pub header_in_front : (bs : List ℕ) (k : PartKind) (n end blank : ℕ) → end < length bs → get_or bs end 0 ≡ 10
+    → blank < length (take end bs) → get_or (take end bs) blank 0 ≡ 32 → take blank (take end bs) ≡ kind_word k
+    → IsCount (drop (blank + 1) (take end bs)) n → IsHeader (take (end + 1) bs) k n
+header_in_front bs k n end blank inside here inside_line here_line word is_count =
+    let line = take end bs in
+    let parts : line ≡ kind_word k ++ 32 ∷ drop (blank + 1) line =
+    around 32 line blank inside_line here_line ∙ ap (λ (xs : List ℕ). xs ++ 32 ∷ drop (blank + 1) line) word in
+    record {
+      digits = drop (blank + 1) line;
+      is_count = is_count;
+      text = take_more bs end 0 inside ∙ ap (λ (b : ℕ). line ++ b ∷ []) here
+          ∙ ap (λ (xs : List ℕ). xs ++ codes "\n") parts;
+    }
 
 pub no_count : (ds : List ℕ) (n : ℕ) (e : NumeralFault) → ReadsNumber (numeral 10 ds) (Err e) → IsCount ds n → ⊥
 no_count ds n e h1 h2 = grind (arith, count_is_small)
-
--- the digits of a line are those of the header that it ends
-pub header_by_count : (kind : PartKind) (line digits : List ℕ) (counted : Option ℕ)
-    → line ≡ kind_word kind ++ (codes " " ++ digits)
-    → MatchOption counted ((n : ℕ) → IsCount digits n → ⊥) (IsCount digits)
-    → MatchOption counted ((n : ℕ) → IsHeader (line ++ codes "\n") kind n → ⊥) (IsHeader (line ++ codes "\n") kind)
-header_by_count kind line digits None whole none = λ n header.
-    let behind = kind_word kind ++ (codes " " ++ header.digits) in
-    let same : line ≡ behind = append_cancel_right line behind (codes "\n") header.text in
-    let words = same_word kind kind digits header.digits (sym whole ∙ same) in
-    none n (rw words.1 header.is_count)
-header_by_count kind line digits (Some n) whole is =
-    record { digits = digits; is_count = is; text = ap (λ (xs : List ℕ). xs ++ codes "\n") whole }

@@ -1,5 +1,5 @@
 -- Options among the matches of a command line, and among its rules.
-use Rattle.scf_request.proofs.Common.{codes, false, Bool, filter_map, ◌≡◌, ◌||◌, ◌-◌, ◌^◌, ◌<◌, ◌+◌, ℕ, Bor, List, [], ◌∷◌, ◌++◌, Option, Some, None, true, false, append-nil, append_assoc, length, take, drop, get_or, map, refl, sym, ap, ◌∙◌, drop_more, map-append, map_more, map_push, take-append-drop, if◌then◌else◌, is_some, option_to_list, filter_map-append, Row, first_value, with_rule, rows_of, Found, first_value-rows, NumberOption, choice_in, first_wrong, chosen_of, is_given, number_by, number_in, one_of, command_of, flags_in}
+use Rattle.scf_request.proofs.Common.{codes, false, Bool, filter_map, ◌≡◌, ◌||◌, ◌-◌, ◌^◌, ◌<◌, ◌+◌, ℕ, Bor, List, [], ◌∷◌, ◌++◌, Option, Some, None, true, false, append-nil, append_assoc, length, take, drop, get_or, map, refl, sym, ap, ◌∙◌, drop_more, map-append, map_more, map_push, take-append-drop, if◌then◌else◌, Architecture, is_some, option_to_list, filter_map-append, Row, first_value, with_rule, rows_of, Found, first_value-rows, NumberOption, choice_in, first_wrong, chosen_of, is_given, number_by, number_in, one_of, command_of, flags_in}
 use Rattle.clap.specs.Words.{Rule, first_of}
 use Rattle.scf_request.specs.declared.request.Limits.{Limits}
 use Rattle.scf_request.specs.Options.{SelectsCalls, comparison_options, has_range, numbers_of_limits, numbers_of_range, range_options, scope_flags, word_option}
@@ -9,6 +9,10 @@ use Rattle.scf_profile.specs.declared.scope.Scope.TheVariants.{All, Native, Numb
 
 pub by_value : (f : Found) (o : NumberOption) → number_in (rows_of f) o ≡ number_by o (first_value f o.name)
 by_value f o = ap (number_by o) (sym (first_value-rows f o.name))
+
+-- an option that has a text
+pub has_text : (f : Found) (name : List ℕ) → is_some (first_of name (rows_of f)) ≡ is_some (first_value f name)
+has_text f name = ap (λ (text : Option (List ℕ)). is_some text) (sym (first_value-rows f name))
 
 -- where options spell numbers, none of them is wrong
 pub none_wrong : (options : List NumberOption) (rows : List Row) (numbers : List ℕ)
@@ -31,13 +35,14 @@ with_range rows limits range moved_range spelled moved =
     cc
 
 -- no flag stands for a range
-no_range_flag : (rows : List Row) (first last : ℕ) → choice_in rows scope_flags ≡ Some (AtOnce (Numbers first last)) → ⊥
-no_range_flag rows first last chosen =
+no_range_flag : (rows : List Row) (architecture : Architecture) (first last : ℕ)
+    → choice_in rows scope_flags ≡ Some (AtOnce (Numbers architecture first last)) → ⊥
+no_range_flag rows architecture first last chosen =
     by_flags (is_given rows (codes "native")) (is_given rows (codes "calls")) chosen
   where
     by_flags : (native calls : Bool)
         → one_of (AtOnce All) (filter_map (λ (flag : Bool × Scopes). if flag.0 then Some flag.1 else None)
-        ((native, AtOnce Native) ∷ (calls, EachCall) ∷ [])) ≡ Some (AtOnce (Numbers first last)) → ⊥
+        ((native, AtOnce Native) ∷ (calls, EachCall) ∷ [])) ≡ Some (AtOnce (Numbers architecture first last)) → ⊥
     by_flags true true e = absurd (cc)
     by_flags true false e = absurd (cc)
     by_flags false true e = absurd (cc)
@@ -47,7 +52,8 @@ no_range_flag rows first last chosen =
 pub by_flags : (rows : List Row) (over : Scopes) → has_range rows ≡ false → choice_in rows scope_flags ≡ Some over
     → SelectsCalls rows over
 by_flags rows EachCall none chosen = (none, chosen)
-by_flags rows (AtOnce (Numbers first last)) none chosen = absurd (no_range_flag rows first last chosen)
+by_flags rows (AtOnce (Numbers architecture first last)) none chosen =
+    absurd (no_range_flag rows architecture first last chosen)
 by_flags rows (AtOnce scope) none chosen = (none, chosen)
 
 without_text : (o : NumberOption) (text : Option (List ℕ)) → is_some text ≡ false → number_by o text ≡ Some o.default
@@ -73,7 +79,8 @@ pub range_of_flags : (rows : List Row) (over : Scopes) → has_range rows ≡ fa
     → choice_in rows scope_flags ≡ Some over
     → map Some (numbers_of_range over) ≡ map (number_in rows) range_options
 range_of_flags rows EachCall none chosen = open_range rows none
-range_of_flags rows (AtOnce (Numbers first last)) none chosen = absurd (no_range_flag rows first last chosen)
+range_of_flags rows (AtOnce (Numbers architecture first last)) none chosen =
+    absurd (no_range_flag rows architecture first last chosen)
 range_of_flags rows (AtOnce scope) none chosen = open_range rows none
 
 -- one more of the options or flags whose rules a command has

@@ -2,11 +2,11 @@
 use Rattle.scf_request.proofs.Common.{ℕ, ◌<◌, ◌≤◌, ◌^◌, List, [], ◌∷◌, refl, arith, Architecture, X8664, X86, row_of}
 use Rattle.std.proofs.Common.{IsTrue, leb, max, min}
 use Rattle.std.proofs.lemmas.Bool.{leb-true, le-leb}
-use Rattle.scf_insn.proofs.Architectures.{reach, some_number}
+use Rattle.scf_insn.proofs.Architectures.{reach}
 use Rattle.scf_insn.proofs.CallWords.{IsRecord-call_of}
 use Rattle.scf_insn.specs.Words.{IsWords, call_of}
 use Rattle.scf_profile.specs.Scope.{IsInScope}
-use Rattle.scf_profile.specs.declared.scope.Scope.TheVariants.{All, Call, Native, NumbersOf, Of}
+use Rattle.scf_profile.specs.declared.scope.Scope.TheVariants.{All, Native, Numbers}
 use Rattle.scf_request.specs.Requests.{HasRecord}
 
 -- the words of a record with this number and this architecture
@@ -24,7 +24,7 @@ are_words nr arch small_nr small_arch =
 
 -- an architecture's numbers that are in a range have records
 numbered : (a : Architecture) (first last nr : ℕ) → (row_of a).first ≤ nr → nr ≤ (row_of a).last
-    → first ≤ nr → nr ≤ last → HasRecord (IsInScope (NumbersOf a first last))
+    → first ≤ nr → nr ≤ last → HasRecord (IsInScope (Numbers a first last))
 numbered a first last nr from to above below =
     let top = (reach a).small in
     let small : nr < 2 ^ 32 = omega arith in
@@ -37,8 +37,8 @@ numbered a first last nr from to above below =
 
 -- a range and an architecture's numbers meet
 pub numbers_meet : (a : Architecture) (first last : ℕ)
-    → (IsTrue (leb (max first (row_of a).first) (min last (row_of a).last)) → HasRecord (IsInScope (NumbersOf a first last)))
-    × (HasRecord (IsInScope (NumbersOf a first last)) → IsTrue (leb (max first (row_of a).first) (min last (row_of a).last)))
+    → (IsTrue (leb (max first (row_of a).first) (min last (row_of a).last)) → HasRecord (IsInScope (Numbers a first last)))
+    × (HasRecord (IsInScope (Numbers a first last)) → IsTrue (leb (max first (row_of a).first) (min last (row_of a).last)))
 numbers_meet a first last = (
   λ is.
       let order = leb-true (max first (row_of a).first) (min last (row_of a).last) is in
@@ -51,33 +51,18 @@ numbers_meet a first last = (
       le-leb (max first (row_of a).first) (min last (row_of a).last) (omega arith),
 )
 
--- every architecture has a record
-pub some_of : (a : Architecture) → HasRecord (IsInScope (Of a))
-some_of a =
-    let order = some_number a in
-    let some = numbered a (row_of a).first (row_of a).first (row_of a).first (omega arith) order (omega arith) (omega arith) in
-    record { call = some.call; is_record = some.is_record; is_one = some.is_one.0 }
-
 pub some_native : HasRecord (IsInScope Native)
 some_native =
-    let some = some_of X8664 in record { call = some.call; is_record = some.is_record; is_one = some.is_one }
+    let some = numbered X8664 0 0 0 (omega arith) (omega arith) (omega arith) (omega arith) in
+    record { call = some.call; is_record = some.is_record; is_one = some.is_one.0 }
 
 pub some_record : HasRecord (IsInScope All)
-some_record = let some = some_of X8664 in record { call = some.call; is_record = some.is_record; is_one = tt }
-
--- and so has each number of x86-64
-pub some_call : (number : ℕ) → number < 2 ^ 32 → HasRecord (IsInScope (Call number))
-some_call number small = record {
-  call = call_of (words_with number (row_of X8664).audit);
-  is_record = IsRecord-call_of (words_with number (row_of X8664).audit)
-      (are_words number (row_of X8664).audit small (reach X8664).audit);
-  is_one = (refl, refl);
-}
+some_record = record { call = some_native.call; is_record = some_native.is_record; is_one = tt }
 
 -- every number is one of i386's
 pub of_any : (first last : ℕ) → last < 2 ^ 32
-    → (IsTrue (leb first last) → (a : Architecture) × HasRecord (IsInScope (NumbersOf a first last)))
-    × (((a : Architecture) × HasRecord (IsInScope (NumbersOf a first last))) → IsTrue (leb first last))
+    → (IsTrue (leb first last) → (a : Architecture) × HasRecord (IsInScope (Numbers a first last)))
+    × (((a : Architecture) × HasRecord (IsInScope (Numbers a first last))) → IsTrue (leb first last))
 of_any first last small = (
   λ is.
       let order = leb-true first last is in

@@ -12,7 +12,6 @@ use Rattle.scf_request.specs.declared.bundle.BundleForm.TheVariants.{Profile as 
 use Rattle.scf_request.specs.declared.bundle.Part.{Part}
 use Rattle.scf_request.specs.declared.bundle.BundleFault.{BundleFault}
 use Rattle.scf_request.specs.declared.bundle.BundleFault.TheVariants.{Header, Short, Memory}
-use Rattle.scf_request.specs.declared.request.Scopes.TheVariants.{EachCall}
 
 -- the beginning and the end of the word of a kind
 abbrev pub word_parts : PartKind → List ℕ × List ℕ
@@ -43,8 +42,8 @@ architecture_kinds =
 abbrev pub kinds_of : BundleForm → List PartKind
 kinds_of OfProfile = Filter ∷ Profile ∷ BesideProfile ∷ Table ∷ StubOf X8664 ∷ CountsOf X8664 ∷ []
 kinds_of OfArchitectures = architecture_kinds
-kinds_of (OfBeside EachCall) = Filter ∷ Beside ∷ Table ∷ []
-kinds_of (OfBeside over) = Filter ∷ Beside ∷ []
+kinds_of (OfBeside true) = Filter ∷ Beside ∷ Table ∷ []
+kinds_of (OfBeside false) = Filter ∷ Beside ∷ []
 
 -- The header of a part: the word of its kind, one space, one to eight decimal digits that write the count of the bytes
 -- that follow, LF.

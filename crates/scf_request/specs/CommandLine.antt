@@ -3,15 +3,15 @@ use Rattle.std.specs.Prelude.{ℕ, Bool, true, false, List, [], ◌∷◌, ◌++
 use Rattle.clap.specs.declared.builder.action.ArgAction.TheVariants.{SetTrue}
 use Rattle.clap.specs.Words.{App, Rule, Shape, new_app, new_rule}
 use Rattle.scf_request.specs.Options.{NumberOption, reading_option}
-use Rattle.scf_request.specs.Requests.{Command, command_word, options_of, takes_reading, words_of_command}
-use Rattle.scf_request.specs.Requests.Command.{Answers, Ask, Asm, Check, Compare, Compile, Decide, Dis, Run}
+use Rattle.scf_request.specs.Requests.{CommandName, command_word, options_of, takes_reading, words_of_command}
+use Rattle.scf_request.specs.Requests.CommandName.{Answers, Ask, Asm, Check, Compare, Compile, Decide, Dis, Run}
 
 -- an option takes one value, behind its name and two dashes
-abbrev pub option_rule : NumberOption → Rule
-option_rule o = record (new_rule o.name) { long = Some o.name; value_names = 1 }
+abbrev pub valued_rule : List ℕ → Rule
+valued_rule name = record (new_rule name) { long = Some name; value_names = 1 }
 
-abbrev pub reading_rule : Rule
-reading_rule = record (new_rule reading_option) { long = Some reading_option; value_names = 1 }
+abbrev pub option_rule : NumberOption → Rule
+option_rule o = valued_rule o.name
 
 -- a flag takes none
 abbrev pub flag_rule : List ℕ → Rule
@@ -20,9 +20,9 @@ flag_rule name = record (new_rule name) { long = Some name; action = Some SetTru
 -- the rules of options, and of a reading
 abbrev pub rules_of_options : List NumberOption → Bool → List Rule
 rules_of_options options takes_reading =
-    map option_rule options ++ (if takes_reading then reading_rule ∷ [] else [])
+    map option_rule options ++ (if takes_reading then valued_rule reading_option ∷ [] else [])
 
-abbrev pub shape_for : Command → Shape
+abbrev pub shape_for : CommandName → Shape
 shape_for command =
     record (new_app (command_word command)).top {
       rules = rules_of_options (options_of command) (takes_reading command)

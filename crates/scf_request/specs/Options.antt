@@ -1,18 +1,22 @@
 -- The options of the program, and the numbers that they spell.
-use Rattle.std.specs.Prelude.{◌≡◌, ◌⊎◌, ◌||◌, ℕ, Bool, true, false, ◌-◌, ◌^◌, List, [], ◌∷◌, ◌++◌, codes, bytes_eq, map, find, nat_le, is_none, is_some, Option, Some, None, Result, Ok, Err, option_map, if◌then◌else◌}
+use Rattle.std.specs.Prelude.{◌≡◌, ◌&&◌, ◌||◌, ℕ, Bool, true, false, ◌-◌, ◌^◌, List, [], ◌∷◌, ◌++◌, codes, bytes_eq, map, find, nat_le, is_none, is_some, Option, Some, None, Result, Ok, Err, option_map, if◌then◌else◌}
 use Rattle.std.specs.List.{filter_map}
 use Rattle.std.specs.Option.{option_and_then, option_map_or}
 use Rattle.clap.specs.Words.{Row, first_of}
 use Rattle.scf_insn.specs.declared.record.CallRecord.{CallRecord}
+use Rattle.scf_insn.specs.declared.architecture.Architecture.TheVariants.{X8664}
 use Rattle.scf_insn.specs.Kernel.{audit_arch_x86_64}
 use Rattle.scf_insn.specs.Numbers.{number_of}
 use Rattle.scf_profile.specs.declared.reading.Reading.{Reading}
 use Rattle.scf_profile.specs.declared.reading.Reading.TheVariants.{Strict, Runc, Crun, Sandbox}
 use Rattle.scf_profile.specs.declared.relation.Relation.{Relation}
 use Rattle.scf_profile.specs.declared.relation.Relation.TheVariants.{Same, NoMore, NoLess, SameDisposition}
+use Rattle.scf_request.specs.declared.bundle.BundleForm.{BundleForm}
+use Rattle.scf_request.specs.declared.bundle.BundleForm.TheVariants.{Architectures, Beside, Profile}
 use Rattle.scf_request.specs.declared.options.NumberFault.{NumberFault}
 use Rattle.scf_request.specs.declared.request.Comparison.{Comparison}
-use Rattle.scf_request.specs.declared.request.Exploration.{Exploration}
+use Rattle.scf_request.specs.declared.request.Detail.{Detail}
+use Rattle.scf_request.specs.declared.request.Detail.TheVariants.{Answer, Instruction, Paths}
 use Rattle.scf_request.specs.declared.request.Limits.{Limits}
 use Rattle.scf_request.specs.declared.request.Scopes.{Scopes}
 use Rattle.scf_profile.specs.declared.scope.Scope.{Scope}
@@ -81,7 +85,7 @@ numbers_of_limits limits = limits.each ∷ limits.total ∷ limits.splits ∷ []
 
 -- the ends of the range over which a comparison goes
 abbrev pub numbers_of_range : Scopes → List ℕ
-numbers_of_range (AtOnce (scopes.Numbers first last)) = first ∷ last ∷ []
+numbers_of_range (AtOnce (scopes.Numbers architecture first last)) = first ∷ last ∷ []
 numbers_of_range over = 0 ∷ (2 ^ 32 - 1) ∷ []
 
 abbrev pub numbers_of_comparison : Comparison → List ℕ
@@ -90,9 +94,6 @@ numbers_of_comparison comparison = numbers_of_limits comparison.limits ++ number
 -- the options of a walk over the records of a scope: its most steps, and the ends of a range
 abbrev pub exploration_options : List NumberOption
 exploration_options = long_option (codes "limit") 1000000 ∷ range_options
-
-abbrev pub numbers_of_exploration : Exploration → List ℕ
-numbers_of_exploration exploration = exploration.limit ∷ numbers_of_range (AtOnce exploration.scope)
 
 -- the option of the reading of a profile, and the readings by their names; without it the reading is by the words
 abbrev pub reading_option : List ℕ
@@ -132,9 +133,13 @@ choice_in rows group = one_of group.0 (chosen_of rows group.1)
 abbrev pub native_flag : List ℕ
 native_flag = codes "native"
 
+-- the flag of single calls
+abbrev pub calls_flag : List ℕ
+calls_flag = codes "calls"
+
 -- over which calls a comparison goes: all without a flag
 abbrev pub scope_flags : Scopes × List (List ℕ × Scopes)
-scope_flags = (AtOnce scopes.All, (native_flag, AtOnce scopes.Native) ∷ (codes "calls", EachCall) ∷ [])
+scope_flags = (AtOnce scopes.All, (native_flag, AtOnce scopes.Native) ∷ (calls_flag, EachCall) ∷ [])
 
 -- by which relation it goes: by the same answers without a flag
 abbrev pub relation_flags : Relation × List (List ℕ × Relation)
@@ -163,31 +168,15 @@ has_range rows = is_some (first_of (codes "nr-from") rows) || is_some (first_of 
 -- A comparison goes over these calls: those of a range that is given, which stands with or without the flag of native
 -- calls, and without one those of the flags.
 abbrev pub SelectsCalls : List Row → Scopes → Type 0
-SelectsCalls rows (AtOnce (scopes.Numbers first last)) =
-    (has_range rows ≡ true) × (scope : Scope) × (choice_in rows scope_flags ≡ Some (AtOnce scope))
+SelectsCalls rows (AtOnce (scopes.Numbers architecture first last)) =
+    (architecture ≡ X8664) × (has_range rows ≡ true) × (scope : Scope)
+    × (choice_in rows scope_flags ≡ Some (AtOnce scope))
 SelectsCalls rows over = (has_range rows ≡ false) × (choice_in rows scope_flags ≡ Some over)
 
 -- The options and flags ask for a comparison over these calls and by this relation.
 pub record AsksToCompare (rows : List Row) (comparison : Comparison) : Type 0 where
   pub scopes : SelectsCalls rows comparison.scopes
   pub relation : choice_in rows relation_flags ≡ Some comparison.relation
-
--- Flags exclude each other: two of a group, that of single calls a range, and that of architectures the one of native
--- calls, and other filters in place of a profile.
-abbrev pub AreExclusive : List Row → Type 0
-AreExclusive rows =
-    (choice_in rows scope_flags ≡ None) ⊎ (choice_in rows relation_flags ≡ None)
-    ⊎ ((has_range rows ≡ true) × (choice_in rows scope_flags ≡ Some EachCall))
-    ⊎ ((is_given rows architectures_flag ≡ true)
-    × ((is_given rows native_flag ≡ true) ⊎ (is_given rows beside_flag ≡ true)))
-
--- A walk goes over these records: those of a range that is given, which stands with or without the flag of native
--- calls, and without one those of that flag, or all.
-abbrev pub SelectsScope : List Row → Scope → Type 0
-SelectsScope rows (scopes.Numbers first last) = has_range rows ≡ true
-SelectsScope rows scopes.Native = (has_range rows ≡ false) × (is_given rows native_flag ≡ true)
-SelectsScope rows scopes.All = (has_range rows ≡ false) × (is_given rows native_flag ≡ false)
-SelectsScope rows scope = ⊥
 
 -- the flag by which two sides are walked, and what isn't known to be answered alike is listed
 abbrev pub differences_flag : List ℕ
@@ -197,11 +186,6 @@ differences_flag = codes "differences"
 abbrev pub examples_flag : List ℕ
 examples_flag = codes "examples"
 
--- The options and flags ask for a walk over these records, with or without a record of each region.
-pub record AsksToExplore (rows : List Row) (exploration : Exploration) : Type 0 where
-  pub scope : SelectsScope rows exploration.scope
-  pub examples : is_given rows examples_flag ≡ exploration.has_examples
-
 -- the flag that has the instruction shown that gives an answer
 abbrev pub at_flag : List ℕ
 at_flag = codes "at"
@@ -209,3 +193,17 @@ at_flag = codes "at"
 -- the flag that has the paths of runs shown
 abbrev pub path_flag : List ℕ
 path_flag = codes "path"
+
+-- what the flags ask `decide` to print
+abbrev pub detail_in : List Row → Detail
+detail_in rows =
+    if is_given rows path_flag then Paths else (if is_given rows at_flag then Instruction else Answer)
+
+-- The form of a bundle by the flags of other filters and of architectures. None where flags exclude each other: that of
+-- architectures those of native calls and of other filters, and beside that of differences a range.
+abbrev pub form_in : List Row → Option BundleForm
+form_in rows =
+    if is_given rows architectures_flag
+    then (if is_given rows beside_flag || is_given rows native_flag
+    || (is_given rows differences_flag && has_range rows) then None else Some Architectures)
+    else Some (if is_given rows beside_flag then Beside (is_given rows calls_flag) else Profile)

@@ -1,30 +1,27 @@
 -- What the program is asked for by its words.
-use Rattle.std.specs.Prelude.{◌≡◌, ◌⊎◌, ℕ, Bool, true, false, List, [], ◌∷◌, ◌++◌, codes, map, Option, Some, None, Result, Ok, Err, ok_or}
-use Rattle.std.specs.Option.{option_map_or}
+use Rattle.std.specs.Prelude.{◌≡◌, ◌≢◌, ◌⊎◌, ℕ, Bool, true, false, List, [], ◌∷◌, ◌++◌, codes, map, Option, Some, None, Result, Ok, Err}
 use Rattle.clap.specs.Words.{Row}
 use Rattle.scf_insn.specs.Words.{IsRecord}
 use Rattle.scf_insn.specs.declared.architecture.Architecture.{Architecture}
 use Rattle.scf_insn.specs.declared.record.CallRecord.{CallRecord}
 use Rattle.scf_profile.specs.Scope.{IsInScope}
-use Rattle.scf_profile.specs.declared.reading.Reading.{Reading}
-use Rattle.scf_profile.specs.declared.reading.Reading.TheVariants.{Strict}
-use Rattle.scf_profile.specs.declared.scope.Scope.{Scope}
 use Rattle.scf_profile.specs.declared.scope.Scope.TheVariants as scopes
 use Rattle.scf_request.specs.declared.bundle.BundleForm.{BundleForm}
 use Rattle.scf_request.specs.declared.bundle.BundleForm.TheVariants as forms
 use Rattle.scf_request.specs.declared.request_fault.RequestFault.{RequestFault}
-use Rattle.scf_request.specs.declared.request_fault.RequestFault.TheVariants.{Number, NoCommand, Flags, Reading as NoReading, Range}
+use Rattle.scf_request.specs.declared.request_fault.RequestFault.TheVariants.{Number, NoCommand, Flags, Reading, Range}
+use Rattle.scf_request.specs.declared.request.Command.{Command}
+use Rattle.scf_request.specs.declared.request.Command.TheVariants as commands
 use Rattle.scf_request.specs.declared.request.Request.{Request}
-use Rattle.scf_request.specs.declared.request.Request.TheVariants as requests
 use Rattle.scf_request.specs.declared.request.Scopes.{Scopes}
 use Rattle.scf_request.specs.declared.request.Scopes.TheVariants.{AtOnce, EachCall}
-use Rattle.scf_request.specs.Options.{AreExclusive, AsksToCompare, AsksToExplore, NumberOption, architectures_flag, at_flag, beside_flag, call_options, comparison_options, differences_flag, examples_flag, exploration_options, first_wrong, flag_names, has_range, is_given, left_out_flag, native_flag, number_in, numbers_of_comparison, numbers_of_exploration, numbers_of_record, path_flag, reading_in, relation_flags, scope_flags}
+use Rattle.scf_request.specs.Options.{AsksToCompare, NumberOption, architectures_flag, at_flag, beside_flag, call_options, choice_in, comparison_options, detail_in, differences_flag, examples_flag, exploration_options, first_wrong, flag_names, form_in, has_range, is_given, left_out_flag, native_flag, number_in, numbers_of_comparison, numbers_of_record, path_flag, reading_in, relation_flags, scope_flags}
 
-pub data Command : Type 0 where
-  Answers Ask Asm Check Compare Compile Decide Dis Run : Command
+pub data CommandName : Type 0 where
+  Answers Ask Asm Check Compare Compile Decide Dis Run : CommandName
 
 -- the words of each command: its own, those of its options, each with a number, and those of its flags
-abbrev pub words_of_command : Command → List ℕ × List NumberOption × List (List ℕ)
+abbrev pub words_of_command : CommandName → List ℕ × List NumberOption × List (List ℕ)
 words_of_command Answers = (
   codes "answers",
   exploration_options,
@@ -44,87 +41,61 @@ words_of_command Dis = (codes "dis", [], [])
 words_of_command Run = (codes "run", call_options, path_flag ∷ [])
 
 -- the commands on profiles take a reading, too
-abbrev pub takes_reading : Command → Bool
+abbrev pub takes_reading : CommandName → Bool
 takes_reading Answers = true
 takes_reading Ask = true
 takes_reading Compare = true
 takes_reading Compile = true
-takes_reading command = false
+takes_reading name = false
 
-abbrev pub command_word : Command → List ℕ
-command_word command = (words_of_command command).0
+abbrev pub command_word : CommandName → List ℕ
+command_word name = (words_of_command name).0
 
-abbrev pub options_of : Command → List NumberOption
-options_of command = (words_of_command command).1
+abbrev pub options_of : CommandName → List NumberOption
+options_of name = (words_of_command name).1
 
--- the command of a request, and the numbers of its options
-abbrev pub command_and_numbers : Request → Command × List ℕ
-command_and_numbers (requests.Answers exploration) = (Answers, numbers_of_exploration exploration)
-command_and_numbers (requests.AnswersOfArchitectures exploration) = (Answers, numbers_of_exploration exploration)
-command_and_numbers (requests.Ask call) = (Ask, numbers_of_record call)
-command_and_numbers (requests.AskArchitectures call) = (Ask, numbers_of_record call)
-command_and_numbers (requests.Differences form exploration) = (Answers, numbers_of_exploration exploration)
-command_and_numbers requests.Assemble = (Asm, [])
-command_and_numbers requests.Check = (Check, [])
-command_and_numbers (requests.Compare comparison) = (Compare, numbers_of_comparison comparison)
-command_and_numbers (requests.CompareBeside comparison) = (Compare, numbers_of_comparison comparison)
-command_and_numbers (requests.CompareArchitectures comparison) = (Compare, numbers_of_comparison comparison)
-command_and_numbers (requests.Compile has_left_out) = (Compile, [])
-command_and_numbers (requests.CompileArchitectures has_left_out) = (Compile, [])
-command_and_numbers (requests.Decide call) = (Decide, numbers_of_record call)
-command_and_numbers (requests.DecideBy call) = (Decide, numbers_of_record call)
-command_and_numbers (requests.DecidePaths call) = (Decide, numbers_of_record call)
-command_and_numbers requests.List = (Dis, [])
-command_and_numbers (requests.Run call) = (Run, numbers_of_record call)
-command_and_numbers (requests.Trace call) = (Run, numbers_of_record call)
+-- those that it reads: those of a comparison that `answers` lacks have no text
+abbrev pub options_read : CommandName → List NumberOption
+options_read Answers = comparison_options
+options_read name = options_of name
 
--- The flags of the form of a bundle of two sides are given: of other filters, over the scope of the walk, or of
--- architectures, over all records, or neither.
-abbrev pub HasFlagsOfForm : List Row → Scope → BundleForm → Type 0
-HasFlagsOfForm rows scope forms.Profile =
-    (is_given rows beside_flag ≡ false) × (is_given rows architectures_flag ≡ false)
-HasFlagsOfForm rows scope (forms.Beside over) = (over ≡ AtOnce scope)
-    × (is_given rows beside_flag ≡ true) × (is_given rows architectures_flag ≡ false)
-HasFlagsOfForm rows scope forms.Architectures = (scope ≡ scopes.All)
-    × (is_given rows beside_flag ≡ false) × (is_given rows architectures_flag ≡ true)
+-- the name of a command, and the numbers of its options
+abbrev pub name_and_numbers : Command → CommandName × List ℕ
+name_and_numbers (commands.Answers comparison has_examples has_differences) =
+    (Answers, numbers_of_comparison comparison)
+name_and_numbers (commands.Ask call) = (Ask, numbers_of_record call)
+name_and_numbers commands.Assemble = (Asm, [])
+name_and_numbers commands.Check = (Check, [])
+name_and_numbers (commands.Compare comparison) = (Compare, numbers_of_comparison comparison)
+name_and_numbers (commands.Compile has_left_out) = (Compile, [])
+name_and_numbers (commands.Decide call detail) = (Decide, numbers_of_record call)
+name_and_numbers commands.List = (Dis, [])
+name_and_numbers (commands.Run call has_path) = (Run, numbers_of_record call)
 
--- the flags of a request are given, and no other
-abbrev pub HasFlags : List Row → Request → Type 0
-HasFlags rows (requests.Answers exploration) = AsksToExplore rows exploration
-    × (is_given rows differences_flag ≡ false) × (is_given rows beside_flag ≡ false)
-    × (is_given rows architectures_flag ≡ false)
-HasFlags rows (requests.AnswersOfArchitectures exploration) = AsksToExplore rows exploration
-    × (is_given rows differences_flag ≡ false) × (is_given rows beside_flag ≡ false)
-    × (is_given rows native_flag ≡ false) × (is_given rows architectures_flag ≡ true)
-HasFlags rows (requests.Differences form exploration) = AsksToExplore rows exploration
-    × (is_given rows differences_flag ≡ true) × HasFlagsOfForm rows exploration.scope form
-HasFlags rows (requests.Ask call) = is_given rows architectures_flag ≡ false
-HasFlags rows (requests.AskArchitectures call) = is_given rows architectures_flag ≡ true
-HasFlags rows (requests.Compare comparison) = AsksToCompare rows comparison × (is_given rows beside_flag ≡ false)
-    × (is_given rows architectures_flag ≡ false)
-HasFlags rows (requests.CompareBeside comparison) = AsksToCompare rows comparison × (is_given rows beside_flag ≡ true)
-    × (is_given rows architectures_flag ≡ false)
-HasFlags rows (requests.CompareArchitectures comparison) = AsksToCompare rows comparison
-    × (is_given rows native_flag ≡ false) × (is_given rows beside_flag ≡ false)
-    × (is_given rows architectures_flag ≡ true)
-HasFlags rows (requests.Compile has_left_out) =
-    (is_given rows architectures_flag ≡ false) × (is_given rows left_out_flag ≡ has_left_out)
-HasFlags rows (requests.CompileArchitectures has_left_out) =
-    (is_given rows architectures_flag ≡ true) × (is_given rows left_out_flag ≡ has_left_out)
-HasFlags rows (requests.Decide call) = (is_given rows at_flag ≡ false) × (is_given rows path_flag ≡ false)
-HasFlags rows (requests.DecideBy call) = (is_given rows at_flag ≡ true) × (is_given rows path_flag ≡ false)
-HasFlags rows (requests.DecidePaths call) = is_given rows path_flag ≡ true
-HasFlags rows (requests.Run call) = is_given rows path_flag ≡ false
-HasFlags rows (requests.Trace call) = is_given rows path_flag ≡ true
-HasFlags rows request = Unit {0}
+-- the flags of a command are given, and no other; `answers` takes other filters for differences alone
+abbrev pub HasFlags : List Row → Command → Type 0
+HasFlags rows (commands.Answers comparison has_examples has_differences) = AsksToCompare rows comparison
+    × (is_given rows examples_flag ≡ has_examples) × (is_given rows differences_flag ≡ has_differences)
+    × (is_given rows beside_flag ≡ true → has_differences ≡ true)
+HasFlags rows (commands.Compare comparison) = AsksToCompare rows comparison
+HasFlags rows (commands.Compile has_left_out) = is_given rows left_out_flag ≡ has_left_out
+HasFlags rows (commands.Decide call detail) = detail ≡ detail_in rows
+HasFlags rows (commands.Run call has_path) = is_given rows path_flag ≡ has_path
+HasFlags rows command = Unit {0}
 
--- A word and the values of options spell a request: they name its command, spell its numbers and give its flags.
-pub record SpellRequest (asked : Option (List ℕ × List Row)) (request : Request) : Type 0 where
-  pub rows : List Row
-  pub command : asked ≡ Some (command_word (command_and_numbers request).0, rows)
-  pub numbers : map Some (command_and_numbers request).1
-      ≡ map (number_in rows) (options_of (command_and_numbers request).0)
-  pub flags : HasFlags rows request
+-- A word and the values of options spell a command: it has this name, the options have its numbers, and its flags are
+-- given.
+pub record SpellCommand (word : List ℕ) (rows : List Row) (command : Command) : Type 0 where
+  pub is_named : word ≡ command_word (name_and_numbers command).0
+  pub numbers : map Some (name_and_numbers command).1
+      ≡ map (number_in rows) (options_read (name_and_numbers command).0)
+  pub flags : HasFlags rows command
+
+-- They spell a request: its command, the form of its bundle and the reading of a profile.
+pub record SpellRequest (word : List ℕ) (rows : List Row) (request : Request) : Type 0 where
+  pub command : SpellCommand word rows request.command
+  pub form : form_in rows ≡ Some request.form
+  pub reading : reading_in rows ≡ Some request.reading
 
 -- Some call record is one of these.
 pub record HasRecord (IsOne : CallRecord → Type 0) : Type 0 where
@@ -132,67 +103,47 @@ pub record HasRecord (IsOne : CallRecord → Type 0) : Type 0 where
   pub is_record : IsRecord call
   pub is_one : IsOne call
 
--- a scope has a record
-abbrev pub HasRecordIn : Scope → Type 0
-HasRecordIn scope = HasRecord (IsInScope scope)
-
--- a range of each architecture has a record of one of them; for which there are tables isn't known before the input
-abbrev pub HasRecordOfOne : Scope → Type 0
-HasRecordOfOne (scopes.Numbers first last) =
-    (architecture : Architecture) × HasRecord (IsInScope (scopes.NumbersOf architecture first last))
-HasRecordOfOne scope = Unit {0}
-
--- of single calls that is for their table to say
-abbrev pub HaveRecord : (Scope → Type 0) → Scopes → Type 0
-HaveRecord HasRecordOf (AtOnce scope) = HasRecordOf scope
-HaveRecord HasRecordOf EachCall = Unit {0}
+-- Scopes have a record. A range of each architecture has one of one of them, since for which there are tables isn't
+-- known before the input; of single calls it is for their table to say.
+abbrev pub HaveRecord : BundleForm → Scopes → Type 0
+HaveRecord forms.Architectures (AtOnce (scopes.Numbers each first last)) =
+    (architecture : Architecture) × HasRecord (IsInScope (scopes.Numbers architecture first last))
+HaveRecord form (AtOnce scope) = HasRecord (IsInScope scope)
+HaveRecord form EachCall = Unit {0}
 
 -- A request for the answers to the records of a scope goes over one at least.
-abbrev pub GoesOverRecord : Request → Type 0
-GoesOverRecord (requests.Answers exploration) = HasRecordIn exploration.scope
-GoesOverRecord (requests.AnswersOfArchitectures exploration) = HasRecordOfOne exploration.scope
-GoesOverRecord (requests.Differences form exploration) = HasRecordIn exploration.scope
-GoesOverRecord (requests.Compare comparison) = HaveRecord HasRecordIn comparison.scopes
-GoesOverRecord (requests.CompareBeside comparison) = HaveRecord HasRecordIn comparison.scopes
-GoesOverRecord (requests.CompareArchitectures comparison) = HaveRecord HasRecordOfOne comparison.scopes
-GoesOverRecord request = Unit {0}
+abbrev pub GoesOverRecord : BundleForm → Command → Type 0
+GoesOverRecord form (commands.Answers comparison has_examples has_differences) = HaveRecord form comparison.scopes
+GoesOverRecord form (commands.Compare comparison) = HaveRecord form comparison.scopes
+GoesOverRecord form command = Unit {0}
 
 -- what is asked for by a command's word and the values of its options
-pub record IsRequest (asked : Option (List ℕ × List Row)) (request : Request) : Type 0 where
-  pub spelled : SpellRequest asked request
-  pub has_record : GoesOverRecord request
+pub record IsRequest (word : List ℕ) (rows : List Row) (request : Request) : Type 0 where
+  pub spelled : SpellRequest word rows request
+  pub has_record : GoesOverRecord request.form request.command
 
--- Flags of a walk exclude each other: that of architectures those of native calls and of other filters, and beside that
--- of differences a range; and that of other filters stands with that of differences alone.
-abbrev pub AreExclusiveOfWalk : List Row → Type 0
-AreExclusiveOfWalk rows = ((is_given rows beside_flag ≡ true) × (is_given rows differences_flag ≡ false))
-    ⊎ ((is_given rows architectures_flag ≡ true)
-    × ((is_given rows native_flag ≡ true) ⊎ (is_given rows beside_flag ≡ true)
-    ⊎ ((is_given rows differences_flag ≡ true) × (has_range rows ≡ true))))
+-- Flags of a command exclude each other: two of a group, that of single calls a range, those of a bundle's form, and
+-- of `answers` that of other filters with none of differences.
+abbrev pub AreExclusive : CommandName → List Row → Type 0
+AreExclusive name rows =
+    (choice_in rows scope_flags ≡ None) ⊎ (choice_in rows relation_flags ≡ None)
+    ⊎ ((has_range rows ≡ true) × (choice_in rows scope_flags ≡ Some EachCall)) ⊎ (form_in rows ≡ None)
+    ⊎ ((name ≡ Answers) × (is_given rows beside_flag ≡ true) × (is_given rows differences_flag ≡ false))
 
--- Flags of a command exclude each other.
-abbrev pub HasExclusive : Command → List Row → Type 0
-HasExclusive Answers rows = AreExclusiveOfWalk rows
-HasExclusive Compare rows = AreExclusive rows
-HasExclusive command rows = ⊥
+-- Why they spell no request: the first option of the command whose text is no number in its range; where there is none,
+-- flags that exclude each other; no command; no reading; the request that they spell goes over no record.
+abbrev pub SpellNone : List ℕ → List Row → RequestFault → Type 0
+SpellNone word rows (Number fault) = (name : CommandName) × (word ≡ command_word name)
+    × (first_wrong (options_read name) rows ≡ Some fault.name.now)
+SpellNone word rows Flags = (name : CommandName) × (word ≡ command_word name)
+    × (first_wrong (options_read name) rows ≡ None) × AreExclusive name rows
+SpellNone word rows NoCommand = (name : CommandName) → word ≢ command_word name
+SpellNone word rows Reading = reading_in rows ≡ None
+SpellNone word rows Range = (request : Request) × SpellRequest word rows request
+    × (GoesOverRecord request.form request.command → ⊥)
 
--- What a command's word and the values of its options spell, or why they spell nothing: the first option of the command
--- whose text is no number in its range; where there is none, flags that exclude each other; no command.
-abbrev pub Spell : Option (List ℕ × List Row) → Result Request RequestFault → Type 0
-Spell asked (Ok request) = SpellRequest asked request
-Spell asked (Err (Number fault)) = (command : Command) × (rows : List Row)
-    × (asked ≡ Some (command_word command, rows)) × (first_wrong (options_of command) rows ≡ Some fault.name.now)
-Spell asked (Err Flags) = (command : Command) × (rows : List Row) × (asked ≡ Some (command_word command, rows))
-    × (first_wrong (options_of command) rows ≡ None) × HasExclusive command rows
-Spell asked (Err NoCommand) = (command : Command) (rows : List Row) → asked ≡ Some (command_word command, rows) → ⊥
-Spell asked (Err fault) = ⊥
-
--- What they ask for, or why for nothing: the request that they spell goes over no record, or they spell none.
+-- What a command's word and the values of its options ask for, or why for nothing.
 abbrev pub AsksFor : Option (List ℕ × List Row) → Result Request RequestFault → Type 0
-AsksFor asked (Ok request) = IsRequest asked request
-AsksFor asked (Err Range) = (request : Request) × SpellRequest asked request × (GoesOverRecord request → ⊥)
-AsksFor asked (Err fault) = Spell asked (Err fault)
-
--- The reading by which a command's word and the values of its options ask, unless its option names none.
-abbrev pub ReadsBy : Option (List ℕ × List Row) → Result Reading RequestFault → Type 0
-ReadsBy asked result = result ≡ ok_or (option_map_or (λ words. reading_in words.1) asked (Some Strict)) NoReading
+AsksFor None result = result ≡ Err NoCommand
+AsksFor (Some asked) (Ok request) = IsRequest asked.0 asked.1 request
+AsksFor (Some asked) (Err fault) = SpellNone asked.0 asked.1 fault

@@ -1,7 +1,7 @@
 //! Bundles: files one after another, each behind a header with its kind and its length in bytes.
 
 ghost use Rattle.std.specs.Prelude.{◌≡◌, ◌≢◌, ◌+◌, ◌-◌, ◌<◌, ◌≤◌, ◌++◌, ◌∷◌, [], ℕ, List, codes, length, take, drop};
-ghost use Rattle.std.specs.Prelude.{slice_index, Contains, MatchOption, IfSome, IfNone, IfOk, IfErr};
+ghost use Rattle.std.specs.Prelude.{◌↔◌, IsTrue, slice_index, Contains, MatchOption, IfSome, IfNone, IfOk, IfErr};
 ghost use Rattle.scf_request.specs.Bundle as spec;
 ghost use Rattle.scf_insn.specs.Numbers.{numeral};
 ghost use Rattle.scf_request.specs.Bundle.{
@@ -18,7 +18,6 @@ ghost use Rattle.scf_request.specs.Bundle.{
   word_parts,
 };
 
-use crate::request::Scopes;
 use scf_insn::{ARCHITECTURES, Architecture, parse_numeral};
 use std::alloc::Global;
 use std::fmt;
@@ -58,7 +57,7 @@ pub enum BundleForm {
     /// Filters, a profile and another one, and the syscall tables, stubs and counts of calls of several architectures.
     Architectures,
     /// Filters and others beside them; call by call a syscall table, too.
-    Beside(Scopes),
+    Beside { has_table: bool },
 }
 
 /// Why bytes aren't a bundle.
@@ -79,31 +78,31 @@ impl fmt::Debug for BundleFault {
 }
 
 impl PartKind {
-    /// What the kind's name begins with: that of a stub is `stub-` and the name of its table, that of counts `counts-`
-    /// and that name.
-    fn prefix(self) -> &'static [u8]
-        ensures { result.now ≡ (word_parts self).0 }
+    /// The beginning and the rest of the kind's word: that of a stub is `stub-` and the word of its table, that of
+    /// counts `counts-` and that word.
+    fn word_parts(self) -> (&'static [u8], &'static [u8])
+        ensures { (result.0.now, result.1.now) ≡ word_parts self }
     {
         match self {
-            PartKind::StubOf(_) => b"stub-",
-            PartKind::CountsOf(_) => b"counts-",
-            _ => b"",
+            PartKind::Filter => (b"", b"filter"),
+            PartKind::Profile => (b"", b"profile"),
+            PartKind::Table => (b"", b"table"),
+            PartKind::Beside => (b"", b"beside"),
+            PartKind::BesideProfile => (b"", b"beside-profile"),
+            PartKind::TableOf(architecture) => (b"", architecture.part().as_bytes()),
+            PartKind::StubOf(architecture) => (b"stub-", architecture.part().as_bytes()),
+            PartKind::CountsOf(architecture) => (b"counts-", architecture.part().as_bytes()),
         }
     }
 
-    /// What it ends with.
-    fn word(self) -> &'static [u8]
-        ensures { result.now ≡ (word_parts self).1 }
+    /// Whether this is the kind's word.
+    fn has_word(self, word: &[u8]) -> bool
+        ensures { IsTrue result ↔ (word.now ≡ kind_word self) }
     {
-        match self {
-            PartKind::Filter => b"filter",
-            PartKind::Profile => b"profile",
-            PartKind::Table => b"table",
-            PartKind::Beside => b"beside",
-            PartKind::BesideProfile => b"beside-profile",
-            PartKind::TableOf(architecture)
-            | PartKind::StubOf(architecture)
-            | PartKind::CountsOf(architecture) => architecture.part().as_bytes(),
+        let (front, rest) = self.word_parts();
+        match word.strip_prefix(front) {
+            Some(name) => name == rest,
+            None => false,
         }
     }
 }
@@ -132,33 +131,28 @@ fn count_of(digits: &[u8]) -> Option<usize>
     }
 }
 
-/// What stands behind the word of this kind.
-fn behind_word(kind: PartKind, line: &[u8]) -> Option<&[u8]>
-    ensures { MatchOption result ((tail : List ℕ) → line.now ≢ kind_word kind ++ tail)
-        (λ tail. line.now ≡ kind_word kind ++ tail.now) }
-{
-    line.strip_prefix(kind.prefix())?.strip_prefix(kind.word())
-}
-
-/// The length in a header of this kind, without its line end.
-fn count_in(kind: PartKind, line: &[u8]) -> Option<usize>
-    ensures { MatchOption result
-        ((n : ℕ) → IsHeader (line.now ++ codes "\n") kind n → ⊥)
-        (IsHeader (line.now ++ codes "\n") kind) }
-{
-    let digits = behind_word(kind, line)?.strip_prefix(b" ")?;
-    count_of(digits)
-}
-
-/// The index of the first line end.
-fn line_len(bytes: &[u8]) -> Option<usize>
-    ensures line_end { IfSome result (λ n. n < length bytes.now × (slice_index bytes.now n ≡ 10)) }
-    ensures first { IfSome result (λ n. (k : ℕ) → k < n → slice_index bytes.now k ≢ 10) }
-    ensures none { IfNone result ((k : ℕ) → k < length bytes.now → slice_index bytes.now k ≢ 10) }
+/// The index of the first of a byte.
+fn index_of(bytes: &[u8], wanted: u8) -> Option<usize>
+    ensures found { IfSome result (λ n. n < length bytes.now × (slice_index bytes.now n ≡ wanted)) }
+    ensures first { IfSome result (λ n. (k : ℕ) → k < n → slice_index bytes.now k ≢ wanted) }
+    ensures none { IfNone result ((k : ℕ) → k < length bytes.now → slice_index bytes.now k ≢ wanted) }
 {
     for (at, byte) in bytes.iter().enumerate() {
-        if *byte == b'\n' {
+        if *byte == wanted {
             return Some(at);
+        }
+    }
+    None
+}
+
+/// The kind with this word, of these.
+fn kind_named(kinds: &[PartKind], word: &[u8]) -> Option<PartKind>
+    ensures some { IfSome result (λ kind. Contains kinds.now kind × (word.now ≡ kind_word kind)) }
+    ensures none { IfNone result ((kind : PartKind) → Contains kinds.now kind → word.now ≢ kind_word kind) }
+{
+    for kind in kinds {
+        if kind.has_word(word) {
+            return Some(*kind);
         }
     }
     None
@@ -172,17 +166,16 @@ fn header_of(kinds: &[PartKind], bytes: &[u8]) -> Option<Header>
     ensures none { IfNone result ((kind : PartKind) (count : ℕ)
         → Contains kinds.now kind → HasHeader bytes.now kind count → ⊥) }
 {
-    let end = line_len(bytes)?;
-    for kind in kinds {
-        if let Some(count) = count_in(*kind, &bytes[..end]) {
-            return Some(Header {
-                kind: *kind,
-                count,
-                length: end + 1,
-            });
-        }
-    }
-    None
+    let end = index_of(bytes, b'\n')?;
+    let line = &bytes[..end];
+    let blank = index_of(line, b' ')?;
+    let kind = kind_named(kinds, &line[..blank])?;
+    let count = count_of(&line[blank + 1..])?;
+    Some(Header {
+        kind,
+        count,
+        length: end + 1,
+    })
 }
 
 /// The part at an offset, of one of these kinds.
@@ -247,15 +240,8 @@ const PROFILE_KINDS: [PartKind; 6] = [
     PartKind::CountsOf(Architecture::X8664),
 ];
 
-/// The kinds of parts of a bundle with other filters.
-const BESIDE_KINDS: [PartKind; 2] = [PartKind::Filter, PartKind::Beside];
-
-/// Those with the table of a comparison call by call.
-const BESIDE_KINDS_WITH_TABLE: [PartKind; 3] = [
-    PartKind::Filter,
-    PartKind::Beside,
-    PartKind::Table,
-];
+/// The kinds of parts of a bundle with other filters; the table is that of a comparison call by call.
+const BESIDE_KINDS: [PartKind; 3] = [PartKind::Filter, PartKind::Beside, PartKind::Table];
 
 /// How many kinds of parts a bundle with a profile of several architectures has.
 const ARCHITECTURE_KINDS: usize = 3 + 3 * ARCHITECTURES;
@@ -285,8 +271,8 @@ impl BundleForm {
         match self {
             BundleForm::Profile => &PROFILE_KINDS,
             BundleForm::Architectures => architectures,
-            BundleForm::Beside(Scopes::AtOnce(_)) => &BESIDE_KINDS,
-            BundleForm::Beside(Scopes::EachCall) => &BESIDE_KINDS_WITH_TABLE,
+            BundleForm::Beside { has_table: false } => &BESIDE_KINDS[..2],
+            BundleForm::Beside { has_table: true } => &BESIDE_KINDS,
         }
     }
 }

@@ -3,7 +3,7 @@
 ghost use Rattle.std.specs.Prelude.{◌≡◌, [], Contains, false, map, IfOk, IfSome};
 ghost use Rattle.std.specs.List.{AllByRecursion};
 ghost use Rattle.clap.specs.Words.{FailsBy, app_of, fault_of, rule_of, subcommand_of, subcommand_rows_of, with_subcommand};
-ghost use Rattle.scf_request.specs.CommandLine.{flag_rule, option_rule, reading_rule, rules_of_options, scf};
+ghost use Rattle.scf_request.specs.CommandLine.{flag_rule, option_rule, rules_of_options, scf, valued_rule};
 ghost use Rattle.scf_request.specs.internal.Parsing.{IsNamed, ReadsAsProgram, bare, command_of, option_of, options_kept, program_of, shape_of};
 
 use crate::options::{
@@ -15,44 +15,22 @@ use clap::{Arg, ArgAction, ArgMatches, Command, Error};
 use std::alloc::{AllocError, Global};
 use std::convert::AsStr;
 
-/// The version that `--version` prints.
-const VERSION: &str = "0.1.0";
-
-/// What the help says about the program.
-const ABOUT: &str =
-    "Checks, runs, lists, assembles, compiles and compares seccomp filters for x86-64. Input comes on standard input.";
-
 /// The help of `--native`.
 const NATIVE_HELP: &str = "Only calls of x86-64 with numbers below 0x40000000";
-
-/// The help of `--reading`.
-const READING_HELP: &str =
-    "How a profile is read: by its words (`strict`), as `runc` or `crun` does, or as a `sandbox` [default: strict]";
 
 /// The help of `--architectures` beside a profile alone.
 const TABLES_HELP: &str =
     "With the tables of several architectures: parts `table`, `table-x86`, `table-x32` ..";
 
-/// An option that takes a number, for `clap`.
-fn argument_of<'a>(alloc: Global, option: NumberOption) -> Arg<'a>
-    ensures rule { rule_of result ≡ option_rule (option_of option) }
+/// An option that takes a value, for `clap`.
+fn argument_of<'a>(alloc: Global, name: &'a str, value: &'a str, help: &'a str) -> Arg<'a>
+    ensures rule { rule_of result ≡ valued_rule name.now }
     ensures local { result.global ≡ false }
 {
-    Arg::new(alloc, option.name)
-        .long(option.name)
-        .value_name("NUMBER")
-        .help(option.help)
-}
-
-/// The option of the reading of a profile, for `clap`.
-fn reading_argument<'a>(alloc: Global) -> Arg<'a>
-    ensures rule { rule_of result ≡ reading_rule }
-    ensures local { result.global ≡ false }
-{
-    Arg::new(alloc, READING_OPTION)
-        .long(READING_OPTION)
-        .value_name("READING")
-        .help(READING_HELP)
+    Arg::new(alloc, name)
+        .long(name)
+        .value_name(value)
+        .help(help)
 }
 
 /// A flag, for `clap`.
@@ -229,7 +207,7 @@ fn command_with<'a>(alloc: Global, definition: &Definition) -> Result<Command<'a
 {
     let mut command = Command::new(alloc, definition.name).about(definition.about);
     for option in definition.options {
-        command = command.arg(argument_of(alloc, *option))?;
+        command = command.arg(argument_of(alloc, option.name, "NUMBER", option.help))?;
     }
     Ok(command)
 }
@@ -241,7 +219,12 @@ fn command_reading<'a>(alloc: Global, definition: &Definition) -> Result<Command
 {
     let command = command_with(alloc, definition)?;
     if definition.takes_reading {
-        command.arg(reading_argument(alloc))
+        command.arg(argument_of(
+            alloc,
+            READING_OPTION,
+            "READING",
+            "How a profile is read: by its words (`strict`), as `runc` or `crun` does, or as a `sandbox` [default: strict]",
+        ))
     } else {
         Ok(command)
     }
@@ -263,8 +246,10 @@ fn program_alone<'a>(alloc: Global) -> Command<'a>
     ensures { app_of result ≡ bare }
 {
     Command::new(alloc, "scf")
-        .version(VERSION)
-        .about(ABOUT)
+        .version("0.1.0")
+        .about(
+            "Checks, runs, lists, assembles, compiles and compares seccomp filters for x86-64. Input comes on standard input.",
+        )
         .subcommand_required(true)
 }
 

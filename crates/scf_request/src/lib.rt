@@ -16,5 +16,5 @@ pub use contents::{Contents, PartReader, TableReader};
 pub use interpretation::{Interpretation, Stub};
 pub use options::{NumberFault, record_of};
 pub use records::has_record;
-pub use request::{Comparison, Exploration, Limits, Request, Scopes, reading_of, request_of};
+pub use request::{Command, Comparison, Detail, Limits, Request, Scopes, request_of};
 pub use request_fault::RequestFault;

@@ -6,7 +6,8 @@ ghost use Rattle.clap.specs.Words.{first_of, found_of, rows_of};
 ghost use Rattle.scf_request.specs.Options as table;
 ghost use Rattle.scf_request.specs.internal.Parsing.{flags_in, option_of, options_kept};
 
-use crate::request::{Limits, Scopes};
+use crate::bundle::BundleForm;
+use crate::request::{Detail, Limits, Scopes};
 use crate::request_fault::RequestFault;
 use clap::ArgMatches;
 use scf_insn::kernel::AUDIT_ARCH_X86_64;
@@ -305,21 +306,12 @@ pub fn record_of(matches: &ArgMatches<'_>) -> Result<CallRecord, NumberFault>
     })
 }
 
-/// The numbers of the options of a comparison.
-#[derive(Clone, Copy)]
-pub(crate) struct ComparisonNumbers {
-    pub limits: Limits,
-    /// The ends of the range of numbers.
-    pub first: u32,
-    pub last: u32,
-}
-
-/// The numbers of the options `limit`, `total-limit`, `splits`, `nr-from` and `nr-to`: two limits in steps, one in
-/// splits, and the ends of a range. If not given, they are 1000000, 10000000, 10000, 0 and 2^32 - 1. The error names
-/// the first option, in this order, whose text isn't a number in its range: decimal digits, or `0x` or `0X` and
-/// hexadecimal digits, below 2^64 for the limits and below 2^32 for the ends.
-pub(crate) fn comparison_numbers(matches: &ArgMatches<'_>) -> Result<ComparisonNumbers, NumberFault>
-    ensures ok { IfOk result (λ n. map Some (table.numbers_of_limits n.limits ++ n.first ∷ n.last ∷ [])
+/// The limits and the ends of the range of a comparison. The error names the first option, in the order of
+/// `COMPARISON_OPTIONS`, whose text isn't a number in its range.
+pub(crate) fn comparison_numbers(
+    matches: &ArgMatches<'_>,
+) -> Result<(Limits, u32, u32), NumberFault>
+    ensures ok { IfOk result (λ n. map Some (table.numbers_of_limits n.0 ++ n.1 ∷ n.2 ∷ [])
         ≡ map (table.number_in (rows_of (found_of matches.now))) table.comparison_options) }
     ensures err { IfErr result (λ fault.
         table.first_wrong table.comparison_options (rows_of (found_of matches.now)) ≡ Some fault.name.now) }
@@ -327,41 +319,51 @@ pub(crate) fn comparison_numbers(matches: &ArgMatches<'_>) -> Result<ComparisonN
     let mut numbers = [0; 5];
     numbers_in(matches, &COMPARISON_OPTIONS, &mut numbers)?;
     let [each, total, splits, first, last] = numbers;
-    Ok(ComparisonNumbers {
-        limits: Limits {
-            each,
-            total,
-            splits,
-        },
-        first: first as u32,
-        last: last as u32,
-    })
-}
-
-/// The numbers of the options `limit`, `nr-from` and `nr-to`: a limit in steps, and the ends of a range, as
-/// `comparison_numbers` takes them.
-pub(crate) fn exploration_numbers(matches: &ArgMatches<'_>) -> Result<(u64, u32, u32), NumberFault>
-    ensures ok { IfOk result (λ n. map Some (n.0 ∷ n.1 ∷ n.2 ∷ [])
-        ≡ map (table.number_in (rows_of (found_of matches.now))) table.exploration_options) }
-    ensures err { IfErr result (λ fault.
-        table.first_wrong table.exploration_options (rows_of (found_of matches.now)) ≡ Some fault.name.now) }
-{
-    let mut numbers = [0; 3];
-    numbers_in(matches, &EXPLORATION_OPTIONS, &mut numbers)?;
-    let [limit, first, last] = numbers;
-    Ok((limit, first as u32, last as u32))
-}
-
-/// Whether an option has a text.
-fn has_text(matches: &ArgMatches<'_>, name: &str) -> bool
-    ensures { result ≡ is_some (first_of name.now (rows_of (found_of matches.now))) }
-{
-    matches.get_str(name).is_some()
+    let limits = Limits {
+        each,
+        total,
+        splits,
+    };
+    Ok((limits, first as u32, last as u32))
 }
 
 /// Whether an end of a range of numbers is given.
+#[tactic(auto, using(std::proofs::lemmas::Grind::common_steps, crate::proofs::OptionLemmas::has_text))]
 pub(crate) fn has_range(matches: &ArgMatches<'_>) -> bool
     ensures { result ≡ table.has_range (rows_of (found_of matches.now)) }
 {
-    has_text(matches, FIRST_NUMBER) || has_text(matches, LAST_NUMBER)
+    matches.get_str(FIRST_NUMBER).is_some() || matches.get_str(LAST_NUMBER).is_some()
+}
+
+/// The form of the bundle that the flags ask for. None if they exclude each other: the tables of several architectures
+/// stand without the flag of native calls, without other filters and, where two sides are walked, without a range.
+pub(crate) fn form_of(matches: &ArgMatches<'_>) -> Option<BundleForm>
+    ensures { result ≡ table.form_in (rows_of (found_of matches.now)) }
+{
+    let has_beside = is_given(matches, BESIDE_FLAG);
+    if is_given(matches, ARCHITECTURES_FLAG) {
+        let has_range_of_each = is_given(matches, DIFFERENCES_FLAG) && has_range(matches);
+        let is_excluded = has_beside || is_given(matches, NATIVE_FLAG) || has_range_of_each;
+        return (!is_excluded).then_some(BundleForm::Architectures);
+    }
+    let has_table = is_given(matches, CALLS_FLAG);
+    let beside = BundleForm::Beside { has_table };
+    Some(if has_beside {
+        beside
+    } else {
+        BundleForm::Profile
+    })
+}
+
+/// What the flags ask `decide` to print.
+pub(crate) fn detail_of(matches: &ArgMatches<'_>) -> Detail
+    ensures { result ≡ table.detail_in (rows_of (found_of matches.now)) }
+{
+    if is_given(matches, PATH_FLAG) {
+        Detail::Paths
+    } else if is_given(matches, AT_FLAG) {
+        Detail::Instruction
+    } else {
+        Detail::Answer
+    }
 }

@@ -10,28 +10,17 @@ use thiserror::Error;
 /// Why arguments that `clap` accepts aren't a request.
 #[derive(Clone, Copy, Error)]
 pub enum RequestFault {
-    /// No command is named.
+    #[error("no command is named")]
     NoCommand,
     /// An option's text isn't a number in its range.
+    #[error("{0}")]
     Number(NumberFault),
-    /// Two given flags exclude each other.
+    #[error("two flags exclude each other")]
     Flags,
-    /// The option's text names no reading of a profile.
+    #[error("the option reading names no reading")]
     Reading,
-    /// No call record has a number in the range.
+    #[error("no call has a number in the range")]
     Range,
-}
-
-impl fmt::Display for RequestFault {
-    fn fmt<W: fmt::Write>(&self, f: &mut fmt::Formatter<W>) -> fmt::Result {
-        f.write_str(match self {
-            RequestFault::Number(fault) => return fmt::Display::fmt(fault, f),
-            RequestFault::NoCommand => "no command is named",
-            RequestFault::Flags => "two flags exclude each other",
-            RequestFault::Reading => "the option reading names no reading",
-            RequestFault::Range => "no call has a number in the range",
-        })
-    }
 }
 
 impl fmt::Debug for RequestFault {

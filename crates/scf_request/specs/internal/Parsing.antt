@@ -6,7 +6,7 @@ use Rattle.scf_request.specs.declared.command_line.Definition.{Definition}
 use Rattle.scf_request.specs.declared.options.NumberOption.{NumberOption as Kept}
 use Rattle.scf_request.specs.Options.{NumberOption}
 use Rattle.scf_request.specs.CommandLine.{flag_rule, rules_of_options, scf, scf_shape, shape_for}
-use Rattle.scf_request.specs.Requests.{Command, command_word}
+use Rattle.scf_request.specs.Requests.{CommandName, command_word}
 
 abbrev pub option_of : Kept → NumberOption
 option_of o = record { name = o.name.now; default = o.default; most = o.most }
@@ -44,13 +44,13 @@ abbrev pub program_of : List Definition → App
 program_of definitions = fold with_subcommand bare (map shape_of definitions)
 
 -- the program with one of its commands
-abbrev pub scf_with : Command → App
+abbrev pub scf_with : CommandName → App
 scf_with command = record { top = scf_shape; subs = shape_for command ∷ [] }
 
 -- the word names a command, and this is its definition
 abbrev pub IsNamed : Text → Definition → Type 0
 IsNamed word definition =
-    (command : Command) × (word ≡ command_word command) × (shape_of definition ≡ shape_for command)
+    (command : CommandName) × (word ≡ command_word command) × (shape_of definition ≡ shape_for command)
 
 -- The words come to the same by this definition as by the program's.
 pub record ReadsAsProgram (app : App) (words : List Text) : Type 0 where
