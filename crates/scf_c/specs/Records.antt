@@ -1,12 +1,12 @@
 -- The records that are compared, taken apart as a question asks for.
-use Rattle.std.specs.Prelude.{◌≡◌, ◌↔◌, ◌+◌, ◌≤◌, ℕ, List, [], ◌∷◌, Some, Ok, Contains, flat_map, length, map, option_map}
+use Rattle.std.specs.Prelude.{◌≡◌, ◌↔◌, ◌+◌, ◌-◌, ◌^◌, ◌≤◌, ℕ, List, [], ◌∷◌, Some, Ok, Contains, flat_map, length, map, option_map}
 use Rattle.std.specs.FinMap.{get}
 use Rattle.std.specs.List.{AllZip, filter_map}
 use Rattle.std.specs.List.Sorted.{IsStrictlyIncreasing}
 use Rattle.scf_insn.specs.Architectures.{row_of}
 use Rattle.scf_insn.specs.declared.architecture.Architecture.{Architecture}
 use Rattle.scf_profile.specs.Table.{Names, table_of}
-use Rattle.scf_profile.specs.declared.scope.Scope.TheVariants.{All, NumbersOf, Of}
+use Rattle.scf_profile.specs.declared.scope.Scope.TheVariants.{All, Numbers}
 use Rattle.scf_request.specs.Interpretations.{Interpretation}
 use Rattle.scf_tool.specs.Commands.{CantLoadEach}
 use Rattle.scf_tool.specs.declared.verify_fault.VerifyFault.TheVariants.{Memory, Table as TableFault}
@@ -27,12 +27,15 @@ abbrev pub of_range : NumberRange → Records
 of_range range = record {
   architecture = architecture_number range.architecture;
   nr = 0;
-  scope = NumbersOf range.architecture range.first range.last;
+  scope = Numbers range.architecture range.first range.last;
 }
 
 abbrev pub of_architecture : Architecture → Records
-of_architecture architecture =
-    record { architecture = architecture_number architecture; nr = 0; scope = Of architecture }
+of_architecture architecture = record {
+  architecture = architecture_number architecture;
+  nr = 0;
+  scope = Numbers architecture 0 (2 ^ 32 - 1);
+}
 
 -- those of each architecture that has a table
 abbrev pub of_each : List Table → List Records
@@ -43,7 +46,7 @@ abbrev pub of_call : Architecture → ℕ → Records
 of_call architecture number = record {
   architecture = architecture_number architecture;
   nr = (row_of architecture).first + number;
-  scope = NumbersOf architecture ((row_of architecture).first + number) ((row_of architecture).first + number);
+  scope = Numbers architecture ((row_of architecture).first + number) ((row_of architecture).first + number);
 }
 
 -- The numbers of a table, each once, rising.

@@ -46,7 +46,7 @@ fn of_range(range: NumberRange) -> Records
     Records {
         architecture: architecture_number(architecture),
         nr: 0,
-        scope: Scope::NumbersOf {
+        scope: Scope::Numbers {
             architecture,
             first,
             last,
@@ -60,7 +60,11 @@ fn of_architecture(architecture: Architecture) -> Records
     Records {
         architecture: architecture_number(architecture),
         nr: 0,
-        scope: Scope::Of(architecture),
+        scope: Scope::Numbers {
+            architecture,
+            first: 0,
+            last: u32::MAX,
+        },
     }
 }
 
@@ -86,7 +90,7 @@ fn of_call(architecture: Architecture, number: u32) -> Records
     Records {
         architecture: architecture_number(architecture),
         nr,
-        scope: Scope::NumbersOf {
+        scope: Scope::Numbers {
             architecture,
             first: nr,
             last: nr,

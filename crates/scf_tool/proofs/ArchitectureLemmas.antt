@@ -146,5 +146,5 @@ module _ (relation : Relation) (over : Architecture → Scope)
 -- the records that are compared are those of the architecture
 pub scope_is_of : (scope : Scope) (architecture : Architecture) (call : CallRecord)
     → IsInScope (scope_of scope architecture) call → IsOf architecture call
-scope_is_of (Numbers first last) architecture call is = is.0
-scope_is_of scope architecture call is = is
+scope_is_of (Numbers each first last) architecture call is = is.0
+scope_is_of scope architecture call is = is.0

@@ -3,12 +3,13 @@ use Rattle.scf_insn.specs.declared.input.InputFault.{InputFault}
 use Rattle.scf_insn.specs.declared.architecture.Architecture.{Architecture}
 use Rattle.scf_insn.specs.declared.record.CallRecord.{CallRecord}
 use Rattle.scf_profile.specs.declared.reading.Reading.{Reading}
-use Rattle.scf_request.specs.declared.request.Request.{Request}
-use Rattle.scf_request.specs.declared.request.Request.TheVariants as requests
+use Rattle.scf_request.specs.declared.bundle.BundleForm.{BundleForm}
+use Rattle.scf_request.specs.declared.request.Command.{Command}
+use Rattle.scf_request.specs.declared.request.Command.TheVariants as commands
 use Rattle.scf_request.specs.declared.request.Scopes.{Scopes}
 use Rattle.scf_request.specs.declared.request.Scopes.TheVariants.{AtOnce, EachCall}
 use Rattle.scf_tool.proofs.Common.{Bool, Err, Fault, HasEnded, List, Ok, Option, ReadsInput, Reply, Result, false, inl, inr, refl, subst, true, ◌≡◌, ◌≢◌, ℕ}
-use Rattle.scf_tool.specs.Commands.{EndsOnBundle, EndsOnBytes, GoesOverNone, HasNoInputs, IsRefused, IsTrueReply, RepliesTo, shape_of}
+use Rattle.scf_tool.specs.Commands.{EndsOnBundle, EndsOnBytes, GoesOverNone, HasNoInputs, IsRefused, IsTrueOf, RepliesTo, scopes_of, shape_of}
 use Rattle.scf_tool.specs.Inputs.{Inputs}
 use Rattle.scf_tool.specs.Statuses.{LeavesInput, LeavesWhole}
 use Rattle.scf_tool.specs.declared.fault.Fault.TheVariants as faults
@@ -16,33 +17,31 @@ use Rattle.scf_tool.specs.declared.sides.SidesInput.{SidesInput}
 use Rattle.scf_tool.specs.internal.Bytes.{TakesWhole}
 
 -- what isn't of one filter takes all of the input
-pub takes_whole : (request : Request) → request ≢ requests.Check → request ≢ requests.List
-    → ((call : CallRecord) → request ≢ requests.Run call) → ((call : CallRecord) → request ≢ requests.Trace call)
-    → TakesWhole request
-takes_whole requests.Check check list run trace = absurd (check refl)
-takes_whole requests.List check list run trace = absurd (list refl)
-takes_whole (requests.Run call) check list run trace = absurd (run call refl)
-takes_whole (requests.Trace call) check list run trace = absurd (trace call refl)
-takes_whole request check list run trace = tt
+pub takes_whole : (command : Command) → command ≢ commands.Check → command ≢ commands.List
+    → ((call : CallRecord) (has_path : Bool) → command ≢ commands.Run call has_path) → TakesWhole command
+takes_whole commands.Check check list run = absurd (check refl)
+takes_whole commands.List check list run = absurd (list refl)
+takes_whole (commands.Run call has_path) check list run = absurd (run call has_path refl)
+takes_whole command check list run = tt
 
--- the input isn't read
-pub not_read : (reading : Reading) (request : Request) (input : Option (List ℕ)) (fault : InputFault)
-    → TakesWhole request → ReadsInput input (Err fault) → IsTrueReply reading request input (Err (faults.Input fault))
-not_read reading requests.Check input fault whole read = absurd whole
-not_read reading requests.List input fault whole read = absurd whole
-not_read reading (requests.Run call) input fault whole read = absurd whole
-not_read reading (requests.Trace call) input fault whole read = absurd whole
-not_read reading request input fault whole read = inl (fault, refl, read)
+module _ (reading : Reading) (form : BundleForm) where
+  -- the input isn't read
+  pub not_read : (command : Command) (input : Option (List ℕ)) (fault : InputFault)
+      → TakesWhole command → ReadsInput input (Err fault)
+      → IsTrueOf reading form command input (Err (faults.Input fault))
+  not_read commands.Check input fault whole read = absurd whole
+  not_read commands.List input fault whole read = absurd whole
+  not_read (commands.Run call has_path) input fault whole read = absurd whole
+  not_read command input fault whole read = inl (fault, refl, read)
 
--- the end is true of the input that the bytes are read of
-pub true_of_input : (reading : Reading) (request : Request) (bytes : List ℕ) (ending : Result Reply Fault)
-    (input : Option (List ℕ)) → TakesWhole request → ReadsInput input (Ok bytes)
-    → EndsOnBytes reading request bytes ending → IsTrueReply reading request input ending
-true_of_input reading requests.Check bytes ending input whole read ends = absurd whole
-true_of_input reading requests.List bytes ending input whole read ends = absurd whole
-true_of_input reading (requests.Run call) bytes ending input whole read ends = absurd whole
-true_of_input reading (requests.Trace call) bytes ending input whole read ends = absurd whole
-true_of_input reading request bytes ending input whole read ends = inr (bytes, read, ends)
+  -- the end is true of the input that the bytes are read of
+  pub true_of_input : (command : Command) (bytes : List ℕ) (ending : Result Reply Fault) (input : Option (List ℕ))
+      → TakesWhole command → ReadsInput input (Ok bytes) → EndsOnBytes reading form command bytes ending
+      → IsTrueOf reading form command input ending
+  true_of_input commands.Check bytes ending input whole read ends = absurd whole
+  true_of_input commands.List bytes ending input whole read ends = absurd whole
+  true_of_input (commands.Run call has_path) bytes ending input whole read ends = absurd whole
+  true_of_input command bytes ending input whole read ends = inr (bytes, read, ends)
 
 -- ---- no command has a fault of the input
 
@@ -58,63 +57,56 @@ not_refused over inputs fault (inl none) = not_none inputs.rules.of_each over in
 not_refused over inputs fault (inr (inl memory)) = absurd (cc)
 not_refused over inputs fault (inr (inr (goes, why, is, refused))) = absurd (cc)
 
-not_replied : (request : Request) (sides : SidesInput) (fault : InputFault)
-    → RepliesTo request sides (Err (faults.Input fault)) → ⊥
-not_replied (requests.Answers exploration) sides fault replied = replied
-not_replied (requests.AnswersOfArchitectures exploration) sides fault replied = replied
-not_replied (requests.Differences form exploration) sides fault replied = replied
-not_replied (requests.Ask call) sides fault replied = replied
-not_replied (requests.AskArchitectures call) sides fault replied = replied
-not_replied (requests.Compare comparison) sides fault replied = replied
-not_replied (requests.CompareBeside comparison) sides fault replied = replied
-not_replied (requests.CompareArchitectures comparison) sides fault replied = replied
-not_replied (requests.Compile has_left_out) sides fault replied = replied
-not_replied (requests.CompileArchitectures has_left_out) sides fault replied = replied
-not_replied (requests.Decide call) sides fault replied = replied
-not_replied (requests.DecideBy call) sides fault replied = replied
-not_replied (requests.DecidePaths call) sides fault replied = replied
-not_replied request sides fault replied = replied
+not_replied : (command : Command) (sides : SidesInput) (fault : InputFault)
+    → RepliesTo command sides (Err (faults.Input fault)) → ⊥
+not_replied (commands.Answers comparison has_examples false) sides fault replied = replied
+not_replied (commands.Answers comparison has_examples true) sides fault replied = replied
+not_replied (commands.Ask call) sides fault replied = replied
+not_replied (commands.Compare comparison) sides fault replied = replied
+not_replied (commands.Compile has_left_out) sides fault replied = replied
+not_replied (commands.Decide call detail) sides fault replied = replied
+not_replied command sides fault replied = replied
 
-none_of_bundle : (reading : Reading) (request : Request) (bytes : List ℕ) (fault : InputFault)
-    → EndsOnBundle reading request bytes (Err (faults.Input fault)) → ⊥
-none_of_bundle reading request bytes fault (inl (why, is, none)) =
-    let same : why ≡ faults.Input fault = cc in
-    subst (λ (f : Fault). HasNoInputs (shape_of request) reading bytes f) same none
-none_of_bundle reading request bytes fault (inr (held, bundle, inputs, are, inl (why, is, refused))) =
-    let same : why ≡ faults.Input fault = cc in
-    not_refused (shape_of request).over inputs fault
-    (subst (λ (f : Fault). IsRefused (shape_of request).over inputs f) same refused)
-none_of_bundle reading request bytes fault (inr (held, bundle, inputs, are, inr (goes, sides, read, replied))) =
-    not_replied request sides fault replied
+module _ (reading : Reading) (form : BundleForm) where
+  none_of_bundle : (command : Command) (bytes : List ℕ) (fault : InputFault)
+      → EndsOnBundle reading form command bytes (Err (faults.Input fault)) → ⊥
+  none_of_bundle command bytes fault (inl (why, is, none)) =
+      let same : why ≡ faults.Input fault = cc in
+      subst (λ (f : Fault). HasNoInputs (shape_of form command) reading bytes f) same none
+  none_of_bundle command bytes fault (inr (held, bundle, inputs, are, inl (why, is, refused))) =
+      let same : why ≡ faults.Input fault = cc in
+      not_refused (scopes_of command) inputs fault
+      (subst (λ (f : Fault). IsRefused (scopes_of command) inputs f) same refused)
+  none_of_bundle command bytes fault (inr (held, bundle, inputs, are, inr (goes, sides, read, replied))) =
+      not_replied command sides fault replied
 
-none_of_bytes : (reading : Reading) (request : Request) (bytes : List ℕ) (fault : InputFault)
-    → EndsOnBytes reading request bytes (Err (faults.Input fault)) → ⊥
-none_of_bytes reading requests.Assemble bytes fault ends = ends
-none_of_bytes reading request bytes fault ends = none_of_bundle reading request bytes fault ends
+  none_of_bytes : (command : Command) (bytes : List ℕ) (fault : InputFault)
+      → EndsOnBytes reading form command bytes (Err (faults.Input fault)) → ⊥
+  none_of_bytes commands.Assemble bytes fault ends = ends
+  none_of_bytes command bytes fault ends = none_of_bundle command bytes fault ends
 
--- what isn't a text is a bundle
-pub on_bundle : (reading : Reading) (request : Request) (bytes : List ℕ) (ending : Result Reply Fault)
-    → request ≢ requests.Assemble → EndsOnBundle reading request bytes ending
-    → EndsOnBytes reading request bytes ending
-on_bundle reading requests.Assemble bytes ending other ends = absurd (other refl)
-on_bundle reading request bytes ending other ends = ends
+  -- what isn't a text is a bundle
+  pub on_bundle : (command : Command) (bytes : List ℕ) (ending : Result Reply Fault)
+      → command ≢ commands.Assemble → EndsOnBundle reading form command bytes ending
+      → EndsOnBytes reading form command bytes ending
+  on_bundle commands.Assemble bytes ending other ends = absurd (other refl)
+  on_bundle command bytes ending other ends = ends
 
 module _ {R : Type 0} (remaining : R → Option (List ℕ)) (failures : R → ℕ) (old new : R) where
   -- the input has come to its end, since a fault is none of it
-  pub left_whole : (reading : Reading) (request : Request) (bytes : List ℕ) (ending : Result Reply Fault)
-      → EndsOnBytes reading request bytes ending → HasEnded remaining failures old new
-      → LeavesWhole {T = Reply} remaining failures old ending new
-  left_whole reading request bytes (Ok reply) ends ended = ended
-  left_whole reading request bytes (Err (faults.Input fault)) ends ended =
-      absurd (none_of_bytes reading request bytes fault ends)
-  left_whole reading request bytes (Err fault) ends ended = ended
+  pub left_whole : (reading : Reading) (form : BundleForm) (command : Command) (bytes : List ℕ)
+      (ending : Result Reply Fault) → EndsOnBytes reading form command bytes ending
+      → HasEnded remaining failures old new → LeavesWhole {T = Reply} remaining failures old ending new
+  left_whole reading form command bytes (Ok reply) ends ended = ended
+  left_whole reading form command bytes (Err (faults.Input fault)) ends ended =
+      absurd (none_of_bytes reading form command bytes fault ends)
+  left_whole reading form command bytes (Err fault) ends ended = ended
 
-  -- so a request leaves it that reads all of it
-  pub left_by : (request : Request) (ending : Result Reply Fault) → TakesWhole request
+  -- so a command leaves it that reads all of it
+  pub left_by : (command : Command) (ending : Result Reply Fault) → TakesWhole command
       → LeavesWhole {T = Reply} remaining failures old ending new
-      → LeavesInput {T = Reply} request remaining failures old ending new
-  left_by requests.Check ending whole left = absurd whole
-  left_by requests.List ending whole left = absurd whole
-  left_by (requests.Run call) ending whole left = absurd whole
-  left_by (requests.Trace call) ending whole left = absurd whole
-  left_by request ending whole left = left
+      → LeavesInput {T = Reply} command remaining failures old ending new
+  left_by commands.Check ending whole left = absurd whole
+  left_by commands.List ending whole left = absurd whole
+  left_by (commands.Run call has_path) ending whole left = absurd whole
+  left_by command ending whole left = left

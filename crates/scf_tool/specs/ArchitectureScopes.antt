@@ -1,26 +1,24 @@
 -- Over which records of an architecture sides are compared.
-use Rattle.std.specs.Prelude.{◌≡◌, ℕ, ◌+◌, List, ◌∷◌, [], Contains, Ok, None}
+use Rattle.std.specs.Prelude.{◌≡◌, ℕ, ◌+◌, ◌-◌, ◌^◌, List, ◌∷◌, [], Contains, Ok, None}
 use Rattle.std.specs.FinMap.{get}
 use Rattle.scf_insn.specs.Architectures.{row_of}
 use Rattle.scf_insn.specs.declared.architecture.Architecture.{Architecture}
-use Rattle.scf_insn.specs.declared.architecture.Architecture.TheVariants.{X8664}
 use Rattle.scf_profile.specs.Scope.{IsInScope}
 use Rattle.scf_profile.specs.Table.{Names, table_of}
 use Rattle.scf_profile.specs.declared.scope.Scope.{Scope}
-use Rattle.scf_profile.specs.declared.scope.Scope.TheVariants.{Call, Numbers, NumbersOf, Of}
+use Rattle.scf_profile.specs.declared.scope.Scope.TheVariants.{Numbers}
 use Rattle.scf_request.specs.Requests.{HasRecord}
 
 -- the records of an architecture, where the scope is a range those with a number of it
 abbrev pub scope_of : Scope → Architecture → Scope
-scope_of (Numbers first last) architecture = NumbersOf architecture first last
-scope_of scope architecture = Of architecture
+scope_of (Numbers each first last) architecture = Numbers architecture first last
+scope_of scope architecture = Numbers architecture 0 (2 ^ 32 - 1)
 
 -- The records of a syscall that an architecture's table has under a number. In a record the number is that of the table
 -- behind the architecture's first one.
 abbrev pub scope_of_call : Architecture → ℕ → Scope
-scope_of_call X8664 number = Call number
 scope_of_call architecture number =
-    NumbersOf architecture ((row_of architecture).first + number) ((row_of architecture).first + number)
+    Numbers architecture ((row_of architecture).first + number) ((row_of architecture).first + number)
 
 -- the scope has a record of an architecture that has a table: one with a number of it, where it is a range
 abbrev pub HasRecordAmong : List (Architecture × List ℕ) → Scope → Type 0

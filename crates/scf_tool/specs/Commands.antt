@@ -43,10 +43,13 @@ use Rattle.scf_tool.specs.declared.sides.SideInput.TheVariants.{Stack, Profile, 
 use Rattle.scf_tool.specs.declared.sides.SidesInput.{SidesInput}
 use Rattle.scf_request.specs.declared.request.Comparison.{Comparison}
 use Rattle.scf_tool.specs.ArchitectureScopes.{HasRecordAmong, NameNoCall}
-use Rattle.scf_tool.specs.Explorations.{ListsDiffering, ListsSide}
+use Rattle.scf_tool.specs.Explorations.{ListsDiffering, ListsSide, exploration_of}
 use Rattle.scf_request.specs.declared.bundle.BundleFault.TheVariants as bundles
+use Rattle.scf_request.specs.declared.request.Command.{Command}
+use Rattle.scf_request.specs.declared.request.Command.TheVariants as commands
+use Rattle.scf_request.specs.declared.request.Detail.{Detail}
+use Rattle.scf_request.specs.declared.request.Detail.TheVariants as details
 use Rattle.scf_request.specs.declared.request.Request.{Request}
-use Rattle.scf_request.specs.declared.request.Request.TheVariants as requests
 use Rattle.scf_request.specs.declared.request.Scopes.{Scopes}
 use Rattle.scf_request.specs.declared.request.Scopes.TheVariants.{AtOnce, EachCall}
 use Rattle.scf_tool.specs.declared.verify_fault.BesideFault.{BesideFault}
@@ -80,19 +83,19 @@ ReadsInput input result = ReadsUnder max_input_len input result
 
 -- The reply on an accepted filter: of `check` the count of its instructions; of `run` its answer to the call and the
 -- length of its run; of `run --path` also the indices of the instructions on the path.
-abbrev pub IsReplyOn : Request → List Insn → Reply → Type 0
-IsReplyOn requests.Check insns (Accepted count) = count ≡ length insns
-IsReplyOn (requests.Run call) insns (Ran ran) = IsRun insns (words_of call) ran.answer.0 ran.steps
-IsReplyOn (requests.Trace call) insns (Bytes bytes) = (answer : ℕ) × (indices : List ℕ)
+abbrev pub IsReplyOn : Command → List Insn → Reply → Type 0
+IsReplyOn commands.Check insns (Accepted count) = count ≡ length insns
+IsReplyOn (commands.Run call false) insns (Ran ran) = IsRun insns (words_of call) ran.answer.0 ran.steps
+IsReplyOn (commands.Run call true) insns (Bytes bytes) = (answer : ℕ) × (indices : List ℕ)
     × IsPathOf insns (words_of call) answer indices × (bytes.items ≡ traced_text answer indices)
-IsReplyOn request insns reply = ⊥
+IsReplyOn command insns reply = ⊥
 
 -- what these end with: the reply is true of an accepted filter, or it isn't accepted
-abbrev pub EndsOnFilter : Request → Option (List ℕ) → Result Reply Fault → Type 0
-EndsOnFilter request input (Ok reply) =
-    (insns : List Insn) × IsAcceptedFilter input insns × IsReplyOn request insns reply
-EndsOnFilter request input (Err (faults.Sides (besides.Verify fault))) = IsNoFilter input fault
-EndsOnFilter request input (Err fault) = ⊥
+abbrev pub EndsOnFilter : Command → Option (List ℕ) → Result Reply Fault → Type 0
+EndsOnFilter command input (Ok reply) =
+    (insns : List Insn) × IsAcceptedFilter input insns × IsReplyOn command insns reply
+EndsOnFilter command input (Err (faults.Sides (besides.Verify fault))) = IsNoFilter input fault
+EndsOnFilter command input (Err fault) = ⊥
 
 -- `dis`: the listing of the instructions whose bytes the input is
 abbrev pub Lists : Option (List ℕ) → Result Reply Fault → Type 0
@@ -119,7 +122,7 @@ is_of_each form = false
 
 -- whether it has filters beside others
 abbrev pub is_beside : BundleForm → Bool
-is_beside (forms.Beside over) = true
+is_beside (forms.Beside has_table) = true
 is_beside form = false
 
 -- whether a command takes two sides, whose texts are limited
@@ -241,19 +244,19 @@ ShowsRuns stack words text = (runs : List (ℕ × List ℕ))
 
 -- The reply on a stack: of `decide` its answer to the call; of `decide --at` also the instruction that gives it; of
 -- `decide --path` also the run of each filter with the instructions on its path.
-abbrev pub IsReplyOnStack : Request → List (List Insn) → Reply → Type 0
-IsReplyOnStack (requests.Decide call) stack (Decided answer) = StackAnswers stack (words_of call) answer.0
-IsReplyOnStack (requests.DecideBy call) stack (DecidedBy decision) =
+abbrev pub IsReplyOnStack : CallRecord → Detail → List (List Insn) → Reply → Type 0
+IsReplyOnStack call details.Answer stack (Decided answer) = StackAnswers stack (words_of call) answer.0
+IsReplyOnStack call details.Instruction stack (DecidedBy decision) =
     IsDecidedBy stack (words_of call) decision.by decision.answer.0
-IsReplyOnStack (requests.DecidePaths call) stack (Bytes bytes) = (decision : Decision) × (runs : List ℕ)
+IsReplyOnStack call details.Paths stack (Bytes bytes) = (decision : Decision) × (runs : List ℕ)
     × IsDecidedBy stack (words_of call) decision.by decision.answer.0 × ShowsRuns stack (words_of call) runs
     × (bytes.items ≡ decision_text decision.by decision.answer.0 ++ runs)
-IsReplyOnStack request stack reply = ⊥
+IsReplyOnStack call detail stack reply = ⊥
 
 -- that on a side
-abbrev pub Decides : Request → SideInput → Reply → Type 0
-Decides request (Stack stack) reply = IsReplyOnStack request stack reply
-Decides request side reply = ⊥
+abbrev pub Decides : CallRecord → Detail → SideInput → Reply → Type 0
+Decides call detail (Stack stack) reply = IsReplyOnStack call detail stack reply
+Decides call detail side reply = ⊥
 
 -- The text is that of which this holds, behind a front.
 abbrev pub IsBehind : List ℕ → (List ℕ → Type 0) → List ℕ → Type 0
@@ -293,75 +296,70 @@ IsReport comparison sides (Compared text status) = (findings : Findings) × AreF
 IsReport comparison sides reply = ⊥
 
 -- what a command replies to its sides
-abbrev pub RepliesTo : Request → SidesInput → Result Reply Fault → Type 0
-RepliesTo (requests.Answers exploration) sides = Replies (ListsSide exploration sides.left)
-RepliesTo (requests.AnswersOfArchitectures exploration) sides = Replies (ListsSide exploration sides.left)
-RepliesTo (requests.Differences form exploration) sides =
-    Replies (ListsDiffering exploration (behavior_of_input sides.left) (behavior_of_input sides.right))
-RepliesTo (requests.Ask call) sides = Replies (GivesReason call sides.left)
-RepliesTo (requests.AskArchitectures call) sides = Replies (GivesReason call sides.left)
-RepliesTo (requests.Compare comparison) sides = Replies (IsReport comparison sides)
-RepliesTo (requests.CompareBeside comparison) sides = Replies (IsReport comparison sides)
-RepliesTo (requests.CompareArchitectures comparison) sides = Replies (IsReport comparison sides)
-RepliesTo (requests.Compile has_left_out) sides = Compiles has_left_out sides.left
-RepliesTo (requests.CompileArchitectures has_left_out) sides = Compiles has_left_out sides.left
-RepliesTo (requests.Decide call) sides = Replies (Decides (requests.Decide call) sides.left)
-RepliesTo (requests.DecideBy call) sides = Replies (Decides (requests.DecideBy call) sides.left)
-RepliesTo (requests.DecidePaths call) sides = Replies (Decides (requests.DecidePaths call) sides.left)
-RepliesTo request sides = Replies (λ reply. ⊥)
+abbrev pub RepliesTo : Command → SidesInput → Result Reply Fault → Type 0
+RepliesTo (commands.Answers comparison has_examples false) sides =
+    Replies (ListsSide (exploration_of comparison has_examples) sides.left)
+RepliesTo (commands.Answers comparison has_examples true) sides = Replies (ListsDiffering
+    (exploration_of comparison has_examples) (behavior_of_input sides.left) (behavior_of_input sides.right))
+RepliesTo (commands.Ask call) sides = Replies (GivesReason call sides.left)
+RepliesTo (commands.Compare comparison) sides = Replies (IsReport comparison sides)
+RepliesTo (commands.Compile has_left_out) sides = Compiles has_left_out sides.left
+RepliesTo (commands.Decide call detail) sides = Replies (Decides call detail sides.left)
+RepliesTo command sides = Replies (λ reply. ⊥)
 
 -- ---- all commands
 
--- what a command takes, and over which records it goes
-abbrev pub shape_of : Request → Shape
-shape_of (requests.Answers exploration) =
-    record { form = forms.Profile; takes = takes.Either; over = AtOnce exploration.scope }
-shape_of (requests.AnswersOfArchitectures exploration) =
-    record { form = forms.Architectures; takes = takes.Profile; over = AtOnce exploration.scope }
-shape_of (requests.Differences form exploration) =
-    record { form = form; takes = takes.Sides; over = AtOnce exploration.scope }
-shape_of (requests.Compare comparison) =
-    record { form = forms.Profile; takes = takes.Sides; over = comparison.scopes }
-shape_of (requests.CompareBeside comparison) =
-    record { form = forms.Beside comparison.scopes; takes = takes.Sides; over = comparison.scopes }
-shape_of (requests.CompareArchitectures comparison) =
-    record { form = forms.Architectures; takes = takes.Sides; over = comparison.scopes }
-shape_of (requests.AskArchitectures call) =
-    record { form = forms.Architectures; takes = takes.Profile; over = AtOnce AllRecords }
-shape_of (requests.CompileArchitectures has_left_out) =
-    record { form = forms.Architectures; takes = takes.Profile; over = AtOnce AllRecords }
-shape_of (requests.Ask call) = record { form = forms.Profile; takes = takes.Profile; over = AtOnce AllRecords }
-shape_of (requests.Compile has_left_out) = record { form = forms.Profile; takes = takes.Profile; over = AtOnce AllRecords }
-shape_of request = record { form = forms.Profile; takes = takes.Filters; over = AtOnce AllRecords }
+-- the sides that a command takes from a bundle of a form
+abbrev pub takes_of : BundleForm → Command → Takes
+takes_of form (commands.Answers comparison has_examples true) = takes.Sides
+takes_of forms.Architectures (commands.Answers comparison has_examples false) = takes.Profile
+takes_of form (commands.Answers comparison has_examples false) = takes.Either
+takes_of form (commands.Ask call) = takes.Profile
+takes_of form (commands.Compare comparison) = takes.Sides
+takes_of form (commands.Compile has_left_out) = takes.Profile
+takes_of form command = takes.Filters
+
+-- over which records it goes
+abbrev pub scopes_of : Command → Scopes
+scopes_of (commands.Answers comparison has_examples has_differences) = comparison.scopes
+scopes_of (commands.Compare comparison) = comparison.scopes
+scopes_of command = AtOnce AllRecords
+
+-- both
+abbrev pub shape_of : BundleForm → Command → Shape
+shape_of form command = record { form = form; takes = takes_of form command; over = scopes_of command }
 
 -- they are refused, or this is replied to them
-abbrev pub EndsOnInputs : Request → Inputs → Result Reply Fault → Type 0
-EndsOnInputs request inputs ending =
-    ((fault : Fault) × (ending ≡ Err fault) × IsRefused (shape_of request).over inputs fault)
-    ⊎ (GoesOver inputs.rules.of_each (shape_of request).over inputs.tables
-    × (sides : SidesInput) × AreRead inputs sides × RepliesTo request sides ending)
+abbrev pub EndsOnInputs : Command → Inputs → Result Reply Fault → Type 0
+EndsOnInputs command inputs ending =
+    ((fault : Fault) × (ending ≡ Err fault) × IsRefused (scopes_of command) inputs fault)
+    ⊎ (GoesOver inputs.rules.of_each (scopes_of command) inputs.tables
+    × (sides : SidesInput) × AreRead inputs sides × RepliesTo command sides ending)
 
 -- What a command on a bundle ends with: it has no inputs, or they are refused, or this is replied to them.
-abbrev pub EndsOnBundle : Reading → Request → List ℕ → Result Reply Fault → Type 0
-EndsOnBundle reading request bytes ending =
-    ((fault : Fault) × (ending ≡ Err fault) × HasNoInputs (shape_of request) reading bytes fault)
-    ⊎ ((held : Held) × IsBundle (shape_of request).form bytes held
-    × (inputs : Inputs) × AreInputs (shape_of request) reading held inputs × EndsOnInputs request inputs ending)
+abbrev pub EndsOnBundle : Reading → BundleForm → Command → List ℕ → Result Reply Fault → Type 0
+EndsOnBundle reading form command bytes ending =
+    ((fault : Fault) × (ending ≡ Err fault) × HasNoInputs (shape_of form command) reading bytes fault)
+    ⊎ ((held : Held) × IsBundle form bytes held
+    × (inputs : Inputs) × AreInputs (shape_of form command) reading held inputs × EndsOnInputs command inputs ending)
 
 -- by whether all of the input is a text or a bundle
-abbrev pub EndsOnBytes : Reading → Request → List ℕ → Result Reply Fault → Type 0
-EndsOnBytes reading requests.Assemble bytes = Assembles bytes
-EndsOnBytes reading request bytes = EndsOnBundle reading request bytes
+abbrev pub EndsOnBytes : Reading → BundleForm → Command → List ℕ → Result Reply Fault → Type 0
+EndsOnBytes reading form commands.Assemble bytes = Assembles bytes
+EndsOnBytes reading form command bytes = EndsOnBundle reading form command bytes
 
--- what a request ends with is true of the input, by the reading of a profile
-abbrev pub IsTrueReply : Reading → Request → Option (List ℕ) → Result Reply Fault → Type 0
-IsTrueReply reading requests.Check input = EndsOnFilter requests.Check input
-IsTrueReply reading requests.List input = Lists input
-IsTrueReply reading (requests.Run call) input = EndsOnFilter (requests.Run call) input
-IsTrueReply reading (requests.Trace call) input = EndsOnFilter (requests.Trace call) input
-IsTrueReply reading request input = λ ending.
+-- what a command ends with is true of the input
+abbrev pub IsTrueOf : Reading → BundleForm → Command → Option (List ℕ) → Result Reply Fault → Type 0
+IsTrueOf reading form commands.Check input = EndsOnFilter commands.Check input
+IsTrueOf reading form commands.List input = Lists input
+IsTrueOf reading form (commands.Run call has_path) input = EndsOnFilter (commands.Run call has_path) input
+IsTrueOf reading form command input = λ ending.
     ((fault : InputFault) × (ending ≡ Err (faults.Input fault)) × ReadsInput input (Err fault))
-    ⊎ ((bytes : List ℕ) × ReadsInput input (Ok bytes) × EndsOnBytes reading request bytes ending)
+    ⊎ ((bytes : List ℕ) × ReadsInput input (Ok bytes) × EndsOnBytes reading form command bytes ending)
+
+-- so is what a request ends with
+abbrev pub IsTrueReply : Request → Option (List ℕ) → Result Reply Fault → Type 0
+IsTrueReply request = IsTrueOf request.reading request.form request.command
 
 -- ---- tables and a profile of any length
 

@@ -19,10 +19,14 @@ use Rattle.scf_compare.specs.declared.comparison.PairLeaf.{PairLeaf}
 use Rattle.scf_compare.specs.declared.finding.Finding.TheVariants.{Fails}
 use Rattle.scf_compare.specs.declared.region.Region.{Region}
 use Rattle.scf_compare.specs.declared.regions.Regions.{Regions}
-use Rattle.scf_request.specs.declared.request.Exploration.{Exploration}
+use Rattle.scf_profile.specs.declared.scope.Scope.TheVariants.{All as AllRecords}
+use Rattle.scf_request.specs.declared.request.Comparison.{Comparison}
+use Rattle.scf_request.specs.declared.request.Scopes.{Scopes}
+use Rattle.scf_request.specs.declared.request.Scopes.TheVariants.{AtOnce, EachCall}
 use Rattle.scf_tool.specs.ArchitectureScopes.{scope_of}
 use Rattle.scf_tool.specs.Inputs.{behavior_of_input}
 use Rattle.scf_tool.specs.RegionLines.{listing_text}
+use Rattle.scf_tool.specs.declared.exploration.Exploration.{Exploration}
 use Rattle.scf_tool.specs.declared.region_lines.RegionFormat.{RegionFormat}
 use Rattle.scf_tool.specs.declared.reply.Reply.{Reply}
 use Rattle.scf_tool.specs.declared.reply.Reply.TheVariants.{Compared}
@@ -86,6 +90,19 @@ abbrev pub IsListing : RegionFormat → Option (List Regions) → Reply → Type
 IsListing format listed (Compared text status) =
     (text.items ≡ listing_text format listed) × (status ≡ listing_status listed)
 IsListing format listed reply = ⊥
+
+-- the records of a walk: single calls aren't walked by themselves
+abbrev pub scope_walked : Scopes → Scope
+scope_walked (AtOnce scope) = scope
+scope_walked EachCall = AllRecords
+
+-- the walk that `answers` is asked for
+abbrev pub exploration_of : Comparison → Bool → Exploration
+exploration_of comparison has_examples = record {
+  limit = comparison.limits.each;
+  scope = scope_walked comparison.scopes;
+  has_examples = has_examples;
+}
 
 -- how regions are printed: with what one side answers, or both
 abbrev pub format_of : Bool → Exploration → RegionFormat

@@ -4,9 +4,8 @@ use Rattle.clap.specs.Words.{IsAmong, Text, fault_of, subcommand_of}
 use Rattle.clap.specs.declared.error.kind.ErrorKind.{ErrorKind}
 use Rattle.clap.specs.declared.error.kind.ErrorKind.TheVariants.{DisplayHelp, DisplayVersion}
 use Rattle.scf_insn.specs.Streams.{TakesAll, TakesBeginning}
-use Rattle.scf_profile.specs.declared.reading.Reading.{Reading}
 use Rattle.scf_request.specs.CommandLine.{scf}
-use Rattle.scf_request.specs.Requests.{AsksFor, IsRequest, ReadsBy}
+use Rattle.scf_request.specs.Requests.{AsksFor}
 use Rattle.scf_request.specs.declared.request.Request.{Request}
 use Rattle.scf_tool.specs.declared.fault.Fault.{Fault}
 use Rattle.scf_tool.specs.declared.fault.Fault.TheVariants as faults
@@ -32,8 +31,7 @@ SpeaksOfWords words (Ok (replies.CommandLine text status)) =
 SpeaksOfWords words (Ok reply) = ⊥
 SpeaksOfWords words (Err faults.CommandLine) = Unit {0}
 SpeaksOfWords words (Err (faults.Request fault)) =
-    (fault_of scf words ≡ [])
-    × (ReadsBy (subcommand_of scf words) (Err fault) ⊎ AsksFor (subcommand_of scf words) (Err fault))
+    (fault_of scf words ≡ []) × AsksFor (subcommand_of scf words) (Err fault)
 SpeaksOfWords words (Err fault) = ⊥
 
 -- The words ask for this, and what the run ends with is true of standard input.
@@ -41,11 +39,9 @@ pub record IsAnswered {R : Type 0} (words : List Text) (remaining : R → Option
     (old : R) (ending : Result Reply Fault) (new : R) : Type 0 where
   pub taken : fault_of scf words ≡ []
   pub request : Request
-  pub asked : IsRequest (subcommand_of scf words) request
-  pub reading : Reading
-  pub read_by : ReadsBy (subcommand_of scf words) (Ok reading)
-  pub answered : IsTrueReply reading request (remaining old) ending
-  pub input : LeavesInput request remaining failures old ending new
+  pub asked : AsksFor (subcommand_of scf words) (Ok request)
+  pub answered : IsTrueReply request (remaining old) ending
+  pub input : LeavesInput request.command remaining failures old ending new
 
 -- How a run ends: it speaks of its words, before it reads any input, or answers what they ask for.
 abbrev pub Ends : {R : Type 0} → List Text → (R → Option (List ℕ)) → (R → ℕ) → R → Result Reply Fault → R → Type 0

@@ -4,8 +4,8 @@ use Rattle.scf_insn.specs.declared.input.InputFault.TheVariants as inputs
 use Rattle.scf_tool.specs.declared.fault.Fault.{Fault}
 use Rattle.scf_tool.specs.declared.fault.Fault.TheVariants.{Input, Sides}
 use Rattle.scf_tool.specs.declared.verify_fault.BesideFault.TheVariants.{Verify}
-use Rattle.scf_request.specs.declared.request.Request.{Request}
-use Rattle.scf_request.specs.declared.request.Request.TheVariants as requests
+use Rattle.scf_request.specs.declared.request.Command.{Command}
+use Rattle.scf_request.specs.declared.request.Command.TheVariants as commands
 use Rattle.scf_tool.specs.declared.status.Status.{Status}
 use Rattle.scf_tool.specs.declared.status.Status.TheVariants.{Success, Refused, Differs, CommandLine, Failed, Unknown}
 use Rattle.scf_tool.specs.Verifying.{HasEnded, HasFailedWhere, LeavesFilterReader}
@@ -30,9 +30,8 @@ LeavesWhole remaining failures old (Err (Input fault)) new = HasFailedWhere (fau
 LeavesWhole remaining failures old ending new = HasEnded remaining failures old new
 
 -- by what is asked for
-abbrev pub LeavesInput : {R T : Type 0} → Request → (R → Option (List ℕ)) → (R → ℕ) → R → Result T Fault → R → Type 0
-LeavesInput requests.Check = LeavesFilter
-LeavesInput requests.List = LeavesFilter
-LeavesInput (requests.Run call) = LeavesFilter
-LeavesInput (requests.Trace call) = LeavesFilter
-LeavesInput request = LeavesWhole
+abbrev pub LeavesInput : {R T : Type 0} → Command → (R → Option (List ℕ)) → (R → ℕ) → R → Result T Fault → R → Type 0
+LeavesInput commands.Check = LeavesFilter
+LeavesInput commands.List = LeavesFilter
+LeavesInput (commands.Run call has_path) = LeavesFilter
+LeavesInput command = LeavesWhole

@@ -15,13 +15,14 @@ use std::alloc::Global;
 pub(crate) fn scope_of(scope: Scope, architecture: Architecture) -> Scope
     ensures { result ≡ spec.scope_of scope architecture }
 {
-    match scope {
-        Scope::Numbers { first, last } => Scope::NumbersOf {
-            architecture,
-            first,
-            last,
-        },
-        _ => Scope::Of(architecture),
+    let (first, last) = match scope {
+        Scope::Numbers { first, last, .. } => (first, last),
+        _ => (0, u32::MAX),
+    };
+    Scope::Numbers {
+        architecture,
+        first,
+        last,
     }
 }
 
@@ -30,16 +31,11 @@ pub(crate) fn scope_of_call(architecture: Architecture, number: u32) -> Scope
     requires { (row_of architecture).first + number < 2 ^ 32 }
     ensures { result ≡ spec.scope_of_call architecture number }
 {
-    match architecture {
-        Architecture::X8664 => Scope::Call(number),
-        _ => {
-            let nr = architecture.first() + number;
-            Scope::NumbersOf {
-                architecture,
-                first: nr,
-                last: nr,
-            }
-        }
+    let nr = architecture.first() + number;
+    Scope::Numbers {
+        architecture,
+        first: nr,
+        last: nr,
     }
 }
 

@@ -21,8 +21,7 @@ use crate::status::Status;
 use bundle::answer_bundle;
 use filter::{check_filter, list_filter, run_filter, trace_filter};
 use scf_insn::{InputFault, Sink, Source, read_input, write_whole};
-use scf_profile::Reading;
-use scf_request::{Request, parse, reading_of, request_of};
+use scf_request::{Command, Request, parse, request_of};
 use std::alloc::Global;
 use std::convert::AsStr;
 use text::assemble_text;
@@ -41,39 +40,34 @@ fn whole_input<R: Source>(alloc: Global, input: &mut R) -> Result<Vec<u8>, Input
     read_input(alloc, input, MAX_INPUT)
 }
 
-/// Runs a request on all of standard input. A profile is read by the reading.
-fn answer_bytes(
-    alloc: Global,
-    reading: Reading,
-    request: &Request,
-    bytes: &[u8],
-) -> Result<Reply, Fault>
-    ensures { EndsOnBytes reading request.now bytes.now result }
+/// Runs a request on all of standard input.
+fn answer_bytes(alloc: Global, request: &Request, bytes: &[u8]) -> Result<Reply, Fault>
+    ensures { EndsOnBytes request.now.reading request.now.form request.now.command bytes.now result }
 {
-    match request {
-        Request::Assemble => assemble_text(alloc, bytes),
-        _ => answer_bundle(alloc, reading, request, bytes),
+    match &request.command {
+        Command::Assemble => assemble_text(alloc, bytes),
+        _ => answer_bundle(alloc, request, bytes),
     }
 }
 
 /// Runs a request on standard input, of which the commands on one filter read no more than that.
-fn answer<R: Source>(
-    alloc: Global,
-    reading: Reading,
-    request: &Request,
-    input: &mut R,
-) -> Result<Reply, Fault>
-    ensures answer { IsTrueReply reading request.now (R.remaining input.old) result }
-    ensures input { LeavesInput request.now R.remaining R.failures input.old result input.new }
+fn answer<R: Source>(alloc: Global, request: &Request, input: &mut R) -> Result<Reply, Fault>
+    ensures answer { IsTrueReply request.now (R.remaining input.old) result }
+    ensures input { LeavesInput request.now.command R.remaining R.failures input.old result input.new }
 {
-    match request {
-        Request::Check => check_filter(alloc, input),
-        Request::List => list_filter(alloc, input),
-        Request::Run(call) => run_filter(alloc, call, input),
-        Request::Trace(call) => trace_filter(alloc, call, input),
+    match &request.command {
+        Command::Check => check_filter(alloc, input),
+        Command::List => list_filter(alloc, input),
+        Command::Run { call, has_path } => {
+            if *has_path {
+                trace_filter(alloc, call, input)
+            } else {
+                run_filter(alloc, call, input)
+            }
+        }
         _ => {
             let bytes = whole_input(alloc, input)?;
-            answer_bytes(alloc, reading, request, &bytes)
+            answer_bytes(alloc, request, &bytes)
         }
     }
 }
@@ -83,10 +77,7 @@ fn ending_of<T: AsStr, R: Source>(alloc: Global, words: &[T], input: &mut R) -> 
     ensures { Ends (map T.text words.now) R.remaining R.failures input.old result input.new }
 {
     match parse(alloc, words) {
-        Ok(matches) => {
-            let reading = reading_of(&matches)?;
-            answer(alloc, reading, &request_of(&matches)?, input)
-        }
+        Ok(matches) => answer(alloc, &request_of(&matches)?, input),
         Err(error) => explain(alloc, &error),
     }
 }

@@ -29,8 +29,33 @@ use scf_compare::{PairLeaf, Regions, Side, regions_of};
 use scf_facts::{WordSets, word_sets_start_exact};
 use scf_insn::Memory;
 use scf_profile::{Profile, Relation, Scope};
-use scf_request::Exploration;
+use scf_request::{Comparison, Scopes};
 use std::alloc::Global;
+
+/// What a walk over the records of a scope is asked for.
+#[derive(Clone, Copy)]
+pub(crate) struct Exploration {
+    /// The most steps.
+    pub limit: u64,
+    pub scope: Scope,
+    /// Whether a record of each region is shown.
+    pub has_examples: bool,
+}
+
+/// The walk over the records of a comparison. Single calls aren't walked by themselves.
+pub(crate) fn exploration_of(comparison: &Comparison, has_examples: bool) -> Exploration
+    ensures { result ≡ spec.exploration_of comparison.now has_examples }
+{
+    let scope = match comparison.scopes {
+        Scopes::AtOnce(scope) => scope,
+        Scopes::EachCall => Scope::All,
+    };
+    Exploration {
+        limit: comparison.limits.each,
+        scope,
+        has_examples,
+    }
+}
 
 /// The regions of two sides over the records of a scope, if a walk takes at most so many steps.
 fn explore(

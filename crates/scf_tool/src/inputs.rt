@@ -177,7 +177,7 @@ fn is_one_table(form: BundleForm, over: Scopes) -> bool
 {
     match form {
         BundleForm::Architectures => matches!(over, Scopes::EachCall),
-        BundleForm::Profile | BundleForm::Beside(_) => true,
+        BundleForm::Profile | BundleForm::Beside { .. } => true,
     }
 }
 
@@ -190,7 +190,7 @@ fn is_of_each(form: BundleForm) -> bool
 fn is_beside(form: BundleForm) -> bool
     ensures { result ≡ spec.is_beside form }
 {
-    matches!(form, BundleForm::Beside(_))
+    matches!(form, BundleForm::Beside { .. })
 }
 
 fn takes_sides(takes: Takes) -> bool

@@ -1,11 +1,10 @@
 -- Commands that read all of standard input.
-use Rattle.scf_request.specs.declared.request.Request.{Request}
-use Rattle.scf_request.specs.declared.request.Request.TheVariants as requests
+use Rattle.scf_request.specs.declared.request.Command.{Command}
+use Rattle.scf_request.specs.declared.request.Command.TheVariants as commands
 
--- requests for which all of the input is read first
-abbrev pub TakesWhole : Request → Type 0
-TakesWhole requests.Check = ⊥
-TakesWhole requests.List = ⊥
-TakesWhole (requests.Run call) = ⊥
-TakesWhole (requests.Trace call) = ⊥
-TakesWhole request = Unit {0}
+-- commands for which all of the input is read first
+abbrev pub TakesWhole : Command → Type 0
+TakesWhole commands.Check = ⊥
+TakesWhole commands.List = ⊥
+TakesWhole (commands.Run call has_path) = ⊥
+TakesWhole command = Unit {0}

@@ -5,13 +5,12 @@ ghost use Rattle.scf_tool.specs.Commands.{Replies};
 ghost use Rattle.scf_tool.specs.Explorations.{ListsDiffering, ListsSide};
 ghost use Rattle.scf_tool.specs.Inputs.{behavior_of_input};
 
-use crate::exploration::{list_differing, list_each, list_side};
+use crate::exploration::{Exploration, list_differing, list_each, list_side};
 use crate::fault::Fault;
 use crate::reply::Reply;
 use crate::sides::{SideInput, SidesInput};
 use scf_compare::Side;
 use scf_insn::Memory;
-use scf_request::Exploration;
 use std::alloc::Global;
 
 /// Lists what a side answers: profiles each to the records of its architecture.

@@ -10,67 +10,70 @@ ghost use Rattle.scf_tool.specs.internal.Sides.{inputs_of};
 use crate::architecture_scope::{has_record_among, names_no_call};
 use crate::commands::answers::{list_answers, list_differences};
 use crate::commands::compare::compare_sides;
-use crate::commands::decide::{decide, decide_at, decide_paths};
+use crate::commands::decide::decide;
 use crate::commands::profile::{ask_profile, compile_profile};
+use crate::exploration::exploration_of;
 use crate::fault::Fault;
 use crate::inputs::{Inputs, Shape, Takes, open};
 use crate::reply::Reply;
 use crate::sides::{SidesInput, read_sides};
-use scf_profile::{Reading, Scope};
-use scf_request::{BundleFault, BundleForm, PartReader, Request, Scopes, TableReader};
+use scf_profile::Scope;
+use scf_request::{BundleFault, BundleForm, Command, PartReader, Request, Scopes, TableReader};
 use std::alloc::Global;
 
-/// What a command takes, and over which records it goes.
-fn shape_of(request: &Request) -> Shape
-    ensures { result ≡ spec.shape_of request.now }
+/// The sides that a command takes from a bundle of a form.
+fn takes_of(form: BundleForm, command: &Command) -> Takes
+    ensures { result ≡ spec.takes_of form command.now }
 {
-    let (form, takes, over) = match request {
-        Request::Answers(exploration) => (
-            BundleForm::Profile,
-            Takes::Either,
-            Scopes::AtOnce(exploration.scope),
-        ),
-        Request::AnswersOfArchitectures(exploration) => (
-            BundleForm::Architectures,
-            Takes::Profile,
-            Scopes::AtOnce(exploration.scope),
-        ),
-        Request::Differences { form, exploration } => {
-            (*form, Takes::Sides, Scopes::AtOnce(exploration.scope))
+    match command {
+        Command::Answers {
+            has_differences,
+            ..
+        } => {
+            if *has_differences {
+                Takes::Sides
+            } else if matches!(form, BundleForm::Architectures) {
+                Takes::Profile
+            } else {
+                Takes::Either
+            }
         }
-        Request::Compare(comparison) => (BundleForm::Profile, Takes::Sides, comparison.scopes),
-        Request::CompareBeside(comparison) => (
-            BundleForm::Beside(comparison.scopes),
-            Takes::Sides,
-            comparison.scopes,
-        ),
-        Request::CompareArchitectures(comparison) => {
-            (BundleForm::Architectures, Takes::Sides, comparison.scopes)
-        }
-        Request::AskArchitectures(_) | Request::CompileArchitectures { .. } => (
-            BundleForm::Architectures,
-            Takes::Profile,
-            Scopes::AtOnce(Scope::All),
-        ),
-        Request::Ask(_) | Request::Compile { .. } => (
-            BundleForm::Profile,
-            Takes::Profile,
-            Scopes::AtOnce(Scope::All),
-        ),
-        Request::Decide(_)
-        | Request::DecideBy(_)
-        | Request::DecidePaths(_)
-        | Request::Assemble
-        | Request::Check
-        | Request::List
-        | Request::Run(_)
-        | Request::Trace(_) => (
-            BundleForm::Profile,
-            Takes::Filters,
-            Scopes::AtOnce(Scope::All),
-        ),
-    };
-    Shape { form, takes, over }
+        Command::Compare(_) => Takes::Sides,
+        Command::Ask(_) | Command::Compile { .. } => Takes::Profile,
+        Command::Assemble
+        | Command::Check
+        | Command::Decide { .. }
+        | Command::List
+        | Command::Run { .. } => Takes::Filters,
+    }
+}
+
+/// Over which records it goes.
+fn scopes_of(command: &Command) -> Scopes
+    ensures { result ≡ spec.scopes_of command.now }
+{
+    match command {
+        Command::Answers { comparison, .. } => comparison.scopes,
+        Command::Compare(comparison) => comparison.scopes,
+        Command::Ask(_)
+        | Command::Assemble
+        | Command::Check
+        | Command::Compile { .. }
+        | Command::Decide { .. }
+        | Command::List
+        | Command::Run { .. } => Scopes::AtOnce(Scope::All),
+    }
+}
+
+/// What a request takes, and over which records it goes.
+fn shape_of(request: &Request) -> Shape
+    ensures { result ≡ spec.shape_of request.now.form request.now.command }
+{
+    Shape {
+        form: request.form,
+        takes: takes_of(request.form, &request.command),
+        over: scopes_of(&request.command),
+    }
 }
 
 /// Whether a scope has a record under the tables of a command.
@@ -124,43 +127,38 @@ fn read_over(alloc: Global, over: Scopes, inputs: Inputs<'_>) -> Result<SidesInp
 }
 
 /// Replies to the sides of a command.
-fn reply_to(alloc: Global, request: &Request, sides: SidesInput) -> Result<Reply, Fault>
-    ensures { RepliesTo request.now sides result }
+fn reply_to(alloc: Global, command: &Command, sides: SidesInput) -> Result<Reply, Fault>
+    ensures { RepliesTo command.now sides result }
 {
-    match request {
-        Request::Answers(exploration) => list_answers(alloc, &sides.left, *exploration),
-        Request::AnswersOfArchitectures(exploration) => {
-            list_answers(alloc, &sides.left, *exploration)
+    match command {
+        Command::Answers {
+            comparison,
+            has_examples,
+            has_differences,
+        } => {
+            let exploration = exploration_of(comparison, *has_examples);
+            if *has_differences {
+                list_differences(alloc, &sides, exploration)
+            } else {
+                list_answers(alloc, &sides.left, exploration)
+            }
         }
-        Request::Differences { exploration, .. } => list_differences(alloc, &sides, *exploration),
-        Request::Ask(call) => ask_profile(&sides.left, call),
-        Request::AskArchitectures(call) => ask_profile(&sides.left, call),
-        Request::Compare(comparison) => compare_sides(alloc, sides, *comparison),
-        Request::CompareBeside(comparison) => compare_sides(alloc, sides, *comparison),
-        Request::CompareArchitectures(comparison) => compare_sides(alloc, sides, *comparison),
-        Request::Compile { has_left_out } => compile_profile(alloc, sides, *has_left_out),
-        Request::CompileArchitectures { has_left_out } => {
-            compile_profile(alloc, sides, *has_left_out)
-        }
-        Request::Decide(call) => decide(&sides.left, call),
-        Request::DecideBy(call) => decide_at(&sides.left, call),
-        Request::DecidePaths(call) => decide_paths(alloc, &sides.left, call),
-        Request::Assemble | Request::Check | Request::List | Request::Run(_) | Request::Trace(_) =>
-            Err(Fault::Parts),
+        Command::Ask(call) => ask_profile(&sides.left, call),
+        Command::Compare(comparison) => compare_sides(alloc, sides, *comparison),
+        Command::Compile { has_left_out } => compile_profile(alloc, sides, *has_left_out),
+        Command::Decide { call, detail } => decide(alloc, &sides.left, call, *detail),
+        Command::Assemble | Command::Check | Command::List | Command::Run { .. } => Err(
+            Fault::Parts,
+        ),
     }
 }
 
-/// Runs a command on a bundle. A profile is read by the reading.
-pub(super) fn answer_bundle(
-    alloc: Global,
-    reading: Reading,
-    request: &Request,
-    bytes: &[u8],
-) -> Result<Reply, Fault>
-    ensures { EndsOnBundle reading request.now bytes.now result }
+/// Runs a command on a bundle.
+pub(super) fn answer_bundle(alloc: Global, request: &Request, bytes: &[u8]) -> Result<Reply, Fault>
+    ensures { EndsOnBundle request.now.reading request.now.form request.now.command bytes.now result }
 {
     let shape = shape_of(request);
-    let inputs = open(alloc, reading, shape, bytes)?;
+    let inputs = open(alloc, request.reading, shape, bytes)?;
     let sides = read_over(alloc, shape.over, inputs)?;
-    reply_to(alloc, request, sides)
+    reply_to(alloc, &request.command, sides)
 }

@@ -4,7 +4,6 @@ ghost use Rattle.std.specs.Prelude.{◌≡◌, ◌++◌, ℕ, List, string_bytes
 ghost use Rattle.scf_insn.specs.Words.{words_of};
 ghost use Rattle.scf_machine.specs.Path.{IsPathOf};
 ghost use Rattle.scf_machine.specs.Precedence.{IsDecidedBy};
-ghost use Rattle.scf_request.specs.declared.request.Request.TheVariants as requests;
 ghost use Rattle.scf_tool.specs.Commands.{Decides, Replies, ShowsRuns};
 ghost use Rattle.scf_tool.specs.Lines.{decision_text, traced_text};
 
@@ -14,27 +13,8 @@ use crate::reply::Reply;
 use crate::sides::SideInput;
 use scf_insn::{CallRecord, Memory};
 use scf_machine::{Decision, FilterStack, Program, trace};
+use scf_request::Detail;
 use std::alloc::Global;
-
-/// `decide`: what a stack of filters answers to a call.
-pub(super) fn decide(side: &SideInput, call: &CallRecord) -> Result<Reply, Fault>
-    ensures { Replies (Decides (requests.Decide call.now) side.now) result }
-{
-    match side {
-        SideInput::Stack(stack) => Ok(Reply::Decided(stack.decide(call))),
-        SideInput::Profile(_) | SideInput::Profiles(_) => Err(Fault::Parts),
-    }
-}
-
-/// `decide --at`: what it answers, and which instruction gives the answer.
-pub(super) fn decide_at(side: &SideInput, call: &CallRecord) -> Result<Reply, Fault>
-    ensures { Replies (Decides (requests.DecideBy call.now) side.now) result }
-{
-    match side {
-        SideInput::Stack(stack) => Ok(Reply::DecidedBy(stack.decision(call))),
-        SideInput::Profile(_) | SideInput::Profiles(_) => Err(Fault::Parts),
-    }
-}
 
 /// Adds the lines of a filter's run on a call and its path.
 fn add_run(
@@ -80,16 +60,21 @@ fn lines_of_runs(alloc: Global, stack: &FilterStack, call: &CallRecord) -> Resul
     Ok(text.into_bytes())
 }
 
-/// `decide --path`: what it answers, which instruction gives the answer, and how each filter runs.
-pub(super) fn decide_paths(
+/// `decide`: what a stack of filters answers to a call, in the detail that is asked for.
+pub(super) fn decide(
     alloc: Global,
     side: &SideInput,
     call: &CallRecord,
+    detail: Detail,
 ) -> Result<Reply, Fault>
-    ensures { Replies (Decides (requests.DecidePaths call.now) side.now) result }
+    ensures { Replies (Decides call.now detail side.now) result }
 {
-    match side {
-        SideInput::Stack(stack) => Ok(Reply::Bytes(lines_of_runs(alloc, stack, call)?)),
-        SideInput::Profile(_) | SideInput::Profiles(_) => Err(Fault::Parts),
+    let SideInput::Stack(stack) = side else {
+        return Err(Fault::Parts);
+    };
+    match detail {
+        Detail::Answer => Ok(Reply::Decided(stack.decide(call))),
+        Detail::Instruction => Ok(Reply::DecidedBy(stack.decision(call))),
+        Detail::Paths => Ok(Reply::Bytes(lines_of_runs(alloc, stack, call)?)),
     }
 }

@@ -1,10 +1,10 @@
 //! Commands on one filter.
 
-ghost use Rattle.std.specs.Prelude.{◌≡◌, ℕ, List, IfOk};
+ghost use Rattle.std.specs.Prelude.{◌≡◌, ℕ, List, IfOk, false, true};
 ghost use Rattle.scf_insn.specs.Words.{words_of};
 ghost use Rattle.scf_machine.specs.Path.{IsPathOf};
 ghost use Rattle.scf_tool.specs.Commands.{EndsOnFilter, Lists};
-ghost use Rattle.scf_request.specs.declared.request.Request.TheVariants as requests;
+ghost use Rattle.scf_request.specs.declared.request.Command.TheVariants as commands;
 ghost use Rattle.scf_tool.specs.Lines.{traced_text};
 ghost use Rattle.scf_tool.specs.Statuses.{LeavesFilter};
 
@@ -19,7 +19,7 @@ use std::alloc::Global;
 
 /// `check`: whether a filter is accepted.
 pub(super) fn check_filter<R: Source>(alloc: Global, input: &mut R) -> Result<Reply, Fault>
-    ensures answer { EndsOnFilter requests.Check (R.remaining input.old) result }
+    ensures answer { EndsOnFilter commands.Check (R.remaining input.old) result }
     ensures input { LeavesFilter R.remaining R.failures input.old result input.new }
 {
     let program = read_filter(alloc, input)?;
@@ -32,7 +32,7 @@ pub(super) fn run_filter<R: Source>(
     call: &CallRecord,
     input: &mut R,
 ) -> Result<Reply, Fault>
-    ensures answer { EndsOnFilter (requests.Run call.now) (R.remaining input.old) result }
+    ensures answer { EndsOnFilter (commands.Run call.now false) (R.remaining input.old) result }
     ensures input { LeavesFilter R.remaining R.failures input.old result input.new }
 {
     let program = read_filter(alloc, input)?;
@@ -54,7 +54,7 @@ pub(super) fn trace_filter<R: Source>(
     call: &CallRecord,
     input: &mut R,
 ) -> Result<Reply, Fault>
-    ensures answer { EndsOnFilter (requests.Trace call.now) (R.remaining input.old) result }
+    ensures answer { EndsOnFilter (commands.Run call.now true) (R.remaining input.old) result }
     ensures input { LeavesFilter R.remaining R.failures input.old result input.new }
 {
     let program = read_filter(alloc, input)?;

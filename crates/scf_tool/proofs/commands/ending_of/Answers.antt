@@ -1,5 +1,4 @@
 use Rattle.scf_tool.proofs.Common.{◌≡◌, ◌⊎◌, ℕ, List, Option, map, inl, inr, refl, subst, Result, Ok, Err, err_from_is_err_and, IsAmong, Row, Text, fault_of, ErrorKind, OutOfMemory, Fault, Reply, CommandLine, AsksFor, SpeaksOfWords, scf, Explains}
-use Rattle.scf_request.specs.Requests.{ReadsBy}
 use Rattle.scf_tool.proofs.commands.ending_of.Goals as goal
 
 explained : (words : List Text) (kind : ErrorKind) (reply : Result Reply Fault)
@@ -9,20 +8,13 @@ explained words kind (Ok (CommandLine text status)) (inr among) e = (kind, among
 explained words kind (Ok reply) h e = absurd e
 explained words kind (Err fault) h e = rw e tt
 
-pub returns-in_err-reading-in-Ok : goal.returns-in_err-reading-in-Ok
-returns-in_err-reading-in-Ok g c =
-    let p = err_from_is_err_and c.from_residual.result c.from_residual.ensures.1 in
-    let reads = subst (λ (asked : Option (List ℕ × List Row)). ReadsBy asked (Err c.in_err-reading-in-Ok.field-0.0))
-    c.in-Ok.ensures.matches (rw c.in_err-reading-in-Ok.was at c.reading_of.ensures) in
-    rw (p.1, p.2) (inl ((c.in-Ok.ensures.kinds, inl reads), refl))
-
 pub returns-in_err-request_of-in-Ok : goal.returns-in_err-request_of-in-Ok
 returns-in_err-request_of-in-Ok g c =
-    let p = err_from_is_err_and c.from_residual-in_err-request_of-in-Ok.result
-    c.from_residual-in_err-request_of-in-Ok.ensures.1 in
+    let p = err_from_is_err_and c.from_residual.result
+    c.from_residual.ensures.1 in
     let asks = subst (λ (comparison : Option (List ℕ × List Row)). AsksFor comparison (Err c.in_err-request_of-in-Ok.field-0.0))
     c.in-Ok.ensures.matches c.in_err-request_of-in-Ok.ensures in
-    rw (p.1, p.2) (inl ((c.in-Ok.ensures.kinds, inr asks), refl))
+    rw (p.1, p.2) (inl ((c.in-Ok.ensures.kinds, asks), refl))
 
 pub returns-in-Err : goal.returns-in-Err
 returns-in-Err g c = inl (
