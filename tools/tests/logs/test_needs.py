@@ -1070,7 +1070,9 @@ until curl -s http://127.0.0.1:$p/; do sleep 0.1; done; kill -QUIT $!; wait $!""
             if not shutil.which(name):
                 continue
             with self.subTest(name):
-                program = self.file("program.sh", f"d=$(mktemp -d)\n{script}\nstatus=$?; rm -r $d; exit $status\n")
+                # (how a shell waits depends on whether what it waits for has ended: the profile has both ways)
+                program = self.file("program.sh", f"d=$(mktemp -d); sleep 0.5 & wait $!\n{script}\n"
+                                                  "status=$?; rm -r $d; exit $status\n")
                 status, out, err = self.run_tool("record", "--profile", self.listed(), "least.json", "--", "sh",
                                                  program, seconds=120)
                 self.assertIn(status, (0, 1), err)
