@@ -1,7 +1,7 @@
 //! The scope of a comparison.
 
-ghost use Rattle.std.specs.Prelude.{◌≡◌, ◌↔◌, ℕ, List, IsTrue, IfOk};
-ghost use Rattle.scf_insn.specs.Architectures.{IsOf};
+ghost use Rattle.std.specs.Prelude.{◌≡◌, ◌≤◌, ◌↔◌, ℕ, List, IsTrue, IfOk};
+ghost use Rattle.scf_insn.specs.Architectures.{IsOf, row_of};
 ghost use Rattle.scf_insn.specs.Words.{IsWords, call_of};
 ghost use Rattle.scf_profile.specs.Scope.{IsInScope};
 
@@ -69,6 +69,27 @@ fn facts_of_architecture<F: WordFacts>(
     Ok(facts)
 }
 
+/// A store that allows exactly the words of an architecture's records with one of its syscall numbers.
+#[tactic(auto, using(crate::proofs::Bits::whole_words, scf_insn::proofs::CallWords::word_below))]
+fn facts_of_number<F: WordFacts>(
+    alloc: Global,
+    architecture: Architecture,
+    number: u32,
+) -> Result<F, Memory>
+    requires first { (row_of architecture).first ≤ number }
+    requires last { number ≤ (row_of architecture).last }
+    ensures unmarked { IfOk result (λ facts. F.level facts ≡ 0) }
+    ensures scope { IfOk result (λ facts. (words : List ℕ)
+        → F.allows facts 0 words
+        ↔ (IsWords words × IsInScope (Scope.Numbers architecture number number) (call_of words))) }
+    ensures among { IfOk result (λ facts. IsTrue F.starts_exact → (masks : ℕ) → F.refutes_among facts 0 masks) }
+{
+    let mut facts: F = F::all(alloc)?;
+    facts.learn(word_is(1, architecture.audit()), true)?;
+    facts.learn(word_is(0, number), true)?;
+    Ok(facts)
+}
+
 /// A store that allows exactly the words of an architecture's records with a syscall number from `first` to `last`.
 fn facts_of_numbers<F: WordFacts>(
     alloc: Global,
@@ -82,6 +103,9 @@ fn facts_of_numbers<F: WordFacts>(
         ↔ (IsWords words × IsInScope (Scope.Numbers architecture first last) (call_of words))) }
     ensures among { IfOk result (λ facts. IsTrue F.starts_exact → (masks : ℕ) → F.refutes_among facts 0 masks) }
 {
+    if first == last && architecture.first() <= first && first <= architecture.last() {
+        return facts_of_number(alloc, architecture, first);
+    }
     let is_past_last = Atom::Gt {
         word: 0,
         value: last,
