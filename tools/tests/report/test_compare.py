@@ -157,7 +157,7 @@ class Compare(Case):
             status, out, _ = self.run_tool(*words, "--limit=100000")
             self.assertEqual((status, out.count("\n# not known: allow more splits and steps, --splits N --limit N\n")),
                              (4, 1), out)
-            self.assertRegex(out, r"^undecided at [0-9]+\n# Runs of a filter end at this instruction")
+            self.assertRegex(out, r"^undecided at [0-9]+\n# A run of a filter can end at this instruction")
 
     def test_splits(self):
         """A number times the next one is even, which takes a split: no call gets the errno."""
@@ -610,7 +610,7 @@ class Explain(Case):
                                 ("no more", "nowhere are the filters more"),
                                 ("unconfined though configured", "though its configuration has a profile"),
                                 ("ERRNO 1 entry 3", "entry 3 of the profile's syscalls"),
-                                ("undecided at 7", "Runs of a filter end at this instruction"),
+                                ("undecided at 7", "A run of a filter can end at this instruction"),
                                 ("exit code 70.", "an internal error"), ("status 137", "signal 9 ended it")):
                 lines = self.explained(before + line)
                 self.assertTrue(any(means in line for line in lines), (before + line, lines))
