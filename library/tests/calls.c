@@ -512,13 +512,14 @@ static void answers_by_one_of_several(void) {
     static struct scf_region regions[64];
     static struct scf_fact facts[256];
     struct scf_bytes stack[3];
-    struct scf_side side = with_filters(stack, 3);
+    struct scf_side side;
     struct scf_question question = asked(SCF_ALL_CALLS, SCF_SAME);
     struct scf_table names = table_of(SCF_TABLE_X86_64, table);
     struct scf_listing listing;
     size_t facts_count, i;
     stack[0] = stack[1] = bytes_of(positive, sizeof positive);
     stack[2] = bytes_of(allow, sizeof allow);
+    side = with_filters(stack, 3);
     IS(scf_answers(&side, NULL, 0, &question, &listing, regions, 64, &count, facts, 256, &facts_count, &fault)
        == SCF_OK);
     IS(count == 2);
