@@ -26,7 +26,8 @@ def profile_of(entries):
     """The parts of a profile of one syscall that gives EPERM where no entry allows."""
     text = {"defaultAction": "SCMP_ACT_ERRNO", "syscalls": [
         {"names": ["call_0"], "action": "SCMP_ACT_ALLOW",
-         "args": [{"index": index, "value": value, "op": f"SCMP_CMP_{operator}"} for index, operator, value in conditions]}
+         "args": [{"index": index, "value": value, "op": f"SCMP_CMP_{operator}"}
+                  for index, operator, value in conditions]}
         for conditions in entries]}
     return part("profile", json.dumps(text).encode()) + part("table", TABLE)
 

@@ -65,10 +65,6 @@ def named(listed: str) -> dict[str, str]:
     return sources
 
 
-def crates_of(repository: str) -> list[str]:
-    return sorted(os.listdir(os.path.join(repository, "crates")))
-
-
 def exports_of(folder: str, path: str, wanted: set[str] | None = None) -> list[tuple[str, set[str] | None]]:
     """The exports of a file: pairs of a file and the names in it that are exported, None for all."""
     text = without_comments(text_of(path), "//")
@@ -212,7 +208,7 @@ class Repository:
 
     def __init__(self, top: str = TOP):
         self.top = top
-        self.crates = crates_of(top)
+        self.crates = sorted(os.listdir(os.path.join(top, "crates")))
         self.file = functools.lru_cache(None)(self._file)
 
     def _file(self, crate: str, path: str) -> File | None:

@@ -1,9 +1,13 @@
 """Tests of the module scf: each call, and what it raises. The answers are those of linux/seccomp.h and of the OCI
 specification. Run by `python3 -m unittest` in this folder; LIBSCF may name the library."""
+import copy
+import enum
 import mmap
+import pickle
 import subprocess
 import sys
 import threading
+import typing
 import unittest
 
 import scf
@@ -50,6 +54,53 @@ class Calls(unittest.TestCase):
         self.assertEqual(scf.decide([DENY, ALLOW], READ), (RET_EPERM, 0, 0))
         self.assertEqual(scf.decide([ALLOW, DENY], READ), (RET_EPERM, 1, 0))
         self.assertEqual(scf.decide([], READ), (RET_ALLOW, None, None))
+
+    def test_enums_are_as_pythons(self):
+        for kind in (scf.Relation, scf.Verdict, scf.Reason, scf.Reading, scf.Architecture, scf.Action, scf.Source,
+                     scf.Kind):
+            own = enum.IntEnum(kind.__name__, {member.name: member.value for member in kind})
+            self.assertEqual(list(map(repr, kind)), list(map(repr, own)))
+            self.assertEqual((len(kind), list(kind.__members__)), (len(own), list(own.__members__)))
+            for member in kind:
+                self.assertIs(type(member.value), int)
+                self.assertEqual((str(member), f"{member}"), (str(member.value),) * 2)
+                number = member.value
+                self.assertEqual((member, hash(member), member + 1), (number, hash(number), number + 1))
+                for same in (kind(member), kind(member.value), kind[member.name], getattr(kind, member.name),
+                             copy.deepcopy(member), pickle.loads(pickle.dumps(member))):
+                    self.assertIs(same, member)
+            self.assertTrue(1 in kind or kind is scf.Action)
+            self.assertNotIn(99, kind)
+            with self.assertRaisesRegex(ValueError, f"^99 is not a valid {kind.__name__}$"):
+                kind(99)
+            with self.assertRaises(KeyError):
+                kind["OTHER"]
+
+    def test_named_tuples_are_as_pythons(self):
+        own = typing.NamedTuple("Scope", [("kind", int), ("architecture", int), ("first", int), ("last", int)])
+        made = scf.Scope(3, last=7)
+        self.assertEqual((made, repr(made)), (own(3, 0, 0, 7), repr(own(3, 0, 0, 7))))
+        self.assertEqual((made.kind, made.last, made._fields, made.__match_args__), (3, 7, own._fields, own._fields))
+        self.assertEqual((made._asdict(), made._replace(kind=1), scf.Scope._make([1, 2, 3, 4])),
+                         ({"kind": 3, "architecture": 0, "first": 0, "last": 7}, (1, 0, 0, 7), (1, 2, 3, 4)))
+        for same in (copy.deepcopy(made), pickle.loads(pickle.dumps(made))):
+            self.assertEqual((same, type(same)), (made, scf.Scope))
+        for given, named in (((), {}), ((1, 2, 3, 4, 5), {}), ((1,), {"kind": 1}), ((1,), {"other": 1})):
+            with self.assertRaises(TypeError):
+                scf.Scope(*given, **named)
+        with self.assertRaises(AttributeError):
+            made.kind = 4
+        self.assertEqual((READ._replace(ip=5), repr(READ)), (
+            scf.Call(0, ip=5), f"Call(nr=0, args=(0, 0, 0, 0, 0, 0), arch={0xC000003E}, ip=0)"))
+
+    def test_each_public_name(self):
+        names = {}
+        exec("from scf import *", names)  # pylint: disable=exec-used
+        self.assertLessEqual({*scf.__all__}, {*names})
+        self.assertEqual((typing.get_args(scf.Buffer)[:3], scf.Side), ((bytes, bytearray, memoryview),
+                                                                       typing.Union[scf.Profile, scf.Filters]))
+        with self.assertRaises(AttributeError):
+            scf.other  # pylint: disable=pointless-statement
 
     def test_calls_in_words(self):
         for call, text in ((scf.Call(41, (2, 1)), "socket(0x2, 0x1, 0x0, 0x0, 0x0, 0x0) of x86-64"),

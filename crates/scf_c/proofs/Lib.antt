@@ -1,4 +1,2 @@
-mod AnswerLemmas
-mod ComparisonLemmas
+mod FilterLemmas
 mod RecordLemmas
-mod Searching

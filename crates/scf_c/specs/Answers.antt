@@ -1,19 +1,23 @@
 -- The answers of a side, by regions of records, as numbers.
-use Rattle.std.specs.Prelude.{◌≡◌, ◌==◌, ◌⊎◌, ◌≤◌, ◌<◌, ◌++◌, ℕ, Bool, true, false, List, [], ◌∷◌}
-use Rattle.std.specs.Prelude.{Option, Some, None, flat_map, is_some, length, map, slice_get, sum_by, if◌then◌else◌}
-use Rattle.std.specs.List.{AllZip}
+use Rattle.std.specs.Prelude.{◌≡◌, ◌==◌, ◌⊎◌, ◌++◌, ℕ, Bool, true, false, List, [], ◌∷◌, Option, Some, None}
+use Rattle.std.specs.Prelude.{flat_map, is_some, length, map, slice_get, if◌then◌else◌}
 use Rattle.std.specs.Option.{option_map_or}
 use Rattle.scf_insn.specs.declared.answer.Answer.{Answer}
 use Rattle.scf_facts.specs.declared.bits.Bits.{Bits}
 use Rattle.scf_facts.specs.declared.interval.Interval.{Interval}
 use Rattle.scf_facts.specs.WordSets.{NumberFacts}
-use Rattle.scf_compare.specs.Sides.{Behavior, no_side}
 use Rattle.scf_compare.specs.declared.origin.Origin.{Origin}
 use Rattle.scf_compare.specs.declared.origin.Origin.TheVariants.{Filter, Profile}
 use Rattle.scf_compare.specs.declared.region.Region.{Region}
 use Rattle.scf_compare.specs.declared.regions.Regions.{Regions}
-use Rattle.scf_tool.specs.Explorations.{AreListed}
+use Rattle.scf_tool.specs.Explorations.{Explores}
 use Rattle.scf_tool.specs.RegionLines.{are_whole}
+use Rattle.scf_tool.specs.declared.plan.Pairing.{Pairing}
+use Rattle.scf_tool.specs.declared.sides.SideInput.{SideInput as ReadSide}
+use Rattle.scf_tool.specs.declared.sides.SideInput.TheVariants.{Stack}
+use Rattle.scf_tool.specs.declared.verify_fault.VerifyFault.{VerifyFault}
+use Rattle.scf_tool.specs.declared.verify_fault.VerifyFault.TheVariants.{Memory}
+use Rattle.scf_profile.specs.declared.scope.Scope.{Scope}
 use Rattle.scf_c.specs.declared.answers.Listed.{Listed}
 use Rattle.scf_c.specs.declared.layout.Listing.{Listing}
 use Rattle.scf_c.specs.declared.layout.Question.{Question}
@@ -22,28 +26,10 @@ use Rattle.scf_c.specs.declared.layout.SideInput.{SideInput}
 use Rattle.scf_c.specs.declared.layout.Table.{Table}
 use Rattle.scf_c.specs.declared.layout.WordFact.{WordFact}
 use Rattle.scf_c.specs.declared.question.Asked.{Asked}
-use Rattle.scf_c.specs.declared.records.Records.{Records}
-use Rattle.scf_c.specs.declared.refusal.Refusal.{Refusal}
-use Rattle.scf_c.specs.declared.refusal.Refusal.TheVariants.{Verify}
-use Rattle.scf_c.specs.declared.side.ReadSide.{ReadSide}
 use Rattle.scf_c.specs.Layout.{call_of, no_call}
 use Rattle.scf_c.specs.Profiles.{entry_of, nothing_left_out, reason_number}
-use Rattle.scf_c.specs.Records.{AreRecords, AreRecordsRefused, AreSomeRecords}
-use Rattle.scf_c.specs.Sides.{IsRead, IsSideRefused, behavior_of_read, left_out_of_side, used_by}
-use Rattle.scf_tool.specs.declared.verify_fault.VerifyFault.TheVariants.{Memory}
-
--- ---- regions
-
--- these are the regions of a side over some records, within a limit of steps
-abbrev pub AreOfRecords : Behavior → ℕ → Records → Regions → Type 0
-AreOfRecords side limit records regions = AreListed side no_side records.scope limit regions
-
--- Walks over several sets of records come to their regions, or to none, only if the limit of all steps is below their
--- sizes together.
-abbrev pub ListsEach : Behavior → List Records → ℕ → Option (List Regions) → Type 0
-ListsEach side several limit None = limit < sum_by (λ records. side.size) several
-ListsEach side several limit (Some listed) =
-    AllZip (AreOfRecords side limit) several listed × (sum_by (λ regions. regions.steps) listed ≤ limit)
+use Rattle.scf_c.specs.Records.{AreScopes, AreScopesRefused, AreSomeScopes}
+use Rattle.scf_c.specs.Sides.{ArePaired, IsRead, IsSideRefused, left_out_of_side, used_by}
 
 -- ---- as numbers
 
@@ -125,15 +111,17 @@ abbrev pub facts_handed : Option (List Regions) → List WordFact
 facts_handed None = []
 facts_handed (Some listed) = flat_map facts_of (all_regions listed)
 
--- A side is read, and walked over the records that are asked for; this is handed out.
+-- A side is read, and walked beside none over the records that are asked for; this is handed out.
 pub record IsListed (question : Question) (side : SideInput) (tables : List Table) (asked : Asked) (listed : Listed)
     : Type 0 where
   pub read : ReadSide
-  pub records : List Records
+  pub scopes : List Scope
+  pub pairings : List Pairing
   pub walks : Option (List Regions)
   pub is_side : IsRead side asked.left tables read
-  pub are_records : AreSomeRecords asked.over (used_by read tables) records
-  pub lists : ListsEach (behavior_of_read read) records question.total_limit walks
+  pub are_scopes : AreSomeScopes asked.over (used_by read tables) scopes
+  pub are_paired : ArePaired read (Stack []) scopes pairings
+  pub lists : Explores pairings question.total_limit walks
   pub listing_is : listed.listing
       ≡ record { is_finished = bit_of (is_some walks); unused = 0; left_out = left_out_of_side read }
   pub regions_are : listed.regions.items ≡ regions_handed walks
@@ -143,10 +131,10 @@ pub record IsListed (question : Question) (side : SideInput) (tables : List Tabl
 pub record IsListedOverNone (side : SideInput) (tables : List Table) (asked : Asked) : Type 0 where
   pub read : ReadSide
   pub is_side : IsRead side asked.left tables read
-  pub no_records : AreRecords asked.over (used_by read tables) []
+  pub no_records : AreScopes asked.over (used_by read tables) []
 
 -- Why it isn't: the first fault of the side or of a table, or out of memory, which may come at any time.
-abbrev pub IsListingRefused : SideInput → List Table → Asked → Refusal → Type 0
+abbrev pub IsListingRefused : SideInput → List Table → Asked → VerifyFault → Type 0
 IsListingRefused side tables asked why =
-    (why ≡ Verify Memory) ⊎ (IsSideRefused side asked.left tables why
-    ⊎ ((read : ReadSide) × IsRead side asked.left tables read × AreRecordsRefused (used_by read tables) why))
+    (why ≡ Memory) ⊎ (IsSideRefused side asked.left tables why
+    ⊎ ((read : ReadSide) × IsRead side asked.left tables read × AreScopesRefused (used_by read tables) why))

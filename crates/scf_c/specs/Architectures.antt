@@ -33,8 +33,7 @@ count_for number tables = count_by (λ table. table.architecture == number) tabl
 
 -- The numbers of each table have a meaning, and no two tables are for one architecture.
 pub record AreMeant (tables : List Table) : Type 0 where
-  pub each : All IsMeant tables
-  pub once : All (λ table. count_for table.architecture tables ≤ 1) tables
+  pub each : All (λ table. IsMeant table × (count_for table.architecture tables ≤ 1)) tables
 
 -- There is such a table.
 pub record HasTables (tables : List Table) : Type 0 where

@@ -2,37 +2,32 @@
 use Rattle.std.specs.Prelude.{ℕ, List, [], ◌∷◌, Option, Some, None, Err}
 use Rattle.scf_machine.specs.declared.stack.DecidingInsn.{DecidingInsn}
 use Rattle.scf_text.specs.Faults.{IsFault, fault_of}
-use Rattle.scf_tool.specs.Commands.{NoReadFailed}
-use Rattle.scf_tool.specs.FilterStacks.{HasNoStack}
+use Rattle.scf_text.specs.declared.fault.TextFault.{TextFault}
+use Rattle.scf_tool.specs.FilterStacks.{HasNoStack, NoReadFailed}
 use Rattle.scf_tool.specs.Verifying.{IsNoFilter, ReadsFilter}
+use Rattle.scf_tool.specs.declared.verify_fault.VerifyFault.{VerifyFault}
 use Rattle.scf_tool.specs.declared.verify_fault.VerifyFault.TheVariants.{FilterRead, Memory}
 use Rattle.scf_c.specs.declared.layout.Bytes.{Bytes}
 use Rattle.scf_c.specs.declared.layout.DecisionNumbers.{DecisionNumbers}
-use Rattle.scf_c.specs.declared.refusal.Refusal.{Refusal}
-use Rattle.scf_c.specs.declared.refusal.Refusal.TheVariants.{Verify, Text}
 use Rattle.scf_c.specs.Layout.{known_bytes}
 
 -- Why the bytes are no accepted filter. It isn't that they can't be read.
-abbrev pub IsFilterRefused : List ℕ → Refusal → Type 0
-IsFilterRefused bytes (Verify why) = IsNoFilter (Some bytes) why × NoReadFailed why
-IsFilterRefused bytes why = ⊥
+abbrev pub IsFilterRefused : List ℕ → VerifyFault → Type 0
+IsFilterRefused bytes why = IsNoFilter (Some bytes) why × NoReadFailed why
 
 -- why the filters are no stack, or out of memory, which may come at any time
-abbrev pub IsStackRefused : List Bytes → Refusal → Type 0
-IsStackRefused filters (Verify Memory) = Unit {0}
-IsStackRefused filters (Verify why) = HasNoStack (known_bytes filters) why × NoReadFailed why
-IsStackRefused filters why = ⊥
+abbrev pub IsStackRefused : List Bytes → VerifyFault → Type 0
+IsStackRefused filters Memory = Unit {0}
+IsStackRefused filters why = HasNoStack (known_bytes filters) why × NoReadFailed why
 
 -- why the bytes are no list of instructions
-abbrev pub IsListRefused : List ℕ → Refusal → Type 0
-IsListRefused bytes (Verify (FilterRead fault)) =
-    ReadsFilter (Some bytes) (Err fault) × NoReadFailed (FilterRead fault)
+abbrev pub IsListRefused : List ℕ → VerifyFault → Type 0
+IsListRefused bytes (FilterRead fault) = ReadsFilter (Some bytes) (Err fault) × NoReadFailed (FilterRead fault)
 IsListRefused bytes why = ⊥
 
 -- why a text spells no instructions: its first fault, or out of memory
-abbrev pub IsTextRefused : List ℕ → Refusal → Type 0
-IsTextRefused text (Text why) = IsFault why (fault_of text)
-IsTextRefused text why = ⊥
+abbrev pub IsTextRefused : List ℕ → TextFault → Type 0
+IsTextRefused text why = IsFault why (fault_of text)
 
 -- ---- a stack's decision
 

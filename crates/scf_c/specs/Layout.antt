@@ -15,6 +15,10 @@ call_of call = record { nr = call.nr; arch = call.arch; ip = call.ip; args = cal
 abbrev pub no_call : Call
 no_call = record { nr = 0; arch = 0; ip = 0; args = 0 ∷ 0 ∷ 0 ∷ 0 ∷ 0 ∷ 0 ∷ [] }
 
--- the bytes of filters, which are known
+-- the bytes of filters
+abbrev pub bytes_of : List Bytes → List (List ℕ)
+bytes_of filters = map (λ filter. filter.bytes.now) filters
+
+-- which are known
 abbrev pub known_bytes : List Bytes → List (Option (List ℕ))
-known_bytes filters = map (λ filter. Some filter.bytes.now) filters
+known_bytes filters = map Some (bytes_of filters)

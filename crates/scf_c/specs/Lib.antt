@@ -10,4 +10,3 @@ pub mod Questions
 pub mod Records
 pub mod Sides
 pub mod Statuses
-pub mod internal

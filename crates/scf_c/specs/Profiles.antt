@@ -7,17 +7,17 @@ use Rattle.scf_profile.specs.declared.reading.Reading.TheVariants.{Strict, Runc,
 use Rattle.scf_profile.specs.declared.reason.Reason.{Reason}
 use Rattle.scf_profile.specs.declared.reason.Reason.TheVariants.{Foreign, Stub, Entry, Default}
 use Rattle.scf_compile.specs.SizeBound.{size_bound_of_each}
+use Rattle.scf_compile.specs.declared.fault.CompileFault.{CompileFault}
 use Rattle.scf_compile.specs.declared.fault.CompileFault.TheVariants as compiles
 use Rattle.scf_profile.specs.declared.table_fault.TableFault.TheVariants as faults
 use Rattle.scf_request.specs.Interpretations.{Interpretation}
 use Rattle.scf_tool.specs.Commands.{AreStated, CantLoadEach}
+use Rattle.scf_tool.specs.declared.verify_fault.VerifyFault.{VerifyFault}
 use Rattle.scf_tool.specs.declared.verify_fault.VerifyFault.TheVariants as verifies
 use Rattle.scf_c.specs.declared.layout.LeftOutCounts.{LeftOutCounts}
 use Rattle.scf_c.specs.declared.layout.ProfileAnswer.{ProfileAnswer}
 use Rattle.scf_c.specs.declared.layout.ProfileInput.{ProfileInput}
 use Rattle.scf_c.specs.declared.layout.Table.{Table}
-use Rattle.scf_c.specs.declared.refusal.Refusal.{Refusal}
-use Rattle.scf_c.specs.declared.refusal.Refusal.TheVariants.{Verify, Compile}
 use Rattle.scf_c.specs.Architectures.{HasTables, listed_of, stubs_of, texts_of}
 
 -- ---- how a profile is read
@@ -60,20 +60,18 @@ IsLoaded profile tables reading loaded = (used : List Table) × AreUsed profile 
     × AreStated (interpretation_of reading tables) profile.text.now (texts_of used) loaded
 
 -- why they state nothing: out of memory, the profile under no table, or it and the tables that are used
-abbrev pub IsProfileRefused : ProfileInput → List Table → Reading → Refusal → Type 0
-IsProfileRefused profile tables reading (Verify why) =
+abbrev pub IsProfileRefused : ProfileInput → List Table → Reading → VerifyFault → Type 0
+IsProfileRefused profile tables reading why =
     (why ≡ verifies.Table faults.Memory)
     ⊎ (((profile.flags ≢ 0) × CantLoadEach (interpretation_of reading tables) profile.text.now [] why)
     ⊎ ((used : List Table) × AreUsed profile tables reading used
     × CantLoadEach (interpretation_of reading tables) profile.text.now (texts_of used) why))
-IsProfileRefused profile tables reading why = ⊥
 
--- or why what they state isn't compiled: the filter would be too large, or out of memory
-abbrev pub IsCompilationRefused : ProfileInput → List Table → Reading → Refusal → Type 0
-IsCompilationRefused profile tables reading (Compile why) = (loaded : LoadedProfiles)
+-- why what they state isn't compiled: the filter would be too large, or out of memory
+abbrev pub IsCompilationRefused : ProfileInput → List Table → Reading → CompileFault → Type 0
+IsCompilationRefused profile tables reading why = (loaded : LoadedProfiles)
     × IsLoaded profile tables reading loaded
     × (why ≡ compiles.TooLarge → bpf_maxinsns < size_bound_of_each loaded.profiles)
-IsCompilationRefused profile tables reading why = IsProfileRefused profile tables reading why
 
 -- ---- as numbers
 

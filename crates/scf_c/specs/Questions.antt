@@ -1,40 +1,36 @@
 -- Questions: what their numbers mean.
 use Rattle.std.specs.Prelude.{◌≡◌, ◌≤◌, ℕ, Bool, true, false, List, [], ◌∷◌, Some, length}
-use Rattle.scf_insn.specs.Architectures.{row_of}
 use Rattle.scf_insn.specs.declared.architecture.Architecture.{Architecture}
 use Rattle.scf_profile.specs.declared.relation.Relation.{Relation}
 use Rattle.scf_profile.specs.declared.relation.Relation.TheVariants.{Same, NoMore, NoLess, SameDisposition}
+use Rattle.scf_profile.specs.Scope.{IsInScope}
+use Rattle.scf_profile.specs.declared.scope.Scope.{Scope}
+use Rattle.scf_profile.specs.declared.scope.Scope.TheVariants.{Numbers}
+use Rattle.scf_request.specs.Requests.{HasRecord}
 use Rattle.scf_c.specs.declared.layout.Question.{Question}
 use Rattle.scf_c.specs.declared.layout.SideInput.{SideInput}
 use Rattle.scf_c.specs.declared.layout.Table.{Table}
 use Rattle.scf_c.specs.declared.question.Asked.{Asked}
-use Rattle.scf_c.specs.declared.question.NumberRange.{NumberRange}
 use Rattle.scf_c.specs.declared.question.Over.{Over}
-use Rattle.scf_c.specs.declared.question.Over.TheVariants.{All, Numbers, EachArchitecture, EachCall}
+use Rattle.scf_c.specs.declared.question.Over.TheVariants as overs
 use Rattle.scf_c.specs.declared.side.SideKind.{SideKind}
 use Rattle.scf_c.specs.declared.side.SideKind.TheVariants.{Filters}
 use Rattle.scf_c.specs.Architectures.{AreMeant, architecture_of}
 use Rattle.scf_c.specs.Sides.{IsKind}
 
--- An architecture has a number from the first to the last, so there is a record with it.
-pub record HasNumber (architecture : Architecture) (first last : ℕ) : Type 0 where
-  pub rising : first ≤ last
-  pub begins : first ≤ (row_of architecture).last
-  pub ends : (row_of architecture).first ≤ last
-
--- A question names an architecture and a range of its numbers.
-pub record IsRange (question : Question) (range : NumberRange) : Type 0 where
-  pub architecture : architecture_of question.architecture ≡ Some range.architecture
-  pub first : question.first ≡ range.first
-  pub last : question.last ≡ range.last
-  pub has : HasNumber range.architecture range.first range.last
+-- A question names an architecture and a range of its numbers, and some record has one of them.
+pub record IsRange (question : Question) (scope : Scope) : Type 0 where
+  pub architecture : Architecture
+  pub is : architecture_of question.architecture ≡ Some architecture
+  pub numbers : scope ≡ Numbers architecture question.first question.last
+  pub has_record : HasRecord (IsInScope scope)
 
 -- A question is over these records. Without a range, nothing of it is looked at.
 abbrev pub IsOver : Question → Over → Type 0
-IsOver question All = question.scope ≡ 0
-IsOver question (Numbers range) = (question.scope ≡ 1) × IsRange question range
-IsOver question EachArchitecture = question.scope ≡ 2
-IsOver question EachCall = question.scope ≡ 3
+IsOver question overs.All = question.scope ≡ 0
+IsOver question (overs.Numbers scope) = (question.scope ≡ 1) × IsRange question scope
+IsOver question overs.EachArchitecture = question.scope ≡ 2
+IsOver question overs.EachCall = question.scope ≡ 3
 
 abbrev pub relation_number : Relation → ℕ
 relation_number Same = 0

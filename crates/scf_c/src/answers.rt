@@ -1,16 +1,13 @@
 //! What a side answers, by regions of records.
 
-ghost use Rattle.std.specs.Prelude.{◌≡◌, ◌≢◌, ◌⊎◌, ◌++◌, ◌∷◌, ◌<◌, [], None, Some, flat_map, map, IfErr, IfOk, MatchOption};
-ghost use Rattle.std.specs.Prelude.{OnOk};
+ghost use Rattle.std.specs.Prelude.{◌≡◌, ◌≢◌, ◌⊎◌, ◌++◌, ◌∷◌, ◌<◌, [], flat_map, map, IfErr, IfOk, MatchOption};
+ghost use Rattle.std.specs.Prelude.{OnOk, is_some, option_map};
 ghost use Rattle.std.specs.List.{AllByRecursion};
-ghost use Rattle.scf_compare.specs.Sides.{behavior_of};
-ghost use Rattle.scf_c.specs.Sides.{behavior_of_read};
+ghost use Rattle.scf_tool.specs.Faults.{verify_row};
 ghost use Rattle.scf_c.specs.Answers.{
-  AreOfRecords,
   IsListed,
   IsListedOverNone,
   IsListingRefused,
-  ListsEach,
   all_regions,
   bit_of,
   bits_fact,
@@ -34,20 +31,19 @@ ghost use Rattle.scf_c.specs.Statuses.{ok, wrong_argument};
 ghost use Rattle.scf_c.specs.declared.question.Asked.{Asked};
 
 use crate::fault::{NO_FAULT, refuse};
+use crate::handing_out::hand_out;
 use crate::layout::{
     Call, Fault, LeftOutCounts, Listing, Question, RegionNumbers, SideInput, Table, WordFact,
 };
-use crate::memory::hand_out;
 use crate::profile::{NOTHING_LEFT_OUT, entry_of, reason_number};
 use crate::question::{Asked, asked_of_side};
-use crate::records::{Records, some_records};
-use crate::refusal::Refusal;
-use crate::side::{ReadSide, read_side, used_by};
+use crate::records::some_scopes;
+use crate::side::{left_out_of_side, pairings_of, read_side, used_by};
 use crate::status::{OK, WRONG_ARGUMENT};
-use scf_compare::{Origin, Region, Regions, Side, regions_of};
-use scf_facts::{Bits, Interval, Snapshot, WordSet, WordSets, word_sets_start_exact};
+use scf_compare::{Origin, Region, Regions, Side};
+use scf_facts::{Bits, Interval, Snapshot, WordSet};
 use scf_insn::Memory;
-use scf_tool::are_whole;
+use scf_tool::{VerifyFault, are_whole, explore_each, verify_row};
 use std::alloc::{AllocError, Global};
 
 /// The indices of a record's words.
@@ -59,46 +55,6 @@ pub(crate) struct Listed {
     pub listing: Listing,
     pub regions: Vec<RegionNumbers>,
     pub facts: Vec<WordFact>,
-}
-
-/// The regions of a side over some records. None if the walk takes more steps than the limit.
-fn explore(
-    alloc: Global,
-    side: &Side<'_>,
-    records: Records,
-    limit: u64,
-) -> Result<Option<Regions>, Memory>
-    ensures { IfOk result (λ explored. MatchOption explored (limit < (behavior_of side.now).size)
-        (AreOfRecords (behavior_of side.now) limit records)) }
-{
-    word_sets_start_exact();
-    regions_of::<WordSets>(alloc, side, &Side::Stack(&[]), records.scope, limit)
-}
-
-/// The regions of a side over each of several sets of records. None if the walks together take more steps than the
-/// limit.
-#[tactic(auto, using(std::proofs::lemmas::Grind::common_steps, crate::proofs::ComparisonLemmas::same_behavior))]
-fn explore_each(
-    alloc: Global,
-    read: &ReadSide,
-    several: &[Records],
-    limit: u64,
-) -> Result<Option<Vec<Regions>>, Memory>
-    ensures { IfOk result (λ walks. MatchOption walks
-        (ListsEach (behavior_of_read read.now) several.now limit None)
-        (λ listed. ListsEach (behavior_of_read read.now) several.now limit (Some listed.items))) }
-{
-    let side = read.as_side();
-    let mut listed = Vec::new(alloc);
-    let mut remaining = limit;
-    for records in several {
-        let Some(regions) = explore(alloc, &side, *records, remaining)? else {
-            return Ok(None);
-        };
-        remaining -= regions.steps;
-        listed.push(regions)?;
-    }
-    Ok(Some(listed))
 }
 
 fn bits_fact(kind: u32, index: u8, bits: Bits) -> WordFact
@@ -251,23 +207,30 @@ fn add_walks(
     Ok(())
 }
 
-/// The regions of finished walks as numbers.
+/// The regions of walks as numbers: none if they are unfinished.
 fn listed_of(
     alloc: Global,
-    walks: &[Regions],
+    walks: &Option<Vec<Regions>>,
     left_out: LeftOutCounts,
-) -> Result<Listed, AllocError>
+) -> Result<Listed, Memory>
     ensures listing { IfOk result (λ listed. listed.listing
-        ≡ record { is_finished = 1; unused = 0; left_out = left_out }) }
+        ≡ record { is_finished = bit_of (is_some walks.now); unused = 0; left_out = left_out }) }
     ensures regions { IfOk result (λ listed. listed.regions.items
-        ≡ map numbers_of_region (all_regions walks.now)) }
-    ensures facts { IfOk result (λ listed. listed.facts.items ≡ flat_map facts_of (all_regions walks.now)) }
+        ≡ regions_handed (option_map (λ list. list.items) walks.now)) }
+    ensures facts { IfOk result (λ listed. listed.facts.items
+        ≡ facts_handed (option_map (λ list. list.items) walks.now)) }
 {
     let mut regions = Vec::new(alloc);
     let mut facts = Vec::new(alloc);
-    add_walks(&mut regions, &mut facts, walks)?;
+    if let Some(walks) = walks {
+        add_walks(&mut regions, &mut facts, walks)?;
+    }
     Ok(Listed {
-        listing: listing_of(true, left_out),
+        listing: Listing {
+            is_finished: bit_of(walks.is_some()),
+            unused: 0,
+            left_out,
+        },
         regions,
         facts,
     })
@@ -280,35 +243,20 @@ fn list_answers(
     tables: &[Table],
     question: &Question,
     asked: Asked,
-) -> Result<Option<Listed>, Refusal>
+) -> Result<Option<Listed>, VerifyFault>
     ensures listed { IfOk result (λ listed. MatchOption listed (IsListedOverNone side.now tables.now asked)
         (IsListed question.now side.now tables.now asked)) }
     ensures refused { IfErr result (IsListingRefused side.now tables.now asked) }
 {
     let read = read_side(alloc, side, asked.left, tables)?;
     let used = used_by(alloc, &read, tables)?;
-    let Some(records) = some_records(alloc, asked.over, &used)? else {
+    let Some(scopes) = some_scopes(alloc, asked.over, &used)? else {
         return Ok(None);
     };
-    let left_out = read.left_out();
-    match explore_each(alloc, &read, &records, question.total_limit)? {
-        Some(walks) => Ok(Some(listed_of(alloc, &walks, left_out)?)),
-        None => Ok(Some(Listed {
-            listing: listing_of(false, left_out),
-            regions: Vec::new(alloc),
-            facts: Vec::new(alloc),
-        })),
-    }
-}
-
-fn listing_of(is_finished: bool, left_out: LeftOutCounts) -> Listing
-    ensures { result ≡ record { is_finished = bit_of is_finished; unused = 0; left_out = left_out } }
-{
-    Listing {
-        is_finished: bit_of(is_finished),
-        unused: 0,
-        left_out,
-    }
+    let pairings = pairings_of(alloc, read.side(), Side::Stack(&[]), &scopes)?;
+    let walks = explore_each(alloc, &pairings, question.total_limit)?;
+    let listed = listed_of(alloc, &walks, left_out_of_side(&read))?;
+    Ok(Some(listed))
 }
 
 /// The listing where nothing is listed: its numbers are 0.
@@ -342,7 +290,7 @@ pub extern "C" fn scf_answers(
         × IsListedOverNone side.now tables.now asked)) × (fault.new ≡ no_fault) }
     ensures refused { result ≢ ok → result ≢ wrong_argument → (asked : Asked)
         × IsSideAsked question.now side.now tables.now asked
-        × IsRefusal (IsListingRefused side.now tables.now asked) result fault.new }
+        × IsRefusal verify_row (IsListingRefused side.now tables.now asked) result fault.new }
     ensures nothing { result ≢ ok → (listing.new ≡ no_listing)
         × IsNothingHandedOut regions.old regions.new regions_needed.new
         × IsNothingHandedOut facts.old facts.new facts_needed.new }
@@ -362,6 +310,6 @@ pub extern "C" fn scf_answers(
             OK
         }
         Ok(None) => WRONG_ARGUMENT,
-        Err(why) => refuse(why, fault),
+        Err(why) => refuse(verify_row(why), fault),
     }
 }

@@ -1,37 +1,34 @@
 //! Comparisons of two sides over several sets of records.
 
-ghost use Rattle.std.specs.Prelude.{◌≡◌, ◌++◌, ℕ, IfErr, IfOk, MatchOption, OnOk};
-ghost use Rattle.scf_compare.specs.Sides.{behavior_of};
-ghost use Rattle.scf_tool.specs.Comparisons.{IsFoundInTurn};
-ghost use Rattle.scf_c.specs.Sides.{behavior_of_read};
+ghost use Rattle.std.specs.Prelude.{◌≡◌, ◌++◌, IfErr, IfOk, MatchOption, OnOk};
 ghost use Rattle.scf_c.specs.Comparisons.{
-  AreFoundOver,
   IsComparisonRefused,
   IsCompared,
   IsOverNone,
   comparison_of,
-  joint_finding,
   numbers_of,
   of_each,
-  of_records,
-  printed_left_out,
+  of_scope,
   side_number,
   text_of,
 };
+ghost use Rattle.scf_c.specs.Comparisons as spec;
 
 use crate::layout::{
     Call, Comparison, FindingNumbers, Question, RecordsComparison, SideInput, Table,
 };
-use crate::question::Asked;
-use crate::records::{Records, some_records};
-use crate::refusal::Refusal;
-use crate::side::{ReadSide, are_same_kind, read_side, tables_in_scope};
-use scf_compare::{Finding, Limit, Side, Which, compare_sides_within};
-use scf_facts::{WordSets, word_sets_start_exact};
+use crate::question::{Asked, Over};
+use crate::records::some_scopes;
+use crate::side::{fault_of_right, left_out_of_side, pairings_of, read_side, tables_in_scope};
+use crate::tables::architecture_number;
+use scf_compare::{Finding, Limit, Which};
 use scf_insn::Memory;
-use scf_profile::Relation;
-use scf_tool::{ComparisonOutcome, Findings, LeftOut, report_by, worst_of};
-use std::alloc::{AllocError, Global};
+use scf_profile::{Relation, Scope};
+use scf_tool::{
+    BesideFault, ComparisonOutcome, Findings, SideInput as ReadSide, compare_each, joint_finding,
+    report_by,
+};
+use std::alloc::Global;
 
 /// What comparisons come to together and each, and the lines that the program prints of them together.
 #[derive(Drop)]
@@ -39,76 +36,6 @@ pub(crate) struct Compared {
     pub comparison: Comparison,
     pub each: Vec<RecordsComparison>,
     pub text: Vec<u8>,
-}
-
-/// Compares two sides over some records, in no more steps than remain, of its own and below splits. Those that it takes
-/// are subtracted.
-fn compare_over(
-    alloc: Global,
-    left: &Side<'_>,
-    right: &Side<'_>,
-    records: Records,
-    relation: Relation,
-    limit: Limit,
-    remaining: &mut u64,
-    remaining_below: &mut u64,
-) -> Result<Finding, Memory>
-    ensures { IfOk result (λ finding. IsFoundInTurn relation (behavior_of left.now) (behavior_of right.now)
-        records.scope limit remaining.old finding remaining.new) }
-{
-    word_sets_start_exact();
-    compare_sides_within::<WordSets>(
-        alloc,
-        left,
-        right,
-        records.scope,
-        relation,
-        limit,
-        remaining,
-        remaining_below,
-    )
-}
-
-/// Compares two sides over each of several sets of records, in at most `total` steps together.
-fn compare_each(
-    alloc: Global,
-    left: &ReadSide,
-    right: &ReadSide,
-    several: &[Records],
-    relation: Relation,
-    limit: Limit,
-    total: u64,
-) -> Result<Vec<Finding>, Memory>
-    ensures { IfOk result (λ findings. (remaining : ℕ)
-        × AreFoundOver relation (behavior_of_read left.now) (behavior_of_read right.now) limit total
-        several.now findings.items remaining) }
-{
-    let left_side = left.as_side();
-    let right_side = right.as_side();
-    let mut findings = Vec::new(alloc);
-    let mut remaining = total;
-    let mut remaining_below = total;
-    for records in several {
-        let finding = compare_over(
-            alloc,
-            &left_side,
-            &right_side,
-            *records,
-            relation,
-            limit,
-            &mut remaining,
-            &mut remaining_below,
-        )?;
-        findings.push(finding)?;
-    }
-    Ok(findings)
-}
-
-/// The finding that speaks for several: the worst, else that the relation holds.
-fn joint_finding(findings: &[Finding]) -> Finding
-    ensures { result ≡ joint_finding findings.now }
-{
-    worst_of(findings).unwrap_or(Finding::Holds { steps: 0 })
 }
 
 fn side_number(side: Which) -> u32
@@ -159,33 +86,69 @@ fn numbers_of(finding: &Finding) -> FindingNumbers
     }
 }
 
-fn of_records(records: &Records, finding: &Finding) -> RecordsComparison
-    ensures { result ≡ of_records records.now finding.now }
+/// The number of the architecture whose records a scope has, 0 if it has more.
+fn number_of(scope: Scope) -> u32
+    ensures { result ≡ spec.number_of scope }
+{
+    match scope {
+        Scope::Numbers { architecture, .. } => architecture_number(architecture),
+        _ => 0,
+    }
+}
+
+/// The number of the only syscall whose records a scope has, as they have it, if syscalls are compared one by one, and
+/// else 0.
+fn nr_of(over: Over, scope: Scope) -> u32
+    ensures { result ≡ spec.nr_of over scope }
+{
+    match (over, scope) {
+        (Over::EachCall, Scope::Numbers { first, .. }) => first,
+        _ => 0,
+    }
+}
+
+fn of_scope(over: Over, scope: Scope, finding: &Finding) -> RecordsComparison
+    ensures { result ≡ of_scope over scope finding.now }
 {
     RecordsComparison {
-        architecture: records.architecture,
-        nr: records.nr,
+        architecture: number_of(scope),
+        nr: nr_of(over, scope),
         finding: numbers_of(finding),
         reserved: [0; 4],
     }
 }
 
-/// Adds each set of records with its finding as numbers.
+/// Adds each scope with its finding as numbers.
 fn add_each(
     list: &mut Vec<RecordsComparison>,
-    several: &[Records],
+    over: Over,
+    scopes: &[Scope],
     findings: &[Finding],
-) -> Result<(), AllocError>
-    ensures { OnOk result (list.new.items ≡ list.old.items ++ of_each several.now findings.now) }
+) -> Result<(), Memory>
+    ensures { OnOk result (list.new.items ≡ list.old.items ++ of_each over scopes.now findings.now) }
 {
-    let Some((records, later)) = several.split_first() else {
+    let Some((scope, later)) = scopes.split_first() else {
         return Ok(());
     };
     let Some((finding, further)) = findings.split_first() else {
         return Ok(());
     };
-    list.push(of_records(records, finding))?;
-    add_each(list, later, further)
+    list.push(of_scope(over, *scope, finding))?;
+    add_each(list, over, later, further)
+}
+
+/// Each scope with its finding as numbers.
+fn each_of(
+    alloc: Global,
+    over: Over,
+    scopes: &[Scope],
+    findings: &[Finding],
+) -> Result<Vec<RecordsComparison>, Memory>
+    ensures { IfOk result (λ each. each.items ≡ of_each over scopes.now findings.now) }
+{
+    let mut each = Vec::new(alloc);
+    add_each(&mut each, over, scopes, findings)?;
+    Ok(each)
 }
 
 /// The finding on all as numbers, and what was left out of the sides.
@@ -194,21 +157,8 @@ fn comparison_of(finding: &Finding, left: &ReadSide, right: &ReadSide) -> Compar
 {
     Comparison {
         finding: numbers_of(finding),
-        left_out_of_left: left.left_out(),
-        left_out_of_right: right.left_out(),
-    }
-}
-
-/// What was left out of a side, as it is printed.
-fn printed_left_out(side: ReadSide) -> Option<LeftOut>
-    ensures { result ≡ printed_left_out side }
-{
-    match side {
-        ReadSide::Profiles(loaded) => Some(LeftOut {
-            skipped: loaded.skipped,
-            other_architectures: loaded.other_architectures,
-        }),
-        ReadSide::Filters(_) => None,
+        left_out_of_left: left_out_of_side(left),
+        left_out_of_right: left_out_of_side(right),
     }
 }
 
@@ -223,7 +173,7 @@ fn text_of(
 {
     let outcome = ComparisonOutcome {
         findings: Findings::AtOnce(finding),
-        left_out: printed_left_out(right),
+        left_out: right.left_out(),
     };
     report_by(alloc, relation, &outcome)
 }
@@ -236,7 +186,7 @@ pub(crate) fn compare_inputs(
     tables: &[Table],
     question: &Question,
     asked: Asked,
-) -> Result<Option<Compared>, Refusal>
+) -> Result<Option<Compared>, BesideFault>
     ensures compared { IfOk result (λ compared. MatchOption compared
         (IsOverNone left.now right.now tables.now asked)
         (IsCompared question.now left.now right.now tables.now asked)) }
@@ -245,25 +195,26 @@ pub(crate) fn compare_inputs(
     let left_side = read_side(alloc, left, asked.left, tables)?;
     let right_side = match read_side(alloc, right, asked.right, tables) {
         Ok(side) => side,
-        Err(why) => return Err(why.of_right(are_same_kind(asked.left, asked.right))),
+        Err(why) => return Err(fault_of_right(asked.left, asked.right, why)),
     };
     let used = tables_in_scope(alloc, &left_side, &right_side, tables)?;
-    let Some(records) = some_records(alloc, asked.over, &used)? else {
+    let Some(scopes) = some_scopes(alloc, asked.over, &used)? else {
         return Ok(None);
     };
-    let findings = compare_each(
-        alloc,
-        &left_side,
-        &right_side,
-        &records,
-        asked.relation,
-        Limit::of_steps(question.limit),
-        question.total_limit,
-    )?;
+    let limit = Limit::of_steps(question.limit);
+    let findings = {
+        let pairings = pairings_of(alloc, left_side.side(), right_side.side(), &scopes)?;
+        compare_each(
+            alloc,
+            &pairings,
+            asked.relation,
+            limit,
+            Some(question.total_limit),
+        )?
+    };
     let finding = joint_finding(&findings);
     let comparison = comparison_of(&finding, &left_side, &right_side);
-    let mut each = Vec::new(alloc);
-    add_each(&mut each, &records, &findings)?;
+    let each = each_of(alloc, asked.over, &scopes, &findings)?;
     let text = text_of(alloc, asked.relation, right_side, finding)?;
     Ok(Some(Compared {
         comparison,

@@ -5,6 +5,7 @@ ghost use Rattle.scf_insn.specs.Words.{words_of};
 ghost use Rattle.scf_insn.specs.declared.insn.Insn.{Insn};
 ghost use Rattle.scf_machine.specs.Machine.{IsRun};
 ghost use Rattle.scf_machine.specs.Path.{IsPathOf};
+ghost use Rattle.scf_tool.specs.Faults.{verify_row};
 ghost use Rattle.scf_tool.specs.Verifying.{IsAcceptedFilter};
 ghost use Rattle.scf_c.specs.Faults.{IsRefusal, no_fault};
 ghost use Rattle.scf_c.specs.Filters.{IsFilterRefused};
@@ -13,25 +14,21 @@ ghost use Rattle.scf_c.specs.HandingOut.{IsHandedOut, IsNothingHandedOut};
 ghost use Rattle.scf_c.specs.Statuses.{ok};
 
 use crate::fault::{NO_FAULT, refuse};
+use crate::handing_out::hand_out;
 use crate::layout::{Call, Fault};
-use crate::memory::{Reader, hand_out};
-use crate::refusal::Refusal;
 use crate::status::OK;
-use scf_insn::{CallRecord, ReadFault, read_program};
-use scf_machine::{Program, Trace, check, run, trace};
-use scf_tool::VerifyFault;
+use scf_insn::{CallRecord, ReadFault};
+use scf_machine::{Program, Trace, run, trace};
+use scf_tool::{PartReader, VerifyFault, read_filter, verify_row};
 use std::alloc::Global;
 
 /// The filter with these bytes.
-pub(crate) fn accepted(alloc: Global, filter: &[u8]) -> Result<Program, Refusal>
+#[tactic(auto, using(crate::proofs::FilterLemmas::refused_well))]
+fn accepted(alloc: Global, filter: &[u8]) -> Result<Program, VerifyFault>
     ensures filter { IfOk result (IsAcceptedFilter (Some filter.now)) }
     ensures refused { IfErr result (IsFilterRefused filter.now) }
 {
-    let insns = read_program(alloc, &mut Reader::new(filter))?;
-    match check(alloc, insns) {
-        Ok(program) => Ok(program),
-        Err((fault, _)) => Err(Refusal::Verify(VerifyFault::Check(fault))),
-    }
+    read_filter(alloc, &mut PartReader::new(filter))
 }
 
 /// Whether the bytes are a filter that the kernel accepts, and of how many instructions.
@@ -44,7 +41,8 @@ pub extern "C" fn scf_check(
 ) -> u32
     ensures accepted { result ≡ ok → (insns : List Insn) × IsAcceptedFilter (Some filter.now) insns
         × (count.new ≡ length insns) × (fault.new ≡ no_fault) }
-    ensures refused { result ≢ ok → IsRefusal (IsFilterRefused filter.now) result fault.new × (count.new ≡ 0) }
+    ensures refused { result ≢ ok → IsRefusal verify_row (IsFilterRefused filter.now) result fault.new
+        × (count.new ≡ 0) }
 {
     *count = 0;
     *fault = NO_FAULT;
@@ -53,7 +51,7 @@ pub extern "C" fn scf_check(
             *count = program.len();
             OK
         }
-        Err(why) => refuse(why, fault),
+        Err(why) => refuse(verify_row(why), fault),
     }
 }
 
@@ -69,7 +67,7 @@ pub extern "C" fn scf_run(
 ) -> u32
     ensures ran { result ≡ ok → (insns : List Insn) × IsAcceptedFilter (Some filter.now) insns
         × IsRun insns (words_of (record_of call.now)) answer.new steps.new × (fault.new ≡ no_fault) }
-    ensures refused { result ≢ ok → IsRefusal (IsFilterRefused filter.now) result fault.new
+    ensures refused { result ≢ ok → IsRefusal verify_row (IsFilterRefused filter.now) result fault.new
         × (answer.new ≡ 0) × (steps.new ≡ 0) }
 {
     *answer = 0;
@@ -82,12 +80,12 @@ pub extern "C" fn scf_run(
             *steps = ran.steps;
             OK
         }
-        Err(why) => refuse(why, fault),
+        Err(why) => refuse(verify_row(why), fault),
     }
 }
 
 /// The run of the filter with these bytes on a record. Out of memory for the path is a fault of the filter.
-fn traced(alloc: Global, filter: &[u8], call: &CallRecord) -> Result<Trace, Refusal>
+fn traced(alloc: Global, filter: &[u8], call: &CallRecord) -> Result<Trace, VerifyFault>
     ensures path { IfOk result (λ trace. (insns : List Insn) × IsAcceptedFilter (Some filter.now) insns
         × IsPathOf insns (words_of call.now) trace.answer.0 trace.indices.items) }
     ensures refused { IfErr result (IsFilterRefused filter.now) }
@@ -95,7 +93,7 @@ fn traced(alloc: Global, filter: &[u8], call: &CallRecord) -> Result<Trace, Refu
     let program = accepted(alloc, filter)?;
     match trace(alloc, &program, call) {
         Ok(path) => Ok(path),
-        Err(_) => Err(Refusal::from(ReadFault::Memory)),
+        Err(_) => Err(VerifyFault::FilterRead(ReadFault::Memory)),
     }
 }
 
@@ -113,7 +111,7 @@ pub extern "C" fn scf_trace(
     ensures traced { result ≡ ok → (insns : List Insn) × IsAcceptedFilter (Some filter.now) insns × (indices : List ℕ)
         × IsPathOf insns (words_of (record_of call.now)) answer.new indices
         × IsHandedOut indices path.old path.new needed.new × (fault.new ≡ no_fault) }
-    ensures refused { result ≢ ok → IsRefusal (IsFilterRefused filter.now) result fault.new
+    ensures refused { result ≢ ok → IsRefusal verify_row (IsFilterRefused filter.now) result fault.new
         × (answer.new ≡ 0) × IsNothingHandedOut path.old path.new needed.new }
 {
     *answer = 0;
@@ -125,6 +123,6 @@ pub extern "C" fn scf_trace(
             hand_out(trace.indices.as_slice(), path, needed);
             OK
         }
-        Err(why) => refuse(why, fault),
+        Err(why) => refuse(verify_row(why), fault),
     }
 }

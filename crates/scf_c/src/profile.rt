@@ -1,12 +1,15 @@
 //! A profile by itself.
 
-ghost use Rattle.std.specs.Prelude.{◌≡◌, ◌≢◌, ℕ, List, MatchOption, IfErr, IfOk};
+ghost use Rattle.std.specs.Prelude.{◌≡◌, ◌≢◌, ◌⊎◌, ℕ, List, MatchOption, IfErr, IfOk};
 ghost use Rattle.scf_profile.specs.ProfileAnswers.{ProfilesAnswer};
 ghost use Rattle.scf_profile.specs.Reasons.{IsReasonAmong};
 ghost use Rattle.scf_profile.specs.declared.loaded.LoadedProfiles.{LoadedProfiles};
 ghost use Rattle.scf_profile.specs.declared.reading.Reading.{Reading};
 ghost use Rattle.scf_profile.specs.declared.reason.Reason.{Reason};
+ghost use Rattle.scf_profile.specs.declared.table_fault.TableFault.TheVariants as tables;
+ghost use Rattle.scf_tool.specs.declared.verify_fault.VerifyFault.TheVariants as verifies;
 ghost use Rattle.scf_tool.specs.Commands.{AreStated, CantLoadEach, IsFilterOfEach};
+ghost use Rattle.scf_tool.specs.Faults.{compile_row, verify_row};
 ghost use Rattle.scf_c.specs.Architectures.{texts_of};
 ghost use Rattle.scf_c.specs.Faults.{IsRefusal, no_fault};
 ghost use Rattle.scf_c.specs.Layout.{record_of};
@@ -20,7 +23,6 @@ ghost use Rattle.scf_c.specs.Profiles.{
   IsReadUnder,
   answer_of,
   entry_of,
-  interpretation_of,
   left_out_of,
   no_answer,
   nothing_left_out,
@@ -30,15 +32,16 @@ ghost use Rattle.scf_c.specs.Profiles.{
 ghost use Rattle.scf_c.specs.Statuses.{ok, wrong_argument};
 
 use crate::fault::{NO_FAULT, refuse};
+use crate::handing_out::hand_out;
 use crate::layout::{Call, Fault, LeftOutCounts, ProfileAnswer, ProfileInput, Table};
-use crate::memory::hand_out;
-use crate::refusal::Refusal;
 use crate::status::{OK, WRONG_ARGUMENT};
 use crate::tables::{has_tables, listed_of, stubs_of, table_readers_of};
-use scf_insn::CallRecord;
+use scf_insn::{CallRecord, Memory};
 use scf_profile::{LoadedProfiles, Reading, Reason, TableFault};
-use scf_tool::{Interpretation, VerifyFault, filter_of_each, load_with_tables};
-use std::alloc::{AllocError, Global};
+use scf_tool::{
+    Interpretation, VerifyFault, compile_row, filter_of_each, load_with_tables, verify_row,
+};
+use std::alloc::Global;
 
 /// The reading with this number.
 fn reading_numbered(number: u32) -> Option<Reading>
@@ -76,16 +79,11 @@ fn reading_under(profile: &ProfileInput, tables: &[Table]) -> Option<Reading>
     }
 }
 
-/// A reading, with the stubs of tables.
-fn interpretation_of(
-    alloc: Global,
-    reading: Reading,
-    tables: &[Table],
-) -> Result<Interpretation, AllocError>
-    ensures { IfOk result (λ by. by ≡ interpretation_of reading tables.now) }
+/// Memory ran out for the tables.
+fn no_tables(_why: Memory) -> VerifyFault
+    ensures { result ≡ verifies.Table tables.Memory }
 {
-    let stubs = stubs_of(alloc, tables)?;
-    Ok(Interpretation::new(reading, stubs))
+    VerifyFault::Table(TableFault::Memory)
 }
 
 /// What a profile and tables state, all of which are used.
@@ -98,9 +96,7 @@ fn loaded_under(
     ensures stated { IfOk result (AreStated by.now text.now (texts_of tables.now)) }
     ensures refused { IfErr result (CantLoadEach by.now text.now (texts_of tables.now)) }
 {
-    let Ok(readers) = table_readers_of(alloc, tables) else {
-        return Err(VerifyFault::Table(TableFault::Memory));
-    };
+    let readers = table_readers_of(alloc, tables).map_err(no_tables)?;
     load_with_tables(alloc, by, text, &readers)
 }
 
@@ -110,22 +106,19 @@ pub(crate) fn loaded(
     profile: &ProfileInput,
     tables: &[Table],
     reading: Reading,
-) -> Result<LoadedProfiles, Refusal>
+) -> Result<LoadedProfiles, VerifyFault>
     ensures stated { IfOk result (IsLoaded profile.now tables.now reading) }
     ensures refused { IfErr result (IsProfileRefused profile.now tables.now reading) }
 {
-    let Ok(by) = interpretation_of(alloc, reading, tables) else {
-        return Err(Refusal::Verify(VerifyFault::Table(TableFault::Memory)));
-    };
+    let stubs = stubs_of(alloc, tables).map_err(no_tables)?;
+    let by = Interpretation::new(reading, stubs);
     if profile.flags == 0 {
-        return Ok(loaded_under(alloc, &by, profile.text, tables)?);
+        return loaded_under(alloc, &by, profile.text, tables);
     }
     let listed = loaded_under(alloc, &by, profile.text, &[])?;
     let names = listed.other_architectures.as_slice();
-    let Ok(used) = listed_of(alloc, reading, names, tables) else {
-        return Err(Refusal::Verify(VerifyFault::Table(TableFault::Memory)));
-    };
-    Ok(loaded_under(alloc, &by, profile.text, &used)?)
+    let used = listed_of(alloc, reading, names, tables).map_err(no_tables)?;
+    loaded_under(alloc, &by, profile.text, &used)
 }
 
 /// How much of a profile has no table.
@@ -146,35 +139,6 @@ pub(crate) const NOTHING_LEFT_OUT: LeftOutCounts = LeftOutCounts {
     reserved: [0; 4],
 };
 
-/// The bytes of a filter, and how much of its profile has no table.
-#[derive(Drop)]
-struct Compiled {
-    bytes: Vec<u8>,
-    left_out: LeftOutCounts,
-}
-
-/// The filter of a profile and tables.
-fn filter_of(
-    alloc: Global,
-    profile: &ProfileInput,
-    tables: &[Table],
-    reading: Reading,
-) -> Result<Compiled, Refusal>
-    ensures filter { IfOk result (λ compiled. (loaded : LoadedProfiles)
-        × IsLoaded profile.now tables.now reading loaded × IsFilterOfEach loaded.profiles compiled.bytes.items
-        × (compiled.left_out ≡ left_out_of loaded)) }
-    ensures refused { IfErr result (IsCompilationRefused profile.now tables.now reading) }
-{
-    let loaded = loaded(alloc, profile, tables, reading)?;
-    match filter_of_each(alloc, &loaded.profiles, &[]) {
-        Ok(bytes) => Ok(Compiled {
-            bytes,
-            left_out: left_out_of(&loaded),
-        }),
-        Err(fault) => Err(Refusal::Compile(fault)),
-    }
-}
-
 /// The filter that answers as a profile does for each architecture that has a table.
 #[unsafe(no_mangle)]
 pub extern "C" fn scf_compile(
@@ -194,7 +158,8 @@ pub extern "C" fn scf_compile(
     ensures wrong { result ≡ wrong_argument → IsNotRead profile.now tables.now × (fault.new ≡ no_fault) }
     ensures refused { result ≢ ok → result ≢ wrong_argument → (reading : Reading)
         × IsReadUnder profile.now tables.now reading
-        × IsRefusal (IsCompilationRefused profile.now tables.now reading) result fault.new }
+        × (IsRefusal verify_row (IsProfileRefused profile.now tables.now reading) result fault.new
+        ⊎ IsRefusal compile_row (IsCompilationRefused profile.now tables.now reading) result fault.new) }
     ensures nothing { result ≢ ok → IsNothingHandedOut filter.old filter.new needed.new
         × (left_out.new ≡ nothing_left_out) }
 {
@@ -204,13 +169,17 @@ pub extern "C" fn scf_compile(
     let Some(reading) = reading_under(profile, tables) else {
         return WRONG_ARGUMENT;
     };
-    match filter_of(alloc, profile, tables, reading) {
-        Ok(compiled) => {
-            hand_out(compiled.bytes.as_slice(), filter, needed);
-            *left_out = compiled.left_out;
+    let loaded = match loaded(alloc, profile, tables, reading) {
+        Ok(loaded) => loaded,
+        Err(why) => return refuse(verify_row(why), fault),
+    };
+    match filter_of_each(alloc, &loaded.profiles, &[]) {
+        Ok(bytes) => {
+            hand_out(bytes.as_slice(), filter, needed);
+            *left_out = left_out_of(&loaded);
             OK
         }
-        Err(why) => refuse(why, fault),
+        Err(why) => refuse(compile_row(why), fault),
     }
 }
 
@@ -278,7 +247,7 @@ pub extern "C" fn scf_ask(
     ensures wrong { result ≡ wrong_argument → IsNotRead profile.now tables.now × (fault.new ≡ no_fault) }
     ensures refused { result ≢ ok → result ≢ wrong_argument → (reading : Reading)
         × IsReadUnder profile.now tables.now reading
-        × IsRefusal (IsProfileRefused profile.now tables.now reading) result fault.new }
+        × IsRefusal verify_row (IsProfileRefused profile.now tables.now reading) result fault.new }
     ensures nothing { result ≢ ok → answer.new ≡ no_answer }
 {
     *answer = NO_ANSWER;
@@ -291,6 +260,6 @@ pub extern "C" fn scf_ask(
             *answer = answer_to(&loaded, &call.record());
             OK
         }
-        Err(why) => refuse(why, fault),
+        Err(why) => refuse(verify_row(why), fault),
     }
 }

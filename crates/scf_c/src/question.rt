@@ -1,9 +1,9 @@
 //! Questions: over which records sides are compared, and by which relation.
 
-ghost use Rattle.std.specs.Prelude.{◌≡◌, ◌≢◌, ◌↔◌, IsTrue, MatchOption};
+ghost use Rattle.std.specs.Prelude.{◌≡◌, ◌≢◌, MatchOption};
 ghost use Rattle.scf_profile.specs.declared.relation.Relation.{Relation};
+ghost use Rattle.scf_profile.specs.declared.scope.Scope.{Scope};
 ghost use Rattle.scf_c.specs.Questions.{
-  HasNumber,
   IsAsked,
   IsNoSideAsked,
   IsNothingAsked,
@@ -13,22 +13,13 @@ ghost use Rattle.scf_c.specs.Questions.{
   needs_tables,
   relation_number,
 };
-ghost use Rattle.scf_c.specs.declared.question.NumberRange.{NumberRange};
 ghost use Rattle.scf_c.specs.declared.question.Over.{Over};
 
 use crate::layout::{Question, SideInput, Table};
 use crate::side::{SideKind, kind_of};
 use crate::tables::{architecture_of, are_meant};
-use scf_insn::Architecture;
-use scf_profile::Relation;
-
-/// Some numbers of an architecture, from `first` to `last`.
-#[derive(Clone, Copy)]
-pub(crate) struct NumberRange {
-    pub architecture: Architecture,
-    pub first: u32,
-    pub last: u32,
-}
+use scf_profile::{Relation, Scope};
+use scf_tool::has_record;
 
 /// Over which records sides are compared.
 #[derive(Clone, Copy)]
@@ -36,7 +27,7 @@ pub(crate) enum Over {
     /// All, at once.
     All,
     /// Those of an architecture with a number of a range, at once.
-    Numbers(NumberRange),
+    Numbers(Scope),
     /// Those of each architecture that has a table.
     EachArchitecture,
     /// Those of each syscall of each table.
@@ -52,29 +43,16 @@ pub(crate) struct Asked {
     pub right: SideKind,
 }
 
-/// Whether an architecture has a number from `first` to `last`.
-fn has_number(architecture: Architecture, first: u32, last: u32) -> bool
-    ensures { IsTrue result ↔ HasNumber architecture first last }
+/// The records of a question's architecture with a number of its range, if there is one.
+fn range_of(question: &Question) -> Option<Scope>
+    ensures { MatchOption result ((scope : Scope) → IsRange question.now scope → ⊥) (IsRange question.now) }
 {
-    first <= last && first <= architecture.last() && architecture.first() <= last
-}
-
-/// The range of a question, if its architecture has a number of it.
-fn range_of(question: &Question) -> Option<NumberRange>
-    ensures { MatchOption result ((range : NumberRange) → IsRange question.now range → ⊥) (IsRange question.now) }
-{
-    let architecture = architecture_of(question.architecture)?;
-    let first = question.first;
-    let last = question.last;
-    if has_number(architecture, first, last) {
-        Some(NumberRange {
-            architecture,
-            first,
-            last,
-        })
-    } else {
-        None
-    }
+    let scope = Scope::Numbers {
+        architecture: architecture_of(question.architecture)?,
+        first: question.first,
+        last: question.last,
+    };
+    if has_record(scope) { Some(scope) } else { None }
 }
 
 fn over_of(question: &Question) -> Option<Over>
@@ -82,7 +60,10 @@ fn over_of(question: &Question) -> Option<Over>
 {
     match question.scope {
         0 => Some(Over::All),
-        1 => Some(Over::Numbers(range_of(question)?)),
+        1 => match range_of(question) {
+            Some(scope) => Some(Over::Numbers(scope)),
+            None => None,
+        },
         2 => Some(Over::EachArchitecture),
         3 => Some(Over::EachCall),
         _ => None,

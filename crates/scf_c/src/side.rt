@@ -1,13 +1,13 @@
 //! The sides of comparisons, from their bytes.
 
-ghost use Rattle.std.specs.Prelude.{◌≡◌, MatchOption, IfErr, IfOk};
+ghost use Rattle.std.specs.Prelude.{◌≡◌, map, MatchOption, IfErr, IfOk};
 ghost use Rattle.scf_c.specs.Sides.{
   IsKind,
   IsRead,
-  IsSideOf,
   IsSideRefused,
-  are_same_kind,
+  fault_of_right,
   left_out_of_side,
+  pairing_of,
   tables_in_scope,
   used_by,
 };
@@ -15,26 +15,19 @@ ghost use Rattle.scf_c.specs.declared.side.SideKind.{SideKind};
 
 use crate::layout::{LeftOutCounts, SideInput, Table};
 use crate::profile::{NOTHING_LEFT_OUT, left_out_of, loaded, reading_of};
-use crate::refusal::Refusal;
-use crate::stack::stack_of;
+use crate::stack::stacked;
 use crate::tables::tables_of;
 use scf_compare::Side;
-use scf_machine::FilterStack;
-use scf_profile::{LoadedProfiles, Reading};
-use std::alloc::{AllocError, Global};
+use scf_insn::Memory;
+use scf_profile::{Reading, Scope};
+use scf_tool::{BesideFault, Pairing, SideInput as ReadSide, VerifyFault};
+use std::alloc::Global;
 
 /// Of which kind a side is, and how its profile is read.
 #[derive(Clone, Copy)]
 pub(crate) enum SideKind {
     Profile(Reading),
     Filters,
-}
-
-/// A side that is read.
-#[derive(Drop)]
-pub(crate) enum ReadSide {
-    Profiles(LoadedProfiles),
-    Filters(FilterStack),
 }
 
 /// The kind that the numbers of a side ask for, if each has a meaning.
@@ -51,24 +44,13 @@ pub(crate) fn kind_of(side: &SideInput) -> Option<SideKind>
     }
 }
 
-/// Whether both are profiles, or both filters.
-pub(crate) fn are_same_kind(left: SideKind, right: SideKind) -> bool
-    ensures { result ≡ are_same_kind left right }
-{
-    match (left, right) {
-        (SideKind::Profile(_), SideKind::Profile(_)) => true,
-        (SideKind::Filters, SideKind::Filters) => true,
-        _ => false,
-    }
-}
-
 /// Reads a side.
 pub(crate) fn read_side(
     alloc: Global,
     side: &SideInput,
     kind: SideKind,
     tables: &[Table],
-) -> Result<ReadSide, Refusal>
+) -> Result<ReadSide, VerifyFault>
     ensures read { IfOk result (IsRead side.now kind tables.now) }
     ensures refused { IfErr result (IsSideRefused side.now kind tables.now) }
 {
@@ -77,29 +59,29 @@ pub(crate) fn read_side(
             let loaded = loaded(alloc, &side.profile, tables, reading)?;
             Ok(ReadSide::Profiles(loaded))
         }
-        SideKind::Filters => Ok(ReadSide::Filters(stack_of(alloc, side.filters)?)),
+        SideKind::Filters => Ok(ReadSide::Stack(stacked(alloc, side.filters)?)),
     }
 }
 
-impl ReadSide {
-    /// The side, as it is compared.
-    pub(crate) fn as_side(&self) -> Side<'_>
-        ensures { IsSideOf result self.now }
-    {
-        match self {
-            ReadSide::Profiles(loaded) => Side::Profiles(&loaded.profiles),
-            ReadSide::Filters(stack) => Side::Stack(stack.filters()),
+/// The fault of the right side: its own, if both sides are of the same kind.
+pub(crate) fn fault_of_right(left: SideKind, right: SideKind, why: VerifyFault) -> BesideFault
+    ensures { result ≡ fault_of_right left right why }
+{
+    match (left, right) {
+        (SideKind::Profile(_), SideKind::Profile(_)) | (SideKind::Filters, SideKind::Filters) => {
+            BesideFault::Beside(why)
         }
+        _ => BesideFault::Verify(why),
     }
+}
 
-    /// How much of the side's profile has no table.
-    pub(crate) fn left_out(&self) -> LeftOutCounts
-        ensures { result ≡ left_out_of_side self.now }
-    {
-        match self {
-            ReadSide::Profiles(loaded) => left_out_of(loaded),
-            ReadSide::Filters(_) => NOTHING_LEFT_OUT,
-        }
+/// How much of a side's profile has no table.
+pub(crate) fn left_out_of_side(side: &ReadSide) -> LeftOutCounts
+    ensures { result ≡ left_out_of_side side.now }
+{
+    match side {
+        ReadSide::Profiles(loaded) => left_out_of(loaded),
+        _ => NOTHING_LEFT_OUT,
     }
 }
 
@@ -108,12 +90,12 @@ pub(crate) fn used_by<'a>(
     alloc: Global,
     side: &ReadSide,
     tables: &[Table<'a>],
-) -> Result<Vec<Table<'a>>, AllocError>
+) -> Result<Vec<Table<'a>>, Memory>
     ensures { IfOk result (λ used. used.items ≡ used_by side.now tables.now) }
 {
     match side {
         ReadSide::Profiles(loaded) => tables_of(alloc, loaded.profiles.as_slice(), tables),
-        ReadSide::Filters(_) => Ok(Vec::from_slice(alloc, tables)?),
+        _ => Ok(Vec::from_slice(alloc, tables)?),
     }
 }
 
@@ -123,12 +105,33 @@ pub(crate) fn tables_in_scope<'a>(
     left: &ReadSide,
     right: &ReadSide,
     tables: &[Table<'a>],
-) -> Result<Vec<Table<'a>>, AllocError>
+) -> Result<Vec<Table<'a>>, Memory>
     ensures { IfOk result (λ used. used.items ≡ tables_in_scope left.now right.now tables.now) }
 {
     match (left, right) {
         (ReadSide::Profiles(_), ReadSide::Profiles(_)) => Ok(Vec::from_slice(alloc, tables)?),
-        (ReadSide::Profiles(_), ReadSide::Filters(_)) => used_by(alloc, left, tables),
-        (ReadSide::Filters(_), _) => used_by(alloc, right, tables),
+        (ReadSide::Profiles(_), _) => used_by(alloc, left, tables),
+        _ => used_by(alloc, right, tables),
     }
+}
+
+/// Two sides over the records of each scope.
+pub(crate) fn pairings_of<'a>(
+    alloc: Global,
+    left: Side<'a>,
+    right: Side<'a>,
+    scopes: &[Scope],
+) -> Result<Vec<Pairing<'a>>, Memory>
+    ensures { IfOk result (λ pairings. pairings.items ≡ map (pairing_of left.entry right.entry) scopes.now) }
+{
+    Ok(
+        scopes
+            .iter()
+            .map(|scope| Pairing {
+                left,
+                right,
+                over: *scope,
+            })
+            .collect(alloc)?,
+    )
 }

@@ -1,44 +1,44 @@
 //! A stack of filters.
 
-ghost use Rattle.std.specs.Prelude.{◌≡◌, ◌≢◌, List, Option, Some, map, IfErr, IfOk};
+ghost use Rattle.std.specs.Prelude.{◌≡◌, ◌≢◌, List, Option, map, IfErr, IfOk};
 ghost use Rattle.scf_insn.specs.Words.{words_of};
 ghost use Rattle.scf_insn.specs.declared.insn.Insn.{Insn};
 ghost use Rattle.scf_machine.specs.Precedence.{IsDecidedBy, StackAnswers};
 ghost use Rattle.scf_machine.specs.declared.stack.DecidingInsn.{DecidingInsn};
+ghost use Rattle.scf_request.specs.Contents.{rest_of};
+ghost use Rattle.scf_tool.specs.Faults.{verify_row};
 ghost use Rattle.scf_tool.specs.FilterStacks.{HasStack};
 ghost use Rattle.scf_c.specs.Faults.{IsRefusal, no_fault};
 ghost use Rattle.scf_c.specs.Filters.{IsStackRefused, decided_by, no_decision};
-ghost use Rattle.scf_c.specs.Layout.{known_bytes, record_of};
+ghost use Rattle.scf_c.specs.Layout.{bytes_of, known_bytes, record_of};
 ghost use Rattle.scf_c.specs.Statuses.{ok};
-ghost use Rattle.scf_c.specs.internal.Reading.{unread_of};
 
 use crate::fault::{NO_FAULT, refuse};
 use crate::layout::{Bytes, Call, DecisionNumbers, Fault};
-use crate::memory::Reader;
-use crate::refusal::Refusal;
 use crate::status::OK;
+use scf_insn::Memory;
 use scf_machine::{Decision, FilterStack};
-use scf_tool::read_stack;
-use std::alloc::{AllocError, Global};
+use scf_tool::{PartReader, VerifyFault, stack_of, verify_row};
+use std::alloc::Global;
 
 /// Readers of filters, in their order.
-fn readers_of<'a>(alloc: Global, filters: &[Bytes<'a>]) -> Result<Vec<Reader<'a>>, AllocError>
-    ensures { IfOk result (λ readers. map (λ reader. Some (unread_of reader)) readers.items ≡ known_bytes filters.now) }
+fn readers_of<'a>(alloc: Global, filters: &[Bytes<'a>]) -> Result<Vec<PartReader<'a>>, Memory>
+    ensures { IfOk result (λ readers. map rest_of readers.items ≡ bytes_of filters.now) }
 {
     let mut readers = Vec::new(alloc);
     for filter in filters {
-        readers.push(Reader::new(filter.bytes))?;
+        readers.push(PartReader::new(filter.bytes))?;
     }
     Ok(readers)
 }
 
 /// The stack of the filters with these bytes, the oldest first.
-pub(crate) fn stack_of(alloc: Global, filters: &[Bytes]) -> Result<FilterStack, Refusal>
+pub(crate) fn stacked(alloc: Global, filters: &[Bytes]) -> Result<FilterStack, VerifyFault>
     ensures stack { IfOk result (HasStack (known_bytes filters.now)) }
     ensures refused { IfErr result (IsStackRefused filters.now) }
 {
     let mut readers = readers_of(alloc, filters)?;
-    Ok(read_stack(alloc, &mut readers)?)
+    stack_of(alloc, &mut readers)
 }
 
 /// The decision where nothing is decided: its numbers are 0.
@@ -84,16 +84,16 @@ pub extern "C" fn scf_decide(
         × StackAnswers stack (words_of (record_of call.now)) decision.new.answer
         × (by : Option DecidingInsn) × IsDecidedBy stack (words_of (record_of call.now)) by decision.new.answer
         × (decision.new ≡ decided_by decision.new.answer by) × (fault.new ≡ no_fault) }
-    ensures refused { result ≢ ok → IsRefusal (IsStackRefused filters.now) result fault.new
+    ensures refused { result ≢ ok → IsRefusal verify_row (IsStackRefused filters.now) result fault.new
         × (decision.new ≡ no_decision) }
 {
     *decision = NO_DECISION;
     *fault = NO_FAULT;
-    match stack_of(alloc, filters) {
+    match stacked(alloc, filters) {
         Ok(stack) => {
             *decision = numbers_of(stack.decision(&call.record()));
             OK
         }
-        Err(why) => refuse(why, fault),
+        Err(why) => refuse(verify_row(why), fault),
     }
 }

@@ -1,31 +1,24 @@
 //! The syscall tables of architectures, and the stubs of their syscalls.
 
-ghost use Rattle.std.specs.Prelude.{◌≡◌, ◌≤◌, ◌↔◌, All, IsTrue, map, string_bytes, IfOk};
+ghost use Rattle.std.specs.Prelude.{◌≡◌, ◌↔◌, IsTrue, map, string_bytes, IfOk};
 ghost use Rattle.std.specs.List.{list_any};
 ghost use Rattle.scf_profile.specs.StatedProfile.{is_named};
-ghost use Rattle.scf_tool.specs.VerifyingArchitectures.{table_text};
+ghost use Rattle.scf_request.specs.Contents.{rest_of_table};
 ghost use Rattle.scf_c.specs.Architectures.{AreMeant, HasTables, IsMeant, architecture_of, count_for, texts_of};
 ghost use Rattle.scf_c.specs.Architectures as spec;
-ghost use Rattle.scf_c.specs.internal.Reading.{unread_of};
 
 use crate::layout::Table;
-use crate::memory::Reader;
-use scf_insn::Architecture;
+use scf_insn::{Architecture, Memory};
 use scf_profile::{Profile, Reading};
-use scf_tool::{Stub, TableReader};
-use std::alloc::{AllocError, Global};
+use scf_tool::{PartReader, Stub, TableReader};
+use std::alloc::Global;
 
 /// The architecture with this number.
-#[tactic(auto, using(std::proofs::lemmas::Grind::common_steps, crate::proofs::Searching::found_here, crate::proofs::Searching::found_later))]
 pub(crate) fn architecture_of(number: u32) -> Option<Architecture>
     ensures { result ≡ architecture_of number }
 {
-    for architecture in &Architecture::all() {
-        if architecture_number(*architecture) == number {
-            return Some(*architecture);
-        }
-    }
-    None
+    Architecture::all().iter().copied().find(|architecture| architecture_number(*architecture)
+        == number)
 }
 
 /// The number of an architecture: its position among all of them, counted from 1.
@@ -52,42 +45,16 @@ fn count_for(tables: &[Table], number: u32) -> usize
         .count()
 }
 
-/// Whether a table is the only one for its architecture.
-fn is_single(tables: &[Table], table: &Table) -> bool
-    ensures { IsTrue result ↔ (count_for table.now.architecture tables.now ≤ 1) }
-{
-    count_for(tables, table.architecture) <= 1
-}
-
-/// Whether each table is.
-fn are_single(tables: &[Table]) -> bool
-    ensures { IsTrue result ↔ All (λ table. count_for table.architecture tables.now ≤ 1) tables.now }
-{
-    for table in tables {
-        if !is_single(tables, table) {
-            return false;
-        }
-    }
-    true
-}
-
-/// Whether the numbers of all tables have a meaning.
-fn have_meaning(tables: &[Table]) -> bool
-    ensures { IsTrue result ↔ All IsMeant tables.now }
-{
-    for table in tables {
-        if !is_meant(table) {
-            return false;
-        }
-    }
-    true
-}
-
 /// Whether the numbers of all tables have a meaning, and no two are for one architecture.
 pub(crate) fn are_meant(tables: &[Table]) -> bool
     ensures { IsTrue result ↔ AreMeant tables.now }
 {
-    have_meaning(tables) && are_single(tables)
+    for table in tables {
+        if !is_meant(table) || count_for(tables, table.architecture) > 1 {
+            return false;
+        }
+    }
+    true
 }
 
 /// Whether there is such a table.
@@ -101,13 +68,13 @@ pub(crate) fn has_tables(tables: &[Table]) -> bool
 pub(crate) fn table_readers_of<'a>(
     alloc: Global,
     tables: &[Table<'a>],
-) -> Result<Vec<TableReader<Reader<'a>>>, AllocError>
-    ensures { IfOk result (λ readers. map (table_text unread_of) readers.items ≡ texts_of tables.now) }
+) -> Result<Vec<TableReader<PartReader<'a>>>, Memory>
+    ensures { IfOk result (λ readers. map rest_of_table readers.items ≡ texts_of tables.now) }
 {
     let mut readers = Vec::new(alloc);
     for table in tables {
         if let Some(architecture) = architecture_of(table.architecture) {
-            let reader = Reader::new(table.bytes);
+            let reader = PartReader::new(table.bytes);
             readers.push(TableReader {
                 architecture,
                 reader,
@@ -132,16 +99,10 @@ fn stub_of(table: &Table) -> Option<Stub>
 }
 
 /// The stubs of tables, in their order.
-pub(crate) fn stubs_of(alloc: Global, tables: &[Table]) -> Result<Vec<Stub>, AllocError>
+pub(crate) fn stubs_of(alloc: Global, tables: &[Table]) -> Result<Vec<Stub>, Memory>
     ensures { IfOk result (λ stubs. stubs.items ≡ spec.stubs_of tables.now) }
 {
-    let mut stubs = Vec::new(alloc);
-    for table in tables {
-        if let Some(stub) = stub_of(table) {
-            stubs.push(stub)?;
-        }
-    }
-    Ok(stubs)
+    Ok(tables.iter().filter_map(stub_of).collect(alloc)?)
 }
 
 /// Whether an architecture has one of these names.
@@ -188,16 +149,13 @@ pub(crate) fn listed_of<'a>(
     reading: Reading,
     names: &[String],
     tables: &[Table<'a>],
-) -> Result<Vec<Table<'a>>, AllocError>
+) -> Result<Vec<Table<'a>>, Memory>
     ensures { IfOk result (λ listed. listed.items ≡ spec.listed_of reading (map string_bytes names.now) tables.now) }
 {
-    let mut listed = Vec::new(alloc);
-    for table in tables {
-        if is_own(reading, names, tables, table) || has_name(names, table) {
-            listed.push(*table)?;
-        }
-    }
-    Ok(listed)
+    let is_listed = |table: &Table<'_>| {
+        is_own(reading, names, tables, table) || has_name(names, table)
+    };
+    Ok(tables.iter().copied().filter(is_listed).collect(alloc)?)
 }
 
 /// Whether a table is that of an architecture that has one of these profiles.
@@ -212,14 +170,14 @@ pub(crate) fn tables_of<'a>(
     alloc: Global,
     profiles: &[Profile],
     tables: &[Table<'a>],
-) -> Result<Vec<Table<'a>>, AllocError>
+) -> Result<Vec<Table<'a>>, Memory>
     ensures { IfOk result (λ used. used.items ≡ spec.tables_of profiles.now tables.now) }
 {
-    let mut used = Vec::new(alloc);
-    for table in tables {
-        if has_profile(profiles, table) {
-            used.push(*table)?;
-        }
-    }
-    Ok(used)
+    Ok(
+        tables
+            .iter()
+            .copied()
+            .filter(|table| has_profile(profiles, table))
+            .collect(alloc)?,
+    )
 }

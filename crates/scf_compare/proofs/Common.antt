@@ -55,7 +55,7 @@ unfoldable pub use Rattle.scf_compare.specs.Paths.{tree_sizes}
 pub use Rattle.scf_profile.specs.Relation.{IsRelated}
 pub use Rattle.scf_profile.specs.Scope.{IsInScope, RelatedAnswersIn, SameAnswersIn}
 pub use Rattle.scf_compare.specs.Findings.{AllRelated, Compared, IsTrueFinding, compared_in}
-pub use Rattle.scf_compare.specs.Sides.{behavior_of, filter_at, profile_behavior, stack_behavior}
+pub use Rattle.scf_compare.specs.Sides.{behavior_of, filter_at, stack_behavior}
 pub use Rattle.scf_compare.specs.Verdicts.{IsDecided, IsTrueOf, IsTrueOfStackBy, finding_of}
 pub use Rattle.scf_compare.specs.declared.finding.Finding.{Finding}
 pub use Rattle.scf_compare.specs.declared.finding.Which.{Which}

@@ -17,7 +17,7 @@ use Rattle.scf_compare.specs.internal.BitSlices.{IsMaskedSlice}
 use Rattle.scf_compare.specs.declared.filter.FilterLeaf.{FilterLeaf}
 use Rattle.scf_compare.specs.declared.filter.FilterNode.{FilterNode}
 use Rattle.scf_compare.specs.declared.side.Side.{Side}
-use Rattle.scf_compare.specs.declared.side.Side.TheVariants.{Stack, Profile as OfProfile, Profiles as OfProfiles}
+use Rattle.scf_compare.specs.declared.side.Side.TheVariants.{Stack, Profiles}
 use Rattle.scf_compare.specs.declared.step.Step.{Step}
 use Rattle.scf_compare.specs.declared.value.Decision.{Decision}
 use Rattle.scf_compare.specs.declared.value.Decision.TheVariants.{Known as Decided, Asks, Open}
@@ -130,5 +130,4 @@ plain_rules masks p plain = λ k d lt. record {
 
 pub plain_side : (masks : ℕ) (side : Side) → IsPlainSide side → IsMaskedSide masks side
 plain_side masks (Stack filters) plain = λ k d lt. plain_program masks _ (plain k d lt)
-plain_side masks (OfProfile p) plain = plain_rules masks p.now plain
-plain_side masks (OfProfiles profiles) plain = λ k d lt. plain_rules masks (get_or profiles.now k d) (plain k d lt)
+plain_side masks (Profiles profiles) plain = λ k d lt. plain_rules masks (get_or profiles.now k d) (plain k d lt)

@@ -1,5 +1,5 @@
 -- A profile's numbers: which rules a call can still meet, and how many steps the numbers take.
-use Rattle.scf_compare.proofs.Common.{drop-drop, take, ◌∷◌, ◌∙◌, Architecture, ◌-◌, ◌≡◌, ◌≢◌, ℕ, ◌+◌, ◌<◌, ◌≤◌, false, true, eqb, List, [], Some, length, map, drop, get_or, refl, sym, ap, arith, inl, inr, slice_get, slice_get-get_or, slice_get-map, slice_get_within, get_or_from_slice_get, get_or-take, length-take, take_all, eqb-true, All, All-contains, All-contains_itself, All-filter, filter_passes, contains_filtered, Contains, CallRecord, Condition, NotEqual, NumberRules, Rule, ProfileAnswers, by_rule, by_default, meets, rules_of, AreNumbersOf, number_among, numbers_rise, sum_of_own, sum_by-drop_more, sum_by-take-drop, conditions_size, rules_size, numbers_size, own_conditions, own_rules, size_behind, IsAtCondition, IsAtRule, IsFrom, ConditionPosition, IsNumbered, NumberedProfile}
+use Rattle.scf_compare.proofs.Common.{drop-drop, take, ◌∷◌, ◌∙◌, Architecture, ◌-◌, ◌≡◌, ◌≢◌, ℕ, ◌+◌, ◌*◌, ◌<◌, ◌≤◌, suc, zero, false, true, eqb, List, [], Some, length, map, drop, get_or, refl, sym, ap, arith, inl, inr, slice_get, slice_get-get_or, slice_get-map, slice_get_within, get_or_from_slice_get, get_or-take, length-take, take_all, eqb-true, All, All-contains, All-contains_itself, All-filter, filter_passes, contains_filtered, Contains, CallRecord, Condition, NotEqual, NumberRules, Rule, ProfileAnswers, by_rule, by_default, meets, rules_of, AreNumbersOf, number_among, numbers_rise, sum_of_own, sum_by-drop_more, sum_by-take-drop, conditions_size, rules_size, numbers_size, own_conditions, own_rules, size_behind, IsAtCondition, IsAtRule, IsFrom, ConditionPosition, IsNumbered, NumberedProfile}
 use Rattle.scf_profile.specs.Profile.{Profile}
 use Rattle.scf_compare.specs.Effort.{spread, stub_size}
 use Rattle.std.proofs.Math.ListN.{get_or-map}
@@ -7,7 +7,7 @@ use Rattle.std.proofs.lemmas.Bool.{cases_order}
 use Rattle.std.proofs.lemmas.List.{length-map}
 use Rattle.std.proofs.lemmas.List.Elements.{All-map}
 use Rattle.std.proofs.lemmas.List.Kept.{AllPairs-filter}
-use Rattle.std.specs.List.{filter}
+use Rattle.std.specs.List.{AllWithin, filter}
 use Rattle.scf_profile.specs.Profile.{AreInOrder}
 use Rattle.scf_profile.specs.Reasons.{IsReason, entries_met}
 use Rattle.scf_profile.specs.declared.reason.Reason.{Reason}
@@ -171,7 +171,7 @@ module _ (s : NumberedProfile) (call : CallRecord) where
 module _ (rules : List Rule) (index : ℕ) (r : Rule) (here : slice_get rules index ≡ Some r) (known : KnownArgument)
     (refuted : IsRefuted known r.conditions) where
   -- a call whose argument refutes a rule is at the next one
-  pub at_next : (s : NumberedProfile) (number argument : ℕ) (call : CallRecord) → own_rules s.numbers number ≡ rules
+  at_next : (s : NumberedProfile) (number argument : ℕ) (call : CallRecord) → own_rules s.numbers number ≡ rules
       → known.index ≡ argument → HasHalves known (argument_in s.profile.architecture call argument)
       → IsAtRule s number index call → IsAtRule s number (index + 1) call
   at_next s number argument call own same has at =
@@ -186,12 +186,43 @@ module _ (rules : List Rule) (index : ℕ) (r : Rule) (here : slice_get rules in
       }
 
   -- and costs two steps less
-  pub costs_less : rules_size (drop (index + 1) rules) + 2 ≤ rules_size (drop index rules)
+  costs_less : rules_size (drop (index + 1) rules) + 2 ≤ rules_size (drop index rules)
   costs_less = omega (
     arith,
     rules_more rules index r here,
     conditions_more r.conditions 0 refuted.condition (rules_size (drop (index + 1) rules)) refuted.first,
   )
+
+-- so many rules from one on are refuted
+module _ (rules : List Rule) (r : Rule) (known : KnownArgument) (index : ℕ) where
+  none : index + 0 ≡ index
+  none = omega arith
+
+  one_more : (count : ℕ) → index + suc count ≡ index + count + 1
+  one_more count = omega arith
+
+  pub at_later : (s : NumberedProfile) (number argument : ℕ) (call : CallRecord) → own_rules s.numbers number ≡ rules
+      → known.index ≡ argument → HasHalves known (argument_in s.profile.architecture call argument)
+      → IsAtRule s number index call → (count : ℕ) → index + count ≤ length rules
+      → AllWithin (λ rule. IsRefuted known rule.conditions) rules index (index + count)
+      → IsAtRule s number (index + count) call
+  at_later s number argument call own same has at zero inside refuted = rw none at
+  at_later s number argument call own same has at (suc count) inside refuted =
+      let here = slice_get-get_or rules (index + count) r (omega arith) in
+      let before = at_later s number argument call own same has at count (omega arith)
+      (λ k d from lt. refuted k d from (omega arith)) in
+      rw (one_more count) (at_next rules (index + count) _ here known
+      (refuted (index + count) r (omega arith) (omega arith)) s number argument call own same has before)
+
+  pub costs_fewer : (count : ℕ) → index + count ≤ length rules
+      → AllWithin (λ rule. IsRefuted known rule.conditions) rules index (index + count)
+      → rules_size (drop (index + count) rules) + 2 * count ≤ rules_size (drop index rules)
+  costs_fewer zero inside refuted = rw none (omega arith)
+  costs_fewer (suc count) inside refuted =
+      let here = slice_get-get_or rules (index + count) r (omega arith) in
+      let less = costs_less rules (index + count) _ here known (refuted (index + count) r (omega arith) (omega arith)) in
+      let fewer = costs_fewer count (omega arith) (λ k d from lt. refuted k d from (omega arith)) in
+      rw (one_more count) (omega (arith, less, fewer))
 
 -- ---- answers to calls of other architectures
 

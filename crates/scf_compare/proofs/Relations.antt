@@ -1,8 +1,8 @@
 -- What follows from one relation for another.
 use Rattle.scf_profile.proofs.Answering.{one_answer_among}
 use Rattle.scf_compare.specs.SideLaws.{IsSide}
-use Rattle.scf_compare.specs.declared.side.Side.TheVariants.{Stack, Profile as OfProfile, Profiles as OfProfiles}
-use Rattle.scf_compare.proofs.Common.{Side, behavior_of, call_of-words_of, ◌≡◌, ◌≤◌, ℕ, List, arith, subst, Disposition, Insn, CallRecord, permissiveness_of, disposition_of, IsRecord, words_of, StackAnswers, stack_answer_once, Profile, HaveNoConflict, ProfileAnswers, AnswersRelated, one_answer, Relation, Same, NoMore, NoLess, Scope, IsRelated, IsInScope, RelatedAnswersIn}
+use Rattle.scf_compare.specs.declared.side.Side.TheVariants.{Stack, Profiles}
+use Rattle.scf_compare.proofs.Common.{Side, behavior_of, call_of-words_of, ◌≡◌, ℕ, List, Insn, CallRecord, IsRecord, words_of, StackAnswers, stack_answer_once, Profile, HaveNoConflict, ProfileAnswers, AnswersRelated, one_answer, Relation, IsRelated}
 
 -- the relation holds of the two answers to a call, of which there are no others
 pub related_here : (relation : Relation) (filters : List (List Insn)) (p : Profile) (call : CallRecord)
@@ -21,11 +21,6 @@ pub side_answers_once : (side : Side) (call : CallRecord) (first second : ℕ) �
     → first ≡ second
 side_answers_once (Stack filters) call first second is is_record a b =
     stack_answer_once filters.now (words_of call) first second a b
-side_answers_once (OfProfile p) call first second is is_record a b =
-    let same = call_of-words_of call is_record in one_answer p.now call is.no_conflict is_record (rw same at a) (rw same at b)
-side_answers_once (OfProfiles profiles) call first second is is_record a b =
+side_answers_once (Profiles profiles) call first second is is_record a b =
     let same = call_of-words_of call is_record in
-    one_answer_among profiles.now call is.0 is.1 is_record (rw same at a) (rw same at b)
-
--- the profile has one answer to a call, which is that of its words
-pub ruleset single_answers = (call_of-words_of, one_answer)
+    one_answer_among profiles.now call is is_record (rw same at a) (rw same at b)

@@ -1,6 +1,7 @@
 -- The rules of a profile and their conditions, one after another.
-use Rattle.scf_compare.proofs.Common.{drop-cons, ◌≡◌, ◌≢◌, ℕ, suc, ◌+◌, ◌*◌, ◌<◌, true, false, List, [], ◌∷◌, ◌++◌, Some, length, take, drop, get_or, ap, ◌∙◌, arith, slice_get, All, Contains, ne_eqb, All-push, get_or_from_slice_get, add-one, slice_get_read, slice_get_within, Architecture, argument_in, CallRecord, Condition, Rule, all_hold, meets, conditions_size, rules_size}
+use Rattle.scf_compare.proofs.Common.{drop-cons, ◌≡◌, ◌≢◌, ℕ, suc, ◌+◌, ◌-◌, ◌*◌, ◌<◌, true, false, List, [], ◌∷◌, ◌++◌, Some, length, take, drop, get_or, ap, ◌∙◌, arith, slice_get, All, Contains, ne_eqb, All-push, get_or_from_slice_get, add-one, slice_get_read, slice_get_within, Architecture, argument_in, CallRecord, Condition, Rule, all_hold, meets, conditions_size, rules_size}
 use Rattle.std.proofs.Math.Seq.{take-suc}
+use Rattle.std.proofs.lemmas.List.{take_all}
 use Rattle.std.proofs.lemmas.List.Folds.{list_all_at, list_all_more}
 use Rattle.scf_profile.specs.Condition.{condition_holds}
 
@@ -27,7 +28,7 @@ module _ (architecture : Architecture) (call : CallRecord) where
 pub drop_here : {X : Type 0} (xs : List X) (i : ℕ) (x : X) → slice_get xs i ≡ Some x → drop i xs ≡ x ∷ drop (suc i) xs
 drop_here xs i x here = rw (drop-cons xs i x (slice_get_within xs i x here), get_or_from_slice_get xs i x x here)
 
-take_here : {X : Type 0} (xs : List X) (i : ℕ) (x : X) → slice_get xs i ≡ Some x → take (suc i) xs ≡ take i xs ++ x ∷ []
+pub take_here : {X : Type 0} (xs : List X) (i : ℕ) (x : X) → slice_get xs i ≡ Some x → take (suc i) xs ≡ take i xs ++ x ∷ []
 take_here xs i x here = rw (take-suc xs i x (slice_get_within xs i x here), get_or_from_slice_get xs i x x here)
 
 pub contains_here : {X : Type 0} (xs : List X) (i : ℕ) (x : X) → slice_get xs i ≡ Some x → Contains xs x
@@ -60,3 +61,8 @@ pub read_at : {X : Type 0} (read xs : List X) (index : ℕ) (x : X) → read ≡
 read_at read xs index x same inside is =
     slice_get_read xs (length read) index x (ap length same) inside
     (is ∙ ap (λ (l : List _). get_or l index x) same)
+
+-- all but the last one, and the last one
+pub without_last : {X : Type 0} (xs : List X) (x : X) → slice_get xs (length xs - 1) ≡ Some x
+    → xs ≡ take (length xs - 1) xs ++ x ∷ []
+without_last xs x here = grind (arith, take_here xs (length xs - 1) x here, slice_get_within xs (length xs - 1) x here, take_all (length xs) xs)

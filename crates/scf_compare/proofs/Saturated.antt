@@ -2,7 +2,7 @@
 use Rattle.scf_compare.proofs.Common.{◌≡◌, ℕ, ◌+◌, ◌*◌, ◌-◌, ◌<◌, ◌≤◌, List, length, drop, get_or, refl, arith, slice_get-get_or, slice_get_read, Equal, Condition, Rule, conditions_size, rules_size, saturated, paths_count, side_size_counts, spread_counts}
 use Rattle.scf_compare.proofs.Numbered.{no_condition}
 use Rattle.scf_profile.specs.Profile.{Profile}
-use Rattle.scf_compare.specs.Effort.{spread, spread_of_all}
+use Rattle.scf_compare.specs.Effort.{spread, spread_in_turn}
 use Rattle.scf_compare.proofs.Rules.{conditions_more, drop_here, rules_more}
 
 pub multiplied : (a b x y : ℕ) → 0 < x → 0 < y → a ≡ saturated x → b ≡ saturated y
@@ -29,10 +29,10 @@ pub conditions_added : (size fails twice first second third x behind : ℕ) → 
 conditions_added size fails twice first second third x behind a b c d e f = omega arith
 
 -- the profiles from one on, by those behind it
-pub spreads_before : (profiles : List Profile) (index : ℕ) (p : Profile) → 0 < index → index ≤ length profiles
-    → p ≡ get_or profiles (index - 1) p
-    → spread_of_all (drop (index - 1) profiles) ≡ spread p + 3 * spread_of_all (drop index profiles)
-spreads_before profiles index p some within is =
+pub spreads_before : (behind : ℕ) (profiles : List Profile) (index : ℕ) (p : Profile) → 0 < index
+    → index ≤ length profiles → p ≡ get_or profiles (index - 1) p
+    → spread_in_turn behind (drop (index - 1) profiles) ≡ spread p + 3 * spread_in_turn behind (drop index profiles)
+spreads_before behind profiles index p some within is =
     grind (arith, drop_here profiles (index - 1) p, slice_get_read profiles (length profiles) (index - 1) p refl)
 
 pub spreads_step : (sum own third more x y : ℕ) → sum ≡ saturated x → own ≡ saturated y → third ≡ saturated (sum * 3)

@@ -27,11 +27,19 @@ abbrev pub spread : Profile → ℕ
 spread p =
     8 + stub_size p.stub + sum_by (λ number. 1 + rules_size (rules_of number p.rules)) (numbers_of p.rules)
 
--- the spread of several profiles: three questions of each may tell that a call is of another architecture, and then the
--- later ones are asked
+-- the spread of profiles, where what is asked behind the last one has a size: three questions of each may tell that a
+-- call is of another architecture, and then the later ones are asked
+abbrev pub spread_in_turn : ℕ → List Profile → ℕ
+spread_in_turn behind [] = behind
+spread_in_turn behind (p ∷ later) = spread p + 3 * spread_in_turn behind later
+
+-- the answer to a call of none of their architectures, but of one profile alone, which has it among its own
+abbrev pub answer_of_none : List Profile → ℕ
+answer_of_none (p ∷ []) = 0
+answer_of_none profiles = 1
+
 abbrev pub spread_of_all : List Profile → ℕ
-spread_of_all [] = 1
-spread_of_all (p ∷ later) = spread p + 3 * spread_of_all later
+spread_of_all profiles = spread_in_turn (answer_of_none profiles) profiles
 
 -- the effort: the size of the filter's tree of paths from its first index on, times the spread
 abbrev pub effort_of : List Insn → Profile → ℕ

@@ -4,7 +4,7 @@ use Rattle.scf_insn.specs.declared.answer.Answer.{Answer}
 use Rattle.scf_insn.specs.declared.architecture.Architecture.{Architecture}
 use Rattle.scf_insn.specs.declared.record.CallRecord.{CallRecord}
 use Rattle.scf_insn.specs.Words.{IsRecord, words_of}
-use Rattle.scf_profile.specs.Profile.{AreOfApart, HaveNoConflict, IsProfile}
+use Rattle.scf_profile.specs.Profile.{HaveNoConflict}
 use Rattle.scf_profile.specs.declared.relation.Relation.{Relation}
 use Rattle.scf_profile.specs.declared.relation.Relation.TheVariants.{Same, NoMore, NoLess, SameDisposition}
 use Rattle.scf_profile.specs.declared.scope.Scope.{Scope}
@@ -13,16 +13,14 @@ use Rattle.scf_profile.specs.Relation.{IsRelated}
 use Rattle.scf_profile.specs.Scope.{IsInScope}
 use Rattle.scf_compare.specs.declared.finding.Finding.TheVariants.{Holds, Fails}
 use Rattle.scf_compare.specs.declared.side.Side.{Side}
-use Rattle.scf_compare.specs.declared.side.Side.TheVariants.{Stack, Profile as OfProfile, Profiles as OfProfiles}
+use Rattle.scf_compare.specs.declared.side.Side.TheVariants.{Stack, Profiles}
 use Rattle.scf_compare.specs.Findings.{AllRelated, IsTrueFinding, compared_sides}
 use Rattle.scf_compare.specs.Sides.{behavior_of}
 
--- the rules of a profile don't conflict, and no two profiles are for one call, so that a side has one answer to a call
+-- the rules of a profile don't conflict, so that a side has one answer to a call
 abbrev pub IsSide : Side → Type 0
 IsSide (Stack filters) = Unit {0}
-IsSide (OfProfile p) = IsProfile p.now
-IsSide (OfProfiles profiles) =
-    AreOfApart profiles.now × All (λ p. HaveNoConflict p.architecture p.rules) profiles.now
+IsSide (Profiles profiles) = All (λ p. HaveNoConflict p.architecture p.rules) profiles.now
 
 -- the relation holds of the answers of two sides to a call, whichever they are
 abbrev pub AreRelatedSides : Relation → Side → Side → CallRecord → Type 0

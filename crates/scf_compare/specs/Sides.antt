@@ -11,13 +11,13 @@ use Rattle.scf_machine.specs.Precedence.{GivesDecision, StackAnswers}
 use Rattle.scf_machine.specs.Rules.{Stands}
 use Rattle.scf_profile.specs.PlainProfile.{IsPlainProfile}
 use Rattle.scf_profile.specs.Profile.{Profile}
-use Rattle.scf_profile.specs.ProfileAnswers.{ProfileAnswers, ProfilesAnswer}
-use Rattle.scf_profile.specs.Reasons.{IsReason, IsReasonAmong}
+use Rattle.scf_profile.specs.ProfileAnswers.{ProfilesAnswer}
+use Rattle.scf_profile.specs.Reasons.{IsReasonAmong}
 use Rattle.scf_compare.specs.declared.origin.Origin.{Origin}
 use Rattle.scf_compare.specs.declared.origin.Origin.TheVariants.{Filter, Profile as OfReason}
 use Rattle.scf_compare.specs.declared.side.Side.{Side}
-use Rattle.scf_compare.specs.declared.side.Side.TheVariants.{Stack, Profile as OfProfile, Profiles as OfProfiles}
-use Rattle.scf_compare.specs.Effort.{spread, spread_of_all, stack_paths}
+use Rattle.scf_compare.specs.declared.side.Side.TheVariants.{Stack, Profiles}
+use Rattle.scf_compare.specs.Effort.{spread_of_all, stack_paths}
 use Rattle.scf_compare.specs.Masked.{IsMaskedProfile, IsMaskedProgram}
 
 -- A run of the program can end at this instruction: a return, or a division by the index register, which may be 0.
@@ -62,12 +62,7 @@ abbrev pub StackGives : List (List Insn) → Origin → List ℕ → ℕ → Typ
 StackGives [] origin words answer = origin ≡ Filter 0 0
 StackGives (oldest ∷ newer) origin words answer = FilterGives (oldest ∷ newer) origin words answer
 
--- the words of a call have the reason of an origin
-abbrev pub ProfileGives : Profile → Origin → List ℕ → Type 0
-ProfileGives p (Filter filter index) words = ⊥
-ProfileGives p (OfReason reason) words = IsReason p (call_of words) reason
-
--- the words of a call have the reason of an origin among several profiles
+-- the words of a call have the reason of an origin among profiles
 abbrev pub ProfilesGive : List Profile → Origin → List ℕ → Type 0
 ProfilesGive profiles (Filter filter index) words = ⊥
 ProfilesGive profiles (OfReason reason) words = IsReasonAmong profiles (call_of words) reason
@@ -98,18 +93,7 @@ stack_behavior filters = record {
 abbrev pub no_side : Behavior
 no_side = stack_behavior []
 
--- a profile, which has no instructions and always knows its answer: its size is its spread
-abbrev pub profile_behavior : Profile → Behavior
-profile_behavior p = record {
-  answers = λ words answer. ProfileAnswers p (call_of words) answer;
-  gives = λ origin words answer. ProfileGives p origin words;
-  ends_at = λ at. at ≡ 0;
-  is_open_at = λ at. ⊥;
-  size = spread p;
-  is_masked = λ masks. IsMaskedProfile masks p;
-}
-
--- several profiles, each for an architecture
+-- profiles, which have no instructions and always know their answer: their size is their spread
 abbrev pub profiles_behavior : List Profile → Behavior
 profiles_behavior profiles = record {
   answers = λ words answer. ProfilesAnswer profiles (call_of words) answer;
@@ -126,8 +110,7 @@ AnswersFrom behavior origin words answer = behavior.answers words answer × beha
 
 abbrev pub behavior_of : Side → Behavior
 behavior_of (Stack filters) = stack_behavior filters.now
-behavior_of (OfProfile p) = profile_behavior p.now
-behavior_of (OfProfiles profiles) = profiles_behavior profiles.now
+behavior_of (Profiles profiles) = profiles_behavior profiles.now
 
 -- both sides are stacks of the same filters, in the same order
 abbrev pub AreOneStack : Side → Side → Type 0
@@ -137,8 +120,7 @@ AreOneStack left right = ⊥
 -- the tests of a side are of words, halves of arguments and single bits
 abbrev pub IsPlainSide : Side → Type 0
 IsPlainSide (Stack filters) = All IsPlainProgram filters.now
-IsPlainSide (OfProfile p) = IsPlainProfile p.now
-IsPlainSide (OfProfiles profiles) = All IsPlainProfile profiles.now
+IsPlainSide (Profiles profiles) = All IsPlainProfile profiles.now
 
 -- or under masks whose bits are among these
 abbrev pub IsMaskedSide : ℕ → Side → Type 0

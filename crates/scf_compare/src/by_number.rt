@@ -26,17 +26,6 @@ impl<'a> ByNumber<'a> {
     ghost use Rattle.scf_profile.specs.NumberRules.{AreNumbersOf};
     ghost use Rattle.scf_compare.specs.internal.NumberedProfiles.{IsNumbered};
 
-    /// The profile with its numbers.
-    pub(crate) fn new(profile: &'a Profile) -> ByNumber<'a>
-        ensures profile { result.profile ≡ profile.now }
-        ensures numbered { IsNumbered result }
-    {
-        ByNumber {
-            profile,
-            numbers: profile.numbers(),
-        }
-    }
-
     /// The profile with these numbers, which are its own.
     pub(crate) fn with_numbers(profile: &'a Profile, numbers: &'a [NumberRules]) -> ByNumber<'a>
         requires { AreNumbersOf numbers.now profile.now.rules }

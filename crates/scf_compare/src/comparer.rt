@@ -25,7 +25,6 @@ ghost use Rattle.scf_compare.specs.Verdicts.{IsDecided, IsTrueOf, IsTrueOfStack,
 ghost use Rattle.scf_compare.specs.internal.Comparers.{IsComparison};
 
 use crate::budget::{Limit, Splits};
-use crate::by_number::ByNumber;
 use crate::explore::explore;
 use crate::finding::Finding;
 use crate::pair::Pair;
@@ -171,12 +170,6 @@ fn compare_counted<F: WordFacts>(
                 alloc, left, right, is_same, over, by, limit, budget, taken,
             )
         }
-        Side::Profile(profile) => {
-            let left = ByNumber::new(profile);
-            compare_with::<F, ByNumber<'_>>(
-                alloc, left, right, is_same, over, by, limit, budget, taken,
-            )
-        }
         Side::Profiles(profiles) => {
             let left = ProfilesSide { profiles };
             compare_with::<F, ProfilesSide<'_>>(
@@ -241,16 +234,6 @@ fn compare_with<F: WordFacts, L: SideTree + Drop>(
                 by,
             };
             compare_pair::<F, L, StackSide<'_>>(alloc, &pair, is_same, limit, budget, taken)
-        }
-        Side::Profile(profile) => {
-            let right = ByNumber::new(profile);
-            let pair = Pair {
-                left,
-                right,
-                over,
-                by,
-            };
-            compare_pair::<F, L, ByNumber<'_>>(alloc, &pair, is_same, limit, budget, taken)
         }
         Side::Profiles(profiles) => {
             let right = ProfilesSide { profiles };
@@ -325,7 +308,7 @@ pub fn compare<F: WordFacts>(
 {
     let limit = Limit::of_steps(limit);
     let filter = Side::Stack(slice::from_ref(program));
-    let profile = Side::Profile(profile);
+    let profile = Side::Profiles(slice::from_ref(profile));
     let finding = compare_sides::<F>(alloc, &filter, &profile, Scope::All, Relation::Same, limit)?;
     Ok(finding.verdict())
 }
@@ -358,7 +341,7 @@ pub fn compare_stack<F: WordFacts>(
 {
     let limit = Limit::of_steps(limit);
     let filters = Side::Stack(stack.filters());
-    let profile = Side::Profile(profile);
+    let profile = Side::Profiles(slice::from_ref(profile));
     let finding = compare_sides::<F>(alloc, &filters, &profile, scope, Relation::Same, limit)?;
     Ok(finding.verdict())
 }

@@ -8,7 +8,7 @@ ghost use Rattle.scf_compare.specs.internal.Trees.{IsLaterNode, IsStep, Tree};
 
 use crate::side_tree::SideLeaf;
 use crate::sources::OpenTest;
-use crate::step::{Passed, Step};
+use crate::step::Step;
 use scf_facts::WordFacts;
 use scf_insn::{Answer, CallRecord};
 
@@ -42,24 +42,26 @@ pub(crate) trait Comparison {
         ensures { IsStep (pair_leaves (compared self.now)) (F.allows facts.now (F.level facts.now))
             (tree self.now known.old) node.now (tree self.now known.new) result };
 
-    /// Passes steps that the store decides, at most so many, at less cost than step by step.
+    /// Passes steps that the store decides, at most so many, at less cost than step by step: how many. The node becomes
+    /// the one behind them.
     fn pass<F: WordFacts>(
         &self,
         facts: &F,
         known: &mut Self::Known,
-        node: Self::Node,
+        node: &mut Self::Node,
         most: u64,
-    ) -> Passed<Self::Node>
-        requires { (tree self.now known.old).is_node node }
+    ) -> u64
+        requires { (tree self.now known.old).is_node node.old }
         ensures later { IsLaterNode (F.allows facts.now (F.level facts.now))
-            (tree self.now known.old) node (tree self.now known.new) result.node }
-        ensures size { (tree self.now known.new).size result.node + result.steps ≤ (tree self.now known.old).size node }
-        ensures most { result.steps ≤ most }
+            (tree self.now known.old) node.old (tree self.now known.new) node.new }
+        ensures size { (tree self.now known.new).size node.new + result ≤ (tree self.now known.old).size node.old }
+        ensures most { result ≤ most }
     {
         let _ = facts;
         let _ = known;
+        let _ = node;
         let _ = most;
-        Passed::nothing(node)
+        0
     }
 
     /// The first test on the path that nothing known decides, given what is known at its end.

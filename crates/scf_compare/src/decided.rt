@@ -22,7 +22,7 @@ pub(crate) fn decided_step<T: SideTree, F: WordFacts>(
     side: &T,
     facts: &F,
     known: &mut T::Known,
-    node: T::Node,
+    mut node: T::Node,
     taken: u64,
 ) -> Step<T::Node, SideLeaf>
     requires { (T.tree side.now known.old).is_node node }
@@ -31,8 +31,8 @@ pub(crate) fn decided_step<T: SideTree, F: WordFacts>(
         (T.tree side.now known.old) node (T.tree side.now known.new) result }
 {
     let most = MOST_AT_ONCE.saturating_sub(taken);
-    let passed = side.pass(facts, known, node, most.saturating_sub(1));
-    let mut step = side.step(facts, known, passed.node);
+    let passed = side.pass(facts, known, &mut node, most.saturating_sub(1));
+    let mut step = side.step(facts, known, node);
     for _count in passed.steps + 1..most {
         let Some(next) = decided_next(side, facts, known, step) else {
             return step;
@@ -83,14 +83,14 @@ pub(crate) fn go_ahead<T: SideTree, F: WordFacts>(
     let mut taken = 0;
     let mut step = pending;
     while taken < most {
-        let Some(next) = decided_next(side, facts, known, step) else {
+        let Some(mut next) = decided_next(side, facts, known, step) else {
             return step;
         };
-        let passed = side.pass(facts, known, next, most - taken - 1);
-        if side.waits_at(known, passed.node) {
-            return Step::Next(passed.node);
+        let passed = side.pass(facts, known, &mut next, most - taken - 1);
+        if side.waits_at(known, next) {
+            return Step::Next(next);
         }
-        step = side.step(facts, known, passed.node);
+        step = side.step(facts, known, next);
         taken += passed.steps + 1;
     }
     step

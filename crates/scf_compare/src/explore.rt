@@ -11,7 +11,7 @@ ghost use Rattle.scf_compare.specs.internal.Stages.{IsAdvanced, IsExplored, IsFo
 
 use crate::comparison::{Comparison, PairLeaf};
 use crate::finding::{Finding, Which};
-use crate::frontier::{Frontier, Stage, ask, take_branch};
+use crate::frontier::{Frontier, Stage, ask, pass_on, take_branch};
 use crate::step::Step;
 use scf_facts::WordFacts;
 use scf_insn::{CallRecord, Memory};
@@ -178,14 +178,24 @@ pub(crate) fn explore<C: Comparison, F: WordFacts>(
     let mut node = root;
     let mut first_undecided = None;
     let mut steps = 0;
+    let mut open_before = 0;
     while steps < limit {
-        let passed = comparison.pass(&frontier.facts, &mut known, node, limit - steps - 1);
-        steps += passed.steps + 1;
+        let most = limit - steps - 1;
+        let passed = pass_on(
+            comparison,
+            &frontier,
+            open_before,
+            &mut known,
+            &mut node,
+            most,
+        );
+        steps += passed + 1;
+        open_before = frontier.branches.len();
         match advance(
             comparison,
             &mut frontier,
             &mut known,
-            passed.node,
+            node,
             &mut first_undecided,
         )? {
             Stage::At(next) => node = next,

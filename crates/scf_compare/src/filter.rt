@@ -110,17 +110,17 @@ pub(crate) fn pass_in_filter<F: WordFacts>(
     program: &Program,
     facts: &F,
     registers: &mut KnownRegisters,
-    node: FilterNode,
+    node: &mut FilterNode,
     most: u64,
-) -> Passed<FilterNode>
-    requires { filter_is_node program.now registers.old node }
+) -> Passed
+    requires { filter_is_node program.now registers.old node.old }
     ensures later { IsLaterNode (λ words. IsWords words × F.allows facts.now (F.level facts.now) words)
-        (filter_tree program.now registers.old) node (filter_tree program.now registers.new) result.node }
-    ensures steps { filter_size program.now result.node + result.steps ≤ filter_size program.now node }
+        (filter_tree program.now registers.old) node.old (filter_tree program.now registers.new) node.new }
+    ensures steps { filter_size program.now node.new + result.steps ≤ filter_size program.now node.old }
     ensures most { result.steps ≤ most }
 {
-    let FilterNode::At(first) = node else {
-        return Passed::nothing(node);
+    let FilterNode::At(first) = *node else {
+        return Passed::NOTHING;
     };
     let (mut steps, mut asked) = (0, 0);
     let mut index = first;
@@ -139,8 +139,8 @@ pub(crate) fn pass_in_filter<F: WordFacts>(
         steps += 1;
         asked += u64::from(asks);
     }
-    let node = FilterNode::At(index);
-    Passed { node, steps, asked }
+    *node = FilterNode::At(index);
+    Passed { steps, asked }
 }
 
 /// The index after a jump, a load of a word, or a test of the accumulator, which is this number, against a constant;

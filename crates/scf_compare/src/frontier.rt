@@ -1,12 +1,12 @@
 //! The open branches of a walk.
 
-ghost use Rattle.std.specs.Prelude.{◌≡◌, ◌<◌, ◌↔◌, [], ℕ, List, OnOk, IfOk};
+ghost use Rattle.std.specs.Prelude.{◌≡◌, ◌+◌, ◌<◌, ◌≤◌, ◌↔◌, [], ℕ, List, OnOk, IfOk};
 ghost use Rattle.scf_facts.specs.Levels.{IsSameLevel};
 ghost use Rattle.scf_compare.specs.Leaves.{IsLeaf};
 ghost use Rattle.scf_compare.specs.internal.Leaves.{AreWordsIn};
 ghost use Rattle.scf_compare.specs.internal.Frontier.{GivesAnswer, HasOpened, LearnsAmong, IsFrontier};
 ghost use Rattle.scf_compare.specs.internal.Stages.{IsAfterLeaf, IsAfterTest};
-ghost use Rattle.scf_compare.specs.internal.Trees.{IsAsked, IsProper};
+ghost use Rattle.scf_compare.specs.internal.Trees.{IsAsked, IsLaterNode, IsProper};
 
 use crate::comparison::Comparison;
 use crate::finding::Finding;
@@ -89,13 +89,16 @@ pub(crate) fn take_branch<C: Comparison, F: WordFacts>(
         frontier.old frontier.new known.new) }
 {
     let _ = comparison;
-    let Some(branch) = frontier.branches.pop() else {
+    let Some(branch) = frontier.branches.last() else {
         return Ok(Stage::AllSeen);
     };
-    frontier.facts.undo();
-    learn_answer(&mut frontier.facts, branch.asked, false)?;
     *known = branch.known;
-    Ok(Stage::At(branch.node))
+    let node = branch.node;
+    let asked = branch.asked;
+    frontier.branches.truncate(frontier.branches.len() - 1);
+    frontier.facts.undo();
+    learn_answer(&mut frontier.facts, asked, false)?;
+    Ok(Stage::At(node))
 }
 
 /// Opens a branch for the answer no to what is asked, if anything is, and learns yes.
@@ -151,4 +154,29 @@ pub(crate) fn ask<C: Comparison, F: WordFacts>(
     }
     open_branch(comparison, frontier, known, atom, if_false)?;
     Ok(if_true)
+}
+
+/// Passes steps that the store decides, at most so many, unless the last step opened or took a branch: before it so
+/// many were open. Behind a branch there is seldom anything to pass. How many steps were passed; the node becomes the
+/// one behind them.
+pub(crate) fn pass_on<C: Comparison, F: WordFacts>(
+    comparison: &C,
+    frontier: &Frontier<F, C::Known, C::Node>,
+    open_before: usize,
+    known: &mut C::Known,
+    node: &mut C::Node,
+    most: u64,
+) -> u64
+    requires { (C.tree comparison.now known.old).is_node node.old }
+    ensures later { let facts = frontier.now.facts in IsLaterNode (F.allows facts (F.level facts))
+        (C.tree comparison.now known.old) node.old (C.tree comparison.now known.new) node.new }
+    ensures size { (C.tree comparison.now known.new).size node.new + result
+        ≤ (C.tree comparison.now known.old).size node.old }
+    ensures most { result ≤ most }
+{
+    if frontier.branches.len() == open_before {
+        comparison.pass(&frontier.facts, known, node, most)
+    } else {
+        0
+    }
 }

@@ -1,6 +1,6 @@
 //! Laws of the relations by which filters are compared. Each function does nothing: what it ensures is the law.
 
-ghost use Rattle.std.specs.Prelude.{◌≡◌, ℕ, All, List};
+ghost use Rattle.std.specs.Prelude.{◌≡◌, ◌∷◌, [], ℕ, All, List};
 ghost use Rattle.scf_insn.specs.declared.insn.Insn.{Insn};
 ghost use Rattle.scf_insn.specs.declared.record.CallRecord.{CallRecord};
 ghost use Rattle.scf_insn.specs.Answers.{disposition_of};
@@ -19,7 +19,7 @@ ghost use Rattle.scf_compare.specs.SideLaws.{
   SameHoldsByAll,
   SidesHeadline,
 };
-ghost use Rattle.scf_compare.specs.Sides.{behavior_of, profile_behavior, stack_behavior};
+ghost use Rattle.scf_compare.specs.Sides.{behavior_of, profiles_behavior, stack_behavior};
 ghost use Rattle.scf_compare.specs.Splits.{SplitsEnd};
 ghost use Rattle.scf_compare.specs.Verdicts.{IsTrueOfStackBy, finding_of};
 ghost use Rattle.scf_profile.specs.Scope.{IsInScope, RelatedAnswersIn, SameAnswersIn};
@@ -55,7 +55,8 @@ pub fn no_more_and_no_less_is_one_disposition()
 #[tactic(auto, using(crate::proofs::Verdicts::true_by))]
 pub fn finding_is_verdict()
     ensures { (relation : Relation) (filters : List (List Insn)) (p : Profile) (scope : Scope) (verdict : Verdict)
-        → IsTrueFinding (compared_in relation scope (stack_behavior filters) (profile_behavior p)) (finding_of verdict)
+        → IsTrueFinding (compared_in relation scope (stack_behavior filters) (profiles_behavior (p ∷ [])))
+        (finding_of verdict)
         → IsTrueOfStackBy relation filters p scope verdict }
 {}
 

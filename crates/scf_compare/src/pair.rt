@@ -16,7 +16,7 @@ use crate::decided::{MOST_AT_ONCE, follow, go_ahead};
 use crate::scope::is_in_scope;
 use crate::side_tree::{SideLeaf, SideTree};
 use crate::sources::OpenTest;
-use crate::step::{Passed, Step};
+use crate::step::Step;
 use scf_facts::WordFacts;
 use scf_insn::{Answer, CallRecord};
 use scf_profile::{Relation, Scope};
@@ -99,34 +99,28 @@ impl<L: SideTree, R: SideTree> Comparison for Pair<L, R> {
         }
     }
 
-    #[inline(always)]
     fn pass<F: WordFacts>(
         &self,
         facts: &F,
         known: &mut PairKnown<L::Known, R::Known, R::Node>,
-        node: PairNode<L::Node, R::Node>,
+        node: &mut PairNode<L::Node, R::Node>,
         most: u64,
-    ) -> Passed<PairNode<L::Node, R::Node>> {
+    ) -> u64 {
         match node {
             PairNode::AtLeft(left) => {
                 let passed = self.left.pass(facts, &mut known.left, left, most);
-                let next = passed.at(PairNode::AtLeft(passed.node));
                 if passed.asked == 0 {
-                    return next;
+                    return passed.steps;
                 }
                 let right = &self.right;
                 known.ahead = go_ahead(right, facts, &mut known.right, known.ahead, passed.asked);
-                next
+                passed.steps
             }
-            PairNode::AtRight(leaf, node) => {
+            PairNode::AtRight(_, right) => {
                 let most = most.saturating_mul(MOST_AT_ONCE);
-                let passed = self.right.pass(facts, &mut known.right, node, most);
+                let passed = self.right.pass(facts, &mut known.right, right, most);
                 known.taken = passed.steps % MOST_AT_ONCE;
-                Passed {
-                    node: PairNode::AtRight(leaf, passed.node),
-                    steps: passed.steps / MOST_AT_ONCE,
-                    asked: 0,
-                }
+                passed.steps / MOST_AT_ONCE
             }
         }
     }

@@ -1,20 +1,20 @@
 //! A profile as a tree of questions about the words of a call record.
 
 ghost use Rattle.std.specs.Prelude.{◌≡◌, ◌≢◌, ◌+◌, ◌<◌, ◌≤◌, ℕ, List, All, Contains, Some, length, take, drop};
-ghost use Rattle.std.specs.Prelude.{IfSome, slice_get, slice_index};
+ghost use Rattle.std.specs.Prelude.{IfSome, IsTrue, slice_get, slice_index};
 ghost use Rattle.scf_insn.specs.Architectures.{IsOf, argument_in};
 ghost use Rattle.scf_insn.specs.Words.{IsWords, call_of};
 ghost use Rattle.scf_profile.specs.declared.condition.Condition.{Condition};
 ghost use Rattle.scf_profile.specs.NumberTests.{test_of};
+ghost use Rattle.scf_profile.specs.NumberRules.{AreRising};
 ghost use Rattle.scf_profile.specs.Profile.{AreInOrder};
 ghost use Rattle.scf_profile.specs.Rule.{IsRule};
 ghost use Rattle.scf_compare.specs.internal.Conditions.{LeadsTo, successor_size};
 ghost use Rattle.scf_compare.specs.Effort.{conditions_size, rules_size};
-ghost use Rattle.scf_compare.specs.Sides.{profile_behavior};
 ghost use Rattle.scf_compare.specs.internal.Leaves.{side_leaves};
 ghost use Rattle.scf_compare.specs.internal.Profiles.{IsAtCondition, IsAtRule, IsFrom, StandsAt};
 ghost use Rattle.scf_compare.specs.internal.Profiles.{EndsForeign, calls_size, own_conditions, own_rules};
-ghost use Rattle.scf_compare.specs.internal.Profiles.{profile_is_node, profile_reaches};
+ghost use Rattle.scf_compare.specs.internal.Profiles.{profile_behavior, profile_is_node, profile_reaches};
 ghost use Rattle.scf_compare.specs.internal.Profiles.{profile_size, profile_tree, size_behind, size_of_rest};
 ghost use Rattle.scf_compare.specs.internal.Trees.{IsLaterNode, IsStep};
 
@@ -23,11 +23,10 @@ use crate::by_number::ByNumber;
 use crate::known_argument::KnownArgument;
 use crate::origin::Origin;
 use crate::question::{ConditionPart, Successor, question_of};
-use crate::side_tree::{SideLeaf, SideTree};
-use crate::sources::OpenTest;
+use crate::side_tree::SideLeaf;
 use crate::step::{Passed, Step};
 use scf_facts::{Tell, WordFacts};
-use scf_insn::{Answer, CallRecord};
+use scf_insn::Answer;
 use scf_profile::{FOREIGN_ANSWER, Reason, Rule, STUB_ANSWER};
 
 /// Where a condition stands, by indices.
@@ -68,59 +67,6 @@ pub(crate) fn leaf_by(answer: Answer, reason: Reason) -> SideLeaf
         answer: Some(answer),
         origin: Origin::Profile(reason),
     }
-}
-
-impl SideTree for ByNumber<'_> {
-    type Known = ();
-
-    type Node = ProfileNode;
-
-    ghost behavior = { λ s. profile_behavior s.profile };
-
-    ghost tree = { λ s _. profile_tree s 1 };
-
-    fn start(&self) -> ((), ProfileNode) {
-        let _numbers = self.numbers();
-        ((), ProfileNode::Architecture)
-    }
-
-    fn step<F: WordFacts>(
-        &self,
-        facts: &F,
-        known: &mut (),
-        node: ProfileNode,
-    ) -> Step<ProfileNode, SideLeaf> {
-        let _ = known;
-        self.step_from(facts, node)
-    }
-
-    fn pass<F: WordFacts>(
-        &self,
-        facts: &F,
-        known: &mut (),
-        node: ProfileNode,
-        most: u64,
-    ) -> Passed<ProfileNode> {
-        let _ = known;
-        self.pass_from(facts, node, most)
-    }
-
-    fn open_test(&self, known: &()) -> Option<OpenTest> {
-        let _ = known;
-        None
-    }
-
-    #[tactic(auto, using(crate::proofs::Relations::single_answers))]
-    fn answer(&self, call: &CallRecord) -> Answer {
-        call.within_widths();
-        let profile = self.profile();
-        let _rules = profile.rules();
-        profile.answer(call)
-    }
-
-    ghost use Rattle.scf_compare.specs.internal.Laws.{profile_node_counts_alone};
-
-    ghost counts = { λ s _. profile_node_counts_alone s };
 }
 
 impl ByNumber<'_> {
@@ -284,6 +230,14 @@ impl ByNumber<'_> {
         &number_rules.rules
     }
 
+    /// Whether the rules of the number at an index are known to want rising values of one argument.
+    fn are_rising(&self, number: usize) -> bool
+        requires { number < length self.now.numbers }
+        ensures { IsTrue result → AreRising (own_rules self.now.numbers number) }
+    {
+        self.numbers()[number].is_rising
+    }
+
     /// The rule of a condition.
     fn rule_at(&self, at: ConditionPosition) -> &Rule
         requires number { at.number < length self.now.numbers }
@@ -324,61 +278,58 @@ impl ByNumber<'_> {
     pub(crate) fn pass_from<F: WordFacts>(
         &self,
         facts: &F,
-        node: ProfileNode,
+        node: &mut ProfileNode,
         most: u64,
-    ) -> Passed<ProfileNode>
-        requires { profile_is_node self.now node }
+    ) -> Passed
+        requires { profile_is_node self.now node.old }
         ensures later { (others : ℕ) → IsLaterNode
             (λ words. IsWords words × F.allows facts.now (F.level facts.now) words)
-            (profile_tree self.now others) node (profile_tree self.now others) result.node }
-        ensures size { (others : ℕ) → profile_size self.now others result.node + result.steps
-            ≤ profile_size self.now others node }
+            (profile_tree self.now others) node.old (profile_tree self.now others) node.new }
+        ensures size { (others : ℕ) → profile_size self.now others node.new + result.steps
+            ≤ profile_size self.now others node.old }
         ensures most { result.steps ≤ most }
     {
-        match node {
+        match *node {
             ProfileNode::Condition(at, ConditionPart::High) if at.condition == 0 => {
-                self.pass_rules(facts, at, most)
+                let (rule, steps) = self.pass_rules(facts, at, most);
+                *node = self.next_rule(at.number, rule);
+                Passed {
+                    steps,
+                    asked: steps,
+                }
             }
-            _ => Passed::nothing(node),
+            _ => Passed::NOTHING,
         }
     }
 
     /// Passes the rules from that of a first condition on whose first condition wants another value of this argument
-    /// than the store allows.
-    fn pass_rules<F: WordFacts>(
-        &self,
-        facts: &F,
-        at: ConditionPosition,
-        most: u64,
-    ) -> Passed<ProfileNode>
-        requires stands { StandsAt self.now.numbers at }
-        requires first { at.condition ≡ 0 }
-        ensures later { (others : ℕ) → IsLaterNode
-            (λ words. IsWords words × F.allows facts.now (F.level facts.now) words)
-            (profile_tree self.now others) (ProfileNode.Condition at ConditionPart.High)
-            (profile_tree self.now others) result.node }
-        ensures size { (others : ℕ) → profile_size self.now others result.node + result.steps
-            ≤ profile_size self.now others (ProfileNode.Condition at ConditionPart.High) }
-        ensures most { result.steps ≤ most }
+    /// than the store allows: the rule behind them, and in how many steps.
+    fn pass_rules<F: WordFacts>(&self, facts: &F, at: ConditionPosition, most: u64) -> (usize, u64)
+        requires { StandsAt self.now.numbers at }
+        ensures inside { result.0 ≤ length (own_rules self.now.numbers at.number) }
+        ensures most { result.1 ≤ most }
+        ensures met { (words : List ℕ) → IsWords words → F.allows facts.now (F.level facts.now) words
+            → IsAtRule self.now at.number at.rule (call_of words)
+            → IsAtRule self.now at.number result.0 (call_of words) }
+        ensures size { let own = own_rules self.now.numbers at.number in
+            rules_size (drop result.0 own) + result.1 ≤ rules_size (drop at.rule own) }
     {
         let first = self.rule_at(at).conditions.as_slice()[at.condition];
         let bits = self.profile().architecture().argument_bits();
         let argument = KnownArgument::of(facts, bits, first.index);
         let rules = self.rules_at(at.number);
+        let are_rising = self.are_rising(at.number);
         let mut rule = at.rule;
         let mut steps = 0;
         while rule < rules.len() && 1 < most - steps {
-            let Some(questions) = argument.refutes(rules[rule].conditions.as_slice()) else {
+            let Some((count, questions)) = argument.refutes(rules, rule, are_rising) else {
                 break;
             };
-            rule += 1;
-            steps += questions;
+            let count = (count as u64).min((most - steps) / 2);
+            rule += count as usize;
+            steps += questions * count;
         }
-        Passed {
-            node: self.next_rule(at.number, rule),
-            steps,
-            asked: steps,
-        }
+        (rule, steps)
     }
 
     /// The node for a rule's conditions from an index on, given that all before it hold: that condition, or the rule's

@@ -11,9 +11,8 @@ ghost use Rattle.scf_compare.specs.internal.Leaves.{AreWordsIn};
 ghost use Rattle.scf_compare.specs.internal.Frontier.{IsFrontier, IsWhole, first_open_after, first_open_left};
 ghost use Rattle.scf_compare.specs.internal.Regions.{AreRegionsSoFar, IsAdded, IsRegionStep};
 
-use crate::by_number::ByNumber;
 use crate::comparison::{Comparison, PairLeaf};
-use crate::frontier::{Frontier, Stage, ask, take_branch};
+use crate::frontier::{Frontier, Stage, ask, pass_on, take_branch};
 use crate::pair::Pair;
 use crate::profiles::ProfilesSide;
 use crate::region::{Region, region_of};
@@ -61,10 +60,6 @@ pub fn regions_of<F: Snapshots>(
             let left = StackSide { filters };
             regions_beside::<F, StackSide<'_>>(alloc, left, right, scope, limit)
         }
-        Side::Profile(profile) => {
-            let left = ByNumber::new(profile);
-            regions_beside::<F, ByNumber<'_>>(alloc, left, right, scope, limit)
-        }
         Side::Profiles(profiles) => {
             let left = ProfilesSide { profiles };
             regions_beside::<F, ProfilesSide<'_>>(alloc, left, right, scope, limit)
@@ -92,10 +87,6 @@ fn regions_beside<F: Snapshots, L: SideTree + Drop>(
         Side::Stack(filters) => {
             let right = StackSide { filters };
             regions_of_trees::<F, L, StackSide<'_>>(alloc, left, right, scope, limit)
-        }
-        Side::Profile(profile) => {
-            let right = ByNumber::new(profile);
-            regions_of_trees::<F, L, ByNumber<'_>>(alloc, left, right, scope, limit)
         }
         Side::Profiles(profiles) => {
             let right = ProfilesSide { profiles };
@@ -161,14 +152,24 @@ fn regions_of_pair<C: Comparison, F: Snapshots>(
     let mut first_open = None;
     let mut list = Vec::new(alloc);
     let mut steps = 0;
+    let mut open_before = 0;
     while steps < limit {
-        let passed = comparison.pass(&frontier.facts, &mut known, node, limit - steps - 1);
-        steps += passed.steps + 1;
+        let most = limit - steps - 1;
+        let passed = pass_on(
+            comparison,
+            &frontier,
+            open_before,
+            &mut known,
+            &mut node,
+            most,
+        );
+        steps += passed + 1;
+        open_before = frontier.branches.len();
         match region_step(
             comparison,
             &mut frontier,
             &mut known,
-            passed.node,
+            node,
             &mut first_open,
             &mut list,
         )? {

@@ -23,7 +23,7 @@ pub struct SideLeaf {
 
 /// A side as a tree of questions.
 pub(crate) trait SideTree {
-    /// What is known at a node beside the store: the registers of a filter.
+    /// What is known at a node beside the store: the registers of a filter, or which profile is asked.
     type Known: Copy;
 
     type Node: Copy;
@@ -53,25 +53,21 @@ pub(crate) trait SideTree {
             (λ words. IsWords words × F.allows facts.now (F.level facts.now) words)
             (tree self.now known.old) node (tree self.now known.new) result };
 
-    /// Passes steps that the store decides, at most so many, where the side does so at less cost than step by step.
+    /// Passes steps that the store decides, at most so many, where the side does so at less cost than step by step. The
+    /// node becomes the one behind them.
     fn pass<F: WordFacts>(
         &self,
         facts: &F,
         known: &mut Self::Known,
-        node: Self::Node,
+        node: &mut Self::Node,
         most: u64,
-    ) -> Passed<Self::Node>
-        requires { (tree self.now known.old).is_node node }
+    ) -> Passed
+        requires { (tree self.now known.old).is_node node.old }
         ensures later { IsLaterNode (λ words. IsWords words × F.allows facts.now (F.level facts.now) words)
-            (tree self.now known.old) node (tree self.now known.new) result.node }
-        ensures size { (tree self.now known.new).size result.node + result.steps ≤ (tree self.now known.old).size node }
-        ensures most { result.steps ≤ most }
-    {
-        let _ = facts;
-        let _ = known;
-        let _ = most;
-        Passed::nothing(node)
-    }
+            (tree self.now known.old) node.old (tree self.now known.new) node.new }
+        ensures size { (tree self.now known.new).size node.new + result.steps
+            ≤ (tree self.now known.old).size node.old }
+        ensures most { result.steps ≤ most };
 
     /// Whether the step from a node wants all that will be known there: it computes, or tests a computed value.
     fn waits_at(&self, known: &Self::Known, node: Self::Node) -> bool

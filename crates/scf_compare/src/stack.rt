@@ -76,15 +76,14 @@ impl SideTree for StackSide<'_> {
         &self,
         facts: &F,
         known: &mut KnownRegisters,
-        node: StackNode,
+        node: &mut StackNode,
         most: u64,
-    ) -> Passed<StackNode> {
+    ) -> Passed {
         match node {
-            Empty => Passed::nothing(node),
-            At(index, older, inner) => {
-                let program = filter_of(self.filters, index);
-                let passed = pass_in_filter(program, facts, known, inner, most);
-                passed.at(At(index, older, passed.node))
+            Empty => Passed::NOTHING,
+            At(index, _, inner) => {
+                let program = filter_of(self.filters, *index);
+                pass_in_filter(program, facts, known, inner, most)
             }
         }
     }

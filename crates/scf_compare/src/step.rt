@@ -25,45 +25,15 @@ impl<N: Copy, E: Copy> Clone for Step<N, E> {
     }
 }
 
-/// A later node of a tree of questions, and what was passed on the way to it.
-pub(crate) struct Passed<N> {
-    pub(crate) node: N,
+/// What was passed on the way to a later node of a tree of questions.
+#[derive(Clone, Copy)]
+pub(crate) struct Passed {
     /// How many steps were taken.
     pub(crate) steps: u64,
     /// How many of them ask what the store knows.
     pub(crate) asked: u64,
 }
 
-impl<N: Copy> Copy for Passed<N> {}
-
-impl<N: Copy> Clone for Passed<N> {
-    ghost is_clone = { λ passed copy. copy ≡ passed };
-
-    fn clone(&self) -> Result<Passed<N>, AllocError> {
-        Ok(*self)
-    }
-}
-
-impl<N: Copy> Passed<N> {
-    /// Nothing is passed.
-    pub(crate) fn nothing(node: N) -> Passed<N>
-        ensures { result ≡ record { node = node; steps = 0; asked = 0 } }
-    {
-        Passed {
-            node,
-            steps: 0,
-            asked: 0,
-        }
-    }
-
-    /// As much is passed on the way to a node of another tree.
-    pub(crate) fn at<M>(self, node: M) -> Passed<M>
-        ensures { result ≡ record { node = node; steps = self.steps; asked = self.asked } }
-    {
-        Passed {
-            node,
-            steps: self.steps,
-            asked: self.asked,
-        }
-    }
+impl Passed {
+    pub(crate) const NOTHING: Passed = Passed { steps: 0, asked: 0 };
 }

@@ -3,7 +3,7 @@
 ghost use Rattle.std.specs.Prelude.{◌≡◌, ◌<◌, ◌≤◌, ℕ, length, slice_index};
 ghost use Rattle.scf_machine.specs.Rules.{IsValidList};
 ghost use Rattle.scf_compare.specs.Effort.{conditions_size, rules_size, spread, stack_paths, effort_of};
-ghost use Rattle.scf_compare.specs.Effort.{effort_of_stack, saturated, spread_of_all as several_spread};
+ghost use Rattle.scf_compare.specs.Effort.{effort_of_stack, saturated, spread_of_all as profiles_spread};
 ghost use Rattle.scf_compare.specs.Paths.{tree_size};
 ghost use Rattle.scf_compare.specs.Sides.{behavior_of, effort_of_sides};
 
@@ -13,6 +13,7 @@ use scf_insn::Insn;
 use scf_insn::kernel::BPF_MAXINSNS;
 use scf_machine::{FilterStack, Program};
 use scf_profile::{Condition, Profile, Rule};
+use std::slice;
 
 /// The effort: how many steps a comparison takes at most, or 2^64-1 if it is more. It is the size of the filter's tree
 /// of paths times the spread of the profile. A limit of at least the exact effort suffices for every comparison of the
@@ -20,18 +21,17 @@ use scf_profile::{Condition, Profile, Rule};
 pub fn effort(program: &Program, profile: &Profile) -> u64
     ensures { result ≡ saturated (effort_of program.now profile.now) }
 {
-    let paths = paths_of(program.insns());
-    paths.saturating_mul(spread_of(profile))
+    let filter = Side::Stack(slice::from_ref(program));
+    effort_sides(&filter, &Side::Profiles(slice::from_ref(profile)))
 }
 
 /// The effort of a stack, or 2^64-1 if it is more: the product of the sizes of the filters' trees of paths, 1 for no
 /// filter, times the spread of the profile.
-#[tactic(auto, using(crate::proofs::Saturated::products))]
 pub fn effort_stack(stack: &FilterStack, profile: &Profile) -> u64
     ensures { result ≡ saturated (effort_of_stack stack.now profile.now) }
 {
-    let paths = paths_of_all(stack.filters());
-    paths.saturating_mul(spread_of(profile))
+    let filters = Side::Stack(stack.filters());
+    effort_sides(&filters, &Side::Profiles(slice::from_ref(profile)))
 }
 
 /// The effort of a comparison of two sides, or 2^64-1 if it is more: the product of their sizes. That of a stack is the
@@ -50,8 +50,7 @@ fn size_of_side(side: &Side<'_>) -> u64
 {
     match *side {
         Side::Stack(filters) => paths_of_all(filters),
-        Side::Profile(profile) => spread_of(profile),
-        Side::Profiles(profiles) => spread_of_all(profiles.as_slice()),
+        Side::Profiles(profiles) => spread_of_all(profiles),
     }
 }
 
@@ -117,12 +116,12 @@ fn spread_of(profile: &Profile) -> u64
     sum
 }
 
-/// The spread of several profiles, the last one first.
+/// The spread of profiles, the last one first.
 #[tactic(auto, using(crate::proofs::Saturated::spreads_before, crate::proofs::Saturated::spreads_step))]
 fn spread_of_all(profiles: &[Profile]) -> u64
-    ensures { result ≡ saturated (several_spread profiles.now) }
+    ensures { result ≡ saturated (profiles_spread profiles.now) }
 {
-    let mut sum: u64 = 1;
+    let mut sum: u64 = if profiles.len() == 1 { 0 } else { 1 };
     for index in (0..profiles.len()).rev() {
         let spread = spread_of(&profiles[index]);
         sum = sum.saturating_mul(3).saturating_add(spread);

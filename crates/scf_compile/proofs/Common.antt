@@ -40,7 +40,7 @@ pub use Rattle.scf_profile.proofs.Common.{All-contains, All-contains_itself, All
 pub use Rattle.scf_profile.proofs.NumberLists.{count_of_numbers, each_number, number_in, own_some, rises, sum_of_rules}
 pub use Rattle.scf_profile.proofs.Numbers.{number_there}
 pub use Rattle.scf_profile.specs.Profile.{AreOfApart}
-pub use Rattle.scf_profile.specs.ProfileAnswers.{ProfilesAnswer, by_none, by_profile, by_stub}
+pub use Rattle.scf_profile.specs.ProfileAnswers.{ProfilesAnswer, by_stub}
 pub use Rattle.scf_profile.specs.SameAnswers.{SameAnswersAsEach}
 pub use Rattle.scf_profile.specs.contracts.condition.ConditionPartialEq.TheImpl.{eq-value}
 pub use Rattle.scf_profile.specs.Stub.{is_stubbed, stub_answer}

@@ -1,5 +1,5 @@
 -- What is put before the searches of profiles makes them a filter.
-use Rattle.scf_compile.proofs.Common.{◌≡◌, ℕ, zero, suc, ◌+◌, ◌<◌, ◌≤◌, map, List, [], ◌∷◌, length, refl, sym, ap, ◌∙◌, arith, inl, inr, find, cases_Bool, cases_eq, eq-eqb, ne_eqb, subst, All, AllByRecursion, All-tail, Contains, Insn, CallRecord, IsRecord, IsOf, AreApart, Architecture, Answer, Rule, meets, rules_of, Profile, AreOfApart, ProfileAnswers, ProfilesAnswer, by_profile, by_none, by_stub, is_stubbed, own_answer, Position, Search, greatest, rules_steps, size_bound_of_each, load_word, AreSearchesOf, AreSearched, IsFilterOf, IsSearched, IsDispatchPut, AllStand, first_answer, nat_tests, common_steps}
+use Rattle.scf_compile.proofs.Common.{◌≡◌, ℕ, suc, ◌+◌, ◌<◌, ◌≤◌, map, List, [], ◌∷◌, length, refl, sym, ap, ◌∙◌, arith, inl, inr, find, cases_Bool, cases_eq, eq-eqb, ne_eqb, subst, All, AllByRecursion, All-tail, Insn, CallRecord, IsRecord, IsOf, AreApart, Architecture, Answer, Rule, meets, rules_of, Profile, AreOfApart, ProfileAnswers, ProfilesAnswer, by_stub, is_stubbed, own_answer, Position, Search, greatest, rules_steps, size_bound_of_each, load_word, AreSearchesOf, AreSearched, IsFilterOf, IsSearched, IsDispatchPut, AllStand, first_answer, nat_tests, common_steps}
 use Rattle.std.specs.Option.{option_map_or}
 use Rattle.scf_profile.proofs.Answering.{answered as profile_answers, own_or_foreign}
 use Rattle.scf_compile.proofs.Runs.{more, loads, load_sound}
@@ -51,16 +51,6 @@ module _ (call : CallRecord) (fits : IsRecord call) (code : List Insn) (most : �
   absent P [] none = tt
   absent P (s ∷ ss) none = (λ is_of. absurd (none.0 is_of), absent P ss none.1)
 
-  -- what no other profile answers
-  further : (p : Profile) (ps : List Profile) (answer : ℕ) → (IsOf p.architecture call → ⊥)
-      → ProfilesAnswer ps call answer → ProfilesAnswer (p ∷ ps) call answer
-  further p ps _ differs (by_profile q has is_of answer is) =
-      by_profile q (suc has.0, omega (arith, has.1), has.2) is_of answer is
-  further p ps _ differs (by_none none) = by_none (λ q has. of_none q has) where
-    of_none : (q : Profile) → Contains (p ∷ ps) q → IsOf q.architecture call → ⊥
-    of_none q (zero, lt, e) is_of = differs (subst (λ (r : Profile). IsOf r.architecture call) (sym e) is_of)
-    of_none q (suc k, lt, e) is_of = none q (k, omega arith, e) is_of
-
   -- Of profiles that are apart one answers the call, and it is the one whose search does, or none is there.
   pub answer_found : (ps : List Profile) (ss : List Search) → AreSearchesOf code ps ss → AreOfApart ps
       → AllByRecursion (λ p. 3 + rules_steps p ≤ most) ps
@@ -68,7 +58,7 @@ module _ (call : CallRecord) (fits : IsRecord call) (code : List Insn) (most : �
   answer_found [] [] each apart few = (
     _,
     record { each = tt; none = λ all. refl; some = some },
-    by_none (λ q has is_of. absurd (let lt : has.0 < 0 = has.1 in omega arith)),
+    refl,
   )
   answer_found [] (s ∷ ss) each apart few = absurd each
   answer_found (p ∷ ps) [] each apart few = absurd each
@@ -84,7 +74,7 @@ module _ (call : CallRecord) (fits : IsRecord call) (code : List Insn) (most : �
                 none = λ all. absurd (all.0 (subst (λ (a : Architecture). IsOf a call) (sym same) is_of));
                 some = some;
               },
-              by_profile p (0, omega arith, refl) is_of _ (own_answered p call is_of),
+              inl (is_of, own_answered p call is_of),
             )
         | inr differs ↦
             let later_answer = answer_found ps ss each.1
@@ -99,7 +89,7 @@ module _ (call : CallRecord) (fits : IsRecord call) (code : List Insn) (most : �
                 none = λ all. is.none all.1;
                 some = some;
               },
-              further p ps later_answer.0 differs later_answer.2,
+              inr (differs, later_answer.2),
             )
       ]
 

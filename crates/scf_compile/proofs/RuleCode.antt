@@ -1,5 +1,5 @@
 -- The code of rules, and what is put before some code.
-use Rattle.scf_compile.proofs.Common.{◌≡◌, ℕ, ◌+◌, ◌-◌, ◌*◌, ◌<◌, ◌≤◌, Bool, true, false, cond, leb, List, [], ◌∷◌, ◌++◌, drop, length, ap, ◌∙◌, arith, inl, inr, length-append, append_assoc, sum_by, length-drop, AllByRecursion, cases_Bool, recursion_from_All, sum_by-cons, drop-append-add, Insn, Answer, Architecture, CallRecord, Test, JumpIf, Constant, words_of, IsRecord, test_holds, IsPlainOperation, Condition, Rule, IsPlainCondition, all_hold, IsCondition, IsRule, Position, rule_bound, jump_if, jump_over, return_with, branch_code, code_from, IsFirst, IsPut, conditions_code, behind_rule, rule_code, Answers, AnswersRules, ArePut, Operation, Keeps, IsPart, moved, at, map, length-map, chain_of_part, answer_of_part, part_between, EndsWithin, AreSound, rules_bound, nat_tests, common_steps}
+use Rattle.scf_compile.proofs.Common.{◌≡◌, ℕ, ◌+◌, ◌-◌, ◌*◌, ◌<◌, ◌≤◌, Bool, true, false, cond, leb, List, [], ◌∷◌, ◌++◌, length, ap, ◌∙◌, arith, inl, inr, length-append, append_assoc, sum_by, length-drop, AllByRecursion, cases_Bool, recursion_from_All, sum_by-cons, drop-append-add, Insn, Answer, Architecture, CallRecord, Test, JumpIf, Constant, words_of, IsRecord, test_holds, IsPlainOperation, Condition, Rule, IsPlainCondition, all_hold, IsCondition, IsRule, Position, rule_bound, jump_if, jump_over, return_with, branch_code, code_from, IsFirst, IsPut, conditions_code, behind_rule, rule_code, Answers, AnswersRules, ArePut, Operation, Keeps, IsPart, moved, at, map, length-map, chain_of_part, answer_of_part, part_between, EndsWithin, AreSound, rules_bound, nat_tests, common_steps}
 use Rattle.scf_compile.proofs.Runs.{more, past, answers, jumps, passes, jump_sound, pass_sound, return_sound}
 use Rattle.scf_compile.proofs.Tests.{conditions_tests}
 
@@ -13,7 +13,8 @@ keeps_more operation i behind more le h = grind arith
 sound_before : (asked : Bool) (code behind : List Insn) → AreSound asked code → AreSound asked behind
     → AreSound asked (code ++ behind)
 sound_before asked [] behind s t = t
-sound_before asked (i ∷ is) behind s t = grind (arith, common_steps, nat_tests, keeps_more, length-append, sound_before asked is behind s.1 t)
+sound_before asked (i ∷ is) behind s t =
+    grind (arith, common_steps, nat_tests, keeps_more, length-append, sound_before asked is behind s.1 t)
 
 -- code that ends is the same with more behind it
 ends_before : {words : List ℕ} {code : List Insn} {a answer most : ℕ} (behind : List Insn)
@@ -90,10 +91,7 @@ rule_more a default r rs code fine next =
 -- what stands from an index on stays where more is put before it
 pub from_behind : (front code : List Insn) (index : Position) → index.0 ≤ length code
     → code_from index (front ++ code) ≡ code_from index code
-from_behind front code index le =
-    let passed : length (front ++ code) - index.0 ≡ length front + (length code - index.0) =
-    omega (arith, length-append front code) in
-    ap (λ (n : ℕ). drop n (front ++ code)) passed ∙ drop-append-add front code (length code - index.0)
+from_behind front code index le = grind (arith, common_steps, length-append, drop-append-add)
 
 -- the first index of some code
 pub from_first : (code : List Insn) (index : Position) → index.0 ≡ length code → code_from index code ≡ code

@@ -1,5 +1,5 @@
 -- What each instruction does, and that it is sound.
-use Rattle.scf_compile.proofs.Common.{◌≡◌, ℕ, suc, ◌+◌, ◌*◌, ◌/◌, ◌%◌, ◌<◌, ◌≤◌, Bool, true, false, ltb, List, [], ◌∷◌, ◌++◌, length, map, drop, refl, subst, arith, bit_and, slice_index, IsTrue, Some, get_or, inl, inr, length-drop, drop-append-add, cases_Bool, lt-ltb, common_steps, gets, slice_get_within, slice_get_read, length-map, Insn, Test, Constant, And, operation_of, Operation, LoadWord, Compute, Jump, JumpIf, ReturnConstant, asks_for, Goes, step, holds, IsPart, moved, IsPlainOperation, run_behind, chain_of_part, answer_of_part, IsRunFrom, load_word, and_with, jump_if, jump_over, return_with, at, EndsWithin, IsSound, Keeps, nat_tests}
+use Rattle.scf_compile.proofs.Common.{◌≡◌, ℕ, suc, ◌+◌, ◌*◌, ◌/◌, ◌%◌, ◌<◌, ◌≤◌, Bool, true, false, ltb, List, [], ◌∷◌, ◌++◌, length, map, drop, refl, subst, arith, bit_and, slice_index, IsTrue, Some, inl, inr, length-drop, drop-append-add, cases_Bool, lt-ltb, common_steps, gets, slice_get_within, slice_get_read, length-map, Insn, Test, Constant, And, operation_of, Operation, LoadWord, Compute, Jump, JumpIf, ReturnConstant, asks_for, Goes, step, holds, IsPart, moved, IsPlainOperation, run_behind, chain_of_part, answer_of_part, IsRunFrom, load_word, and_with, jump_if, jump_over, return_with, at, EndsWithin, IsSound, Keeps, nat_tests}
 
 pub more : {words : List ℕ} {code : List Insn} {a answer m most : ℕ} → EndsWithin words code a answer m → m ≤ most
     → EndsWithin words code a answer most
@@ -8,10 +8,7 @@ more e le = record { steps = e.steps; run = e.run; few = omega (arith, e.few) }
 -- what is behind an instruction, from some index on, is a part of the whole
 behind_is_part : (i : Insn) (behind : List Insn) (count : ℕ) → IsPart (drop count behind) (1 + count) (i ∷ behind)
 behind_is_part i behind count index insn here =
-    let inside = slice_get_within (drop count behind) index insn here in
-    let same : insn ≡ get_or (i ∷ behind) (1 + count + index) insn = grind (arith, common_steps, gets) in
-    slice_get_read (i ∷ behind) (length (i ∷ behind)) (1 + count + index) insn refl
-    (omega (arith, length-drop count behind)) same
+    grind (arith, common_steps, slice_get_within, gets, slice_get_read, length-drop)
 
 module _ {words : List ℕ} {behind : List Insn} {answer most : ℕ} where
   -- an instruction, and the code where it goes on

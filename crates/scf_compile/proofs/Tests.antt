@@ -1,7 +1,6 @@
 -- The code of a condition: how long it is, that it is sound, and how it goes on.
-use Rattle.scf_compile.proofs.Common.{◌≡◌, ℕ, ◌+◌, ◌*◌, ◌<◌, ◌≤◌, ◌^◌, ◌≢◌, Bool, true, false, cond, eqb, ltb, not, List, [], ◌∷◌, ◌++◌, drop, length, refl, sym, ap, ◌∙◌, arith, append_assoc, bit_and, length-append, slice_index, IsTrue, AllByRecursion, eqb-true, eqb-false, nat_tests, and_mask, and_shr, and_mod, and_assoc, Insn, CallRecord, Test, SameWord, Above, AtLeast, CommonBit, JumpIf, Constant, MaskKind, Empty, OneBit, Full, Mixed, mask_kind, IsSimpleMask, low, high, words_of, argument, IsRecord, argument_low, argument_high, IsOfKind, is_of_kind, test_holds, IsPlainOperation, Greater, Condition, IsPlainCondition, all_hold, IsCondition, jump_if, word_code, order_code, bit_code, half_code_of, half_code, masked_code, test_code, exits, condition_code, argument_word, conditions_code, wide_code, narrow_code, value_of, jump_over, Architecture, ArgumentBits, Bits32, Bits64, taken_of, argument_in, row_of, leb, ne_eqb, EndsWithin, AreSound, ◌-◌, inl, inr, ◌⊎◌, IsPowerOfTwo, bit_at, and_zero_r, cases_eq, eq-eqb, and_pow, bit_at-lt, common_steps}
+use Rattle.scf_compile.proofs.Common.{◌≡◌, ℕ, ◌+◌, ◌*◌, ◌<◌, ◌≤◌, ◌^◌, ◌≢◌, Bool, true, false, cond, eqb, ltb, not, List, [], ◌∷◌, ◌++◌, drop, length, refl, sym, ap, ◌∙◌, arith, append_assoc, bit_and, length-append, slice_index, IsTrue, AllByRecursion, eqb-true, eqb-false, nat_tests, and_mask, and_shr, and_mod, and_assoc, Insn, CallRecord, Test, SameWord, Above, AtLeast, CommonBit, JumpIf, Constant, MaskKind, Empty, OneBit, Full, Mixed, mask_kind, IsSimpleMask, low, high, words_of, argument, IsRecord, argument_low, argument_high, IsOfKind, is_of_kind, test_holds, IsPlainOperation, Condition, IsPlainCondition, all_hold, IsCondition, jump_if, word_code, order_code, bit_code, half_code_of, half_code, masked_code, test_code, exits, condition_code, argument_word, conditions_code, wide_code, narrow_code, value_of, jump_over, Architecture, ArgumentBits, Bits32, Bits64, taken_of, argument_in, row_of, leb, ne_eqb, EndsWithin, AreSound, ◌-◌, inl, inr, ◌⊎◌, IsPowerOfTwo, bit_at, and_zero_r, cases_eq, eq-eqb, and_pow, bit_at-lt, common_steps}
 use Rattle.scf_profile.specs.Condition.{condition_holds}
-use Rattle.scf_profile.specs.declared.condition.Operator.TheVariants.{GreaterOrEqual}
 use Rattle.scf_profile.specs.declared.number_test.NumberTest.{NumberTest}
 use Rattle.scf_profile.specs.declared.number_test.NumberTest.TheVariants as tests
 use Rattle.scf_profile.specs.NumberTests.{IsPlainTest, comes_to, test_of, tree_answer}

@@ -1,5 +1,6 @@
 -- The code of a filter keeps the rules of the checker, and answers within its bounds.
-use Rattle.scf_compile.proofs.Common.{◌≡◌, ℕ, zero, suc, ◌+◌, ◌-◌, ◌<◌, ◌≤◌, true, false, Bool, Some, List, [], ◌∷◌, length, max, refl, arith, get_or, same_Some, slice_get, slice_get-get_or, Insn, Operation, return_with, LoadScratch, bpf_maxinsns, RunAnswers, IsPlainProgram, Stands, IsFine, IsFineAt, IsReturn, IsValidList, KeepsScratchRule, run_once, words_of, sum_by-cons, All, All-cons, CallRecord, Profile, IsPlainProfile, ProfileAnswers, ProfilesAnswer, foreign, SameAnswers, SameAnswersAsEach, AnswersWithin, search_bound_of, search_bound_of_each, size_bound_of, size_bound_of_each, IsFilterOf, Keeps, IsSound, AreSound, nat_tests, common_steps}
+use Rattle.scf_profile.proofs.Answering.{of_only}
+use Rattle.scf_compile.proofs.Common.{◌≡◌, ℕ, zero, suc, ◌+◌, ◌-◌, ◌<◌, ◌≤◌, true, false, Bool, Some, List, [], ◌∷◌, length, max, refl, arith, get_or, same_Some, slice_get, slice_get-get_or, Insn, Operation, return_with, LoadScratch, bpf_maxinsns, RunAnswers, IsPlainProgram, Stands, IsFine, IsFineAt, IsReturn, IsValidList, KeepsScratchRule, run_once, words_of, sum_by-cons, All, All-cons, Profile, IsPlainProfile, SameAnswers, SameAnswersAsEach, AnswersWithin, search_bound_of, search_bound_of_each, size_bound_of, size_bound_of_each, IsFilterOf, Keeps, IsSound, AreSound, nat_tests, common_steps}
 
 -- ---- the rules of the checker
 
@@ -77,21 +78,9 @@ module _ {ps : List Profile} {code : List Insn} (filter : IsFilterOf ps code) wh
 
 -- ---- one profile
 
-of_one : (p : Profile) (call : CallRecord) (answer : ℕ) → ProfilesAnswer (p ∷ []) call answer
-    → ProfileAnswers p call answer
-of_one p call answer h = grind (arith, common_steps, nat_tests, foreign)
-
 module _ (p : Profile) where
   pub one_same : (answers : List ℕ → ℕ → Type 0) → SameAnswersAsEach answers (p ∷ []) → SameAnswers answers p
-  one_same answers same call fits =
-      let call_answer = same call fits in
-      record {
-        filter = call_answer.0;
-        profile = call_answer.0;
-        of_words = call_answer.1;
-        of_profile = of_one p call call_answer.0 call_answer.2;
-        are_related = refl;
-      }
+  one_same answers same call fits = grind (arith, common_steps, of_only)
 
   pub one_search_bound : search_bound_of_each (p ∷ []) ≡ search_bound_of p
   one_search_bound = omega arith

@@ -1,5 +1,5 @@
 -- The filter of one profile: the numbers behind its architecture's are one more range of its search.
-use Rattle.scf_compile.proofs.Common.{◌≡◌, ℕ, suc, ◌+◌, ◌*◌, ◌<◌, ◌≤◌, ◌^◌, List, [], ◌∷◌, length, cond, leb, All, Contains, refl, sym, ap, arith, inl, inr, cases_eq, cases_lt, le-leb, sum_by, sum_by-cons, CallRecord, IsRecord, words_of, Insn, IsOf, row_of, seccomp_ret_kill_process as kill, Rule, IsRule, IsPlainRule, IsPlainProfile, Architecture, stub_answer, stub_count, number_count, own_answer, Profile, IsProfile, by_profile, by_none, Position, NrRange, rule_bound, binary_digits, size_bound_of, AllRules, AreServed, AreAllRanges, AreRangesOf, IsSearchPut, IsGated, IsFilterOf, AnswersCall, EndsWithin, first_answer, MayBePut, most_ranges, range_bound, nat_tests, common_steps}
+use Rattle.scf_compile.proofs.Common.{◌≡◌, ℕ, suc, ◌+◌, ◌*◌, ◌<◌, ◌≤◌, ◌^◌, List, [], ◌∷◌, length, cond, leb, All, refl, sym, ap, arith, inl, inr, cases_eq, cases_lt, le-leb, sum_by, sum_by-cons, CallRecord, IsRecord, words_of, Insn, IsOf, row_of, seccomp_ret_kill_process as kill, Rule, IsRule, IsPlainRule, IsPlainProfile, Architecture, stub_answer, stub_count, number_count, own_answer, Profile, IsProfile, Position, NrRange, rule_bound, binary_digits, size_bound_of, AllRules, AreServed, AreAllRanges, AreRangesOf, IsSearchPut, IsGated, IsFilterOf, AnswersCall, EndsWithin, first_answer, MayBePut, most_ranges, range_bound}
 use Rattle.std.proofs.lemmas.Bool.{lt-leb}
 use Rattle.std.proofs.lemmas.List.Elements.{All-head, All-cons}
 use Rattle.scf_insn.proofs.Architectures.{reach}
@@ -116,11 +116,6 @@ module _ (p : Profile) (valid : IsProfile p) (from_zero : (row_of p.architecture
       ]
     ]
 
-    -- no profile is there but it
-    of_none : (call : CallRecord) → (IsOf p.architecture call → ⊥) → (q : Profile) → Contains (p ∷ []) q
-        → IsOf q.architecture call → ⊥
-    of_none call h q h2 h3 = grind (arith, common_steps, nat_tests)
-
     answers : (call : CallRecord) → IsRecord call → AnswersCall (p ∷ []) code call
     answers call fits = elim (own_or_foreign p.architecture call) [
       | inl is_of ↦
@@ -128,12 +123,12 @@ module _ (p : Profile) (valid : IsProfile p) (from_zero : (row_of p.architecture
             answer = own_answer p call;
             of_words = more (gated.matching call _ _ fits is_of.arch (rw (own_first p s stub.always call stub.answer) at ends))
                 (omega (arith, own_steps p s stub.always call.nr));
-            of_profiles = by_profile p (0, omega arith, refl) is_of _ (own_answered p call is_of);
+            of_profiles = inl (is_of, own_answered p call is_of);
           }
       | inr differs ↦ record {
         answer = kill;
         of_words = more (foreign call fits differs) (omega arith);
-        of_profiles = by_none (of_none call differs);
+        of_profiles = inr (differs, refl);
       }
     ]
 

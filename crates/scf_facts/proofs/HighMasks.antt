@@ -1,4 +1,5 @@
 -- Masks of all bits from one on.
+use Rattle.std.proofs.lemmas.Grind.{common_steps}
 use Rattle.scf_facts.proofs.MaskLaws.{and_twice}
 use Rattle.scf_facts.proofs.Common.{◌≡◌, ◌≢◌, false, ne_eqb, ℕ, ◌+◌, ◌-◌, ◌*◌, ◌/◌, ◌<◌, ◌≤◌, ◌^◌, ◌↔◌, true, eqb, sym, ap, ◌∙◌, arith, bit_and, eq-eqb, eqb-true, and_le_r, pow_pos, shr_split, and_high_mask, add-mul, div-lt_iff_lt-mul, le-div_iff_mul-le, mod-lt, pow_mono}
 
@@ -7,20 +8,13 @@ one_more q d = add-mul q 1 d ∙ (let once : q * d + 1 * d ≡ q * d + d = omega
 
 -- the numbers within a range that starts at a multiple have its quotient
 pub same_quotient : (x q k : ℕ) → q * 2 ^ k ≤ x → x ≤ q * 2 ^ k + (2 ^ k - 1) → x / 2 ^ k ≡ q
-same_quotient x q k least most =
-    let low : q ≤ x / 2 ^ k = (le-div_iff_mul-le (pow_pos k)).1 least in
-    let below : x < (q + 1) * 2 ^ k = omega (arith, one_more q (2 ^ k), pow_pos k) in
-    let high : x / 2 ^ k < q + 1 = (div-lt_iff_lt-mul (pow_pos k)).1 below in
-    omega arith
+same_quotient x q k least most = grind (arith, common_steps, le-div_iff_mul-le, pow_pos, one_more, div-lt_iff_lt-mul)
 
 pub of_multiple : (x m k : ℕ) → k < 32 → m ≡ 2 ^ 32 - 2 ^ k → x < 2 ^ 32 → bit_and x m ≡ x / 2 ^ k * 2 ^ k
 of_multiple x m k within mask h = ap (bit_and x) mask ∙ and_high_mask 32 k (omega arith) x h
 
 pub beyond_mask : (m k : ℕ) → k < 32 → m ≡ 2 ^ 32 - 2 ^ k → 2 ^ 32 - 1 - m ≡ 2 ^ k - 1
-beyond_mask m k within mask =
-    let indices : k ≤ 32 = omega arith in
-    let most : 2 ^ k ≤ 2 ^ 32 = pow_mono indices in
-    omega (arith, pow_pos k)
+beyond_mask m k within mask = grind (arith, common_steps, pow_mono, pow_pos)
 
 -- a number has bits under such a mask where it lies in the range that begins at them
 pub high_range : (x v m k : ℕ) → k < 32 → m ≡ 2 ^ 32 - 2 ^ k → x < 2 ^ 32 → bit_and v m ≡ v

@@ -1,4 +1,5 @@
 -- Numbers that share a wrong bit.
+use Rattle.std.proofs.lemmas.Grind.{common_steps}
 use Rattle.scf_facts.proofs.Common.{◌+◌, one_shl, shr_split, ◌≡◌, ◌≢◌, ℕ, suc, ◌-◌, ◌*◌, ◌/◌, ◌%◌, ◌<◌, ◌≤◌, ◌^◌, sym, ap, subst, arith, bit_and, bit_xor, bit_at, count_leading_zeros, leading_top, pow_pos, pow-succ'}
 use Rattle.scf_facts.proofs.HighMasks.{one_more, same_quotient}
 use Rattle.scf_facts.proofs.MaskLaws.{each_bit}
@@ -7,11 +8,7 @@ use Rattle.scf_facts.proofs.MaskLaws.{each_bit}
 pub mismatch : (x y known value index : ℕ) → bit_at (bit_xor (bit_and x known) value) index ≡ 1 → index < 32 → x ≤ y
     → y < (x / (1 * 2 ^ index % 2 ^ 64) + 1) * (1 * 2 ^ index % 2 ^ 64) → bit_and y known ≢ value
 mismatch x y known value index wrong within from to e =
-    let power : 1 * 2 ^ index % 2 ^ 64 ≡ 2 ^ index = one_shl index 64 (omega arith) in
-    let below : y < (x / 2 ^ index + 1) * 2 ^ index = rw power at to in
-    let same = same_quotient y (x / 2 ^ index) index (omega (arith, shr_split x index))
-    (omega (arith, below, one_more (x / 2 ^ index) (2 ^ index), pow_pos index)) in
-    grind (arith, each_bit, ap (λ q. q % 2) same, ap (λ n. bit_at n index) e)
+    grind (arith, common_steps, one_shl, same_quotient, shr_split, one_more, pow_pos, each_bit)
 
 -- the highest digit of a number that isn't 0
 pub highest : (n : ℕ) → 0 < n → n < 2 ^ 32

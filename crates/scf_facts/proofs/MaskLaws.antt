@@ -1,4 +1,5 @@
 -- Laws of numbers under masks.
+use Rattle.std.proofs.lemmas.Grind.{common_steps}
 use Rattle.scf_facts.proofs.Common.{◌≡◌, ◌≢◌, ◌⊎◌, inl, inr, ℕ, ◌+◌, ◌<◌, ◌^◌, ◌↔◌, refl, sym, ap, ◌∙◌, arith, bit_and, bit_or, bit_xor, count_ones, Bool, true, false, IsTrue, bit_at, IsPowerOfTwo, is_power_of_two, SomeLack, cases_eq, eqb-true, eqb-false, and_comm, or_disjoint, pow_pos, xor_lt, power_from_one_bit, one_bit_of_power, bit_at_and, bit_at_or, bit_at_xor, bit_at-lt, bit_at-zero, and_pow, same_from_bits}
 use Rattle.scf_facts.specs.Masks.{IsAmong}
 
@@ -68,12 +69,7 @@ one_beyond m k one = elim (under_power k m one) [
 -- a number has one value of a bit or the other
 pub flipped : (x m v : ℕ) → IsPowerOfTwo m → bit_and v m ≡ v → (bit_and x m ≡ bit_xor v m) ↔ (bit_and x m ≢ v)
 flipped x m v one within =
-    let other : bit_xor v m + v ≡ m =
-    ap (λ n. n + v) (same_from_bits _ _ (λ i. grind (arith, each_bit)))
-    ∙ ap (λ n. beyond m v + n) (sym within ∙ and_comm v m) ∙ beyond_rest m v in
-    let of_x = under_power x m one in
-    let of_v = under_power v m one in
-    omega (arith, one.1, pow_pos one.0)
+    grind (arith, common_steps, bit_xor, same_from_bits, and_comm, beyond_rest, under_power, pow_pos)
 
 -- where a mask has bits beyond the known ones, some number with these lacks its value
 pub some_lack : (k a m v : ℕ) → m < 2 ^ 32 → a < 2 ^ 32 → bit_and a k ≡ a → bit_and k m ≢ m

@@ -1,4 +1,5 @@
 -- How many bits masks have together.
+use Rattle.std.proofs.lemmas.Grind.{common_steps}
 use Rattle.std.proofs.Common.{le_refl}
 use Rattle.std.specs.Int.Bits.{or_step}
 use Rattle.std.specs.Int.Count.{ones_step}
@@ -99,21 +100,9 @@ search_gives_up count some =
 
 pub search_first : (count old new : ℕ) (result : Searched) → 0 < count → 0 < old
     → IsSearchOf (count - 1) (old - 1) result new → IsSearchOf count old result new
-search_first count old new result some left first =
-    let less = count - 1 in
-    let whole : count ≡ less + 1 = omega arith in
-    rw whole (
-      omega (arith, pow_more 2 less, pow_pos less, first.0),
-      λ gave_up. omega (arith, pow_more 2 less, pow_pos less, first.1 gave_up),
-    )
+search_first count old new result some left first = grind (arith, common_steps, pow_more, pow_pos)
 
 pub search_both : (count old between new : ℕ) (result : Searched) → 0 < count → 0 < old
     → IsSearchOf (count - 1) (old - 1) Nothing between → IsSearchOf (count - 1) between result new
     → IsSearchOf count old result new
-search_both count old between new result some left first second =
-    let less = count - 1 in
-    let whole : count ≡ less + 1 = omega arith in
-    rw whole (
-      omega (arith, pow_more 2 less, pow_pos less, first.0, second.0),
-      λ gave_up. omega (arith, pow_more 2 less, pow_pos less, first.0, second.1 gave_up),
-    )
+search_both count old between new result some left first second = grind (arith, common_steps, pow_more, pow_pos)

@@ -8,14 +8,8 @@ all_numbers x fits = grind (arith, and_zero_r x)
 
 -- where nothing is known, every list of words is allowed
 pub allows_all : (n : ℕ) (words : List ℕ) → AllowsWords (replicate n no_facts) words ↔ IsWords words
-allows_all n words = (
-  λ h. h.sixteen,
-  λ h. record {
-    sixteen = h;
-    each = λ k d lt. rw (get_or-replicate n k no_facts d (omega (arith, lt, length-replicate n no_facts)))
-        (all_numbers (slice_index words k) (word_below words h k));
-  },
-)
+allows_all n words =
+    grind (arith, common_steps, get_or-replicate, length-replicate, all_numbers, slice_index, word_below)
 
 module _ (sets : List NumberFacts) (index : ℕ) (old : NumberFacts)
     (lt : index < length sets) (read : old ≡ get_or sets index old) where
@@ -52,9 +46,7 @@ module _ (sets : List NumberFacts) (index : ℕ) (old : NumberFacts)
 
   pub exact_set : (new : NumberFacts) → (IsTrue (is_exact_set old) → IsTrue (is_exact_set new))
       → IsTrue (list_all is_exact_set sets) → IsTrue (list_all is_exact_set (slice_set sets index new))
-  exact_set new exact all = list_all-from_AllPass is_exact_set (slice_set sets index new)
-      (All-set (λ s. IsTrue (is_exact_set s)) sets index new (exact (exact_word all))
-      (AllPass-from_list_all is_exact_set sets all))
+  exact_set new exact all = grind (arith, common_steps, list_all-from_AllPass, slice_set, exact_word)
 
   pub among_set : (masks : ℕ) (new : NumberFacts) → (RefutesAmong masks old → RefutesAmong masks new)
       → RefuteAmong masks sets → RefuteAmong masks (slice_set sets index new)
@@ -131,6 +123,4 @@ pub ruleset word_laws = (number_set, each_word, exact_word, among_word)
 pub some_allowed : (sets : List NumberFacts) → length sets ≡ 16
     → All (λ s. (x : ℕ) × (x < 2 ^ 32) × AllowsNumber s x) sets
     → ((words : List ℕ) → AllowsWords sets words → ⊥) → ⊥
-some_allowed sets sixteen some none =
-    let r = some_words sets some in
-    none r.0 (record { sixteen = record { count = r.1 ∙ sixteen; each = r.2 }; each = r.3 })
+some_allowed sets sixteen some none = grind (arith, common_steps, some_words)

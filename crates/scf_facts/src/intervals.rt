@@ -1,6 +1,6 @@
 //! Sets of values as sorted, disjoint intervals.
 
-ghost use Rattle.std.specs.Prelude.{◌≡◌, ◌<◌, ◌≤◌, ◌↔◌, ℕ, [], ◌∷◌, length, IsTrue, IfSome, IfNone, IfOk};
+ghost use Rattle.std.specs.Prelude.{◌≡◌, ◌<◌, ◌≤◌, ◌↔◌, ℕ, [], ◌∷◌, length, IsTrue, IfSome, IfNone, IfOk, OnOk};
 ghost use Rattle.std.specs.List.{AllWithin};
 ghost use Rattle.scf_facts.specs.Intervals.{LiesIn, LiesInOne};
 ghost use Rattle.scf_facts.specs.internal.Intervals.{AreApart, ArePartsOf};
@@ -51,7 +51,8 @@ pub(crate) fn parts_within(
     let mut parts = Vec::with_capacity(alloc, rest.len() + 1)?;
     parts.push(first)?;
     parts.extend_from_slice(rest)?;
-    parts_below(alloc, &parts, u64::from(range.high) + 1)
+    cut_from(&mut parts, u64::from(range.high) + 1)?;
+    Ok(parts)
 }
 
 /// The intervals' parts outside a range.
@@ -64,7 +65,9 @@ pub(crate) fn parts_outside(
     requires filled { range.low ≤ range.high }
     ensures { IfOk result (λ parts. ArePartsOf (λ x. LiesIn range x → ⊥) intervals.now parts.items) }
 {
-    let mut parts = parts_below(alloc, intervals, u64::from(range.low))?;
+    let mut parts = Vec::with_capacity(alloc, intervals.len() + 1)?;
+    parts.extend_from_slice(intervals)?;
+    cut_from(&mut parts, u64::from(range.low))?;
     let Some((first, rest)) = split_from(intervals, u64::from(range.high) + 1) else {
         return Ok(parts);
     };
@@ -73,29 +76,24 @@ pub(crate) fn parts_outside(
     Ok(parts)
 }
 
-/// The intervals' parts below a bound, with room for one interval more than there were.
-fn parts_below(
-    alloc: Global,
-    intervals: &[Interval],
-    bound: u64,
-) -> Result<Vec<Interval>, AllocError>
-    requires { AreApart intervals.now }
-    ensures { IfOk result (λ parts. ArePartsOf (λ x. x < bound) intervals.now parts.items) }
+/// Keeps the intervals' parts below a bound.
+fn cut_from(intervals: &mut Vec<Interval>, bound: u64) -> Result<(), AllocError>
+    requires { AreApart intervals.old.items }
+    ensures { OnOk result (ArePartsOf (λ x. x < bound) intervals.old.items intervals.new.items) }
 {
     let count = count_ending_below(intervals, bound);
-    let mut parts = Vec::with_capacity(alloc, intervals.len() + 1)?;
-    parts.extend_from_slice(&intervals[..count])?;
     let Some(last) = intervals.get(count).copied() else {
-        return Ok(parts);
+        return Ok(());
     };
+    intervals.truncate(count);
     if bound <= u64::from(last.low) {
-        return Ok(parts);
+        return Ok(());
     }
-    parts.push(Interval {
+    intervals.push(Interval {
         low: last.low,
         high: (bound - 1) as u32,
     })?;
-    Ok(parts)
+    Ok(())
 }
 
 /// The intervals' parts from a bound on: the first one, which the bound may cut, and those behind it.

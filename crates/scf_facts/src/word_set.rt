@@ -320,7 +320,7 @@ impl WordSet {
             → (x : ℕ) → x < 2 ^ 32 → AllowsNumber self.now x → IsSome result }
     {
         let first = first_number(&self.intervals, Interval::ALL, self.known)?;
-        if self.allows(first) {
+        if refuted_in(&self.refuted, first).is_none() {
             return Some(first);
         }
         if let Some(end) = self.pick_end() {

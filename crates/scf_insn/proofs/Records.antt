@@ -1,5 +1,6 @@
 -- A record's bytes, piece by piece.
-use Rattle.scf_insn.proofs.Common.{◌≡◌, ℕ, ◌+◌, ◌*◌, ◌<◌, ◌≤◌, ◌^◌, ◌++◌, List, [], ◌∷◌, drop, take, length, get_or, ap, sym, ◌∙◌, append-nil, arith, length-drop, length-append, length-take, take-append-drop, drop-drop, drop_all, take_all, take_more, w32, to_le_bytes, flat_map, flat_map-append, take-put_mid, put_mid, low, high}
+use Rattle.std.proofs.lemmas.Grind.{common_steps}
+use Rattle.scf_insn.proofs.Common.{◌≡◌, ℕ, ◌+◌, ◌*◌, ◌<◌, ◌≤◌, ◌^◌, ◌++◌, List, [], drop, take, length, get_or, ap, sym, ◌∙◌, append-nil, arith, length-drop, length-append, length-take, take-append-drop, drop-drop, drop_all, take_all, take_more, w32, to_le_bytes, flat_map, flat_map-append, take-put_mid, put_mid, low, high}
 
 -- eight bytes are four and four
 pub eight : (xs : List ℕ) → take 8 xs ≡ take 4 xs ++ take 4 (drop 4 xs)
@@ -42,16 +43,7 @@ pub next_word : (bytes ys words : List ℕ) (i w k : ℕ) → length bytes ≡ 6
     → (length (put_mid (4 * i) k bytes ys) ≡ 64)
     × (take (4 * (i + 1)) (put_mid (4 * i) k bytes ys) ≡ flat_map (to_le_bytes w32) (take (i + 1) words))
 next_word bytes ys words i w k long inside all is_word is four before =
-    let four_bytes : length ys ≡ 4 = ap length is_word in (
-      length-put_mid (4 * i) k bytes ys (omega arith) (omega arith) ∙ long,
-      take-put_mid (4 * i) k bytes ys (4 * (i + 1)) (omega arith) (omega arith)
-          ∙ ap (λ front. front ++ ys) before
-          ∙ ap (λ back. flat_map (to_le_bytes w32) (take i words) ++ back) (is_word ∙ ap (to_le_bytes w32) is)
-          ∙ ap (λ back. flat_map (to_le_bytes w32) (take i words) ++ back)
-          (sym (append-nil (to_le_bytes w32 (get_or words i 0))))
-          ∙ sym (flat_map-append (to_le_bytes w32) (take i words) (get_or words i 0 ∷ []))
-          ∙ ap (flat_map (to_le_bytes w32)) (sym (take_more words i 0 (omega arith))),
-    )
+    grind (arith, common_steps, length-put_mid, take-put_mid, append-nil, flat_map-append, take_more)
 
 -- all words are written
 pub all_words : (bytes words : List ℕ) (i : ℕ) → length bytes ≡ 64 → length words ≡ 16 → i ≡ 16

@@ -12,13 +12,7 @@ chains_join insns words s t u xs (y ∷ ys) a b = (b.0, chains_join insns words 
 pub run_behind : (insns : List Insn) (words : List ℕ) (s t : State) (xs : List State) (answer steps : ℕ)
     → IsChain insns words s t xs → IsRunFrom insns words t answer steps
     → IsRunFrom insns words s answer (length xs + steps)
-run_behind insns words s t xs answer steps a r = record {
-  last = r.last;
-  earlier = r.earlier ++ xs;
-  chain = chains_join insns words s t r.last xs r.earlier a r.chain;
-  answers = r.answers;
-  count = let e = r.count in omega (arith, length-append r.earlier xs);
-}
+run_behind insns words s t xs answer steps a r = grind (arith, common_steps, chains_join, length-append)
 
 -- ---- a part of a list
 

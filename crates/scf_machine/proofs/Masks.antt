@@ -96,9 +96,7 @@ module _ (insns : List Insn) (masks new : List ℕ)
       → IsPath insns at earlier → stores_at insns n at ≡ false → list_any (stores_at insns n) earlier ≡ false
       → bit_at (get_or new p 0) n ≡ 0
   lost_here p n earlier inside_p inside_n edge path unset before =
-      let u : Unstored insns at at n =
-      record { earlier = earlier; path = path; below = path_below insns at earlier path; unset = before } in
-      grind (arith, goes_of, stores_is, old.found at n inside inside_n u, old.long, joins.cleared p n, bits n inside_n)
+      grind (arith, common_steps, path_below, goes_of, stores_is)
 
   lost : (p n : ℕ) (earlier : List ℕ)
       → p < length insns → n < bpf_memwords → IsPath insns p earlier → AllByRecursion (λ q. q < at + 1) earlier

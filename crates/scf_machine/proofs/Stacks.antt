@@ -1,4 +1,5 @@
 -- What a stack answers, one filter after another.
+use Rattle.std.proofs.lemmas.Grind.{common_steps}
 use Rattle.scf_machine.proofs.Common.{cases_eq, cases_lt, sym, inl, inr, Option, None, Bool, true, false, if◌then◌else◌, int_lt, length-append, length-take, slice_get_within, ◌≡◌, ◌↔◌, ℕ, zero, suc, ◌+◌, ◌<◌, ◌≤◌, ◌≤ℤ◌, ◌<ℤ◌, List, [], ◌∷◌, ◌++◌, Some, refl, ap, subst, arith, length, get_or, take, reverse, All, slice_get, ints, take_more, take_all, reverse-append, length-reverse, get_or-reverse, Contains, ◌-◌, Insn, rank_of, IsNamed, IsNoMorePermissive, action_half, action_of, nat_tests, seccomp_ret_allow, EndsAt, IsRun, RunAnswers, IsFilter, DecidingInsn, AnswersAt, GivesDecision, IsDecidedBy, IsFirstLeast, IsDecision, AreAnswers, StackAnswers, with_newest}
 use Rattle.scf_machine.proofs.Indices.{index_before, index_cases, index_last}
 use Rattle.scf_machine.proofs.Meets.{run_once}
@@ -107,8 +108,7 @@ pub one_more : (filters : List (List Insn)) (i : ℕ) (d : List Insn) (words : L
     → i < length filters → StackAnswers (take i filters) words older → RunAnswers (get_or filters i d) words newest
     → StackAnswers (take (i + 1) filters) words (with_newest older newest)
 one_more filters i d words older newest inside old run =
-    rw (take_more filters i d inside)
-    (pushed_answers (take i filters) (get_or filters i d) words older newest old run)
+    grind (arith, common_steps, take_more, pushed_answers, take, get_or)
 
 -- ---- what gives a stack its answer
 
@@ -139,10 +139,7 @@ at_least filters words (Some by) answer i other gives answers = elim (cases_lt i
 
 answer_before : (filters : List (List Insn)) (filter : List Insn) (words : List ℕ) (i other : ℕ)
     → i < length filters → AnswersAt (filters ++ filter ∷ []) words i other → AnswersAt filters words i other
-answer_before filters filter words i other inside (f, is, run) = elim (index_cases filters filter i f is) [
-  | inl before ↦ (f, before.1, run)
-  | inr last ↦ absurd (omega (arith, last.0))
-]
+answer_before filters filter words i other inside (f, is, run) = grind (arith, common_steps, index_cases)
 
 newest_gives : (filters : List (List Insn)) (filter : List Insn) (words : List ℕ) (by : Option DecidingInsn)
     (older index newest : ℕ) → IsDecidedBy filters words by older → EndsAt filter words index newest
@@ -199,11 +196,7 @@ pub one_more_gives : (filters : List (List Insn)) (i : ℕ) (d : List Insn) (wor
     → IsDecidedBy (take (i + 1) filters) words (if int_lt (rank_of older) (rank_of newest) then by
     else Some (record { filter = i; index = index })) (with_newest older newest)
 one_more_gives filters i d words by older index newest inside decided ends =
-    let long : length (take i filters) ≡ i = omega (arith, length-take i filters) in
-    rw (take_more filters i d inside) (subst (λ (n : ℕ). IsDecidedBy (take i filters ++ get_or filters i d ∷ []) words
-    (if int_lt (rank_of older) (rank_of newest) then by else Some (record { filter = n; index = index }))
-    (with_newest older newest)) long
-    (pushed_so (take i filters) (get_or filters i d) words by older index newest _ refl decided ends))
+    grind (arith, common_steps, length, take, length-take, take_more, get_or, rank_of, pushed_so)
 
 answer_below : (filters : List (List Insn)) (words : List ℕ)
     → All IsFilter filters → (i : ℕ) → i ≤ length filters → (answer : ℕ) × StackAnswers (take i filters) words answer

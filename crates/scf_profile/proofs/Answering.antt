@@ -1,5 +1,6 @@
 -- A profile has an answer to every call, and one only.
-use Rattle.scf_profile.proofs.Common.{◌<◌, ◌≡◌, ℕ, suc, ◌⊎◌, Bool, true, false, cond, List, [], ◌∷◌, All, refl, Option, Some, None, sym, ap, arith, inl, inr, Contains, find, option_map_or, cases_eq, cases_lt, cases_order, both_ways, get_or, get_or_default, length, AreOfApart, ◌∙◌, All-contains, All-nil, All-cons, Architecture, CallRecord, IsOf, row_of, seccomp_ret_kill_process, IsRecord, Rule, meets, Conflicts, Profile, HaveNoConflict, ProfileAnswers, ProfilesAnswer, by_none, by_profile, foreign, by_stub, by_rule, by_default, is_stubbed, stub_answer, cases_Bool, nat_tests, common_steps}
+use Rattle.std.specs.Prelude.{MatchOption}
+use Rattle.scf_profile.proofs.Common.{row_of, AreOfApart, zero, take, subst, All-head, All-tail, OfFirst, ◌<◌, ◌≡◌, ℕ, suc, ◌⊎◌, Bool, true, false, cond, List, [], ◌∷◌, All, refl, Option, Some, None, sym, arith, inl, inr, Contains, find, option_map_or, cases_eq, cases_lt, both_ways, get_or, length, ◌∙◌, All-contains, All-nil, All-cons, Architecture, CallRecord, IsOf, seccomp_ret_kill_process, IsRecord, Rule, meets, Conflicts, Profile, HaveNoConflict, ProfileAnswers, ProfilesAnswer, foreign, by_stub, by_rule, by_default, is_stubbed, stub_answer, cases_Bool, nat_tests, common_steps}
 
 pub conflicts_both_ways : (a : Architecture) (r s : Rule) → Conflicts a r s → Conflicts a s r
 conflicts_both_ways a r s h = grind (arith, common_steps, nat_tests)
@@ -35,10 +36,7 @@ pub answered : (p : Profile) (call : CallRecord) → IsOf p.architecture call �
 answered p call native unstubbed rule is = by_rule_met rule (rw is (first_is_found p.architecture p.rules call)) where
   by_rule_met : (o : Option Rule) → IsFound p.architecture p.rules call o
       → ProfileAnswers p call (option_map_or (λ (r : Rule). r.answer.0) o p.default_answer.0)
-  by_rule_met None none =
-      by_default native unstubbed
-      (λ r among. All-contains (λ s. meets p.architecture s call ≡ false) p.rules r none among)
-  by_rule_met (Some r) h = by_rule r native unstubbed h.0 h.1
+  by_rule_met o h = grind (arith, common_steps, nat_tests, by_default, All-contains, meets, by_rule)
 
 -- every call has an answer
 pub some_answer : (p : Profile) (call : CallRecord) → (answer : ℕ) × ProfileAnswers p call answer
@@ -72,8 +70,7 @@ module _ (p : Profile) (call : CallRecord) where
       only_rule none fits r among met (by_stub native_too stubbed) = absurd (both_ways _ unstubbed stubbed)
       only_rule none fits r among met (by_rule s native_too unstubbed_too among_too met_too) =
           same_answer p.architecture s r call (none s r among_too among) fits met_too met
-      only_rule none fits r among met (by_default native_too unstubbed_too unmet) =
-          absurd (both_ways _ (unmet r among) met)
+      only_rule none fits r among met (by_default native_too unstubbed_too unmet) = grind (arith, both_ways)
 
 -- where no two rules conflict, a call record has one answer only
 pub one_answer : (p : Profile) (call : CallRecord) → HaveNoConflict p.architecture p.rules → IsRecord call → {a b : ℕ}
@@ -82,44 +79,79 @@ one_answer p call none fits (foreign h) answers = sym (only_foreign p call h ans
 one_answer p call none fits (by_stub native stubbed) answers = sym (only_stub p call native stubbed answers)
 one_answer p call none fits (by_rule r native unstubbed among met) answers =
     sym (only_rule p call native unstubbed none fits r among met answers)
-one_answer p call none fits (by_default native unstubbed unmet) answers =
-    sym (only_default p call native unstubbed unmet answers)
+one_answer p call none fits (by_default native unstubbed unmet) answers = grind (arith, common_steps, only_default)
 
 -- ---- several profiles
 
--- where a call is of the architectures of two profiles, the first isn't before the second
-not_before : (profiles : List Profile) (call : CallRecord) → AreOfApart profiles → (p q : Profile) (i j : ℕ)
-    → j < length profiles → get_or profiles i p ≡ p → get_or profiles j p ≡ q → IsOf p.architecture call
-    → IsOf q.architecture call → i < j → ⊥
-not_before profiles call apart p q i j inside first second of_p of_q before =
-    let follows = rw (first, second) at (apart i j p before inside) in
-    let audit_p = of_p.arch in
-    let audit_q = of_q.arch in
-    let past : (row_of p.architecture).last < (row_of q.architecture).first = follows (sym audit_p ∙ audit_q) in
-    let last = of_p.last in
-    let reached = of_q.first in
-    omega arith
+module _ (call : CallRecord) (own : Profile → Type 0) (none : Type 0) where
+  -- the profile at an index is the first of the call's architecture, where none before it is
+  pub first_here : (profiles : List Profile) (index : ℕ) (p : Profile) → index < length profiles
+      → p ≡ get_or profiles index p → All (λ q. IsOf q.architecture call → ⊥) (take index profiles)
+      → IsOf p.architecture call → own p → OfFirst profiles call own none
+  first_here [] index p inside is before is_of holds = absurd (omega (arith, inside))
+  first_here (q ∷ later) zero p inside is before is_of holds = grind (arith, common_steps, nat_tests)
+  first_here (q ∷ later) (suc index) p inside is before is_of holds = inr (
+    All-head (λ o. IsOf o.architecture call → ⊥) q (take index later) before,
+    first_here later index p (omega (arith, inside)) is
+        (All-tail (λ o. IsOf o.architecture call → ⊥) q (take index later) before) is_of holds,
+  )
 
--- no two of them are for one call
-same_profile : (profiles : List Profile) (call : CallRecord) → AreOfApart profiles → (p q : Profile)
-    → Contains profiles p → Contains profiles q → IsOf p.architecture call → IsOf q.architecture call → p ≡ q
-same_profile profiles call apart p q (i, i_lt, i_is) (j, j_lt, j_is) of_p of_q =
-    let p_there = get_or_default profiles i q p i_lt ∙ i_is in
-    let q_there = get_or_default profiles j p q j_lt ∙ j_is in
-    elim (cases_order i j) [
-      | inl same ↦ sym i_is ∙ ap (λ (k : ℕ). get_or profiles k p) same ∙ q_there
-      | inr (inl before) ↦ absurd (not_before profiles call apart p q i j j_lt i_is q_there of_p of_q before)
-      | inr (inr after) ↦ absurd (not_before profiles call apart q p j i i_lt j_is p_there of_q of_p after)
-    ]
+  pub none_here : (profiles : List Profile) → All (λ q. IsOf q.architecture call → ⊥) profiles → none
+      → OfFirst profiles call own none
+  none_here [] all holds = holds
+  none_here (q ∷ later) all holds = inr (
+    All-head (λ o. IsOf o.architecture call → ⊥) q later all,
+    none_here later (All-tail (λ o. IsOf o.architecture call → ⊥) q later all) holds,
+  )
 
-pub one_answer_among : (profiles : List Profile) (call : CallRecord) → AreOfApart profiles
+module _ (call : CallRecord) (own : Profile → Type 0) (none : Type 0) where
+  -- what holds of the profile that is found, or where none is
+  pub by_found : (profiles : List Profile) (found : Option Profile)
+      → OfFirst profiles call (λ p. found ≡ Some p) (found ≡ None) → MatchOption found none own
+      → OfFirst profiles call own none
+  by_found [] found is holds = subst (λ (o : Option Profile). MatchOption o none own) is holds
+  by_found (p ∷ later) found (inl is) holds = grind (arith, common_steps, nat_tests)
+  by_found (p ∷ later) found (inr is) holds = inr (is.0, by_found later found is.1 holds)
+
+  pub of_found : (profiles : List Profile) (found : Option Profile)
+      → OfFirst profiles call (λ p. found ≡ Some p) (found ≡ None) → OfFirst profiles call own none
+      → MatchOption found none own
+  of_found [] found is holds = subst (λ (o : Option Profile). MatchOption o none own) (sym is) holds
+  of_found (p ∷ later) found (inl is) (inl holds) = grind (arith, common_steps, nat_tests)
+  of_found (p ∷ later) found (inl is) (inr other) = absurd (other.0 is.0)
+  of_found (p ∷ later) found (inr is) (inl other) = absurd (is.0 other.0)
+  of_found (p ∷ later) found (inr is) (inr holds) = of_found later found is.1 holds.1
+
+-- of profiles that are apart, one of the call's architecture is the first of it
+pub first_among : (profiles : List Profile) (p : Profile) (call : CallRecord) (own : Profile → Type 0) (none : Type 0)
+    → AreOfApart profiles → Contains profiles p → IsOf p.architecture call → own p → OfFirst profiles call own none
+first_among [] p call own none apart (k, lt, is) is_of holds = absurd (omega (arith, lt))
+first_among (q ∷ later) p call own none apart (zero, lt, is) is_of holds = grind (arith, common_steps, nat_tests)
+first_among (q ∷ later) p call own none apart (suc k, lt, is) is_of holds = inr (
+  λ of_q.
+      let follows = rw is at (apart 0 (suc k) p (omega arith) lt) in
+      let past : (row_of q.architecture).last < (row_of p.architecture).first = follows (sym of_q.arch ∙ is_of.arch) in
+      omega (arith, past, of_q.last, is_of.first),
+  first_among later p call own none (λ i j d i_lt within. apart (suc i) (suc j) d (omega arith) (omega arith))
+      (k, omega (arith, lt), is) is_of holds,
+)
+
+-- the answer of the only profile is its own
+pub of_only : (p : Profile) (call : CallRecord) (answer : ℕ) → ProfilesAnswer (p ∷ []) call answer
+    → ProfileAnswers p call answer
+of_only p call answer h = grind (arith, common_steps, nat_tests, foreign)
+
+pub by_only : (p : Profile) (call : CallRecord) (answer : ℕ) → ProfileAnswers p call answer
+    → ProfilesAnswer (p ∷ []) call answer
+by_only p call answer h = grind (arith, common_steps, own_or_foreign, only_foreign)
+
+pub one_answer_among : (profiles : List Profile) (call : CallRecord)
     → All (λ p. HaveNoConflict p.architecture p.rules) profiles → IsRecord call → {a b : ℕ}
     → ProfilesAnswer profiles call a → ProfilesAnswer profiles call b → a ≡ b
-one_answer_among profiles call apart none fits (by_none h) (by_none k) = refl
-one_answer_among profiles call apart none fits (by_none h) (by_profile p has of_p answer answers) = absurd (h p has of_p)
-one_answer_among profiles call apart none fits (by_profile p has of_p answer answers) (by_none h) = absurd (h p has of_p)
-one_answer_among profiles call apart none fits (by_profile p has of_p answer answers)
-    (by_profile q has_too of_q answer_too answers_too) =
-    let same = same_profile profiles call apart p q has has_too of_p of_q in
-    one_answer p call (All-contains (λ (r : Profile). HaveNoConflict r.architecture r.rules) profiles p none has) fits
-    answers (rw same answers_too)
+one_answer_among [] call none fits first second = first ∙ sym second
+one_answer_among (p ∷ later) call none fits (inl first) (inl second) =
+    one_answer p call (All-head (λ o. HaveNoConflict o.architecture o.rules) p later none) fits first.1 second.1
+one_answer_among (p ∷ later) call none fits (inl first) (inr second) = absurd (second.0 first.0)
+one_answer_among (p ∷ later) call none fits (inr first) (inl second) = absurd (first.0 second.0)
+one_answer_among (p ∷ later) call none fits (inr first) (inr second) =
+    one_answer_among later call (All-tail (λ o. HaveNoConflict o.architecture o.rules) p later none) fits first.1 second.1

@@ -1,5 +1,5 @@
 -- The calls of a table and the ranges between them.
-use Rattle.scf_profile.proofs.Common.{ℕ, ◌+◌, ◌-◌, ◌<◌, ◌≤◌, ◌⊎◌, true, false, Bool, cond, List, [], ◌∷◌, ◌++◌, map, arith, inl, inr, cases_eq, cases_lt, ltb, lt-ltb, CallRecord, IsNative, NamedCall, x32_syscall_bit}
+use Rattle.scf_profile.proofs.Common.{common_steps, nat_tests, ℕ, ◌+◌, ◌-◌, ◌<◌, ◌≤◌, ◌⊎◌, Bool, cond, List, [], ◌∷◌, ◌++◌, arith, inl, inr, cases_eq, cases_lt, ltb, lt-ltb, CallRecord, IsNative, x32_syscall_bit}
 use Rattle.scf_profile.specs.CallsAndRest.{CallsAndRest, IsInOneOf, each_and_rest, range_below}
 use Rattle.scf_insn.specs.declared.architecture.Architecture.TheVariants.{X8664}
 use Rattle.scf_profile.specs.declared.scope.Scope.{Scope}
@@ -19,21 +19,16 @@ in_either : (some others : List Scope) (call : CallRecord) → IsInOneOf (some +
     → IsInOneOf some call ⊎ IsInOneOf others call
 in_either [] others call within = inr within
 in_either (scope ∷ some) others call (inl here) = inl (inl here)
-in_either (scope ∷ some) others call (inr there) = elim (in_either some others call there) [
-  | inl first ↦ inl (inr first)
-  | inr second ↦ inr second
-]
+in_either (scope ∷ some) others call (inr there) =
+    grind (arith, common_steps, nat_tests, in_either some others call there)
 
 range_has : (first end : ℕ) (call : CallRecord) → IsNative call → first ≤ call.nr → call.nr < end
     → IsInOneOf (range_below first end) call
-range_has first end call native low high =
-    rw (lt-ltb first end (omega arith)) (inl (native, low, omega arith))
+range_has first end call native low high = grind (arith, common_steps, nat_tests, lt-ltb)
 
 only_native : (some : Bool) (first last : ℕ) (call : CallRecord)
     → IsInOneOf (cond some (Numbers X8664 first last ∷ []) []) call → IsNative call
-only_native true first last call (inl here) = here.0
-only_native true first last call (inr none) = absurd none
-only_native false first last call none = absurd none
+only_native some first last call h = grind (arith, common_steps, nat_tests)
 
 -- a native record from a number on is in one of the scopes
 covered : (first : ℕ) (numbers : List ℕ) (call : CallRecord) → IsNative call → first ≤ call.nr
@@ -53,8 +48,7 @@ covered first (number ∷ numbers) call native low =
 -- each of the scopes has native records alone
 all_native : (first : ℕ) (numbers : List ℕ) (call : CallRecord)
     → IsInOneOf (each_and_rest first numbers) call → IsNative call
-all_native first [] call within =
-    only_native (ltb first x32_syscall_bit) first (x32_syscall_bit - 1) call within
+all_native first [] call within = grind (arith, common_steps, nat_tests, only_native, x32_syscall_bit)
 all_native first (number ∷ numbers) call within =
     elim (in_either (range_below first number) (Numbers X8664 number number ∷ each_and_rest (number + 1) numbers) call within) [
       | inl before ↦ only_native (ltb first number) first (number - 1) call before
@@ -65,6 +59,4 @@ all_native first (number ∷ numbers) call within =
     ]
 
 pub covers : CallsAndRest
-covers table calls call are =
-    let numbers : List ℕ = map (λ (named : NamedCall). named.number) calls in
-    (all_native 0 numbers call, λ native. covered 0 numbers call native (omega arith))
+covers table calls call are = grind (arith, common_steps, nat_tests, all_native, covered)

@@ -6,9 +6,7 @@ use Rattle.scf_profile.proofs.NumberLists.{number_among, own_all, with_own}
 -- one of two
 pub one_of_two : (P Q : Clash → Type 0) (first second least : Option Clash) → ((c : Clash) → Q c → P c)
     → IfSome first P → IfSome second Q → (least ≡ first) ⊎ (least ≡ second) → IfSome least P
-one_of_two P Q first second least weaker h k (inl e) = rw e h
-one_of_two P Q first None least weaker h k (inr e) = rw e tt
-one_of_two P Q first (Some c) least weaker h k (inr e) = rw e (weaker c k)
+one_of_two P Q first second least h h2 h3 h4 = grind (arith, common_steps, nat_tests)
 
 same_number : (a : Architecture) (r s : Rule) → Conflicts a r s → r.number ≡ s.number
 same_number a r s conflict = grind (arith, nat_tests, conflict.meets_first, conflict.meets_second)
@@ -16,9 +14,7 @@ same_number a r s conflict = grind (arith, nat_tests, conflict.meets_first, conf
 -- the least of one that was known and others
 pub one_more : (P Q : Clash → Type 0) (least more : Option Clash) → ((c : Clash) → Q c → P c) → IfSome least P
     → IfSome more (λ c. (least ≡ Some c) ⊎ Q c) → IfSome more P
-one_more P Q least None weaker had clash = tt
-one_more P Q least (Some c) weaker had (inl e) = rw e at had
-one_more P Q least (Some c) weaker had (inr q) = weaker c q
+one_more P Q least more h h2 h3 = grind (arith, common_steps, nat_tests)
 
 -- what is bounded stays so by a lesser clash
 pub still_bounded : (a : Architecture) (least more : Option Clash) → ((c : Clash) → IsBoundedBy least c → IsBoundedBy more c)

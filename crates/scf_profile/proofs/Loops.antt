@@ -31,16 +31,14 @@ pub ruleset lengths = (items_counted, members_counted)
 
 -- whether one is found, through a view of what was found
 is_some-viewed : {A B : Type 0} (f : A → B) (o : Option A) → is_some (option_map f o) ≡ is_some o
-is_some-viewed f None = refl
-is_some-viewed f (Some x) = refl
+is_some-viewed f o = grind (arith, common_steps, nat_tests)
 
 is_some-find : {A : Type 0} (p : A → Bool) (xs : List A) → is_some (find p xs) ≡ list_any p xs
 is_some-find p [] = refl
 is_some-find p (x ∷ xs) = by_test (p x) (is_some-find p xs) where
   by_test : (b : Bool) → is_some (find p xs) ≡ list_any p xs
       → is_some (cond b (Some x) (find p xs)) ≡ (b || list_any p xs)
-  by_test true rest = refl
-  by_test false rest = rest
+  by_test b h = grind (arith, common_steps, nat_tests)
 
 pub is_found : {A B : Type 0} (p : B → Bool) (f : A → B) (found : Option A) (xs : List B)
     → option_map f found ≡ find p xs → is_some found ≡ list_any p xs
@@ -52,8 +50,7 @@ find-map p f [] = refl
 find-map p f (x ∷ xs) = by_test (p (f x)) (find-map p f xs) where
   by_test : (b : Bool) → find p (map f xs) ≡ option_map f (find (λ y. p (f y)) xs)
       → cond b (Some (f x)) (find p (map f xs)) ≡ option_map f (cond b (Some x) (find (λ y. p (f y)) xs))
-  by_test true listed = refl
-  by_test false listed = listed
+  by_test b h = grind (arith, common_steps, nat_tests)
 
 -- the table of an architecture, where one of its name was found
 pub table_found : (tables : List ArchitectureTable) (a : Architecture) (first : Option ArchitectureTable)

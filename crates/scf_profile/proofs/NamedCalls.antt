@@ -1,9 +1,9 @@
 -- The names under the numbers of a table are the calls of the table.
-use Rattle.scf_profile.proofs.Common.{map-map, ◌≡◌, ℕ, Bool, cond, eqb, List, [], ◌∷◌, map, Option, Some, Global, Bor, Vec, refl, sym, ap, ◌∙◌, subst, get_or, ltb, length, ◌<◌, arith, ◌↔◌, IsSome, Contains, is_some, IsOrdered, eq_by_cmp_equiv, slice_cmp, nat_list_cmp_total, get, get-from_entries, AllByRecursion, filter, keys_of, lookup, eq_by_cmp, Ordering, Less, eq-eqb, lt-ltb, nat_tests, nat_cmp_total, All-map, Contains-get_or, IsStrictlySortedBy-filter, option_filter, lookup-filter-values, IsDistinct-from_sorted, IsStrictlyIncreasing-from_sorted, exact_bytes, exact_unsigned, All-found, Contains-keys_from_lookup, IsSome-lookup_from_Contains, btree_map_contains_key_iff, tells_apart, HasItsNames, AreCallsOf, AreSorted, names_of, texts_at, Names, Named, named_call, names_under, names_with, AreByNumber, common_steps}
+use Rattle.scf_profile.proofs.Common.{map-map, ◌≡◌, ℕ, Bool, eqb, List, [], ◌∷◌, map, Option, Some, Global, Bor, Vec, refl, sym, ap, ◌∙◌, subst, get_or, ltb, length, ◌<◌, arith, ◌↔◌, IsSome, Contains, is_some, IsOrdered, eq_by_cmp_equiv, slice_cmp, nat_list_cmp_total, get, AllByRecursion, filter, keys_of, lookup, eq_by_cmp, Ordering, Less, eq-eqb, lt-ltb, nat_tests, nat_cmp_total, All-map, Contains-get_or, IsStrictlySortedBy-filter, option_filter, lookup-filter-values, IsDistinct-from_sorted, IsStrictlyIncreasing-from_sorted, exact_bytes, exact_unsigned, All-found, Contains-keys_from_lookup, IsSome-lookup_from_Contains, btree_map_contains_key_iff, tells_apart, HasItsNames, AreCallsOf, AreSorted, names_of, texts_at, Names, Named, named_call, names_under, names_with, AreByNumber, common_steps}
 use Rattle.std.proofs.Common.{nat_cmp}
 use Rattle.std.specs.BTreeMap as tree
 use Rattle.scf_profile.specs.declared.named_call.NamedCall.{NamedCall}
-use Rattle.std.specs.FinMap.{find}
+use Rattle.scf_profile.proofs.NamesOf.{get_named}
 use Rattle.std.specs.List.Sorted.{IsStrictlySortedBy}
 
 -- keys are in order where the elements are in the order of their keys
@@ -30,10 +30,6 @@ has_number n e = eqb n e.1
 
 -- ---- entries as a map from names to numbers
 
-find_is_lookup : (q : List ℕ) (es : List (List ℕ × ℕ)) → find by_bytes q es ≡ lookup (eq_by_cmp by_bytes q) es
-find_is_lookup q [] = refl
-find_is_lookup q (e ∷ es) = ap (cond (eq_by_cmp by_bytes q e.0) (Some e.1)) (find_is_lookup q es)
-
 is_number : (n : ℕ) (o : Option ℕ) → IsSome (option_filter (eqb n) o) → o ≡ Some n
 is_number n o h = grind (arith, common_steps, nat_tests)
 
@@ -48,16 +44,14 @@ module _ (entries : List (List ℕ × ℕ)) (sorted : AreSorted entries) where
   rising = (sorted_keys by_bytes (λ (e : List ℕ × ℕ). e.0) entries).0 sorted
 
   names_rise : (n : ℕ) → IsStrictlySortedBy by_bytes (names_with n entries)
-  names_rise n =
-      (sorted_keys by_bytes (λ (e : List ℕ × ℕ). e.0) (filter (has_number n) entries)).1
-      (IsStrictlySortedBy-filter _ (has_number n) entries rising)
+  names_rise n = grind (arith, common_steps, nat_tests, sorted_keys, IsStrictlySortedBy-filter, rising)
 
   found_with : (n : ℕ) (q : List ℕ) → lookup (eq_by_cmp by_bytes q) (filter (has_number n) entries)
       ≡ option_filter (eqb n) (get table q)
   found_with n q =
       let distinct = IsDistinct-from_sorted by_bytes _ sorted in
       lookup-filter-values (eq_by_cmp_equiv nat_list_cmp_total) (eqb n) q entries distinct
-      ∙ ap (option_filter (eqb n)) (sym (get-from_entries nat_list_cmp_total entries q ∙ find_is_lookup q entries))
+      ∙ ap (option_filter (eqb n)) (sym (get_named entries q))
 
   -- the names with a number are those that have it in the map
   names_exact : (n : ℕ) (q : List ℕ) → Contains (names_with n entries) q ↔ (get table q ≡ Some n)

@@ -1,5 +1,5 @@
 -- The map behind entries of names and numbers, and names as text.
-use Rattle.scf_profile.proofs.Common.{All-weaker, AllPass-from_list_all, IsAscii-from_all, ◌≡◌, ℕ, ◌<◌, None, true, cond, List, [], ◌∷◌, Some, length, BTreeMap, refl, sym, ap, ◌∙◌, subst, arith, IsUtf8, lookup, get, insert, get-from_entries, get-empty, get-insert, same_map, is_at, Updates, slice_cmp, nat_list_cmp_total, eq_by_cmp, eq_by_cmp_equiv, and_parts, nat_tests, IsUtf8-from_ascii, exact_bytes, x32_syscall_bit, Names, AreCallNumbers, is_call_name, is_in_name, names_of}
+use Rattle.scf_profile.proofs.Common.{common_steps, All-weaker, AllPass-from_list_all, IsAscii-from_all, ◌≡◌, ℕ, ◌<◌, None, true, cond, List, [], ◌∷◌, Some, length, BTreeMap, refl, sym, ap, ◌∙◌, subst, arith, IsUtf8, lookup, get, insert, get-from_entries, get-empty, get-insert, same_map, is_at, Updates, slice_cmp, nat_list_cmp_total, eq_by_cmp, eq_by_cmp_equiv, and_parts, nat_tests, IsUtf8-from_ascii, exact_bytes, x32_syscall_bit, Names, AreCallNumbers, is_call_name, is_in_name, names_of}
 use Rattle.std.proofs.Common.{nat_cmp}
 use Rattle.std.specs.FinMap.{empty, find}
 
@@ -47,9 +47,7 @@ call_numbers_empty name number h = let none = get-empty {X = ℕ} (slice_cmp nat
 call_numbers_insert : (names : Names) (name : List ℕ) (number : ℕ) → AreCallNumbers names → number < x32_syscall_bit
     → AreCallNumbers (insert names name number)
 call_numbers_insert names name number each below q n h =
-    let inserted = sym (get-insert nat_list_cmp_total names name number q) ∙ h in
-    let before = each q n in
-    grind (arith, inserted, before)
+    grind (arith, common_steps, nat_tests, get-insert, nat_list_cmp_total)
 
 -- the same of the maps
 pub call_numbers_updated : (m n : BTreeMap (List ℕ) ℕ) (name : List ℕ) (number : ℕ)

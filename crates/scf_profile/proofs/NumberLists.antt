@@ -1,5 +1,5 @@
 -- The numbers that rules have, each with its rules.
-use Rattle.scf_profile.proofs.Common.{true, AllPairs, sum, Decides-eqb, filter_passes, AllPairs-cons, AllPairs-filter, AllPairs-from_increasing, sum-map, sum_by-le, Contains-tail, IsDistinct-from_AllPairs, All-cons, All-permutation, map-map, ◌≡◌, ◌≢◌, ℕ, ◌+◌, ◌<◌, ◌⊎◌, false, not, eqb, length, List, [], ◌∷◌, map, get_or, All, refl, sym, ap, ◌∙◌, subst, arith, inl, inr, Contains, cases_eq, eq-eqb, ne_eqb, nat_tests, length-map, get_or-map, All-filter, All-from_recursion, All-map, All-contains, Contains-append_right, IsPermutation, IsStrictlyIncreasing, Rule, numbers_of, rules_of, NumberRules, AreNumbersOf, sum_by, IsPermutation-cons, IsPermutation-refl, IsPermutation-remove, IsPermutation-sym, IsPermutation-trans, IsDistinct, IsDistinct-IsPermutation, IsDistinct-head, IsDistinct-tail, Contains-permutation, length_permutation, sum_by-IsPermutation, sum_by-cons, remove, All-contains_itself, All-weaker, All-head, All-tail, AreUnder, Under, number_rules, rules_under, keys_of, value_of, nat_cmp, nat_cmp_total, exact_unsigned, IsOrdered, IsStrictlyIncreasing-from_sorted, btree_map_contains_key_iff, All-found, is_some, ltb, lt-ltb, common_steps}
+use Rattle.scf_profile.proofs.Common.{true, AllPairs, sum, Decides-eqb, filter_passes, AllPairs-cons, AllPairs-filter, AllPairs-from_increasing, sum-map, sum_by-le, Contains-tail, IsDistinct-from_AllPairs, All-cons, All-permutation, map-map, ◌≡◌, ◌≢◌, ℕ, ◌+◌, ◌<◌, ◌⊎◌, false, not, eqb, length, List, [], ◌∷◌, map, get_or, All, refl, sym, ap, ◌∙◌, subst, arith, inl, inr, Contains, cases_eq, eq-eqb, ne_eqb, nat_tests, length-map, get_or-map, All-filter, All-from_recursion, All-map, All-contains, Contains-append_right, IsPermutation, IsStrictlyIncreasing, Rule, numbers_of, rules_of, NumberRules, AreNumbersOf, AreRising, sum_by, IsPermutation-cons, IsPermutation-refl, IsPermutation-remove, IsPermutation-sym, IsPermutation-trans, IsDistinct, IsDistinct-IsPermutation, IsDistinct-head, IsDistinct-tail, Contains-permutation, length_permutation, sum_by-IsPermutation, sum_by-cons, remove, All-contains_itself, All-weaker, All-head, All-tail, AreUnder, Under, pair_of, rules_under, keys_of, value_of, nat_cmp, nat_cmp_total, exact_unsigned, IsOrdered, IsStrictlyIncreasing-from_sorted, btree_map_contains_key_iff, All-found, is_some, ltb, lt-ltb, common_steps}
 use Rattle.scf_profile.proofs.Numbers.{contains_filtered, number_there}
 
 -- ---- lists of distinct numbers
@@ -39,8 +39,7 @@ rises ns up i j = AllPairs-from_increasing ns up i j 0
 
 risen_distinct : (ns : List ℕ) → IsStrictlyIncreasing ns → IsDistinct eqb ns
 risen_distinct ns up =
-    IsDistinct-from_AllPairs Decides-eqb ns
-    (λ i j d before inside same. let above = AllPairs-from_increasing ns up i j d before inside in omega arith)
+    grind (arith, common_steps, nat_tests, IsDistinct-from_AllPairs, Decides-eqb, AllPairs-from_increasing)
 
 numbers_apart : (rules : List Rule) → AllPairs (λ x y. x ≢ y) (numbers_of rules)
 numbers_apart [] = λ i j d before inside. absurd (omega arith)
@@ -100,18 +99,22 @@ module _ (rules : List Rule) (under : Under) (are_under : AreUnder rules under) 
       some_rules rules nr (grind (arith, nat_tests)))
 
   -- the numbers of a tree over their rules
-  pub are_numbers : AreNumbersOf (map number_rules under.entries) rules
-  are_numbers =
-      let numbers = sym (map-map number_in number_rules under.entries) in
+  pub are_numbers : (numbers : List NumberRules) → map pair_of numbers ≡ under.entries
+      → All (λ group. group.is_rising ≡ true → AreRising group.rules.items) numbers → AreNumbersOf numbers rules
+  are_numbers numbers entries risen =
+      let keys : keys_of under.entries ≡ map number_in numbers =
+      rw (sym entries) (map-map (λ e. e.0) pair_of numbers) in
       record {
-        rising = subst IsStrictlyIncreasing numbers keys_rise;
-        same = subst (IsPermutation (numbers_of rules)) numbers same_keys;
-        own =
-            All-map (λ (group : NumberRules). group.rules.items ≡ rules_of group.number rules) number_rules under.entries
-            (λ k d lt.
-            let e = get_or under.entries k d in
-            let there : rules_under under e.0 ≡ e.1.items = rw (All-found nat_cmp_total under ordered k d lt) refl in
-            sym there ∙ are_under.kept e.0);
+        rising = subst IsStrictlyIncreasing keys keys_rise;
+        same = subst (IsPermutation (numbers_of rules)) keys same_keys;
+        own = λ k d lt.
+            let group = get_or numbers k d in
+            let e = get_or under.entries k (pair_of d) in
+            let here : e ≡ pair_of group = rw (sym entries) (get_or-map pair_of numbers k d (pair_of d) lt) in
+            let within : k < length under.entries = rw (sym entries, length-map) lt in
+            let there : rules_under under e.0 ≡ e.1.items = rw (All-found nat_cmp_total under ordered k (pair_of d) within) refl in
+            rw here at (sym there ∙ are_under.kept e.0);
+        risen = risen;
       }
 
 -- ---- what crates above cite

@@ -1,10 +1,8 @@
 -- A condition is decided by its test, half by half.
-use Rattle.scf_profile.proofs.Common.{◌≡◌, ℕ, ◌-◌, ◌<◌, ◌^◌, not, eqb, leb, ltb, sym, ap, ◌∙◌, arith, bit_and, nat_tests, compares, IsPlainCondition, common_steps}
+use Rattle.scf_profile.proofs.Common.{◌≡◌, ℕ, ◌-◌, ◌<◌, ◌^◌, eqb, leb, ltb, arith, nat_tests, compares, IsPlainCondition, common_steps}
 use Rattle.std.proofs.lemmas.Nat.{and_mask}
 use Rattle.scf_insn.proofs.Halves.{leb_split, ltb_split, masked_split}
 use Rattle.scf_profile.specs.declared.condition.Operator.{Operator}
-use Rattle.scf_profile.specs.declared.condition.Operator.TheVariants.{NotEqual, Less, LessOrEqual, Equal}
-use Rattle.scf_profile.specs.declared.condition.Operator.TheVariants.{GreaterOrEqual, Greater, MaskedEqual}
 use Rattle.scf_profile.specs.declared.condition.Condition.{Condition}
 use Rattle.scf_profile.specs.declared.number_test.NumberTest.TheVariants as tests
 use Rattle.scf_profile.specs.Condition.{condition_holds}
@@ -22,13 +20,7 @@ at_least n value = grind (arith, nat_tests, leb_split value n)
 
 by_operator : (op : Operator) (value value_two n : ℕ) → n < 2 ^ 64
     → comes_to (test_by op value value_two) n ≡ compares op n value value_two
-by_operator NotEqual value value_two n fits = ap not (equal n value fits)
-by_operator Less value value_two n fits = ap not (at_least n value) ∙ grind (arith, nat_tests)
-by_operator LessOrEqual value value_two n fits = ap not (greater n value) ∙ grind (arith, nat_tests)
-by_operator Equal value value_two n fits = equal n value fits
-by_operator GreaterOrEqual value value_two n fits = at_least n value
-by_operator Greater value value_two n fits = greater n value
-by_operator MaskedEqual value value_two n fits = sym (masked_split n value (bit_and value_two value))
+by_operator op value value_two n h = grind (arith, common_steps, nat_tests, equal, at_least, greater, masked_split)
 
 pub decides : (c : Condition) (n : ℕ) → n < 2 ^ 64 → comes_to (test_of c) n ≡ condition_holds c n
 decides c n fits = by_operator c.op c.value c.value_two n fits

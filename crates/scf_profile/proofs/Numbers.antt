@@ -1,12 +1,11 @@
 -- The distinct numbers of rules.
-use Rattle.scf_profile.proofs.Common.{◌≡◌, ℕ, zero, suc, ◌<◌, Bool, true, not, eqb, ◌⊎◌, List, [], ◌∷◌, refl, sym, ap, ◌∙◌, arith, inl, inr, Contains, filter, cases_eq, cases_Bool, ne_eqb, not_from_false, Contains-append_right, Rule, numbers_of, rules_of}
+use Rattle.scf_profile.proofs.Common.{common_steps, nat_tests, ◌≡◌, ℕ, zero, suc, ◌<◌, Bool, true, not, eqb, ◌⊎◌, List, [], ◌∷◌, refl, sym, arith, inl, inr, Contains, filter, cases_eq, cases_Bool, ne_eqb, not_from_false, Contains-append_right, Rule, numbers_of, rules_of}
 
 -- an element that passes a test is among those that do
 pub contains_filtered : {A : Type 0} (p : A → Bool) (xs : List A) (x : A) → p x ≡ true → Contains xs x
     → Contains (filter p xs) x
 contains_filtered p [] x passes h = absurd (let lt : h.0 < 0 = h.1 in omega arith)
-contains_filtered p (y ∷ ys) x passes (zero, lt, e) =
-    let here : p y ≡ true = ap p e ∙ passes in rw here (0, omega arith, e)
+contains_filtered p (y ∷ ys) x passes (zero, lt, e) = grind (arith, common_steps, nat_tests)
 contains_filtered p (y ∷ ys) x passes (suc k, lt, e) =
     let later = contains_filtered p ys x passes (k, omega arith, e) in
     elim (cases_Bool (p y)) [

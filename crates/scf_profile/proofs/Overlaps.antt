@@ -1,5 +1,5 @@
 -- Conditions on one argument.
-use Rattle.scf_profile.proofs.Common.{◌≡◌, ◌≢◌, ℕ, zero, suc, ◌<◌, ◌≤◌, ◌^◌, ◌↔◌, Bool, true, ◌&&◌, List, [], ◌∷◌, eqb, Option, Some, None, refl, sym, ap, ◌∙◌, arith, inl, inr, AllByRecursion, find, and_parts, cases_eq, cases_lt, eq-eqb, ne_eqb, get_or_past, All-cons, All-from_recursion, All-head, All-nil, All-tail, list_all-from_AllPass, Architecture, ArgumentBits, greatest_argument, taken_of, row_of, argument_in, CallRecord, IsRecord, argument, Condition, Rule, condition_holds, seccomp_data_args, Conflicts, HaveDistinctIndices, IsCondition, IsRule, all_hold, HoldAt, Overlap, nat_tests, common_steps}
+use Rattle.scf_profile.proofs.Common.{◌≡◌, ◌≢◌, ℕ, ◌<◌, ◌≤◌, ◌^◌, ◌↔◌, true, List, [], ◌∷◌, eqb, Option, Some, None, sym, ◌∙◌, arith, inl, inr, AllByRecursion, find, and_parts, cases_eq, cases_lt, eq-eqb, ne_eqb, get_or_past, All-cons, All-from_recursion, All-head, All-nil, All-tail, list_all-from_AllPass, Architecture, ArgumentBits, greatest_argument, taken_of, row_of, argument_in, CallRecord, IsRecord, argument, Condition, Rule, condition_holds, seccomp_data_args, Conflicts, HaveDistinctIndices, IsCondition, IsRule, all_hold, HoldAt, Overlap, nat_tests, common_steps}
 
 -- what holds of a condition where it is on the argument
 abbrev HoldsOn : ℕ → ℕ → Condition → Type 0
@@ -72,13 +72,7 @@ module _ (a : Architecture) (r s : Rule) (of_r : IsRule a r) (of_s : IsRule a s)
   -- what holds of each number with its index holds of the arguments with theirs
   at_arguments : (P : ℕ → ℕ → Type 0) → ((i : ℕ) (lt : i < seccomp_data_args) → P i (number i lt))
       → (i : ℕ) → i < seccomp_data_args → P i (argument call i)
-  at_arguments P h zero lt = h 0 (omega arith)
-  at_arguments P h (suc zero) lt = h 1 (omega arith)
-  at_arguments P h (suc (suc zero)) lt = h 2 (omega arith)
-  at_arguments P h (suc (suc (suc zero))) lt = h 3 (omega arith)
-  at_arguments P h (suc (suc (suc (suc zero)))) lt = h 4 (omega arith)
-  at_arguments P h (suc (suc (suc (suc (suc zero))))) lt = h 5 (omega arith)
-  at_arguments P h (suc (suc (suc (suc (suc (suc i)))))) lt = absurd (omega arith)
+  at_arguments P h i h2 = grind (arith, common_steps, nat_tests)
 
   -- and of what the architecture takes of them
   at_taken : (cs : List Condition) → ((i : ℕ) (lt : i < seccomp_data_args) → HoldAt cs i (number i lt))
@@ -90,17 +84,7 @@ module _ (a : Architecture) (r s : Rule) (of_r : IsRule a r) (of_s : IsRule a s)
   fits = grind (arith, common_steps, nat_tests, cases_lt, at_arguments, taken_whole, get_or_past)
 
   pub conflict_from : r.number ≡ s.number → r.answer ≢ s.answer → Conflicts a r s
-  conflict_from same apart = record {
-    call = call;
-    is_record = fits;
-    meets_first =
-        ap (λ (b : Bool). b && all_hold a call r.conditions) (eq-eqb r.number r.number refl)
-        ∙ all_held a call r.conditions of_r.conditions.each (at_taken r.conditions (λ j lt. (overlap j lt).first));
-    meets_second =
-        ap (λ (b : Bool). b && all_hold a call s.conditions) (eq-eqb r.number s.number same)
-        ∙ all_held a call s.conditions of_s.conditions.each (at_taken s.conditions (λ j lt. (overlap j lt).second));
-    answer = apart;
-  }
+  conflict_from same apart = grind (arith, fits, all_hold, eq-eqb, all_held, at_taken)
 
 pub overlap_of_conflict : (a : Architecture) (r s : Rule) → Conflicts a r s
     → Overlap (row_of a).bits r.conditions s.conditions

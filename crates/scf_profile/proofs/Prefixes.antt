@@ -1,5 +1,5 @@
 -- Texts are in the order of their prefixes, where these differ.
-use Rattle.scf_profile.proofs.Common.{◌≡◌, ℕ, zero, suc, ◌+◌, ◌<◌, ◌≤◌, List, [], ◌∷◌, get_or, refl, sym, arith, nat_tests, Less, slice_cmp, cases_order, inl, inr, ap, ◌∙◌, nat_list_cmp_total}
+use Rattle.scf_profile.proofs.Common.{common_steps, ◌≡◌, ℕ, zero, suc, ◌+◌, ◌<◌, ◌≤◌, List, [], ◌∷◌, get_or, refl, sym, arith, nat_tests, Less, slice_cmp, cases_order, inl, inr, ap, ◌∙◌, nat_list_cmp_total}
 use Rattle.std.specs.Prelude.{◌*◌}
 use Rattle.std.proofs.Common.{nat_cmp}
 use Rattle.std.specs.Ordering.{ordering_reverse}
@@ -37,8 +37,7 @@ pub ordered_by_bytes : (count v : ℕ) (xs ys : List ℕ) → AreBytes count 0 x
 ordered_by_bytes zero v xs ys bx by less = absurd (omega (arith, less))
 ordered_by_bytes (suc count) v [] [] bx by less = absurd (omega (arith, less))
 ordered_by_bytes (suc count) v [] (y ∷ ys) bx by less = refl
-ordered_by_bytes (suc count) v (x ∷ xs) [] bx by less =
-    absurd (omega (arith, less, nothing_least (suc count) 0 v v (x ∷ xs) (omega arith)))
+ordered_by_bytes (suc count) v (x ∷ xs) [] bx by less = grind (arith, common_steps, nat_tests, nothing_least)
 ordered_by_bytes (suc count) v (x ∷ xs) (y ∷ ys) bx by less =
     let tails = rw (behind count 0 (v * 256 + x) x xs, behind count 0 (v * 256 + y) y ys) at less in
     elim (cases_order x y) [

@@ -1,6 +1,8 @@
 -- Profiles that are stated one after another.
-use Rattle.scf_profile.proofs.Common.{◌≡◌, ℕ, ◌+◌, ◌<◌, Bool, true, false, ◌||◌, List, [], ◌∷◌, ◌++◌, Option, Some, None, All, option_map, cons_option, filter_map, list_any, map, drop, get_or, length, ltb, refl, arith, add-one, drop-cons, le-ltb, length-map, get_or-map, map-append, append_assoc, list_any-append, false≢true, AllPairs-cons, All-head, All-tail, All-contains, All-cons, All-nil, AllByRecursion, Contains-append_right, Answer, Architecture, AreApart, AreOfApart, X8664, Profile, HaveNoConflict, LoadFault, AreStatedRules, TellsOneTooMany, max_rules, architectures, profile_for, profiles_from, table_for, Tables, Names, stated_profile, effective_of, effective_rules, Reading, NamesLeastConflict, NamesFirstConflict, rules_from, with_stub, nat_tests, common_steps}
+use Rattle.scf_profile.proofs.Common.{Result, ◌>>=◌, Data, profiles_of, ◌≡◌, ℕ, ◌+◌, ◌<◌, Bool, true, false, ◌||◌, List, [], ◌∷◌, ◌++◌, Option, Some, None, All, option_map, cons_option, filter_map, list_any, map, drop, get_or, length, ltb, refl, arith, add-one, drop-cons, le-ltb, length-map, get_or-map, map-append, append_assoc, list_any-append, false≢true, AllPairs-cons, All-head, All-tail, All-contains, All-cons, All-nil, AllByRecursion, Contains-append_right, Answer, Architecture, AreApart, AreOfApart, X8664, Profile, HaveNoConflict, LoadFault, AreStatedRules, TellsOneTooMany, max_rules, architectures, profile_for, profiles_from, table_for, Tables, Names, stated_profile, effective_of, effective_rules, Reading, NamesLeastConflict, NamesFirstConflict, rules_from, with_stub, nat_tests, common_steps}
+use Rattle.std.specs.Prelude.{IfOk}
 use Rattle.scf_insn.proofs.Architectures.{EachApart, each_apart}
+use Rattle.scf_profile.specs.Loading.{only_table}
 use Rattle.scf_profile.specs.declared.entry.Entry.{Entry}
 use Rattle.scf_profile.specs.declared.load_fault.LoadFault.TheVariants as faults
 use Rattle.scf_profile.specs.declared.profile_text.StatedRules.{StatedRules}
@@ -124,3 +126,14 @@ module _ (reading : Reading) (default : Answer) (all before : List StatedRules) 
     least = names;
   }
   first_conflict profiles fault is none names = absurd names
+
+-- ---- under a table of x86-64 alone
+
+then_ok : {A B : Type 0} (P : B → Type 0) (r : Result A LoadFault) (f : A → Result B LoadFault)
+    → ((x : A) → IfOk (f x) P) → IfOk (r >>= f) P
+then_ok P r f h = grind (arith, common_steps, nat_tests)
+
+pub one_profile : (reading : Reading) (table : Names) (root : Data)
+    → IfOk (profiles_of reading (only_table table) root) (λ loaded. length loaded.profiles ≡ 1)
+unfolding profiles_of
+one_profile reading table root = search then_ok

@@ -26,8 +26,7 @@ module _ (a : Architecture) (P : Rule → Type 0) (table : Names) (index : ℕ) 
   all_named (name ∷ names) = grind (arith, common_steps, nat_tests, all_named names)
 
 all_unless : (P : Rule → Type 0) (out : Bool) (rules : List Rule) → All P rules → All P (cond out [] rules)
-all_unless P true rules all = All-nil P
-all_unless P false rules all = all
+all_unless P out rules h = grind (arith, common_steps, nat_tests, All-nil)
 
 -- what holds of the rules by each list of conditions
 all_by_each : (P : Rule → Type 0) (a : Architecture) (table : Names) (index : ℕ) (answer : Answer)
@@ -63,17 +62,13 @@ one_fine c is = record { each = (is, tt); distinct = (tt, tt) }
 each_fine : (cs : List Condition) → All IsCondition cs → All AreConditions (map (λ c. c ∷ []) cs)
 each_fine [] each = All-nil AreConditions
 each_fine (c ∷ cs) each =
-    All-cons AreConditions (c ∷ []) (map (λ d. d ∷ []) cs) (one_fine c (All-head IsCondition c cs each))
-    (each_fine cs (All-tail IsCondition c cs each))
+    grind (arith, common_steps, All-cons, one_fine, All-head, each_fine cs (All-tail IsCondition c cs each), All-tail)
 
 alternatives_fine : (cs : List Condition) → All IsCondition cs → All AreConditions (alternatives cs)
 alternatives_fine cs each = by_test (has_repeated_index cs) refl where
   by_test : (b : Bool) → has_repeated_index cs ≡ b → All AreConditions (cond b (map (λ c. c ∷ []) cs) (cs ∷ []))
   by_test true is = each_fine cs each
-  by_test false is = All-cons AreConditions cs [] (record {
-    each = recursion_from_All IsCondition cs each;
-    distinct = distinct_of cs is;
-  }) (All-nil AreConditions)
+  by_test false is = grind (arith, common_steps, nat_tests, All-cons, recursion_from_All, distinct_of, All-nil)
 
 -- a rule is within its ranges, and has the answer of the entry at its index, where these are those from an index on
 abbrev IsStated : Architecture → ℕ → List Answer → Rule → Type 0

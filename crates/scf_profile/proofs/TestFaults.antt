@@ -1,5 +1,5 @@
 -- The tests of a value give neither `Json` nor `Conflict`, and not `Memory`.
-use Rattle.scf_profile.proofs.Common.{◌≡◌, ◌≢◌, ℕ, Bool, true, false, cond, List, [], ◌∷◌, ◌++◌, Option, Some, None, Result, Ok, Err, IfErr, option_map_or, Data, Items, no_items, item, LoadFault, Loaded, IsText, TestsGive, Reading, RefusesAs, RefusesEachAs, RefusesBy, NamesFirstConflict, NamesLeastConflict, Names, Tables, LoadedProfiles, X8664, ◌+◌, ◌>>=◌, ok_or, each, errno_of, answer_in, no_engine_form, condition_of, entry_of, seccomp_of, head_of, entries_of, all_listed, profile_of, profiles_of, arith, nat_tests, common_steps}
+use Rattle.scf_profile.proofs.Common.{◌≡◌, ◌≢◌, ℕ, Bool, cond, List, [], ◌∷◌, ◌++◌, Option, Result, Ok, Err, IfErr, option_map_or, Data, Items, no_items, item, LoadFault, IsText, TestsGive, Reading, RefusesEachAs, RefusesBy, NamesFirstConflict, Tables, LoadedProfiles, ◌+◌, ◌>>=◌, ok_or, each, errno_of, answer_in, no_engine_form, condition_of, entry_of, seccomp_of, head_of, entries_of, all_listed, profiles_of, arith, nat_tests, common_steps}
 use Rattle.scf_profile.specs.declared.load_fault.LoadFault.TheVariants as faults
 
 abbrev pub IsTestFault : LoadFault → Type 0
@@ -20,21 +20,17 @@ err_test e h = record { fault = h }
 
 then_test : {A B : Type 0} (r : Result A LoadFault) (f : A → Result B LoadFault) → IsTest r → ((x : A) → IsTest (f x))
     → IsTest (r >>= f)
-then_test (Ok x) f h k = k x
-then_test (Err e) f h k = record { fault = h.fault }
+then_test r f h h2 = grind (arith, common_steps, nat_tests)
 
 some_test : {A : Type 0} (o : Option A) (e : LoadFault) → IsTestFault e → IsTest (ok_or o e)
-some_test None e h = record { fault = h }
-some_test (Some x) e h = record { fault = tt }
+some_test o e h = grind (arith, common_steps, nat_tests)
 
 cond_test : {A : Type 0} (b : Bool) (r s : Result A LoadFault) → IsTest r → IsTest s → IsTest (cond b r s)
-cond_test true r s h k = h
-cond_test false r s h k = k
+cond_test b r s h h2 = grind (arith, common_steps, nat_tests)
 
 map_or_test : {A B : Type 0} (f : A → Result B LoadFault) (o : Option A) (r : Result B LoadFault)
     → ((x : A) → IsTest (f x)) → IsTest r → IsTest (option_map_or f o r)
-map_or_test f None r h k = k
-map_or_test f (Some x) r h k = h x
+map_or_test f o r h h2 = grind (arith, common_steps, nat_tests)
 
 each_test : {A : Type 0} (test : List A → Data → Result A LoadFault)
     → ((before : List A) (d : Data) → IsTest (test before d)) → (before : List A) (items : Items)
@@ -64,10 +60,6 @@ entries_test : (reading : Reading) (d : Data) → IsTest (entries_of reading d)
 unfolding entries_of no_engine_form
 entries_test reading d = search (tests, entry_test) depth 40 fits 4000
 
-profile_test : (reading : Reading) (table : Names) (root : Data) → IsTest (profile_of reading table root)
-unfolding profile_of
-profile_test reading table root = search (tests, head_test, entries_test) depth 40 fits 4000
-
 listed_test : (index : ℕ) (names : List (List ℕ)) (tables : Tables) → IsTest (all_listed index names tables)
 unfolding all_listed
 listed_test index names [] = ok_test tt
@@ -85,19 +77,9 @@ module _ {A : Type 0} (tests : Data → Result A LoadFault) (is_test : (d : Data
       → RefusesBy tests HasConflict text e
   refused d e h h2 = grind (arith, common_steps, nat_tests)
 
-pub refuses_of_fault : (reading : Reading) (text : List ℕ) (table : Names) (d : Data) (e : LoadFault) → IsText text d
-    → (e ≢ faults.Memory → profile_of reading table d ≡ Err e) → RefusesAs reading text table e
-refuses_of_fault reading text table d e is_text fails = grind (arith, common_steps, nat_tests, refused, profile_test)
-
 pub refuses_each_of_fault : (reading : Reading) (text : List ℕ) (tables : Tables) (d : Data) (e : LoadFault)
     → IsText text d → (e ≢ faults.Memory → profiles_of reading tables d ≡ Err e) → RefusesEachAs reading text tables e
 refuses_each_of_fault reading text tables d e is_text fails = grind (arith, common_steps, nat_tests, refused, profiles_test)
-
--- the least conflict of what the value of a text states
-pub refuses_of_conflict : (reading : Reading) (text : List ℕ) (table : Names) (loaded : Loaded)
-    → TestsGive (profile_of reading table) text (Ok loaded) → (e : LoadFault)
-    → NamesLeastConflict X8664 loaded.profile.rules e → RefusesAs reading text table e
-refuses_of_conflict reading text table loaded h e h2 = grind (arith, common_steps, nat_tests)
 
 pub refuses_each_of_conflict : (reading : Reading) (text : List ℕ) (tables : Tables) (loaded : LoadedProfiles)
     → TestsGive (profiles_of reading tables) text (Ok loaded) → (e : LoadFault)

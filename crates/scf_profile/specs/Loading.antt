@@ -1,5 +1,5 @@
 -- What a text and call tables are loaded as, and when they are refused.
-use Rattle.std.specs.Prelude.{◌≡◌, ℕ, ◌<◌, ◌≤◌, ◌⊎◌, List, ◌∷◌, ◌++◌, length, All, Some, Result, Ok, Err, IsUtf8, Any}
+use Rattle.std.specs.Prelude.{◌≡◌, ℕ, ◌<◌, ◌≤◌, ◌⊎◌, List, [], ◌∷◌, ◌++◌, length, All, None, Some, Result, Ok, Err, IsUtf8, Any}
 use Rattle.scf_insn.specs.declared.architecture.Architecture.{Architecture}
 use Rattle.scf_insn.specs.declared.architecture.Architecture.TheVariants.{X8664}
 use Rattle.serde_json.specs.Data.{Data}
@@ -15,7 +15,7 @@ use Rattle.scf_profile.specs.Rule.{Conflicts}
 use Rattle.scf_profile.specs.Limits.{max_text_len}
 use Rattle.scf_profile.specs.Profile.{Profile, HaveNoConflict}
 use Rattle.scf_profile.specs.Table.{Names}
-use Rattle.scf_profile.specs.StatedProfile.{Tables, profile_of, profiles_of}
+use Rattle.scf_profile.specs.StatedProfile.{Tables, profiles_of}
 
 -- the text is short enough, and JSON for the value, nested at most as deep as serde_json reads
 pub record IsText (text : List ℕ) (d : Data) : Type 0 where
@@ -55,15 +55,6 @@ pub record IsFirstConflict (profiles : List Profile) (number first second : ℕ)
 abbrev pub TestsGive : {A : Type 0} → (Data → Result A LoadFault) → List ℕ → Result A LoadFault → Type 0
 TestsGive tests text stated = (value : Data) × IsText text value × (tests value ≡ stated)
 
--- what the text and the table state by a reading, and no two rules conflict
-abbrev pub LoadsAs : Reading → List ℕ → Names → Loaded → Type 0
-LoadsAs reading text table loaded =
-    TestsGive (profile_of reading table) text (Ok loaded) × HaveNoConflict X8664 loaded.profile.rules
-
--- by the words of the text
-abbrev pub Loads : List ℕ → Names → Loaded → Type 0
-Loads = LoadsAs Strict
-
 -- what the text and the tables state by a reading, and no two rules of one architecture conflict
 abbrev pub LoadsEachAs : Reading → List ℕ → Tables → LoadedProfiles → Type 0
 LoadsEachAs reading text tables loaded =
@@ -82,13 +73,35 @@ RefusesBy {A} tests HasConflict text (faults.Conflict number first second) =
     (loaded : A) × TestsGive tests text (Ok loaded) × HasConflict loaded number first second
 RefusesBy tests HasConflict text fault = TestsGive tests text (Err fault)
 
-abbrev pub RefusesAs : Reading → List ℕ → Names → LoadFault → Type 0
-RefusesAs reading text table fault =
-    RefusesBy (profile_of reading table) (λ loaded. IsLeastConflict X8664 loaded.profile.rules) text fault
-
-abbrev pub Refuses : List ℕ → Names → LoadFault → Type 0
-Refuses = RefusesAs Strict
-
 abbrev pub RefusesEachAs : Reading → List ℕ → Tables → LoadFault → Type 0
 RefusesEachAs reading text tables fault =
     RefusesBy (profiles_of reading tables) (λ loaded. IsFirstConflict loaded.profiles) text fault
+
+-- ---- with a table of x86-64 alone
+
+abbrev pub only_table : Names → Tables
+only_table table = (X8664, table) ∷ []
+
+-- a profile by itself, as the only one of several
+abbrev pub as_only : Loaded → LoadedProfiles
+as_only loaded = record {
+  profiles = loaded.profile ∷ [];
+  skipped = loaded.skipped;
+  other_architectures = loaded.other_architectures;
+}
+
+-- by the words of the text
+abbrev pub Loads : List ℕ → Names → Loaded → Type 0
+Loads text table loaded = LoadsEachAs Strict text (only_table table) (as_only loaded)
+
+-- the fault where the only table's architecture isn't listed
+abbrev pub fault_of_only : LoadFault → LoadFault
+fault_of_only (faults.NotListed table) = faults.NoX8664 None
+fault_of_only fault = fault
+
+abbrev pub RefusesAs : Reading → List ℕ → Names → LoadFault → Type 0
+RefusesAs reading text table fault =
+    (of_each : LoadFault) × RefusesEachAs reading text (only_table table) of_each × (fault ≡ fault_of_only of_each)
+
+abbrev pub Refuses : List ℕ → Names → LoadFault → Type 0
+Refuses = RefusesAs Strict

@@ -1,5 +1,5 @@
--- What a profile answers to a call, and what several answer, each for an architecture of its own.
-use Rattle.std.specs.Prelude.{◌≡◌, ℕ, List, true, false, Contains}
+-- What a profile answers to a call, and what several answer.
+use Rattle.std.specs.Prelude.{◌≡◌, ◌⊎◌, ℕ, List, [], ◌∷◌, true, false, Contains}
 use Rattle.scf_insn.specs.Architectures.{IsOf}
 use Rattle.scf_insn.specs.declared.record.CallRecord.{CallRecord}
 use Rattle.scf_insn.specs.Kernel.{seccomp_ret_kill_process}
@@ -20,12 +20,13 @@ pub data ProfileAnswers (p : Profile) (call : CallRecord) : ℕ → Type 0 where
       → ((r : Rule) → Contains p.rules r → meets p.architecture r call ≡ false)
       → ProfileAnswers p call p.default_answer.0
 
--- the call is of none of the profiles' architectures
-abbrev pub IsOfNone : List Profile → CallRecord → Type 0
-IsOfNone profiles call = (p : Profile) → Contains profiles p → IsOf p.architecture call → ⊥
+-- what holds of the first profile of whose architecture the call is, or where there is none
+abbrev pub OfFirst : List Profile → CallRecord → (Profile → Type 0) → Type 0 → Type 0
+OfFirst [] call own none = none
+OfFirst (p ∷ later) call own none =
+    (IsOf p.architecture call × own p) ⊎ ((IsOf p.architecture call → ⊥) × OfFirst later call own none)
 
--- the answer of the profile of the call's architecture, and KILL_PROCESS where there is none
-pub data ProfilesAnswer (profiles : List Profile) (call : CallRecord) : ℕ → Type 0 where
-  by_profile : (p : Profile) → Contains profiles p → IsOf p.architecture call → (answer : ℕ)
-      → ProfileAnswers p call answer → ProfilesAnswer profiles call answer
-  by_none : IsOfNone profiles call → ProfilesAnswer profiles call seccomp_ret_kill_process
+-- the answer of that profile, and KILL_PROCESS where there is none
+abbrev pub ProfilesAnswer : List Profile → CallRecord → ℕ → Type 0
+ProfilesAnswer profiles call answer =
+    OfFirst profiles call (λ p. ProfileAnswers p call answer) (answer ≡ seccomp_ret_kill_process)

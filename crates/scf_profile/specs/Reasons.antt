@@ -12,7 +12,7 @@ use Rattle.scf_profile.specs.declared.reason.Reason.TheVariants.{Foreign, Stub, 
 use Rattle.scf_profile.specs.declared.rule.Rule.{Rule}
 use Rattle.scf_profile.specs.Rule.{meets}
 use Rattle.scf_profile.specs.Profile.{Profile}
-use Rattle.scf_profile.specs.ProfileAnswers.{IsOfNone}
+use Rattle.scf_profile.specs.ProfileAnswers.{OfFirst}
 use Rattle.scf_profile.specs.Stub.{is_stubbed, stub_answer}
 
 -- the indices of the entries that state the rules which the call meets
@@ -37,8 +37,6 @@ IsAnswerOf p call (Entry index) answer =
     (r : Rule) → Contains p.rules r → r.entry ≡ index → meets p.architecture r call ≡ true → answer ≡ r.answer.0
 IsAnswerOf p call Default answer = answer ≡ p.default_answer.0
 
--- the reason among several profiles: that of the one of the call's architecture
+-- the reason among several profiles: that of the first of the call's architecture
 abbrev pub IsReasonAmong : List Profile → CallRecord → Reason → Type 0
-IsReasonAmong profiles call Foreign = IsOfNone profiles call
-IsReasonAmong profiles call reason =
-    (p : Profile) × Contains profiles p × IsOf p.architecture call × IsReason p call reason
+IsReasonAmong profiles call reason = OfFirst profiles call (λ p. IsReason p call reason) (reason ≡ Foreign)

@@ -27,7 +27,6 @@ use Rattle.scf_profile.specs.declared.rule.Rule.{Rule}
 use Rattle.scf_profile.specs.declared.entry.Entry.{Entry}
 use Rattle.scf_profile.specs.declared.load_fault.LoadFault.{LoadFault}
 use Rattle.scf_profile.specs.declared.load_fault.LoadFault.TheVariants as faults
-use Rattle.scf_profile.specs.declared.loaded.Loaded.{Loaded}
 use Rattle.scf_profile.specs.declared.loaded.LoadedProfiles.{LoadedProfiles}
 use Rattle.scf_profile.specs.declared.reading.Reading.{Reading}
 use Rattle.scf_profile.specs.declared.reading.Reading.TheVariants.{Sandbox}
@@ -260,30 +259,6 @@ all_listed index names ((architecture, table) ∷ tables) = do
 
 -- ---- what the root states, but for conflicts among its rules
 
--- With a table of x86-64 alone: x86-64 has to be among the architectures, unless there are none or a runtime adds it.
-unfoldable pub profile_of : Reading → Names → Data → Result Loaded LoadFault
-profile_of reading table root = do
-  head ← head_of reading root
-  _ ← refused_if
-      (not (is_runtime reading)
-      && (nat_lt 0 (length head.architectures) && not (list_any (λ name. is_named name X8664) head.architectures)))
-      (faults.NoX8664 None)
-  entries ← entries_of reading head.object
-  _ ← refused_if
-      (nat_lt max_rules (length (rules_from (left_out reading head.default_answer) X8664 table 0 entries)))
-      faults.TooMany
-  Ok (record {
-    profile = effective_profile reading (record {
-      architecture = X8664;
-      default_answer = head.default_answer;
-      rules = rules_from (left_out reading head.default_answer) X8664 table 0 entries;
-      stub = None;
-    });
-    skipped = skipped_names ((X8664, table) ∷ []) entries;
-    other_architectures = other_names ((X8664, table) ∷ []) head.architectures;
-  })
-
--- with tables of several architectures
 unfoldable pub profiles_of : Reading → Tables → Data → Result LoadedProfiles LoadFault
 profiles_of reading tables root = do
   head ← head_of reading root

@@ -79,9 +79,8 @@ pub(crate) fn find_answer(
     ensures value { result ≡ answer_in reading entry name.now errno_name.now (view object.now) }
     ensures range { IfOk result (λ answer. answer.0 < 2 ^ 32) }
 {
-    let Some(action) = action_of(required_text(entry, name, object)?) else {
-        return Err(LoadFault::Action { entry });
-    };
+    let text = required_text(entry, name, object)?;
+    let action = action_of(text).ok_or(LoadFault::Action { entry })?;
     let errno = match member_of(object, errno_name) {
         None => u16::from(takes_errno(action)),
         Some(member) => errno_of(reading, entry, action, member)?,

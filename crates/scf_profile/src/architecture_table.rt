@@ -22,12 +22,9 @@ pub(crate) fn table_named<'a, 't>(
 ) -> Option<&'a ArchitectureTable<'t>>
     ensures { option_map (λ t. t.now) result ≡ find (λ t. named name.now t.architecture) tables.now }
 {
-    for table in tables {
-        if is_named(name, table.architecture) {
-            return Some(table);
-        }
-    }
-    None
+    tables
+        .iter()
+        .find(|table| is_named(name, table.architecture))
 }
 
 /// The first table of an architecture.

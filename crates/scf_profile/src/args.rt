@@ -94,18 +94,13 @@ fn condition_of(
         return Err(LoadFault::Kind { entry });
     }
     let index = find_index(entry, object)?;
-    let Some(op) = operator_of(required_text(entry, "op", object)?) else {
-        return Err(LoadFault::Operator { entry });
-    };
-    let Some(value) = required(entry, "value", object)?.as_u64() else {
-        return Err(LoadFault::Kind { entry });
-    };
+    let name = required_text(entry, "op", object)?;
+    let op = operator_of(name).ok_or(LoadFault::Operator { entry })?;
+    let value = required(entry, "value", object)?;
+    let value = value.as_u64().ok_or(LoadFault::Kind { entry })?;
     let value_two = match member_of(object, "valueTwo") {
-        None => Some(0),
-        Some(member) => member.as_u64(),
-    };
-    let Some(value_two) = value_two else {
-        return Err(LoadFault::Kind { entry });
+        None => 0,
+        Some(member) => member.as_u64().ok_or(LoadFault::Kind { entry })?,
     };
     if !reading.is_runtime() && has_index(index, earlier) {
         return Err(LoadFault::RepeatedIndex { entry });

@@ -151,24 +151,16 @@ impl Conditions {
     pub(crate) fn are_plain(&self) -> bool
         ensures { IsTrue result ↔ All IsPlainCondition self.now }
     {
-        for condition in &self.list {
-            if !condition.is_plain() {
-                return false;
-            }
-        }
-        true
+        self.list.iter().all(|condition| condition.is_plain())
     }
 
     /// Whether none of them compares anything.
     pub(crate) fn compare_nothing(&self, bits: ArgumentBits) -> bool
         ensures { result ≡ list_all (nothing_compared bits) self.now }
     {
-        for condition in &self.list {
-            if !condition.compares_nothing(bits) {
-                return false;
-            }
-        }
-        true
+        self.list
+            .iter()
+            .all(|condition| condition.compares_nothing(bits))
     }
 
     /// The conditions, in order.

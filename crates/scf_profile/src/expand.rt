@@ -22,6 +22,7 @@ use scf_insn::{Answer, Architecture};
 use std::alloc::{AllocError, Global};
 
 /// Adds the rule of an entry by conditions for one name, if the table has it.
+#[tactic(auto, using(std::proofs::lemmas::Grind::common_steps, scf_insn::proofs::Common::nat_tests))]
 fn add_name(
     rules: &mut Vec<Rule>,
     alloc: Global,
@@ -141,6 +142,7 @@ fn add_entry(
 
 /// The rules of entries under the table of an architecture, at most `MAX_RULES`; none of entries with the answer that
 /// is left out.
+#[tactic(auto, using(std::proofs::lemmas::Grind::common_steps, scf_insn::proofs::Common::append_assoc))]
 pub(crate) fn rules_under(
     alloc: Global,
     table: &ArchitectureTable,

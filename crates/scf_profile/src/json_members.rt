@@ -29,10 +29,7 @@ pub(crate) fn required<'v>(
 ) -> Result<&'v Value, LoadFault>
     ensures { result_map (λ v. view v.now) result ≡ ok_or (member name.now (view object.now)) (faults.Missing entry) }
 {
-    match member_of(object, name) {
-        Some(member) => Ok(member),
-        None => Err(LoadFault::Missing { entry }),
-    }
+    member_of(object, name).ok_or(LoadFault::Missing { entry })
 }
 
 /// A member that must be present, and a string.
@@ -43,8 +40,6 @@ pub(crate) fn required_text<'v>(
 ) -> Result<&'v str, LoadFault>
     ensures { result_map (λ text. text.now) result ≡ required_stated entry name.now as_str (view object.now) }
 {
-    match required(entry, name, object)?.as_str() {
-        Some(text) => Ok(text),
-        None => Err(LoadFault::Kind { entry }),
-    }
+    let member = required(entry, name, object)?;
+    member.as_str().ok_or(LoadFault::Kind { entry })
 }

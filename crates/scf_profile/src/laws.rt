@@ -9,7 +9,7 @@ ghost use Rattle.scf_profile.specs.declared.reason.Reason.{Reason};
 ghost use Rattle.scf_profile.specs.CallsAndRest.{CallsAndRest};
 ghost use Rattle.scf_profile.specs.Condition.{condition_holds};
 ghost use Rattle.scf_profile.specs.NumberTests.{comes_to, test_of};
-ghost use Rattle.scf_profile.specs.Profile.{AreOfApart, Profile, HaveNoConflict};
+ghost use Rattle.scf_profile.specs.Profile.{Profile, HaveNoConflict};
 ghost use Rattle.scf_profile.specs.ProfileAnswers.{ProfileAnswers, ProfilesAnswer};
 ghost use Rattle.scf_profile.specs.Reasons.{IsAnswerOf, IsReason};
 ghost use Rattle.scf_profile.specs.Relation.{IsRelated};
@@ -36,12 +36,12 @@ pub fn one_answer()
         → ProfileAnswers p call a → ProfileAnswers p call b → a ≡ b }
 {}
 
-/// If no two rules of one profile conflict, and no record is of two of the profiles, a record has only one answer.
+/// If no two rules of one profile conflict, a record has only one answer.
 #[tactic(auto, using(crate::proofs::Answering::one_answer_among))]
 pub fn one_answer_among()
-    ensures { (profiles : List Profile) (call : CallRecord) (a b : ℕ) → AreOfApart profiles
-        → All (λ p. HaveNoConflict p.architecture p.rules) profiles → IsRecord call
-        → ProfilesAnswer profiles call a → ProfilesAnswer profiles call b → a ≡ b }
+    ensures { (profiles : List Profile) (call : CallRecord) (a b : ℕ)
+        → All (λ p. HaveNoConflict p.architecture p.rules) profiles
+        → IsRecord call → ProfilesAnswer profiles call a → ProfilesAnswer profiles call b → a ≡ b }
 {}
 
 /// If no two rules conflict, the answer to a record is its reason's.

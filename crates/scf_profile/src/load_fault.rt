@@ -2,6 +2,7 @@
 
 ghost use Rattle.std.specs.Prelude.{◌≡◌};
 ghost use Rattle.scf_profile.specs.declared.load_fault.LoadFault.TheVariants as faults;
+ghost use Rattle.scf_profile.specs.Loading.{fault_of_only};
 
 use std::alloc::{AllocError, AllocFailed};
 use std::fmt;
@@ -60,6 +61,18 @@ pub enum LoadFault {
         second: u32,
     },
     Memory,
+}
+
+impl LoadFault {
+    /// The fault under a table of x86-64 alone: in place of `NotListed` comes `NoX8664`.
+    pub fn of_only(self) -> LoadFault
+        ensures { result ≡ fault_of_only self }
+    {
+        match self {
+            LoadFault::NotListed { .. } => LoadFault::NoX8664 { entry: None },
+            _ => self,
+        }
+    }
 }
 
 impl fmt::Display for LoadFault {

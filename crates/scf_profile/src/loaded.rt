@@ -1,5 +1,8 @@
 //! Loaded texts.
 
+ghost use Rattle.std.specs.Prelude.{◌≡◌, length};
+ghost use Rattle.scf_profile.specs.Loading.{as_only};
+
 use crate::profile::Profile;
 use crate::profiles::Profiles;
 use crate::texts::Texts;
@@ -23,4 +26,18 @@ pub struct LoadedProfiles {
     pub skipped: Texts,
     /// The architectures without a table, each occurrence, in the order of the text.
     pub other_architectures: Texts,
+}
+
+impl LoadedProfiles {
+    /// The only profile, and what was left out of it.
+    pub fn into_only(self) -> Loaded
+        requires { length self.profiles ≡ 1 }
+        ensures { self ≡ as_only result }
+    {
+        Loaded {
+            profile: self.profiles.into_only(),
+            skipped: self.skipped,
+            other_architectures: self.other_architectures,
+        }
+    }
 }

@@ -23,6 +23,7 @@ fn byte_at(text: &[u8], index: usize) -> u8
 }
 
 /// The first eight bytes as one number, the first one greatest, with zeros behind a shorter text.
+#[tactic(auto, using(scf_insn::proofs::Common::nat_tests))]
 fn prefix_of_text(text: &[u8]) -> u64
     ensures { IsPrefixOf text.now result }
 {

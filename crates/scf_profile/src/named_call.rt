@@ -63,6 +63,7 @@ fn calls_of(
 }
 
 /// The entries of a table, by syscall number.
+#[tactic(auto, using(std::proofs::lemmas::Grind::common_steps, crate::proofs::NamedCalls::are_calls))]
 pub(crate) fn named_calls(
     alloc: Global,
     entries: &[TableEntry],

@@ -59,6 +59,7 @@ impl NumberSet {
     }
 
     /// The greatest value.
+    #[tactic(auto, using(std::proofs::lemmas::Grind::common_steps, crate::proofs::Masks::greatest_masked))]
     fn greatest(self, bits: ArgumentBits) -> u64
         requires { IsNumberSet bits self }
         ensures { IsGreatestOf bits self result }

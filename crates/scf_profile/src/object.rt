@@ -3,18 +3,16 @@
 ghost use Rattle.std.specs.Prelude.{◌≡◌, ◌≤◌, ◌^◌, ◌&&◌, not, nat_lt, [], IfOk, All, length, vec_len};
 ghost use Rattle.std.specs.Prelude.{Some, None, ok_or};
 ghost use Rattle.std.specs.List.{list_any};
-ghost use Rattle.scf_insn.specs.declared.architecture.Architecture.TheVariants.{X8664};
 ghost use Rattle.serde_json.specs.View.{view, items_view};
 ghost use Rattle.scf_profile.specs.declared.load_fault.LoadFault.TheVariants as faults;
 ghost use Rattle.scf_profile.specs.internal.EntryRanges.{IsEntry};
 ghost use Rattle.scf_profile.specs.JsonMembers.{each};
-ghost use Rattle.scf_profile.specs.Readings.{is_runtime};
 ghost use Rattle.scf_profile.specs.References.{texts_at};
 ghost use Rattle.scf_profile.specs.StatedProfile.{entry_of};
 ghost use Rattle.scf_profile.specs.StatedProfile.{object as object_stated, seccomp_of, is_named as named};
 ghost use Rattle.scf_profile.specs.StatedProfile.{all_listed as all_are_listed, listed_names, own_architecture as own_stated, tables_of};
 ghost use Rattle.scf_profile.specs.internal.Stated.{with_machine};
-ghost use Rattle.scf_profile.specs.Steps.{refused_if, Gives};
+ghost use Rattle.scf_profile.specs.Steps.{Gives};
 ghost use Rattle.scf_profile.specs.internal.Results.{result_map};
 
 use crate::architecture_table::{ArchitectureTable, table_for};
@@ -67,22 +65,6 @@ fn is_listed(names: &[&str], architecture: Architecture) -> bool
         }
     }
     false
-}
-
-/// Refuses architectures without x86-64, unless there are none or a runtime adds it.
-pub(crate) fn check_architectures(
-    reading: Reading,
-    architectures: &BorrowedTexts,
-) -> Result<(), LoadFault>
-    ensures { result ≡ refused_if (not (is_runtime reading)
-        && (nat_lt 0 (length architectures.now) && not (list_any (λ name. named name X8664) architectures.now)))
-        (faults.NoX8664 None) }
-{
-    let names = architectures.as_slice();
-    if !reading.is_runtime() && names.len() > 0 && !is_listed(names, Architecture::X8664) {
-        return Err(LoadFault::NoX8664 { entry: None });
-    }
-    Ok(())
 }
 
 /// Whether an architecture is this one, or among those of these names.

@@ -16,12 +16,7 @@ use scf_insn::ArgumentBits;
 pub(crate) fn condition_on(conditions: &[Condition], index: u8) -> Option<&Condition>
     ensures { option_map (λ c. c.now) result ≡ find (λ c. c.index == index) conditions.now }
 {
-    for condition in conditions {
-        if condition.index == index {
-            return Some(condition);
-        }
-    }
-    None
+    conditions.iter().find(|condition| condition.index == index)
 }
 
 /// The values for which the conditions on an argument hold, if there are any.

@@ -94,15 +94,6 @@ impl Profile {
         }
     }
 
-    /// The profile with a stub, or with none. A stub answers the records of the architecture from a syscall number on,
-    /// as a record has it, by ENOSYS, whatever rules they meet (runc, libcontainer/seccomp/patchbpf).
-    pub fn with_stub(mut self, first: Option<u32>) -> Profile
-        ensures { result ≡ record self { stub = first } }
-    {
-        self.stub = first;
-        self
-    }
-
     /// Gives the profile a stub, or none, if it is of an architecture.
     pub(crate) fn set_stub(&mut self, architecture: Architecture, first: Option<u32>)
         ensures { self.new ≡ stated_with_stub architecture first self.old }

@@ -3,18 +3,17 @@
 ghost use Rattle.std.specs.Prelude.{◌≡◌, ◌<◌, ◌≤◌, ◌^◌, ◌∷◌, [], All, filter_map, length, map, option_map, vec_len, Err, IfOk, IfErr, IfSome};
 ghost use Rattle.serde_json.specs.View.{view};
 ghost use Rattle.scf_insn.specs.declared.answer.Answer.{Answer};
-ghost use Rattle.scf_insn.specs.declared.architecture.Architecture.TheVariants.{X8664};
 ghost use Rattle.scf_profile.specs.declared.load_fault.LoadFault.TheVariants.{Memory, TooMany};
 ghost use Rattle.scf_profile.specs.internal.EntryRanges.{AreStatedRules, IsEntry, TellsOneTooMany, TellsTooMany};
 ghost use Rattle.scf_profile.specs.Limits.{max_text_len};
-ghost use Rattle.scf_profile.specs.Loading.{IsText, Loads, LoadsAs, LoadsEachAs, Refuses, RefusesAs, RefusesEachAs};
+ghost use Rattle.scf_profile.specs.Loading.{IsText, Loads, LoadsEachAs, Refuses, RefusesEachAs};
 ghost use Rattle.scf_profile.specs.internal.Refusals.{NamesFirstConflict, NamesLeastConflict, ParseRefuses};
 ghost use Rattle.scf_profile.specs.internal.Results.{result_map};
-ghost use Rattle.scf_profile.specs.internal.Stated.{effective_of, head_stated, loaded_of, loaded_profiles_of, stated_profile};
+ghost use Rattle.scf_profile.specs.internal.Stated.{effective_of, head_stated, loaded_profiles_of, stated_profile};
 ghost use Rattle.scf_profile.specs.Profile.{AreOfApart, HaveNoConflict};
 ghost use Rattle.scf_profile.specs.Readings.{effective_rules as effective_by};
 ghost use Rattle.scf_profile.specs.Steps.{Gives};
-ghost use Rattle.scf_profile.specs.StatedProfile.{entries_of as entries_stated, head_of, profile_for, profile_of, profiles_from, profiles_of, rules_from, tables_of};
+ghost use Rattle.scf_profile.specs.StatedProfile.{entries_of as entries_stated, head_of, profile_for, profiles_from, profiles_of, rules_from, tables_of};
 
 use crate::action::find_answer;
 use crate::architecture_table::{ArchitectureTable, table_for};
@@ -27,7 +26,7 @@ use crate::limits::MAX_TEXT_LEN;
 use crate::load_fault::LoadFault;
 use crate::loaded::{Loaded, LoadedProfiles};
 use crate::number_rules::by_number;
-use crate::object::{check_architectures, check_listed, entries_of, find_seccomp};
+use crate::object::{check_listed, entries_of, find_seccomp};
 use crate::profile::Profile;
 use crate::profiles::Profiles;
 use crate::reading::Reading;
@@ -101,6 +100,7 @@ struct StatedRules {
 }
 
 /// The rules of entries under the table of an architecture.
+#[tactic(auto, using(crate::proofs::StatedRules::stated_rules))]
 fn stated_rules(
     alloc: Global,
     table: &ArchitectureTable,
@@ -121,48 +121,6 @@ fn stated_rules(
     Ok(StatedRules {
         architecture: table.architecture,
         rules,
-    })
-}
-
-/// A profile before the test for conflicts.
-#[derive(Drop)]
-struct Stated {
-    default_answer: Answer,
-    rules: StatedRules,
-    skipped: Texts,
-    other_architectures: Texts,
-}
-
-/// Parses the root under a table of x86-64, or the first test that fails.
-#[tactic(auto, unfolding(crate::specs::StatedProfile::profile_of))]
-fn read_root(
-    alloc: Global,
-    reading: Reading,
-    table: &CallTable,
-    root: &Value,
-) -> Result<Stated, LoadFault>
-    ensures value { Gives Memory (result_map (loaded_of reading) result)
-        (profile_of reading table.now (view root.now)) }
-    ensures architecture { IfOk result (λ s. s.rules.architecture ≡ X8664) }
-    ensures range { IfOk result (λ s. AreStatedRules s.rules.architecture s.rules.rules.items) }
-    ensures default_range { IfOk result (λ s. s.default_answer.0 < 2 ^ 32) }
-{
-    let head = read_head(alloc, reading, root)?;
-    check_architectures(reading, &head.architectures)?;
-    let entries = read_entries(alloc, reading, head.object)?;
-    let tables = [ArchitectureTable {
-        architecture: Architecture::X8664,
-        table,
-    }];
-    let left_out = reading.left_out(head.default_answer);
-    let rules = stated_rules(alloc, &tables[0], left_out, &entries)?;
-    let skipped = skipped_under(alloc, &tables, &entries)?;
-    let other_architectures = other_architectures(alloc, &tables, &head.architectures)?;
-    Ok(Stated {
-        default_answer: head.default_answer,
-        rules,
-        skipped,
-        other_architectures,
     })
 }
 
@@ -190,6 +148,7 @@ fn without_conflict(
 }
 
 /// The profile of the rules that are effective by a reading, unless two of them conflict or an allocation fails.
+#[tactic(auto, using(crate::proofs::StatedRules::effective_stated))]
 fn effective_profile(
     alloc: Global,
     reading: Reading,
@@ -208,40 +167,6 @@ fn effective_profile(
         rules: effective_rules(alloc, reading, stated.architecture, stated.rules)?,
     };
     without_conflict(alloc, default_answer, effective)
-}
-
-/// Loads a profile from JSON text (at most 4194304 bytes); a syscall table gives the names their numbers. An error is
-/// the first test that fails, the last being that no two rules conflict, or `Memory` if an allocation failed.
-pub fn load(alloc: Global, text: &[u8], table: &CallTable) -> Result<Loaded, LoadFault>
-    ensures ok { IfOk result (λ loaded. Loads text.now table.now loaded) }
-    ensures err { IfErr result (λ fault. Refuses text.now table.now fault) }
-    // A text that is too long is refused before anything is allocated.
-    ensures long { max_text_len < length text.now → result ≡ Err TooMany }
-{
-    load_as(alloc, Reading::Strict, text, table)
-}
-
-/// Loads a profile as `load` does, but reads it as a container runtime does.
-pub fn load_as(
-    alloc: Global,
-    reading: Reading,
-    text: &[u8],
-    table: &CallTable,
-) -> Result<Loaded, LoadFault>
-    ensures ok { IfOk result (λ loaded. LoadsAs reading text.now table.now loaded) }
-    ensures err { IfErr result (λ fault. RefusesAs reading text.now table.now fault) }
-    // A text that is too long is refused before anything is allocated.
-    ensures long { max_text_len < length text.now → result ≡ Err TooMany }
-{
-    let stated = {
-        let value = parse(alloc, text)?;
-        read_root(alloc, reading, table, &value)?
-    };
-    Ok(Loaded {
-        profile: effective_profile(alloc, reading, stated.default_answer, stated.rules)?,
-        skipped: stated.skipped,
-        other_architectures: stated.other_architectures,
-    })
 }
 
 /// Profiles of several architectures before the test for conflicts.
@@ -380,4 +305,23 @@ pub fn load_profiles_as(
         skipped: stated.skipped,
         other_architectures: stated.other_architectures,
     })
+}
+
+/// Loads a profile for x86-64 alone from JSON text (at most 4194304 bytes), by its words: `load_profiles_as` under one
+/// table, which gives the names their numbers. An error is the first test that fails, the last being that no two rules
+/// conflict, or `Memory` if an allocation failed. In place of `NotListed` comes `NoX8664`.
+pub fn load(alloc: Global, text: &[u8], table: &CallTable) -> Result<Loaded, LoadFault>
+    ensures ok { IfOk result (λ loaded. Loads text.now table.now loaded) }
+    ensures err { IfErr result (λ fault. Refuses text.now table.now fault) }
+    // A text that is too long is refused before anything is allocated.
+    ensures long { max_text_len < length text.now → result ≡ Err TooMany }
+{
+    let tables = [ArchitectureTable {
+        architecture: Architecture::X8664,
+        table,
+    }];
+    match load_profiles_as(alloc, Reading::Strict, text, &tables) {
+        Ok(loaded) => Ok(loaded.into_only()),
+        Err(fault) => Err(fault.of_only()),
+    }
 }

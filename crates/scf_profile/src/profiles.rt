@@ -1,9 +1,8 @@
 //! The profiles of several architectures.
 
-ghost use Rattle.std.specs.Prelude.{◌≡◌, map, Contains, IfNone, IfSome};
-ghost use Rattle.scf_insn.specs.Architectures.{IsOf};
+ghost use Rattle.std.specs.Prelude.{◌≡◌, [], ◌∷◌, None, Some, length, map, option_map};
 ghost use Rattle.scf_profile.specs.Profile.{AreOfApart};
-ghost use Rattle.scf_profile.specs.ProfileAnswers.{IsOfNone, ProfilesAnswer};
+ghost use Rattle.scf_profile.specs.ProfileAnswers.{OfFirst, ProfilesAnswer};
 ghost use Rattle.scf_profile.specs.Reasons.{IsReasonAmong};
 ghost use Rattle.scf_profile.specs.StatedProfile.{with_stub as stated_with_stub};
 
@@ -38,33 +37,32 @@ impl Profiles {
         Profiles { list }
     }
 
-    /// The profiles, of which that of an architecture, if there is one, has a stub, or none (`Profile::with_stub`).
+    /// The only profile.
+    pub(crate) fn into_only(self) -> Profile
+        requires { length self ≡ 1 }
+        ensures { self ≡ result ∷ [] }
+    {
+        let mut list = self.list;
+        match list.pop() {
+            Some(profile) => profile,
+            None => unreachable!(),
+        }
+    }
+
+    /// The profiles, of which that of an architecture, if there is one, has a stub, or none.
+    /// A stub answers the records of the architecture from a syscall number on, as a record has it, by ENOSYS, whatever
+    /// rules they meet (runc, libcontainer/seccomp/patchbpf).
     pub fn with_stub(self, architecture: Architecture, first: Option<u32>) -> Profiles
         ensures { result ≡ map (stated_with_stub architecture first) self }
     {
         Profiles::from_vec(all_with_stub(self.list, architecture, first))
     }
 
-    /// The profile of the record's architecture, if there is one.
-    pub fn profile_for(&self, call: &CallRecord) -> Option<&Profile>
-        ensures some { IfSome result (λ p. Contains self.now p.now × IsOf p.now.architecture call.now) }
-        ensures none { IfNone result (IsOfNone self.now call.now) }
-    {
-        let profiles = self.as_slice();
-        for profile in profiles {
-            if profile.architecture().has(call) {
-                return Some(profile);
-            }
-        }
-        None
-    }
-
     /// The answer to a record: that of the profile of its architecture, and KILL_PROCESS if there is none.
-    #[tactic(auto, using(crate::specs::ProfileAnswers::by_none, crate::specs::ProfileAnswers::by_profile))]
     pub fn answer(&self, call: &CallRecord) -> Answer
         ensures { ProfilesAnswer self.now call.now result.0 }
     {
-        match self.profile_for(call) {
+        match profile_for(self.as_slice(), call) {
             Some(profile) => profile.answer(call),
             None => FOREIGN_ANSWER,
         }
@@ -75,7 +73,7 @@ impl Profiles {
     pub fn reason(&self, call: &CallRecord) -> Reason
         ensures { IsReasonAmong self.now call.now result }
     {
-        match self.profile_for(call) {
+        match profile_for(self.as_slice(), call) {
             Some(profile) => profile.reason(call),
             None => Reason::Foreign,
         }
@@ -88,6 +86,19 @@ impl Profiles {
     {
         &self.list
     }
+}
+
+/// The first profile of whose architecture a record is, if there is one.
+pub fn profile_for<'p>(profiles: &'p [Profile], call: &CallRecord) -> Option<&'p Profile>
+    ensures { let found = option_map (λ p. p.now) result in
+        OfFirst profiles.now call.now (λ p. found ≡ Some p) (found ≡ None) }
+{
+    for profile in profiles {
+        if profile.architecture().has(call) {
+            return Some(profile);
+        }
+    }
+    None
 }
 
 /// The profiles, of which those of an architecture have a stub, or none.

@@ -2,11 +2,12 @@
 
 ghost use Rattle.std.specs.Prelude.{◌≡◌, ◌<◌, ◌↔◌, IsTrue, IfOk, All};
 ghost use Rattle.scf_insn.specs.Kernel.{seccomp_data_args};
+ghost use Rattle.scf_profile.specs.NumberRules.{Rise, first_value as first_value_of};
 ghost use Rattle.scf_profile.specs.PlainProfile.{IsPlainRule};
 ghost use Rattle.scf_profile.specs.Readings.{is_unconditional as unconditional};
 ghost use Rattle.scf_profile.specs.Rule.{Conflicts, IsRule, all_hold as all_conditions_hold, meets};
 
-use crate::condition::{Condition, Conditions};
+use crate::condition::{Condition, Conditions, Operator};
 use crate::overlap::conditions_overlap;
 use scf_insn::{Answer, Architecture, CallRecord};
 use std::alloc::{AllocError, Global};
@@ -57,6 +58,32 @@ impl Rule {
         ensures { result ≡ meets architecture self.now call.now }
     {
         call.nr == self.number && all_hold(architecture, self.conditions.as_slice(), call)
+    }
+
+    /// Whether the first conditions of both rules want the same argument to have a value, the later rule's no less than
+    /// this one's.
+    pub(crate) fn rises_to(&self, later: &Rule) -> bool
+        ensures { IsTrue result → Rise self.now later.now }
+    {
+        match (self.conditions.as_slice(), later.conditions.as_slice()) {
+            ([first, ..], [second, ..]) => {
+                first.op == Operator::Equal
+                    && second.op == Operator::Equal
+                    && first.index == second.index
+                    && first.value <= second.value
+            }
+            _ => false,
+        }
+    }
+
+    /// The value of the first condition, 0 if there is none.
+    pub fn first_value(&self) -> u64
+        ensures { result ≡ first_value_of self.now }
+    {
+        match self.conditions.as_slice() {
+            [first, ..] => first.value,
+            [] => 0,
+        }
     }
 
     /// Whether some record of an architecture meets both rules and their answers differ.

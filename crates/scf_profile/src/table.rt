@@ -136,6 +136,7 @@ fn add_line<'t>(
 }
 
 /// The entries of a map from names to syscall numbers.
+#[tactic(auto, using(std::proofs::lemmas::Grind::common_steps, scf_insn::proofs::Common::append_assoc))]
 fn entries_of(
     alloc: Global,
     numbers: BTreeMap<Name<'_>, u32>,

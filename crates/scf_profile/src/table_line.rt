@@ -83,12 +83,7 @@ fn is_in_name(byte: u8) -> bool
 fn are_in_name(text: &[u8]) -> bool
     ensures { result ≡ list_all in_name text.now }
 {
-    for byte in text {
-        if !is_in_name(*byte) {
-            return false;
-        }
-    }
-    true
+    text.iter().all(|byte| is_in_name(*byte))
 }
 
 /// Letters, digits and underscores, of which the first is no digit.
@@ -111,7 +106,7 @@ fn call_number(digits: &[u8]) -> Option<u32>
 }
 
 /// The name and number on a line, or its first fault.
-#[tactic(auto, unfolding(crate::specs::Table::pair_of))]
+#[tactic(auto, using(crate::proofs::NamesOf::names_are_text), unfolding(crate::specs::Table::pair_of))]
 pub(crate) fn entry_on(line: usize, text: &[u8]) -> Result<Option<(&str, u32)>, TableFault>
     ensures value { result_map (option_map (λ e. (e.0.now, e.1))) result
         ≡ entry_in line (fields text.now) }

@@ -1,5 +1,5 @@
 -- The command line, as its reader sees it.
-use Rattle.scf_request.proofs.Common.{◌≡◌, ◌&&◌, ◌∙◌, Bool, codes, true, false, not, List, [], ◌∷◌, ◌++◌, Option, Some, ◌<◌, Answers, append-nil, append_assoc, arith, get_or, length, map, option_map, refl, sym, ap, ap₂, and_parts, not-true, find, fold, is_some, option_map_or, built_fault, check_fault, defaults_fault, entered_fault, level_fault, settle_fault, turn_fault, walk_fault, Kinds, or_else, built, entered, inherited, built_leaf, label_of, marked_built, names_of, rows_at, with_leaf_noted, Rule, Walk, answers_to, finished, idle, nothing_held, settled, stop_after, walk, walk_from, walked, AddsSubcommand, App, Shape, app_of, is_simple_and_free, new_app, with_subcommand, Command, clap_on_literals, Asked, command_word, scf, scf_shape, shape_for, ReadsAsProgram, scf_with, All, take, ◌+◌, ℕ, Asm, Ask, Check, Compare, Compile, Decide, Dis, Run, IsNamed, bare, program_of, shape_of, map_more}
+use Rattle.scf_request.proofs.Common.{◌≡◌, ◌&&◌, ◌∙◌, Bool, true, false, not, List, [], ◌∷◌, ◌++◌, Option, Some, ◌<◌, Answers, append-nil, append_assoc, arith, get_or, length, map, option_map, refl, sym, ap, ap₂, and_parts, not-true, find, fold, is_some, option_map_or, built_fault, check_fault, defaults_fault, entered_fault, level_fault, settle_fault, turn_fault, walk_fault, Kinds, or_else, built, entered, inherited, built_leaf, label_of, marked_built, names_of, rows_at, with_leaf_noted, Rule, Walk, answers_to, finished, idle, nothing_held, settled, stop_after, walk, walk_from, walked, AddsSubcommand, App, Shape, app_of, is_simple_and_free, with_subcommand, Command, clap_on_literals, Asked, command_word, scf, scf_shape, shape_for, ReadsAsProgram, scf_with, take, ◌+◌, ℕ, bare, program_of, shape_of, map_more}
 use Rattle.std.proofs.lemmas.List.Sums.{fold_push}
 use Rattle.scf_request.specs.declared.command_line.Definition.{Definition}
 use Rattle.clap.specs.Walk.{Names, Text}

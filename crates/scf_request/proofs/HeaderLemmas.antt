@@ -142,10 +142,6 @@ line_of bs k n front =
     front.whole ∙ ap (λ (xs : List ℕ). xs ++ front.content) front.is_header.text
     ∙ append_assoc line (codes "\n") front.content
 
-pub no_line_end : (bs : List ℕ) (k : PartKind) (n : ℕ) → ((i : ℕ) → i < length bs → get_or bs i 0 ≢ 10)
-    → HasHeader bs k n → ⊥
-no_line_end bs k n none front = is_found 10 bs _ front.content (line_of bs k n front) none
-
 -- it is the first line, which is its word, a blank and its digits
 pub first_line : (bs : List ℕ) (k : PartKind) (n end : ℕ) → end < length bs → get_or bs end 0 ≡ 10
     → ((i : ℕ) → i < end → get_or bs i 0 ≢ 10) → HasHeader bs k n

@@ -4,7 +4,7 @@ use Rattle.std.specs.List.{filter_map, fold}
 use Rattle.std.specs.Option.{option_and_then}
 use Rattle.scf_insn.specs.declared.architecture.Architecture.{Architecture}
 use Rattle.scf_insn.specs.Numbers.{numeral}
-use Rattle.scf_profile.specs.Loading.{LoadsAs, LoadsEachAs}
+use Rattle.scf_profile.specs.Loading.{LoadsEachAs, as_only, only_table}
 use Rattle.scf_profile.specs.Profile.{Profile}
 use Rattle.scf_profile.specs.StatedProfile.{Tables, with_stub}
 use Rattle.scf_profile.specs.Table.{Names}
@@ -25,21 +25,19 @@ by_words = record { reading = Strict; stubs = [] }
 
 -- ---- what is loaded
 
--- what is read, after each stub has been set in the profile of its architecture
-abbrev pub stubbed : {A : Type 0} → (Architecture → Option ℕ → A → A) → List Stub → A → A
-stubbed set stubs stated = fold (λ so_far stub. set stub.architecture (Some stub.first) so_far) stated stubs
+-- the profiles, after each stub has been set in that of its architecture
+abbrev pub stubbed : List Stub → List Profile → List Profile
+stubbed stubs profiles =
+    fold (λ so_far stub. map (with_stub stub.architecture (Some stub.first)) so_far) profiles stubs
 
-abbrev pub each_with_stub : Architecture → Option ℕ → List Profile → List Profile
-each_with_stub architecture first profiles = map (with_stub architecture first) profiles
-
--- what the text and the table state by the reading, with the stubs
-abbrev pub LoadsBy : Interpretation → List ℕ → Names → Loaded → Type 0
-LoadsBy by text table loaded = (stated : Loaded) × LoadsAs by.reading text table stated
-    × (loaded ≡ record stated { profile = stubbed with_stub by.stubs stated.profile })
-
+-- what the text and the tables state by the reading, with the stubs
 abbrev pub LoadsEachBy : Interpretation → List ℕ → Tables → LoadedProfiles → Type 0
 LoadsEachBy by text tables loaded = (stated : LoadedProfiles) × LoadsEachAs by.reading text tables stated
-    × (loaded ≡ record stated { profiles = stubbed each_with_stub by.stubs stated.profiles })
+    × (loaded ≡ record stated { profiles = stubbed by.stubs stated.profiles })
+
+-- with a table of x86-64 alone
+abbrev pub LoadsBy : Interpretation → List ℕ → Names → Loaded → Type 0
+LoadsBy by text table loaded = LoadsEachBy by text (only_table table) (as_only loaded)
 
 -- ---- the stubs of a bundle
 

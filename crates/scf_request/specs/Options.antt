@@ -1,5 +1,5 @@
 -- The options of the program, and the numbers that they spell.
-use Rattle.std.specs.Prelude.{◌≡◌, ◌&&◌, ◌||◌, ℕ, Bool, true, false, ◌-◌, ◌^◌, List, [], ◌∷◌, ◌++◌, codes, bytes_eq, map, find, nat_le, is_none, is_some, Option, Some, None, Result, Ok, Err, option_map, if◌then◌else◌}
+use Rattle.std.specs.Prelude.{◌≡◌, ◌&&◌, ◌||◌, ℕ, Bool, true, false, ◌-◌, ◌^◌, List, [], ◌∷◌, ◌++◌, codes, bytes_eq, map, find, nat_le, not, is_none, is_some, Option, Some, None, Result, Ok, Err, option_map, if◌then◌else◌}
 use Rattle.std.specs.List.{filter_map}
 use Rattle.std.specs.Option.{option_and_then, option_map_or}
 use Rattle.clap.specs.Words.{Row, first_of}
@@ -199,11 +199,20 @@ abbrev pub detail_in : List Row → Detail
 detail_in rows =
     if is_given rows path_flag then Paths else (if is_given rows at_flag then Instruction else Answer)
 
--- The form of a bundle by the flags of other filters and of architectures. None where flags exclude each other: that of
--- architectures those of native calls and of other filters, and beside that of differences a range.
-abbrev pub form_in : List Row → Option BundleForm
-form_in rows =
+-- Flags exclude a walk: that of other filters one without that of differences, and a range one with those of
+-- architectures and of differences.
+abbrev pub excludes_walk : List Row → Bool
+excludes_walk rows =
+    (is_given rows beside_flag && not (is_given rows differences_flag))
+    || (is_given rows architectures_flag && is_given rows differences_flag && has_range rows)
+
+-- the form of the bundle of a profile alone
+abbrev pub form_of_profile : List Row → BundleForm
+form_of_profile rows = if is_given rows architectures_flag then Architectures else Profile
+
+-- That of two sides. None where the flag of architectures stands with that of other filters or of native calls.
+abbrev pub form_of_sides : List Row → Option BundleForm
+form_of_sides rows =
     if is_given rows architectures_flag
-    then (if is_given rows beside_flag || is_given rows native_flag
-    || (is_given rows differences_flag && has_range rows) then None else Some Architectures)
+    then (if is_given rows beside_flag || is_given rows native_flag then None else Some Architectures)
     else Some (if is_given rows beside_flag then Beside (is_given rows calls_flag) else Profile)

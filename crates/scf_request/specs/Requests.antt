@@ -15,7 +15,7 @@ use Rattle.scf_request.specs.declared.request.Command.TheVariants as commands
 use Rattle.scf_request.specs.declared.request.Request.{Request}
 use Rattle.scf_request.specs.declared.request.Scopes.{Scopes}
 use Rattle.scf_request.specs.declared.request.Scopes.TheVariants.{AtOnce, EachCall}
-use Rattle.scf_request.specs.Options.{AsksToCompare, NumberOption, architectures_flag, at_flag, beside_flag, call_options, choice_in, comparison_options, detail_in, differences_flag, examples_flag, exploration_options, first_wrong, flag_names, form_in, has_range, is_given, left_out_flag, native_flag, number_in, numbers_of_comparison, numbers_of_record, path_flag, reading_in, relation_flags, scope_flags}
+use Rattle.scf_request.specs.Options.{AsksToCompare, NumberOption, architectures_flag, at_flag, beside_flag, call_options, choice_in, comparison_options, detail_in, differences_flag, examples_flag, excludes_walk, exploration_options, first_wrong, flag_names, form_of_profile, form_of_sides, has_range, is_given, left_out_flag, native_flag, number_in, numbers_of_comparison, numbers_of_record, path_flag, reading_in, relation_flags, scope_flags}
 
 pub data CommandName : Type 0 where
   Answers Ask Asm Check Compare Compile Decide Dis Run : CommandName
@@ -72,16 +72,24 @@ name_and_numbers (commands.Decide call detail) = (Decide, numbers_of_record call
 name_and_numbers commands.List = (Dis, [])
 name_and_numbers (commands.Run call has_path) = (Run, numbers_of_record call)
 
--- the flags of a command are given, and no other; `answers` takes other filters for differences alone
+-- the flags of a command are given, and no other
 abbrev pub HasFlags : List Row → Command → Type 0
 HasFlags rows (commands.Answers comparison has_examples has_differences) = AsksToCompare rows comparison
     × (is_given rows examples_flag ≡ has_examples) × (is_given rows differences_flag ≡ has_differences)
-    × (is_given rows beside_flag ≡ true → has_differences ≡ true)
+    × (excludes_walk rows ≡ false)
 HasFlags rows (commands.Compare comparison) = AsksToCompare rows comparison
 HasFlags rows (commands.Compile has_left_out) = is_given rows left_out_flag ≡ has_left_out
 HasFlags rows (commands.Decide call detail) = detail ≡ detail_in rows
 HasFlags rows (commands.Run call has_path) = is_given rows path_flag ≡ has_path
 HasFlags rows command = Unit {0}
+
+-- The form of a command's bundle by its flags. None where they exclude each other.
+abbrev pub form_in : CommandName → List Row → Option BundleForm
+form_in Answers rows = form_of_sides rows
+form_in Compare rows = form_of_sides rows
+form_in Ask rows = Some (form_of_profile rows)
+form_in Compile rows = Some (form_of_profile rows)
+form_in name rows = Some forms.Profile
 
 -- A word and the values of options spell a command: it has this name, the options have its numbers, and its flags are
 -- given.
@@ -94,7 +102,7 @@ pub record SpellCommand (word : List ℕ) (rows : List Row) (command : Command) 
 -- They spell a request: its command, the form of its bundle and the reading of a profile.
 pub record SpellRequest (word : List ℕ) (rows : List Row) (request : Request) : Type 0 where
   pub command : SpellCommand word rows request.command
-  pub form : form_in rows ≡ Some request.form
+  pub form : form_in (name_and_numbers request.command).0 rows ≡ Some request.form
   pub reading : reading_in rows ≡ Some request.reading
 
 -- Some call record is one of these.
@@ -122,13 +130,17 @@ pub record IsRequest (word : List ℕ) (rows : List Row) (request : Request) : T
   pub spelled : SpellRequest word rows request
   pub has_record : GoesOverRecord request.form request.command
 
--- Flags of a command exclude each other: two of a group, that of single calls a range, those of a bundle's form, and
--- of `answers` that of other filters with none of differences.
+-- Flags of a comparison exclude each other: two of a group, and that of single calls a range.
+abbrev pub AreExclusiveOfComparison : List Row → Type 0
+AreExclusiveOfComparison rows = (choice_in rows scope_flags ≡ None) ⊎ (choice_in rows relation_flags ≡ None)
+    ⊎ ((has_range rows ≡ true) × (choice_in rows scope_flags ≡ Some EachCall))
+
+-- Flags of `answers` or of `compare` exclude each other, which those of other commands never do.
 abbrev pub AreExclusive : CommandName → List Row → Type 0
-AreExclusive name rows =
-    (choice_in rows scope_flags ≡ None) ⊎ (choice_in rows relation_flags ≡ None)
-    ⊎ ((has_range rows ≡ true) × (choice_in rows scope_flags ≡ Some EachCall)) ⊎ (form_in rows ≡ None)
-    ⊎ ((name ≡ Answers) × (is_given rows beside_flag ≡ true) × (is_given rows differences_flag ≡ false))
+AreExclusive Answers rows =
+    AreExclusiveOfComparison rows ⊎ (form_of_sides rows ≡ None) ⊎ (excludes_walk rows ≡ true)
+AreExclusive Compare rows = AreExclusiveOfComparison rows ⊎ (form_of_sides rows ≡ None)
+AreExclusive name rows = ⊥
 
 -- Why they spell no request: the first option of the command whose text is no number in its range; where there is none,
 -- flags that exclude each other; no command; no reading; the request that they spell goes over no record.

@@ -137,12 +137,7 @@ fn index_of(bytes: &[u8], wanted: u8) -> Option<usize>
     ensures first { IfSome result (λ n. (k : ℕ) → k < n → slice_index bytes.now k ≢ wanted) }
     ensures none { IfNone result ((k : ℕ) → k < length bytes.now → slice_index bytes.now k ≢ wanted) }
 {
-    for (at, byte) in bytes.iter().enumerate() {
-        if *byte == wanted {
-            return Some(at);
-        }
-    }
-    None
+    bytes.iter().position(|byte| *byte == wanted)
 }
 
 /// The kind with this word, of these.
@@ -150,12 +145,7 @@ fn kind_named(kinds: &[PartKind], word: &[u8]) -> Option<PartKind>
     ensures some { IfSome result (λ kind. Contains kinds.now kind × (word.now ≡ kind_word kind)) }
     ensures none { IfNone result ((kind : PartKind) → Contains kinds.now kind → word.now ≢ kind_word kind) }
 {
-    for kind in kinds {
-        if kind.has_word(word) {
-            return Some(*kind);
-        }
-    }
-    None
+    kinds.iter().copied().find(|kind| kind.has_word(word))
 }
 
 /// The header at the beginning, of one of these kinds.

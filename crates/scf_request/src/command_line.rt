@@ -276,12 +276,10 @@ fn commands() -> &'static [Definition]
 fn definition_named(definitions: &[Definition], name: &str) -> Option<Definition>
     ensures { IfSome result (λ definition. Contains definitions.now definition × (name.now ≡ definition.name.now)) }
 {
-    for definition in definitions {
-        if name == definition.name {
-            return Some(*definition);
-        }
-    }
-    None
+    definitions
+        .iter()
+        .copied()
+        .find(|definition| name == definition.name)
 }
 
 /// The program with the command that the arguments name, or with all: defining a command costs more than running one.

@@ -116,6 +116,13 @@ pub struct PartReader<'a> {
 }
 
 impl<'a> PartReader<'a> {
+    /// A reader of these bytes.
+    pub fn new(bytes: &'a [u8]) -> PartReader<'a>
+        ensures { rest_of result ≡ bytes.now }
+    {
+        PartReader { rest: bytes }
+    }
+
     /// The bytes that aren't read yet.
     pub fn rest(&self) -> &'a [u8]
         ensures { result.now ≡ rest_of self.now }

@@ -1,17 +1,17 @@
 //! How a profile is read: by its words or as a runtime does, and with which stubs.
 
-ghost use Rattle.std.specs.Prelude.{◌≡◌, Some, length, map, IfErr, IfOk};
+ghost use Rattle.std.specs.Prelude.{◌≡◌, length, map, IfErr, IfOk};
 ghost use Rattle.scf_profile.specs.Loading.{RefusesAs, RefusesEachAs};
-ghost use Rattle.scf_profile.specs.StatedProfile.{tables_of, with_stub};
-ghost use Rattle.scf_request.specs.Interpretations.{LoadsBy, LoadsEachBy, each_with_stub, stubbed, stub_of as stub_stated, stubs_of as stubs_stated, by_words as words_alone};
+ghost use Rattle.scf_profile.specs.StatedProfile.{tables_of};
+ghost use Rattle.scf_request.specs.Interpretations.{LoadsBy, LoadsEachBy, stubbed, stub_of as stub_stated, stubs_of as stubs_stated, by_words as words_alone};
 ghost use Rattle.scf_request.specs.Contents.{rest_of_table};
 
 use crate::bundle::BundleFault;
 use crate::contents::{PartReader, TableReader};
 use scf_insn::{Architecture, parse_numeral};
 use scf_profile::{
-    ArchitectureTable, CallTable, LoadFault, Loaded, LoadedProfiles, Profile, Profiles, Reading,
-    load_as, load_profiles_as,
+    ArchitectureTable, CallTable, LoadFault, Loaded, LoadedProfiles, Profiles, Reading,
+    load_profiles_as,
 };
 use std::alloc::{AllocError, Global};
 use std::marker::Model;
@@ -82,39 +82,15 @@ impl Interpretation {
         self.stubs.len()
     }
 
-    /// The profile with the stubs of its architecture.
-    fn with_stubs(&self, profile: Profile) -> Profile
-        ensures { result ≡ stubbed with_stub self.now.stubs profile }
-    {
-        let mut profile = profile;
-        for stub in &self.stubs {
-            profile = stub.added_to(profile);
-        }
-        profile
-    }
-
     /// Profiles, each with the stubs of its architecture.
     fn each_with_stubs(&self, profiles: Profiles) -> Profiles
-        ensures { result ≡ stubbed each_with_stub self.now.stubs profiles }
+        ensures { result ≡ stubbed self.now.stubs profiles }
     {
         let mut profiles = profiles;
         for stub in &self.stubs {
             profiles = profiles.with_stub(stub.architecture, Some(stub.first));
         }
         profiles
-    }
-
-    /// Loads a profile from JSON text; a syscall table gives the names their numbers. Errors are those of `load_as`.
-    pub fn load(&self, alloc: Global, text: &[u8], table: &CallTable) -> Result<Loaded, LoadFault>
-        ensures ok { IfOk result (LoadsBy self.now text.now table.now) }
-        ensures err { IfErr result (RefusesAs self.now.reading text.now table.now) }
-    {
-        let stated = load_as(alloc, self.reading(), text, table)?;
-        Ok(Loaded {
-            profile: self.with_stubs(stated.profile),
-            skipped: stated.skipped,
-            other_architectures: stated.other_architectures,
-        })
     }
 
     /// Loads the profile of each architecture that has a table. Errors are those of `load_profiles_as`.
@@ -134,17 +110,19 @@ impl Interpretation {
             other_architectures: stated.other_architectures,
         })
     }
-}
 
-impl Stub {
-    /// The profile with this stub, if it is of the architecture.
-    fn added_to(self, profile: Profile) -> Profile
-        ensures { result ≡ with_stub self.architecture (Some self.first) profile }
+    /// Loads a profile for x86-64 alone: `load_profiles` under its table. In place of `NotListed` comes `NoX8664`.
+    pub fn load(&self, alloc: Global, text: &[u8], table: &CallTable) -> Result<Loaded, LoadFault>
+        ensures ok { IfOk result (LoadsBy self.now text.now table.now) }
+        ensures err { IfErr result (RefusesAs self.now.reading text.now table.now) }
     {
-        if self.architecture.name() == profile.architecture().name() {
-            profile.with_stub(Some(self.first))
-        } else {
-            profile
+        let tables = [ArchitectureTable {
+            architecture: Architecture::X8664,
+            table,
+        }];
+        match self.load_profiles(alloc, text, &tables) {
+            Ok(loaded) => Ok(loaded.into_only()),
+            Err(fault) => Err(fault.of_only()),
         }
     }
 }

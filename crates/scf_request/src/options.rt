@@ -4,10 +4,11 @@ ghost use Rattle.std.specs.Prelude.{◌≡◌, ◌≤◌, ◌++◌, ◌∷◌, [
 ghost use Rattle.std.specs.List.{AllByRecursion};
 ghost use Rattle.clap.specs.Words.{first_of, found_of, rows_of};
 ghost use Rattle.scf_request.specs.Options as table;
+ghost use Rattle.scf_request.specs.Requests.{form_in, name_and_numbers};
 ghost use Rattle.scf_request.specs.internal.Parsing.{flags_in, option_of, options_kept};
 
 use crate::bundle::BundleForm;
-use crate::request::{Detail, Limits, Scopes};
+use crate::request::{Command, Detail, Limits, Scopes};
 use crate::request_fault::RequestFault;
 use clap::ArgMatches;
 use scf_insn::kernel::AUDIT_ARCH_X86_64;
@@ -335,24 +336,53 @@ pub(crate) fn has_range(matches: &ArgMatches<'_>) -> bool
     matches.get_str(FIRST_NUMBER).is_some() || matches.get_str(LAST_NUMBER).is_some()
 }
 
-/// The form of the bundle that the flags ask for. None if they exclude each other: the tables of several architectures
-/// stand without the flag of native calls, without other filters and, where two sides are walked, without a range.
-pub(crate) fn form_of(matches: &ArgMatches<'_>) -> Option<BundleForm>
-    ensures { result ≡ table.form_in (rows_of (found_of matches.now)) }
+/// Whether flags exclude a walk: other filters without differences, or a range of the differences of several
+/// architectures.
+pub(crate) fn excludes_walk(matches: &ArgMatches<'_>) -> bool
+    ensures { result ≡ table.excludes_walk (rows_of (found_of matches.now)) }
+{
+    let has_differences = is_given(matches, DIFFERENCES_FLAG);
+    (is_given(matches, BESIDE_FLAG) && !has_differences)
+        || (is_given(matches, ARCHITECTURES_FLAG) && has_differences && has_range(matches))
+}
+
+/// The form of the bundle of a profile alone.
+fn form_of_profile(matches: &ArgMatches<'_>) -> BundleForm
+    ensures { result ≡ table.form_of_profile (rows_of (found_of matches.now)) }
+{
+    if is_given(matches, ARCHITECTURES_FLAG) {
+        BundleForm::Architectures
+    } else {
+        BundleForm::Profile
+    }
+}
+
+/// The form of the bundle of two sides. None if the flag of architectures stands with that of other filters or of
+/// native calls.
+fn form_of_sides(matches: &ArgMatches<'_>) -> Option<BundleForm>
+    ensures { result ≡ table.form_of_sides (rows_of (found_of matches.now)) }
 {
     let has_beside = is_given(matches, BESIDE_FLAG);
     if is_given(matches, ARCHITECTURES_FLAG) {
-        let has_range_of_each = is_given(matches, DIFFERENCES_FLAG) && has_range(matches);
-        let is_excluded = has_beside || is_given(matches, NATIVE_FLAG) || has_range_of_each;
+        let is_excluded = has_beside || is_given(matches, NATIVE_FLAG);
         return (!is_excluded).then_some(BundleForm::Architectures);
     }
+    if !has_beside {
+        return Some(BundleForm::Profile);
+    }
     let has_table = is_given(matches, CALLS_FLAG);
-    let beside = BundleForm::Beside { has_table };
-    Some(if has_beside {
-        beside
-    } else {
-        BundleForm::Profile
-    })
+    Some(BundleForm::Beside { has_table })
+}
+
+/// The form of the bundle that a command takes by its flags. None if they exclude each other.
+pub(crate) fn form_of(matches: &ArgMatches<'_>, command: &Command) -> Option<BundleForm>
+    ensures { result ≡ form_in (name_and_numbers command.now).0 (rows_of (found_of matches.now)) }
+{
+    match command {
+        Command::Answers { .. } | Command::Compare(_) => form_of_sides(matches),
+        Command::Ask(_) | Command::Compile { .. } => Some(form_of_profile(matches)),
+        _ => Some(BundleForm::Profile),
+    }
 }
 
 /// What the flags ask `decide` to print.

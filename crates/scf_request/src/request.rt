@@ -13,12 +13,12 @@ ghost use Rattle.scf_request.specs.Options.{
   numbers_of_record,
   range_options,
 };
-ghost use Rattle.scf_request.specs.Requests.{AreExclusive, AsksFor, CommandName, IsRequest, SpellCommand, SpellNone, command_word, options_read};
+ghost use Rattle.scf_request.specs.Requests.{AreExclusiveOfComparison, AsksFor, CommandName, IsRequest, SpellCommand, SpellNone, command_word, options_read};
 
 use crate::bundle::BundleForm;
 use crate::options::{
-    BESIDE_FLAG, DIFFERENCES_FLAG, EXAMPLES_FLAG, LEFT_OUT_FLAG, PATH_FLAG, RELATION_FLAGS,
-    SCOPE_FLAGS, chosen_flag, comparison_numbers, detail_of, form_of, has_range, is_given,
+    DIFFERENCES_FLAG, EXAMPLES_FLAG, LEFT_OUT_FLAG, PATH_FLAG, RELATION_FLAGS, SCOPE_FLAGS,
+    chosen_flag, comparison_numbers, detail_of, excludes_walk, form_of, has_range, is_given,
     reading_in, record_of,
 };
 use crate::records::goes_over_record;
@@ -115,8 +115,7 @@ fn scopes_of(options: &ArgMatches<'_>, first: u32, last: u32) -> Result<Scopes, 
         → IfOk result (λ over. map Some (numbers_of_range over)
         ≡ map (number_in (rows_of (found_of options.now))) range_options) }
     ensures flags { IfErr result (λ fault. fault ≡ RequestFault.Flags) }
-    ensures exclusive { IfErr result (λ fault.
-        (name : CommandName) → AreExclusive name (rows_of (found_of options.now))) }
+    ensures exclusive { IfErr result (λ fault. AreExclusiveOfComparison (rows_of (found_of options.now))) }
 {
     let scopes = chosen_flag(options, &SCOPE_FLAGS, Scopes::AtOnce(Scope::All))?;
     if !has_range(options) {
@@ -157,14 +156,13 @@ fn answers_of(options: &ArgMatches<'_>) -> Result<Command, RequestFault>
     ensures fault { IfErr result (SpellNone (codes "answers") (rows_of (found_of options.now))) }
 {
     let comparison = comparison_of(options)?;
-    let has_differences = is_given(options, DIFFERENCES_FLAG);
-    if is_given(options, BESIDE_FLAG) && !has_differences {
+    if excludes_walk(options) {
         return Err(RequestFault::Flags);
     }
     Ok(Command::Answers {
         comparison,
         has_examples: is_given(options, EXAMPLES_FLAG),
-        has_differences,
+        has_differences: is_given(options, DIFFERENCES_FLAG),
     })
 }
 
@@ -217,7 +215,7 @@ fn request_named(name: &str, options: &ArgMatches<'_>) -> Result<Request, Reques
         return Err(RequestFault::Reading);
     };
     let command = command_of(name, options)?;
-    let Some(form) = form_of(options) else {
+    let Some(form) = form_of(options, &command) else {
         return Err(RequestFault::Flags);
     };
     if !goes_over_record(form, command) {

@@ -1,7 +1,6 @@
 -- Where the parts of a line stand in the text.
 use Rattle.scf_text.proofs.Common.{◌≡◌, ℕ, ◌+◌, ◌-◌, ◌<◌, ◌≤◌, false, List, [], ◌∷◌, ◌++◌, length, take, drop, Option, Some, None, Result, Ok, Err, IfOk, refl, sym, ap, ◌∙◌, append_assoc, append-nil, arith, inl, inr, filter-append, take_while, take_rest, drop-append-add, cases_Bool, MatchOption, Bor, drop-drop, drop-append-le, take-add, take-append-le, take-append-add, take-append-drop, length-append, length-drop, length-filter, is_word_byte, count_ends, begins_in_word, before_comment, IsLinePart, IsBehind, FollowsBehind, LiesBehind, name_at, line_at, index_after, nat_tests}
 use Rattle.scf_text.specs.declared.part.Next.{Next}
-use Rattle.scf_text.specs.declared.part.Next.TheVariants as next
 use Rattle.scf_text.proofs.TokenLemmas.{prefix_more, comment_of}
 use Rattle.std.proofs.lemmas.Grind.{common_steps}
 
@@ -10,9 +9,7 @@ count_append xs ys = grind (arith, common_steps, nat_tests, length-filter, filte
 
 lines_before : (text bytes : List ℕ) (index n : ℕ) → take n (drop index text) ≡ bytes
     → line_at text (index + n) ≡ line_at text index + count_ends bytes
-lines_before text bytes index n e =
-    rw (take-add index n text)
-    (omega (arith, count_append (take index text) (take n (drop index text)), ap count_ends e))
+lines_before text bytes index n e = grind (arith, common_steps, take-add, count_append, take, drop)
 
 rest_whole : (text part behind : List ℕ) (start n : ℕ) → drop start text ≡ part ++ behind → n ≤ length part
     → drop (start + n) text ≡ drop n part ++ behind
@@ -117,14 +114,7 @@ rest_len {part} b = ap length b.is ∙ length-drop b.start part
 
 behind_behind : {part remaining end : List ℕ} {index : ℕ} → IsBehind part index remaining → IsBehind remaining 0 end
     → IsBehind part index end
-behind_behind {part} b d =
-    let len = rest_len b in
-    record {
-      start = b.start + d.start;
-      later = omega arith;
-      within = omega arith;
-      is = d.is ∙ ap (drop d.start) b.is ∙ drop-drop d.start b.start part;
-    }
+behind_behind {part} b d = grind (arith, common_steps, rest_len, drop, drop-drop)
 
 pub follows_behind : {part remaining : List ℕ} {index : ℕ} (after : Option (Bor (List ℕ))) → IsBehind part index remaining
     → FollowsBehind remaining 0 after → FollowsBehind part index after

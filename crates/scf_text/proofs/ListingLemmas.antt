@@ -28,9 +28,7 @@ no_prefix ds h = grind (arith, common_steps, nat_tests, and_right, digit_from_va
 
 pub decimal_is : (n : ℕ) → n < 2 ^ 32 → number_of (decimal n) ≡ Some n
 unfolding number_of
-decimal_is n lt =
-    let h = digits_is_IsNumeral 10 false (omega arith) (omega arith) n (omega arith) in
-    rw (no_prefix (decimal n) h.0.1) (numeral_is 10 (decimal n) n h)
+decimal_is n lt = grind (arith, common_steps, digits_is_IsNumeral, false, no_prefix, numeral_is)
 
 -- the last four hexadecimal digits
 abbrev four_digits : ℕ → List ℕ

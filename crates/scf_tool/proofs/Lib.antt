@@ -3,8 +3,8 @@ pub mod CallLemmas
 pub mod Common
 pub mod DifferenceLemmas
 pub mod ExplorationLemmas
-mod InputLemmas
 pub mod NumeralLemmas
+pub mod PlanLemmas
 mod RunLemmas
 pub mod ScopeLemmas
 pub mod SideLemmas

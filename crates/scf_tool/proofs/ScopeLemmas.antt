@@ -1,5 +1,5 @@
 -- Whether scopes have records under the tables of a bundle.
-use Rattle.std.proofs.Common.{Bool, HoldsAt, IsTrue, MatchBool, None, Option, Some, false, subst, true, ◌<◌, ◌↔◌}
+use Rattle.std.proofs.Common.{Bool, HoldsAt, IsTrue, MatchBool, None, Option, Some, false, true, ◌<◌, ◌↔◌}
 use Rattle.std.proofs.lemmas.Bool.{false≢true}
 use Rattle.std.proofs.lemmas.List.{get_or-map, length-map}
 use Rattle.std.proofs.lemmas.List.Elements.{All-contains, All-from_all_within, All-map}
@@ -8,16 +8,19 @@ use Rattle.std.specs.FinMap.{get}
 use Rattle.scf_insn.specs.declared.architecture.Architecture.{Architecture}
 use Rattle.scf_profile.specs.NamedCalls.{AreCallsOf}
 use Rattle.scf_profile.specs.Scope.{IsInScope}
-use Rattle.scf_profile.specs.Table.{Names, table_of}
+use Rattle.scf_profile.specs.Table.{Names}
 use Rattle.scf_profile.specs.declared.named_call.NamedCall.{NamedCall}
 use Rattle.scf_profile.specs.declared.scope.Scope.{Scope}
 use Rattle.scf_request.specs.Contents.{rest_of_table}
 use Rattle.scf_request.specs.Requests.{HasRecord}
 use Rattle.scf_request.specs.declared.contents.TableReader.{TableReader}
-use Rattle.scf_tool.proofs.Common.{List, Ok, PartReader, [], ap, arith, get_or, length, map, refl, rest_of, sym, ◌∙◌, ◌∷◌, ◌≡◌, ◌≢◌, ℕ}
+use Rattle.scf_tool.proofs.Common.{List, Ok, PartReader, [], arith, get_or, length, map, refl, sym, ◌∙◌, ◌∷◌, ◌≡◌, ◌≢◌, ℕ}
 use Rattle.scf_request.specs.declared.request.Scopes.TheVariants.{AtOnce}
-use Rattle.scf_tool.specs.ArchitectureScopes.{HasRecordAmong, NameNoCall, NamesNoCall, scope_of}
-use Rattle.scf_tool.specs.Commands.{GoesOver, GoesOverNone}
+use Rattle.scf_tool.specs.ArchitectureScopes.{HasRecordAmong, NameNoCall, scope_of}
+use Rattle.scf_profile.specs.StatedProfile.{Tables}
+use Rattle.scf_tool.proofs.Common.{AllZip}
+use Rattle.scf_tool.specs.Inputs.{SpellsTable}
+use Rattle.scf_tool.specs.Commands.{AreCounts, GoesOver, GoesOverNone}
 use Rattle.scf_tool.specs.declared.fault.Fault.TheVariants.{Range}
 
 -- ---- architectures
@@ -61,39 +64,45 @@ some_named names [] name (Some number) are none is =
     let listed = (are.exact number).1 (name, is) in absurd (omega (arith, listed.1))
 some_named names (call ∷ calls) name number are none is = absurd (omega (arith, none))
 
-pub no_calls : (text : List ℕ) (names : Names) (calls : List NamedCall) → table_of text ≡ Ok names
-    → AreCallsOf names calls → length calls ≡ 0 → NamesNoCall text
-no_calls text names calls is are none = (names, is, λ name. some_named names calls name (get names name) are none refl)
+module _ (texts : List (Architecture × List ℕ)) (table : Architecture × Names) (calls : List NamedCall)
+    (spelled : AllZip SpellsTable texts (table ∷ [])) (are : AreCallsOf table.1 calls) where
+  -- a table without a call names none
+  pub no_calls : length calls ≡ 0 → NameNoCall texts
+  no_calls none = by_text texts spelled
+    where
+      by_text : (texts : List (Architecture × List ℕ)) → AllZip SpellsTable texts (table ∷ []) → NameNoCall texts
+      by_text [] each = absurd each
+      by_text (text ∷ []) each =
+          (text, refl, (table.1, each.0.1, λ name. some_named table.1 calls name (get table.1 name) are none refl))
+      by_text (text ∷ second ∷ texts) each = absurd each.1
 
-pub some_calls : (text : List ℕ) (names : Names) (calls : List NamedCall) → table_of text ≡ Ok names
-    → AreCallsOf names calls → NamesNoCall text → length calls ≡ 0
-some_calls text names [] is are none = refl
-some_calls text names (call ∷ calls) is are (others, states, none) =
-    let named = (are.exact call.number).0 (0, omega arith, refl) in
-    let has = named.1 in
-    let lacks = none named.0 in
-    absurd (cc)
+  pub some_calls : NameNoCall texts → length calls ≡ 0
+  some_calls (only, is, names) = by_calls calls are
+    where
+      stated : AllZip SpellsTable (only ∷ []) (table ∷ [])
+      stated = rw is at spelled
 
--- the text of the only table
-pub only_names_none : (tables : List (TableReader PartReader)) (default : TableReader PartReader) (text : List ℕ)
-    → length tables ≡ 1 → text ≡ rest_of (get_or tables 0 default).reader
-    → NamesNoCall text ↔ NameNoCall (map rest_of_table tables)
-only_names_none [] default text count is = absurd (omega (arith, count))
-only_names_none (table ∷ []) default text count is = (
-  λ none. (rest_of_table table, refl, subst NamesNoCall is none),
-  λ none.
-      let only = none.1 in
-      let same : rest_of_table table ≡ none.0 = cc in
-      subst NamesNoCall (ap (λ (text : Architecture × List ℕ). text.1) (sym same) ∙ sym is) none.2,
-)
-only_names_none (table ∷ second ∷ tables) default text count is = absurd (omega (arith, count))
+      same : names.0 ≡ table.1
+      same = let one : Ok names.0 ≡ Ok table.1 = sym names.1 ∙ stated.0.1 in cc
+
+      by_calls : (calls : List NamedCall) → AreCallsOf table.1 calls → length calls ≡ 0
+      by_calls [] are = refl
+      by_calls (call ∷ calls) are =
+          let named = (are.exact call.number).0 (0, omega arith, refl) in
+          let has = named.1 in
+          let lacks = rw same at (names.2 named.0) in
+          absurd (cc)
 
 -- several tables or none aren't one without a call
-pub not_only : (tables : List (TableReader PartReader)) → length tables ≢ 1
-    → NameNoCall (map rest_of_table tables) → ⊥
-not_only [] several (table, is, none) = absurd (cc)
-not_only (table ∷ []) several none = several refl
-not_only (table ∷ second ∷ tables) several (only, is, none) = absurd (cc)
+pub not_only : (texts : List (Architecture × List ℕ)) (tables : Tables) → AllZip SpellsTable texts tables
+    → length tables ≢ 1 → NameNoCall texts → ⊥
+not_only texts [] each several (only, is, none) = rw is at each
+not_only texts (table ∷ []) each several none = several refl
+not_only texts (table ∷ second ∷ tables) each several (only, is, none) = (rw is at each).1
+
+-- texts that aren't all tables aren't one without a call
+pub not_valid : (texts : List (Architecture × List ℕ)) → (AreCounts texts → ⊥) → NameNoCall texts → ⊥
+not_valid texts invalid (only, is, names) = invalid ((only.0, names.0) ∷ [], rw is ((refl, names.1), tt))
 
 -- a scope without a record under the tables
 pub none_under : (of_each : Bool) (scope : Scope) (tables : List (Architecture × List ℕ))

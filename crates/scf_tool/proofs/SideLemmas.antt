@@ -1,42 +1,31 @@
 -- Sides that are read, and what the comparer is given of them.
 use Rattle.scf_compare.specs.declared.side.Side.{Side}
 use Rattle.scf_compare.specs.declared.side.Side.TheVariants as sides
-use Rattle.scf_compare.specs.Sides.{Behavior, behavior_of, profile_behavior, profiles_behavior, stack_behavior}
+use Rattle.scf_compare.specs.Sides.{Behavior, behavior_of, profiles_behavior, stack_behavior}
 use Rattle.scf_profile.specs.Profile.{Profile}
-use Rattle.scf_tool.proofs.Common.{Bool, Insn, List, None, Some, arith, false, get_or, true, [], length, map, refl, subst, sym, ◌∷◌, ◌≡◌, ◌≢◌}
-use Rattle.scf_tool.specs.Inputs.{HasStackOf, SideBytes, behavior_of_input, behavior_of_profiles, named_of, native_table}
+use Rattle.scf_tool.proofs.Common.{Bool, Insn, List, None, Some, arith, false, get_or, true, [], length, map, refl, subst, ◌∷◌, ◌≡◌, ◌≢◌}
+use Rattle.scf_tool.specs.Inputs.{HasStackOf, IsSideOf, SideBytes, behavior_of_input, named_of, native_table}
 use Rattle.scf_tool.specs.Inputs.SideBytes.{OfFilters, OfProfile}
 use Rattle.scf_tool.specs.declared.owned_table.OwnedTable.{OwnedTable}
 use Rattle.scf_tool.specs.declared.sides.OpenSide.{OpenSide}
 use Rattle.scf_tool.specs.declared.sides.OpenSide.TheVariants as opens
 use Rattle.scf_tool.specs.declared.sides.SideInput.{SideInput}
 use Rattle.scf_tool.specs.declared.sides.SideInput.TheVariants as inputs
-use Rattle.scf_tool.specs.internal.Sides.{IsOpen, IsSideOf}
+use Rattle.scf_tool.specs.internal.Sides.{IsOpen}
 
 module _ (P : Behavior → Type 0) where
-  -- several profiles are a side of several
-  whole : (profiles : List Profile) → length profiles ≢ 1 → P (profiles_behavior profiles)
-      → P (behavior_of_profiles profiles)
-  whole [] several holds = holds
-  whole (p ∷ []) several holds = absurd (several refl)
-  whole (p ∷ q ∷ more) several holds = holds
-
   -- what holds of the comparer's side holds of the one that is read
   pub of_side : (input : SideInput) (side : Side) → IsSideOf input side → P (behavior_of side)
       → P (behavior_of_input input)
   of_side (inputs.Stack stack) (sides.Stack filters) is holds =
       subst (λ (s : List (List Insn)). P (stack_behavior s)) is holds
-  of_side (inputs.Stack stack) (sides.Profile p) is holds = absurd is
   of_side (inputs.Stack stack) (sides.Profiles profiles) is holds = absurd is
   of_side (inputs.Profile loaded) (sides.Stack filters) is holds = absurd is
-  of_side (inputs.Profile loaded) (sides.Profile p) is holds =
-      subst (λ (q : Profile). P (profile_behavior q)) is holds
-  of_side (inputs.Profile loaded) (sides.Profiles profiles) is holds = absurd is
+  of_side (inputs.Profile loaded) (sides.Profiles profiles) is holds =
+      subst (λ (ps : List Profile). P (profiles_behavior ps)) is holds
   of_side (inputs.Profiles loaded) (sides.Stack filters) is holds = absurd is
-  of_side (inputs.Profiles loaded) (sides.Profile p) is holds =
-      subst (λ (ps : List Profile). P (behavior_of_profiles ps)) (sym is) holds
   of_side (inputs.Profiles loaded) (sides.Profiles profiles) is holds =
-      whole loaded.profiles is.1 (subst (λ (ps : List Profile). P (profiles_behavior ps)) is.0 holds)
+      subst (λ (ps : List Profile). P (profiles_behavior ps)) is holds
 
 -- the filters of a side that is open are a stack
 pub open_has_stack : (bytes : SideBytes) (side : OpenSide) → IsOpen bytes side → HasStackOf bytes

@@ -1,28 +1,31 @@
 -- Tables of several architectures, one after another.
 use Rattle.scf_tool.proofs.Common.{◌≡◌, ◌≢◌, ℕ, ◌+◌, ◌<◌, Bool, true, false, List, [], ◌∷◌, ◌++◌, length, get_or, take, drop, map, Ok, Err, refl, sym, subst, ap, ◌∙◌, arith, drop_more, map-append, take_more, take-append-drop, AllZip, PartReader, VerifyFault}
+use Rattle.std.proofs.lemmas.List.Elements.{All-head, All-tail}
 use Rattle.std.proofs.lemmas.List.Sums.{sum_by-cons}
 use Rattle.std.proofs.lemmas.Slice.Zip.{all_zipped_more}
-use Rattle.std.specs.Prelude.{count_by}
+use Rattle.std.specs.Prelude.{All, count_by}
 use Rattle.scf_insn.specs.Architectures.{row_of}
 use Rattle.scf_profile.specs.Table.{table_of}
 use Rattle.scf_profile.specs.StatedProfile.{is_named}
 use Rattle.scf_profile.specs.declared.table_fault.TableFault.{TableFault}
 use Rattle.scf_profile.specs.declared.table_fault.TableFault.TheVariants as faults
-use Rattle.scf_request.specs.Contents.{rest_of_table, texts_for}
+use Rattle.scf_request.specs.Contents.{rest_of, rest_of_table, texts_for}
 use Rattle.scf_request.specs.Interpretations.{Interpretation}
 use Rattle.scf_compare.specs.Sides.{Behavior}
 use Rattle.scf_request.specs.declared.request.Comparison.{Comparison}
 use Rattle.scf_tool.specs.Commands.{AreCounts, CantLoadEach}
-use Rattle.scf_tool.specs.Comparisons.{AreFoundOfTable}
-use Rattle.scf_tool.specs.JointFindings.{AreCallsOfOnly}
+use Rattle.scf_request.specs.declared.request.Scopes.TheVariants.{EachCall}
+use Rattle.scf_tool.specs.JointFindings.{AreFindings}
 use Rattle.scf_tool.specs.declared.findings.CallFinding.{CallFinding}
+use Rattle.scf_tool.specs.declared.findings.Findings.TheVariants as Findings
+use Rattle.scf_tool.specs.declared.sides.SideInput.{SideInput}
+use Rattle.std.specs.Global.{Vec}
 use Rattle.scf_tool.specs.Inputs.{HasNoTable, IsNoTableOf, IsShort, IsTableOf, SpellsTable, named_of}
 use Rattle.scf_tool.specs.declared.owned_table.OwnedTable.{OwnedTable}
 use Rattle.scf_insn.specs.declared.architecture.Architecture.{Architecture}
 use Rattle.scf_profile.specs.StatedProfile.{Tables}
 use Rattle.scf_profile.specs.Table.{Names}
 use Rattle.scf_request.specs.declared.contents.TableReader.{TableReader}
-use Rattle.scf_tool.specs.VerifyingArchitectures.{table_text}
 use Rattle.scf_tool.specs.declared.verify_fault.VerifyFault.TheVariants.{Check, FilterRead, Memory, Profile as ProfileFault, ProfileRead, Stack, Table, TableRead}
 
 -- ---- tables in memory
@@ -63,43 +66,34 @@ module _ {P A : Type 0} (text : P → A) (parts : List P) (i : ℕ) (d : P) (lt 
       let names : map named_of pushed ≡ map named_of owned ++ named_of last ∷ [] =
       ap (map named_of) added ∙ map-append named_of owned (last ∷ []) in
       rw (one_text_more, names)
-      (all_zipped_more IsOf (map text (take i parts)) (map named_of owned) (text (get_or parts i d)) (named_of last) before
-      is_table)
+      (all_zipped_more IsOf (map text (take i parts)) (map named_of owned) (text (get_or parts i d)) (named_of last)
+      before is_table)
 
-module _ {R : Type 0} (is_limited : Bool) (text : R → List ℕ) (parts : List (TableReader R)) (i : ℕ)
-    (part : TableReader R) (lt : i < length parts) (is : part ≡ get_or parts i part) (owned : List OwnedTable)
-    (before : AllZip (IsTableOf is_limited) (map (table_text text) (take i parts)) (map named_of owned)) where
+module _ (is_limited : Bool) (parts : List (TableReader PartReader)) (i : ℕ) (d : TableReader PartReader)
+    (lt : i < length parts) (owned : List OwnedTable)
+    (before : AllZip (IsTableOf is_limited) (map rest_of_table (take i parts)) (map named_of owned)) where
   -- one more part is a table
   pub part_more : (pushed : List OwnedTable) (names : Names)
-      → pushed ≡ owned ++ record { architecture = part.architecture; table = names } ∷ []
-      → IsShort is_limited (text part.reader) → table_of (text part.reader) ≡ Ok names
-      → AllZip (IsTableOf is_limited) (map (table_text text) (take (i + 1) parts)) (map named_of pushed)
+      → pushed ≡ owned ++ record { architecture = (get_or parts i d).architecture; table = names } ∷ []
+      → IsShort is_limited (rest_of (get_or parts i d).reader) → table_of (rest_of (get_or parts i d).reader) ≡ Ok names
+      → AllZip (IsTableOf is_limited) (map rest_of_table (take (i + 1) parts)) (map named_of pushed)
   part_more pushed names added short stated =
-      let last : OwnedTable = record { architecture = part.architecture; table = names } in
-      let here : IsTableOf is_limited (table_text text part) (named_of last) = (short, (refl, stated)) in
-      one_table_more (table_text text) parts i part lt (IsTableOf is_limited) owned pushed last before added
-      (subst (λ (own : TableReader R). IsTableOf is_limited (table_text text own) (named_of last)) is here)
+      let last : OwnedTable = record { architecture = (get_or parts i d).architecture; table = names } in
+      one_table_more rest_of_table parts i d lt (IsTableOf is_limited) owned pushed last before added
+      (short, (refl, stated))
 
   -- one isn't
-  pub no_part : (fault : VerifyFault) → IsNoTableOf is_limited (text part.reader) fault
-      → HasNoTable is_limited (map (table_text text) parts) fault
-  no_part fault refused =
-      let read : List (Architecture × List ℕ) = map (table_text text) (take i parts) in
-      let own : Architecture × List ℕ = table_text text (get_or parts i part) in
-      let later : List (Architecture × List ℕ) = map (table_text text) (drop (i + 1) parts) in
-      let split : map (table_text text) parts ≡ read ++ own ∷ later = texts_split (table_text text) parts i part lt in
-      let are = before in
-      let reason : IsNoTableOf is_limited own.1 fault =
-      subst (λ (reader : TableReader R). IsNoTableOf is_limited (text reader.reader) fault) is refused in
-      record {
-        before = read;
-        text = own;
-        behind = later;
-        whole = split;
-        tables = map named_of owned;
-        are_tables = are;
-        why = reason;
-      }
+  pub no_part : (fault : VerifyFault) → IsNoTableOf is_limited (rest_of (get_or parts i d).reader) fault
+      → HasNoTable is_limited (map rest_of_table parts) fault
+  no_part fault refused = record {
+    before = map rest_of_table (take i parts);
+    text = rest_of_table (get_or parts i d);
+    behind = map rest_of_table (drop (i + 1) parts);
+    whole = texts_split rest_of_table parts i d lt;
+    tables = map named_of owned;
+    are_tables = before;
+    why = refused;
+  }
 
 -- lists of which one is no table aren't counts of calls
 pub no_counts : (before : List (Architecture × List ℕ)) (own : Architecture × List ℕ)
@@ -121,6 +115,18 @@ spelled is_limited [] [] each = each
 spelled is_limited [] (table ∷ tables) each = absurd each
 spelled is_limited (text ∷ texts) [] each = absurd each
 spelled is_limited (text ∷ texts) (table ∷ tables) each = (each.0.1, spelled is_limited texts tables each.1)
+
+-- what is a table however long texts may be is one within a limit
+pub limited : (is_limited : Bool) (texts : List (Architecture × List ℕ)) (tables : Tables)
+    → AllZip SpellsTable texts tables → All (λ text. IsShort is_limited text.1) texts
+    → AllZip (IsTableOf is_limited) texts tables
+limited is_limited [] [] each short = each
+limited is_limited [] (table ∷ tables) each short = absurd each
+limited is_limited (text ∷ texts) [] each short = absurd each
+limited is_limited (text ∷ texts) (table ∷ tables) each short = (
+  (All-head (λ text. IsShort is_limited text.1) text texts short, each.0),
+  limited is_limited texts tables each.1 (All-tail (λ text. IsShort is_limited text.1) text texts short),
+)
 
 -- why texts aren't loaded
 pub cant_load : (by : Interpretation) (profile : List ℕ) (texts : List (Architecture × List ℕ)) (fault : VerifyFault)
@@ -158,17 +164,24 @@ not_counts texts Memory other none counts = none.why
 
 -- ---- the calls of the only table
 
-module _ (comparison : Comparison) (left right : Behavior) where
-  pub of_only : (tables : List OwnedTable) (only : OwnedTable) (calls : List CallFinding) → length tables ≡ 1
-      → only ≡ get_or tables 0 only
-      → AreFoundOfTable comparison.relation only.architecture left right only.table comparison.limits calls
-      → AreCallsOfOnly comparison (map named_of tables) left right calls
-  of_only [] only calls count is are = absurd (omega (arith, count))
-  of_only (table ∷ []) only calls count is are = rw is at are
-  of_only (table ∷ second ∷ tables) only calls count is are = absurd (omega (arith, count))
+-- what holds of the only table
+pub of_only : (P : Tables → Type 0) (tables : List OwnedTable) (only : OwnedTable) → length tables ≡ 1
+    → only ≡ get_or tables 0 only → P (named_of only ∷ []) → P (map named_of tables)
+of_only P [] only count is holds = absurd (omega (arith, count))
+of_only P (table ∷ []) only count is holds = subst (λ (own : OwnedTable). P (named_of own ∷ [])) is holds
+of_only P (table ∷ second ∷ tables) only count is holds = absurd (omega (arith, count))
 
-  pub of_others : (tables : List OwnedTable) (calls : List CallFinding) → length tables ≢ 1 → calls ≡ []
-      → AreCallsOfOnly comparison (map named_of tables) left right calls
-  of_others [] calls several none = none
-  of_others (table ∷ []) calls several none = absurd (several refl)
-  of_others (table ∷ second ∷ tables) calls several none = none
+-- it, with its architecture
+pub only_named : (tables : List OwnedTable) (default : OwnedTable) → length tables ≡ 1
+    → map named_of tables ≡ named_of (get_or tables 0 default) ∷ []
+only_named [] default count = absurd (omega (arith, count))
+only_named (table ∷ []) default count = refl
+only_named (table ∷ second ∷ tables) default count = absurd (omega (arith, count))
+
+-- several tables, or none, have no calls that are compared
+pub of_others : (comparison : Comparison) (left : Behavior) (right : SideInput) (tables : List OwnedTable)
+    (calls : Vec CallFinding) → length tables ≢ 1 → calls.items ≡ []
+    → AreFindings comparison EachCall left right (map named_of tables) (Findings.EachCall calls)
+of_others comparison left right [] calls several none = none
+of_others comparison left right (table ∷ []) calls several none = absurd (several refl)
+of_others comparison left right (table ∷ second ∷ tables) calls several none = none

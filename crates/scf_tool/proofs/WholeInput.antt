@@ -6,6 +6,7 @@ use Rattle.scf_profile.specs.declared.reading.Reading.{Reading}
 use Rattle.scf_request.specs.declared.bundle.BundleForm.{BundleForm}
 use Rattle.scf_request.specs.declared.request.Command.{Command}
 use Rattle.scf_request.specs.declared.request.Command.TheVariants as commands
+use Rattle.scf_request.specs.declared.request.Detail.TheVariants as details
 use Rattle.scf_request.specs.declared.request.Scopes.{Scopes}
 use Rattle.scf_request.specs.declared.request.Scopes.TheVariants.{AtOnce, EachCall}
 use Rattle.scf_tool.proofs.Common.{Bool, Err, Fault, HasEnded, List, Ok, Option, ReadsInput, Reply, Result, false, inl, inr, refl, subst, true, ◌≡◌, ◌≢◌, ℕ}
@@ -59,13 +60,14 @@ not_refused over inputs fault (inr (inr (goes, why, is, refused))) = absurd (cc)
 
 not_replied : (command : Command) (sides : SidesInput) (fault : InputFault)
     → RepliesTo command sides (Err (faults.Input fault)) → ⊥
-not_replied (commands.Answers comparison has_examples false) sides fault replied = replied
-not_replied (commands.Answers comparison has_examples true) sides fault replied = replied
-not_replied (commands.Ask call) sides fault replied = replied
-not_replied (commands.Compare comparison) sides fault replied = replied
-not_replied (commands.Compile has_left_out) sides fault replied = replied
-not_replied (commands.Decide call detail) sides fault replied = replied
-not_replied command sides fault replied = replied
+not_replied (commands.Answers comparison has_examples has_differences) sides fault replied = absurd (cc)
+not_replied (commands.Ask call) sides fault replied = absurd (cc)
+not_replied (commands.Compare comparison) sides fault replied = absurd (cc)
+not_replied (commands.Compile has_left_out) sides fault replied = absurd (cc)
+not_replied (commands.Decide call details.Paths) sides fault replied = absurd (cc)
+not_replied (commands.Decide call details.Answer) sides fault replied = absurd (cc)
+not_replied (commands.Decide call details.Instruction) sides fault replied = absurd (cc)
+not_replied command sides fault replied = absurd (cc)
 
 module _ (reading : Reading) (form : BundleForm) where
   none_of_bundle : (command : Command) (bytes : List ℕ) (fault : InputFault)

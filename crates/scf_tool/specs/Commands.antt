@@ -1,5 +1,5 @@
 -- The replies and faults of each command, by the bytes of standard input. These count where its reader tells them.
-use Rattle.std.specs.Prelude.{◌≡◌, ◌≢◌, ◌⊎◌, ◌+◌, ◌<◌, ◌≤◌, ◌++◌, ℕ, Bool, true, false, List, [], ◌∷◌, length, All, Option, None, Some, Result, Ok, Err}
+use Rattle.std.specs.Prelude.{◌≡◌, ◌≢◌, ◌⊎◌, ◌+◌, ◌<◌, ◌≤◌, ◌++◌, ℕ, Bool, true, false, List, [], ◌∷◌, length, map, All, Option, None, Some, Result, Ok, Err}
 use Rattle.std.specs.List.{AllZip, flat_map}
 use Rattle.scf_insn.specs.declared.input.InputFault.{InputFault}
 use Rattle.scf_insn.specs.declared.insn.Insn.{Insn}
@@ -62,7 +62,7 @@ use Rattle.scf_request.specs.declared.bundle.BundleForm.{BundleForm}
 use Rattle.scf_request.specs.declared.bundle.BundleForm.TheVariants as forms
 use Rattle.scf_request.specs.Interpretations.{Interpretation, LoadsEachBy, interpretation_of, stubs_of}
 pub use Rattle.scf_tool.specs.FilterStacks.{NoReadFailed}
-use Rattle.scf_tool.specs.Inputs.{AreRead, AreRefused, Inputs, SideBytes, SpellsTable, behavior_of_input, left_out_of_input, profiles_of}
+use Rattle.scf_tool.specs.Inputs.{AreRead, AreRefused, Inputs, SideBytes, SpellsTable, behavior_of_input, left_out_of_input, named_of, profiles_of}
 use Rattle.scf_tool.specs.Inputs.SideBytes.{OfFilters, OfProfile}
 use Rattle.scf_tool.specs.JointFindings.{AreFindings}
 use Rattle.scf_tool.specs.Lines.{decision_text, traced_text}
@@ -228,13 +228,19 @@ IsRefused over inputs fault = GoesOverNone inputs.rules.of_each over inputs.tabl
 
 -- ---- the replies
 
--- A reply is true, or none would be of what is read, or memory runs out for it.
-abbrev pub Replies : (Reply → Type 0) → Result Reply Fault → Type 0
-Replies IsTrueOf (Ok reply) = IsTrueOf reply
-Replies IsTrueOf (Err faults.Parts) = (reply : Reply) → IsTrueOf reply → ⊥
-Replies IsTrueOf (Err (faults.Sides fault)) = fault ≡ besides.Verify verifies.Memory
-Replies IsTrueOf (Err faults.Answers) = Unit {0}
-Replies IsTrueOf (Err fault) = ⊥
+-- the fault of a command where memory runs out for its reply; `ask`, and `decide` without paths, need none for it
+abbrev pub memory_fault_of : Command → Option Fault
+memory_fault_of (commands.Answers comparison has_examples has_differences) = Some faults.Answers
+memory_fault_of (commands.Compare comparison) = Some (faults.Sides (besides.Verify verifies.Memory))
+memory_fault_of (commands.Compile has_left_out) = Some (faults.Compile compiles.Memory)
+memory_fault_of (commands.Decide call details.Paths) = Some faults.Answers
+memory_fault_of command = None
+
+-- A reply is true, or none would be of what is read, or memory runs out for it, if this is the fault of that.
+abbrev pub Replies : Option Fault → (Reply → Type 0) → Result Reply Fault → Type 0
+Replies memory_fault IsTrueOf (Ok reply) = IsTrueOf reply
+Replies memory_fault IsTrueOf (Err faults.Parts) = (reply : Reply) → IsTrueOf reply → ⊥
+Replies memory_fault IsTrueOf (Err fault) = memory_fault ≡ Some fault
 
 -- the lines of the runs of filters over a record, one for each, whose ways are shown
 abbrev pub ShowsRuns : List (List Insn) → List ℕ → List ℕ → Type 0
@@ -275,9 +281,10 @@ IsCompiled has_left_out side reply = ⊥
 
 -- or it would be too large, or memory runs out for it
 abbrev pub Compiles : Bool → SideInput → Result Reply Fault → Type 0
-Compiles has_left_out side (Err (faults.Compile fault)) =
-    fault ≡ compiles.TooLarge → bpf_maxinsns < size_bound_of_each (profiles_of side)
-Compiles has_left_out side ending = Replies (IsCompiled has_left_out side) ending
+Compiles has_left_out side (Err (faults.Compile compiles.TooLarge)) =
+    bpf_maxinsns < size_bound_of_each (profiles_of side)
+Compiles has_left_out side ending =
+    Replies (memory_fault_of (commands.Compile has_left_out)) (IsCompiled has_left_out side) ending
 
 -- `ask`: the answer of a profile to the call, or of that of its architecture, and why
 abbrev pub GivesReason : CallRecord → SideInput → Reply → Type 0
@@ -289,23 +296,30 @@ GivesReason call side reply = ⊥
 
 -- `compare`: findings that are true of both sides, compared as is asked, and their report with its status
 abbrev pub IsReport : Comparison → SidesInput → Reply → Type 0
-IsReport comparison sides (Compared text status) = (findings : Findings) × AreFindings comparison sides findings
+IsReport comparison sides (Compared text status) = (findings : Findings)
+    × AreFindings comparison comparison.scopes (behavior_of_input sides.left) sides.right
+    (map named_of sides.tables.items) findings
     × (text.items ≡ sides_text comparison.relation (left_out_of_input sides.left)
     (record { findings = findings; left_out = left_out_of_input sides.right }))
     × (status ≡ findings_status findings)
 IsReport comparison sides reply = ⊥
 
--- what a command replies to its sides
+-- what a command's reply says of its sides
+abbrev pub IsReplyTo : Command → SidesInput → Reply → Type 0
+IsReplyTo (commands.Answers comparison has_examples false) sides =
+    ListsSide (exploration_of comparison has_examples) sides.left
+IsReplyTo (commands.Answers comparison has_examples true) sides = ListsDiffering
+    (exploration_of comparison has_examples) (behavior_of_input sides.left) (behavior_of_input sides.right)
+IsReplyTo (commands.Ask call) sides = GivesReason call sides.left
+IsReplyTo (commands.Compare comparison) sides = IsReport comparison sides
+IsReplyTo (commands.Compile has_left_out) sides = IsCompiled has_left_out sides.left
+IsReplyTo (commands.Decide call detail) sides = Decides call detail sides.left
+IsReplyTo command sides = λ reply. ⊥
+
+-- what a command ends with on its sides
 abbrev pub RepliesTo : Command → SidesInput → Result Reply Fault → Type 0
-RepliesTo (commands.Answers comparison has_examples false) sides =
-    Replies (ListsSide (exploration_of comparison has_examples) sides.left)
-RepliesTo (commands.Answers comparison has_examples true) sides = Replies (ListsDiffering
-    (exploration_of comparison has_examples) (behavior_of_input sides.left) (behavior_of_input sides.right))
-RepliesTo (commands.Ask call) sides = Replies (GivesReason call sides.left)
-RepliesTo (commands.Compare comparison) sides = Replies (IsReport comparison sides)
 RepliesTo (commands.Compile has_left_out) sides = Compiles has_left_out sides.left
-RepliesTo (commands.Decide call detail) sides = Replies (Decides call detail sides.left)
-RepliesTo command sides = Replies (λ reply. ⊥)
+RepliesTo command sides = Replies (memory_fault_of command) (IsReplyTo command sides)
 
 -- ---- all commands
 

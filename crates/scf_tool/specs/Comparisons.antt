@@ -1,26 +1,17 @@
--- Findings on two sides: over the records of a scope, or call by call of a table.
-use Rattle.std.specs.Prelude.{◌≡◌, ◌==◌, ◌*◌, ◌-◌, ◌^◌, ℕ, List, [], ◌∷◌, min, if◌then◌else◌}
-use Rattle.scf_insn.specs.declared.architecture.Architecture.{Architecture}
+-- Findings on two sides over the records of a scope, one or several after another.
+use Rattle.std.specs.Prelude.{◌≡◌, ◌==◌, ◌*◌, ◌-◌, ◌^◌, ℕ, List, [], ◌∷◌, Option, None, Some, min, if◌then◌else◌}
+use Rattle.std.specs.List.{AllZip}
 use Rattle.scf_facts.specs.Masks.{AreFew}
 use Rattle.scf_compare.specs.declared.budget.Limit.{Limit}
 use Rattle.scf_compare.specs.declared.budget.Splits.{Splits}
 use Rattle.scf_compare.specs.declared.budget.Splits.TheVariants.{AtMost, NoLimit}
 use Rattle.scf_compare.specs.declared.finding.Finding.{Finding}
 use Rattle.scf_compare.specs.Findings.{AllRelated, IsFindingDecided, IsFindingWithin, IsTrueFinding, LeavesFindingSteps, compared_in}
-use Rattle.scf_compare.specs.Sides.{Behavior}
-use Rattle.scf_profile.specs.NamedCalls.{AreCallsOf}
-use Rattle.scf_profile.specs.References.{texts_at}
-use Rattle.scf_profile.specs.Table.{Names}
-use Rattle.scf_profile.specs.declared.named_call.NamedCall.{NamedCall}
+use Rattle.scf_compare.specs.Sides.{Behavior, behavior_of}
 use Rattle.scf_profile.specs.declared.relation.Relation.{Relation}
 use Rattle.scf_profile.specs.declared.scope.Scope.{Scope}
 use Rattle.scf_request.specs.declared.request.Limits.{Limits}
-use Rattle.scf_request.specs.declared.request.Scopes.{Scopes}
-use Rattle.scf_request.specs.declared.request.Scopes.TheVariants as scopes
-use Rattle.scf_tool.specs.ArchitectureScopes.{scope_of_call}
-use Rattle.scf_tool.specs.declared.findings.CallFinding.{CallFinding}
-use Rattle.scf_tool.specs.declared.findings.Findings.{Findings}
-use Rattle.scf_tool.specs.declared.findings.Findings.TheVariants.{AtOnce, EachCall}
+use Rattle.scf_tool.specs.declared.plan.Pairing.{Pairing}
 
 -- a number of splits, of which the greatest stands for no limit
 abbrev pub splits_of : ℕ → Splits
@@ -60,27 +51,22 @@ AreFound IsNext remaining (first ∷ several) (finding ∷ findings) after = (be
     × IsNext remaining first finding between × AreFound IsNext between several findings after
 AreFound IsNext remaining several findings after = ⊥
 
--- A call of a table is named by its number and its names, and this is the finding over its records.
-pub record IsFoundOfCall (relation : Relation) (scope : Scope) (left right : Behavior) (limit : Limit)
-    (remaining : ℕ) (of_table : NamedCall) (call : CallFinding) (after : ℕ) : Type 0 where
-  pub number : call.number ≡ of_table.number
-  pub names : call.names ≡ texts_at of_table.names.items
-  pub is_found : IsFoundInTurn relation left right scope limit remaining call.finding after
+-- ---- the comparisons of a plan
 
--- each call of an architecture's table has its finding over its records
-abbrev pub AreCallsFound : Relation → Architecture → Behavior → Behavior → Limit → ℕ → List NamedCall
-    → List CallFinding → ℕ → Type 0
-AreCallsFound relation architecture left right limit = AreFound (λ remaining of_table.
-    IsFoundOfCall relation (scope_of_call architecture of_table.number) left right limit remaining of_table)
+-- the finding on the sides of a pairing, within a limit
+abbrev pub IsFoundOf : Relation → Limit → Pairing → Finding → Type 0
+IsFoundOf relation limit pairing finding =
+    IsFound relation (behavior_of pairing.left) (behavior_of pairing.right) pairing.over limit finding
 
--- the calls of the table have these findings, in that many steps
-abbrev pub AreFoundOfTable : Relation → Architecture → Behavior → Behavior → Names → Limits → List CallFinding → Type 0
-AreFoundOfTable relation architecture left right names limits calls =
-    (of_table : List NamedCall) × AreCallsOf names of_table × (after : ℕ)
-    × AreCallsFound relation architecture left right (limit_of limits) limits.total of_table calls after
+-- that of one of several, in no more steps than remain
+abbrev pub IsFoundOfInTurn : Relation → Limit → ℕ → Pairing → Finding → ℕ → Type 0
+IsFoundOfInTurn relation limit remaining pairing finding after =
+    IsFoundInTurn relation (behavior_of pairing.left) (behavior_of pairing.right) pairing.over limit remaining finding
+    after
 
--- The findings are those that are asked for: one over a scope, or one for each call.
-abbrev pub AreAsked : (Scope → Finding → Type 0) → (List CallFinding → Type 0) → Scopes → Findings → Type 0
-AreAsked IsFinding AreCalls (scopes.AtOnce scope) (AtOnce finding) = IsFinding scope finding
-AreAsked IsFinding AreCalls scopes.EachCall (EachCall calls) = AreCalls calls.items
-AreAsked IsFinding AreCalls over findings = ⊥
+-- Each pairing has its finding within the limit; where they share a number of steps, one after another in no more than
+-- remain of them.
+abbrev pub AreFoundEach : Relation → Limit → Option ℕ → List Pairing → List Finding → Type 0
+AreFoundEach relation limit None pairings findings = AllZip (IsFoundOf relation limit) pairings findings
+AreFoundEach relation limit (Some total) pairings findings =
+    (after : ℕ) × AreFound (IsFoundOfInTurn relation limit) total pairings findings after

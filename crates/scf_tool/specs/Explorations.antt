@@ -14,7 +14,7 @@ use Rattle.scf_facts.specs.Masks.{AreFew}
 use Rattle.scf_facts.specs.WordSets.{AllowsWords}
 use Rattle.scf_compare.specs.Findings.{IsTrueFinding, compared_in}
 use Rattle.scf_compare.specs.Regions.{AreRegions, IsDecidedRegion}
-use Rattle.scf_compare.specs.Sides.{Behavior, no_side, profile_behavior}
+use Rattle.scf_compare.specs.Sides.{Behavior, behavior_of, effort_of_sides, no_side, profiles_behavior}
 use Rattle.scf_compare.specs.declared.comparison.PairLeaf.{PairLeaf}
 use Rattle.scf_compare.specs.declared.finding.Finding.TheVariants.{Fails}
 use Rattle.scf_compare.specs.declared.region.Region.{Region}
@@ -27,6 +27,7 @@ use Rattle.scf_tool.specs.ArchitectureScopes.{scope_of}
 use Rattle.scf_tool.specs.Inputs.{behavior_of_input}
 use Rattle.scf_tool.specs.RegionLines.{listing_text}
 use Rattle.scf_tool.specs.declared.exploration.Exploration.{Exploration}
+use Rattle.scf_tool.specs.declared.plan.Pairing.{Pairing}
 use Rattle.scf_tool.specs.declared.region_lines.RegionFormat.{RegionFormat}
 use Rattle.scf_tool.specs.declared.reply.Reply.{Reply}
 use Rattle.scf_tool.specs.declared.reply.Reply.TheVariants.{Compared}
@@ -41,6 +42,18 @@ pub record AreListed (left right : Behavior) (scope : Scope) (limit : ℕ) (regi
   pub are_regions : AreRegions left right (IsInScope scope) limit regions
   pub decided : (masks : ℕ) → AreFew masks → left.is_masked masks → right.is_masked masks
       → All IsDecidedRegion regions.list.items
+
+-- these are those of the sides of a pairing
+abbrev pub AreListedOf : ℕ → Pairing → Regions → Type 0
+AreListedOf limit pairing =
+    AreListed (behavior_of pairing.left) (behavior_of pairing.right) pairing.over limit
+
+-- Walks over pairings come to the regions of each, or to none, only if the limit of all steps is below their efforts
+-- together.
+abbrev pub Explores : List Pairing → ℕ → Option (List Regions) → Type 0
+Explores pairings limit None = limit < sum_by (λ pairing. effort_of_sides pairing.left pairing.right) pairings
+Explores pairings limit (Some listed) =
+    AllZip (AreListedOf limit) pairings listed × (sum_by (λ regions. regions.steps) listed ≤ limit)
 
 -- what a walk over two sides comes to: their regions, or none, only if the limit is below the product of their sizes
 abbrev pub ExploresSides : Behavior → Behavior → Scope → ℕ → Option (List Regions) → Type 0
@@ -75,9 +88,9 @@ ExploresDiffering left right scope limit (Some listed) = ⊥
 -- Walks over profiles, each by itself over the scope of its architecture, come to their regions, or to none, only if
 -- the limit of all steps is below their sizes together.
 abbrev pub ExploresEach : (Architecture → Scope) → List Profile → ℕ → Option (List Regions) → Type 0
-ExploresEach over profiles limit None = limit < sum_by (λ p. (profile_behavior p).size) profiles
+ExploresEach over profiles limit None = limit < sum_by (λ p. (profiles_behavior (p ∷ [])).size) profiles
 ExploresEach over profiles limit (Some listed) =
-    AllZip (λ p regions. AreListed (profile_behavior p) no_side (over p.architecture) limit regions) profiles listed
+    AllZip (λ p regions. AreListed (profiles_behavior (p ∷ [])) no_side (over p.architecture) limit regions) profiles listed
     × (sum_by (λ regions. regions.steps) listed ≤ limit)
 
 -- the exit status of what is listed

@@ -12,7 +12,9 @@ use Rattle.scf_profile.specs.StatedProfile.{Tables}
 use Rattle.scf_profile.specs.Table.{Names, table_of}
 use Rattle.scf_profile.specs.declared.load_fault.LoadFault.{LoadFault}
 use Rattle.scf_profile.specs.declared.table_fault.TableFault.TheVariants as tables
-use Rattle.scf_compare.specs.Sides.{Behavior, profile_behavior, profiles_behavior, stack_behavior}
+use Rattle.scf_compare.specs.declared.side.Side.{Side}
+use Rattle.scf_compare.specs.declared.side.Side.TheVariants as sides
+use Rattle.scf_compare.specs.Sides.{Behavior, profiles_behavior, stack_behavior}
 use Rattle.scf_request.specs.Interpretations.{Interpretation, LoadsBy, LoadsEachBy}
 use Rattle.scf_tool.specs.FilterStacks.{HasStack, HasNoStack, NoReadFailed}
 use Rattle.scf_tool.specs.declared.inputs.TextRules.{TextRules}
@@ -153,21 +155,22 @@ pub data AreRefused (inputs : Inputs) : BesideFault → Type 0 where
 
 -- ---- what sides that are read answer
 
--- several profiles on a side, of which one stands by itself
-abbrev pub behavior_of_profiles : List StatedProfile → Behavior
-behavior_of_profiles (p ∷ []) = profile_behavior p
-behavior_of_profiles profiles = profiles_behavior profiles
-
-abbrev pub behavior_of_input : SideInput → Behavior
-behavior_of_input (Stack stack) = stack_behavior stack
-behavior_of_input (Profile loaded) = profile_behavior loaded.profile
-behavior_of_input (Profiles loaded) = behavior_of_profiles loaded.profiles
-
 -- the profiles of a side
 abbrev pub profiles_of : SideInput → List StatedProfile
 profiles_of (Stack stack) = []
 profiles_of (Profile loaded) = loaded.profile ∷ []
 profiles_of (Profiles loaded) = loaded.profiles
+
+abbrev pub behavior_of_input : SideInput → Behavior
+behavior_of_input (Stack stack) = stack_behavior stack
+behavior_of_input input = profiles_behavior (profiles_of input)
+
+-- a side that is read, as it is compared
+abbrev pub IsSideOf : SideInput → Side → Type 0
+IsSideOf (Stack stack) (sides.Stack filters) = filters.now ≡ stack
+IsSideOf (Stack stack) side = ⊥
+IsSideOf input (sides.Profiles profiles) = profiles.now ≡ profiles_of input
+IsSideOf input side = ⊥
 
 -- what was left out of the profile of a side, if it is one
 abbrev pub left_out_of_input : SideInput → Option LeftOut

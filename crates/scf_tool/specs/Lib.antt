@@ -15,7 +15,6 @@ pub mod Reports
 pub mod Runs
 pub mod Statuses
 pub mod Verifying
-pub mod VerifyingArchitectures
 pub mod VerifyingFilters
 pub mod VerifyingStacks
 pub mod internal

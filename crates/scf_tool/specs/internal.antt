@@ -2,3 +2,4 @@ pub mod Bytes
 pub mod Explaining
 pub mod Words
 pub mod Sides
+pub mod Plans

@@ -1,18 +1,21 @@
 //! Over which records of an architecture sides are compared, and whether there are some.
 
-ghost use Rattle.std.specs.Prelude.{◌≡◌, ◌↔◌, ◌+◌, ◌<◌, ◌^◌, IfErr, IfOk, IsTrue, map};
+ghost use Rattle.std.specs.Prelude.{◌≡◌, ◌↔◌, ◌+◌, ◌<◌, ◌^◌, ℕ, IfErr, IfOk, IsTrue, List, map};
+ghost use Rattle.std.specs.List.{AllZip};
 ghost use Rattle.scf_insn.specs.Architectures.{row_of};
 ghost use Rattle.scf_request.specs.Contents.{rest_of_table};
-ghost use Rattle.scf_tool.specs.ArchitectureScopes.{HasRecordAmong, NameNoCall, NamesNoCall};
+ghost use Rattle.scf_tool.specs.ArchitectureScopes.{HasRecordAmong, NameNoCall};
 ghost use Rattle.scf_tool.specs.ArchitectureScopes as spec;
+ghost use Rattle.scf_tool.specs.Inputs.{SpellsTable, named_of};
 
+use crate::owned_table::OwnedTable;
 use scf_insn::Architecture;
-use scf_profile::{CallTable, Scope, TableFault};
+use scf_profile::Scope;
 use scf_request::{BundleFault, PartReader, TableReader, has_record};
 use std::alloc::Global;
 
 /// The records of an architecture; if the scope is a range of numbers, those of them with a number in it.
-pub(crate) fn scope_of(scope: Scope, architecture: Architecture) -> Scope
+pub fn scope_of(scope: Scope, architecture: Architecture) -> Scope
     ensures { result ≡ spec.scope_of scope architecture }
 {
     let (first, last) = match scope {
@@ -27,7 +30,7 @@ pub(crate) fn scope_of(scope: Scope, architecture: Architecture) -> Scope
 }
 
 /// The records of a syscall that an architecture's table has under a number.
-pub(crate) fn scope_of_call(architecture: Architecture, number: u32) -> Scope
+pub fn scope_of_call(architecture: Architecture, number: u32) -> Scope
     requires { (row_of architecture).first + number < 2 ^ 32 }
     ensures { result ≡ spec.scope_of_call architecture number }
 {
@@ -48,31 +51,17 @@ pub(crate) fn has_record_among(tables: &[TableReader<PartReader<'_>>], scope: Sc
         .any(|table| has_record(scope_of(scope, table.architecture)))
 }
 
-/// Whether a text is a syscall table without a syscall. The error: out of memory.
-fn is_without_call(alloc: Global, text: &[u8]) -> Result<bool, BundleFault>
-    ensures none { IfOk result (λ none. IsTrue none ↔ NamesNoCall text.now) }
-    ensures fault { IfErr result (λ fault. fault ≡ BundleFault.Memory) }
-{
-    match CallTable::read(alloc, text) {
-        Ok(table) => match table.calls(alloc) {
-            Ok(calls) => Ok(calls.is_empty()),
-            Err(_) => Err(BundleFault::Memory),
-        },
-        Err(TableFault::Memory) => Err(BundleFault::Memory),
-        Err(_) => Ok(false),
-    }
-}
-
-/// Whether there is one table, and it is without a syscall. The error: out of memory.
-pub(crate) fn names_no_call(
-    alloc: Global,
-    tables: &[TableReader<PartReader<'_>>],
-) -> Result<bool, BundleFault>
-    ensures none { IfOk result (λ none. IsTrue none ↔ NameNoCall (map rest_of_table tables.now)) }
+/// Whether these are one table, and it is without a syscall. The error: out of memory.
+pub(crate) fn name_no_call(alloc: Global, tables: &[OwnedTable]) -> Result<bool, BundleFault>
+    ensures none { (texts : List (Architecture × List ℕ)) → AllZip SpellsTable texts (map named_of tables.now)
+        → IfOk result (λ none. IsTrue none ↔ NameNoCall texts) }
     ensures fault { IfErr result (λ fault. fault ≡ BundleFault.Memory) }
 {
     if tables.len() != 1 {
         return Ok(false);
     }
-    is_without_call(alloc, tables[0].reader.rest())
+    match tables[0].table.calls(alloc) {
+        Ok(calls) => Ok(calls.is_empty()),
+        Err(_) => Err(BundleFault::Memory),
+    }
 }

@@ -7,7 +7,7 @@ ghost use Rattle.scf_tool.specs.Reports.{found_text, joint_text, named_line};
 ghost use Rattle.scf_tool.specs.internal.Words.{names_in};
 
 use crate::findings::CallFinding;
-use crate::joint_finding::{fails, holds};
+use crate::joint_findings::{fails, holds};
 use crate::lines::AnswerText;
 use crate::reporting::{AnswerLine, Arguments, FindingLines, Words};
 use scf_compare::Finding;

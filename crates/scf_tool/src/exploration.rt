@@ -20,17 +20,20 @@ ghost use Rattle.scf_tool.specs.Explorations.{
   ListsWalks,
 };
 ghost use Rattle.scf_tool.specs.Explorations as spec;
+ghost use Rattle.scf_tool.specs.internal.Plans.{IsProfileAlone};
+ghost use Rattle.std.specs.List.{AllZip};
 
 use crate::architecture_scope::scope_of;
+use crate::plan::{Pairing, explore, explore_each};
 use crate::region_lines::{RegionFormat, listing_of_regions};
 use crate::reply::Reply;
 use crate::status::Status;
-use scf_compare::{PairLeaf, Regions, Side, regions_of};
-use scf_facts::{WordSets, word_sets_start_exact};
+use scf_compare::{PairLeaf, Regions, Side};
 use scf_insn::Memory;
 use scf_profile::{Profile, Relation, Scope};
 use scf_request::{Comparison, Scopes};
-use std::alloc::Global;
+use std::alloc::{AllocError, Global};
+use std::slice;
 
 /// What a walk over the records of a scope is asked for.
 #[derive(Clone, Copy)]
@@ -57,46 +60,24 @@ pub(crate) fn exploration_of(comparison: &Comparison, has_examples: bool) -> Exp
     }
 }
 
-/// The regions of two sides over the records of a scope, if a walk takes at most so many steps.
-fn explore(
+/// Each profile by itself, over the records of its architecture; if the scope is a range of numbers, over those with a
+/// number in it.
+fn each_alone<'a>(
     alloc: Global,
-    left: &Side<'_>,
-    right: &Side<'_>,
+    profiles: &'a [Profile],
     scope: Scope,
-    limit: u64,
-) -> Result<Option<Regions>, Memory>
-    ensures { IfOk result (λ explored. MatchOption explored
-        (ExploresSides (behavior_of left.now) (behavior_of right.now) scope limit None)
-        (AreListed (behavior_of left.now) (behavior_of right.now) scope limit)) }
+) -> Result<Vec<Pairing<'a>>, AllocError>
+    ensures { IfOk result (λ pairings. AllZip (IsProfileAlone scope) profiles.now pairings.items) }
 {
-    word_sets_start_exact();
-    regions_of::<WordSets>(alloc, left, right, scope, limit)
-}
-
-/// The regions of profiles, each by itself over the records of its architecture; if the scope is a range of numbers,
-/// over those with a number in it. None if the walks together take more steps than the limit.
-fn explore_each(
-    alloc: Global,
-    profiles: &[Profile],
-    scope: Scope,
-    limit: u64,
-) -> Result<Option<Vec<Regions>>, Memory>
-    ensures { IfOk result (λ explored. MatchOption explored
-        (ExploresEach (scopes.scope_of scope) profiles.now limit None)
-        (λ listed. ExploresEach (scopes.scope_of scope) profiles.now limit (Some listed.items))) }
-{
-    let mut listed = Vec::new(alloc);
-    let mut remaining = limit;
+    let mut pairings = Vec::new(alloc);
     for profile in profiles {
-        let over = scope_of(scope, profile.architecture());
-        let side = Side::Profile(profile);
-        let Some(regions) = explore(alloc, &side, &Side::Stack(&[]), over, remaining)? else {
-            return Ok(None);
-        };
-        remaining -= regions.steps;
-        listed.push(regions)?;
+        pairings.push(Pairing {
+            left: Side::Profiles(slice::from_ref(profile)),
+            right: Side::Stack(&[]),
+            over: scope_of(scope, profile.architecture()),
+        })?;
     }
-    Ok(Some(listed))
+    Ok(pairings)
 }
 
 /// The reply that lists these regions.
@@ -134,19 +115,18 @@ fn format_of(has_both: bool, exploration: Exploration) -> RegionFormat
 /// Lists what a side answers to the records of the scope.
 pub(crate) fn list_side(
     alloc: Global,
-    side: &Side<'_>,
+    side: Side<'_>,
     exploration: Exploration,
 ) -> Result<Reply, Memory>
     ensures { IfOk result (ListsWalks exploration
-        (ExploresSides (behavior_of side.now) no_side exploration.scope exploration.limit)) }
+        (ExploresSides (behavior_of side.entry) no_side exploration.scope exploration.limit)) }
 {
-    match explore(
-        alloc,
-        side,
-        &Side::Stack(&[]),
-        exploration.scope,
-        exploration.limit,
-    )? {
+    let pairing = Pairing {
+        left: side,
+        right: Side::Stack(&[]),
+        over: exploration.scope,
+    };
+    match explore(alloc, &pairing, exploration.limit)? {
         Some(regions) => reply_of(alloc, format_of(false, exploration), &[regions]),
         None => unfinished(alloc),
     }
@@ -161,7 +141,8 @@ pub(crate) fn list_each(
     ensures { IfOk result (ListsWalks exploration
         (ExploresEach (scopes.scope_of exploration.scope) profiles.now exploration.limit)) }
 {
-    match explore_each(alloc, profiles, exploration.scope, exploration.limit)? {
+    let pairings = each_alone(alloc, profiles, exploration.scope)?;
+    match explore_each(alloc, &pairings, exploration.limit)? {
         Some(listed) => reply_of(alloc, format_of(false, exploration), &listed),
         None => unfinished(alloc),
     }
@@ -214,13 +195,18 @@ pub fn each_differs()
 /// Lists what two sides aren't known to answer alike, of the records of the scope.
 pub(crate) fn list_differing(
     alloc: Global,
-    left: &Side<'_>,
-    right: &Side<'_>,
+    left: Side<'_>,
+    right: Side<'_>,
     exploration: Exploration,
 ) -> Result<Reply, Memory>
-    ensures { IfOk result (ListsDiffering exploration (behavior_of left.now) (behavior_of right.now)) }
+    ensures { IfOk result (ListsDiffering exploration (behavior_of left.entry) (behavior_of right.entry)) }
 {
-    match explore(alloc, left, right, exploration.scope, exploration.limit)? {
+    let pairing = Pairing {
+        left,
+        right,
+        over: exploration.scope,
+    };
+    match explore(alloc, &pairing, exploration.limit)? {
         Some(regions) => reply_of(alloc, format_of(true, exploration), &[differing(regions)]),
         None => unfinished(alloc),
     }

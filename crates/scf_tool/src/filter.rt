@@ -9,7 +9,7 @@ use scf_machine::{Program, check};
 use std::alloc::Global;
 
 /// Reads and checks a filter.
-pub(crate) fn read_filter<R: Source>(alloc: Global, input: &mut R) -> Result<Program, VerifyFault>
+pub fn read_filter<R: Source>(alloc: Global, input: &mut R) -> Result<Program, VerifyFault>
     ensures filter { IfOk result (IsAcceptedFilter (R.remaining input.old)) }
     ensures refused { IfErr result (IsNoFilter (R.remaining input.old)) }
     ensures input { LeavesFilterReader R.remaining R.failures input.old result input.new }

@@ -49,10 +49,7 @@ pub fn read_stack<R: Source>(alloc: Global, readers: &mut [R]) -> Result<FilterS
 }
 
 /// The stack of the filters of a bundle.
-pub(crate) fn stack_of(
-    alloc: Global,
-    filters: &mut [PartReader<'_>],
-) -> Result<FilterStack, VerifyFault>
+pub fn stack_of(alloc: Global, filters: &mut [PartReader<'_>]) -> Result<FilterStack, VerifyFault>
     ensures stack { IfOk result (HasStack (map Some (map rest_of filters.old))) }
     ensures fault { IfErr result (λ fault. NoReadFailed fault
         × HasNoStack (map Some (map rest_of filters.old)) fault) }

@@ -1,26 +1,27 @@
 //! What comparisons find: at once over a scope, or call by call of a syscall table.
 
-ghost use Rattle.std.specs.Prelude.{◌≡◌, ◌<◌, IfOk, length, map};
-ghost use Rattle.scf_compare.specs.Sides.{behavior_of};
+ghost use Rattle.std.specs.Prelude.{◌≡◌, ◌<◌, ◌∷◌, [], IfOk, length, map};
+ghost use Rattle.std.specs.List.{AllZip};
 ghost use Rattle.scf_insn.specs.Kernel.{x32_syscall_bit};
-ghost use Rattle.scf_profile.specs.NamedCalls.{HasItsNames};
+ghost use Rattle.scf_profile.specs.NamedCalls.{AreCallsOf, HasItsNames};
 ghost use Rattle.scf_profile.specs.References.{texts_at};
-ghost use Rattle.scf_tool.specs.Comparisons.{AreFoundOfTable, IsFound, IsFoundOfCall};
-ghost use Rattle.scf_tool.specs.ArchitectureScopes as spec_scopes;
 ghost use Rattle.scf_tool.specs.Comparisons as comparisons;
 ghost use Rattle.scf_tool.specs.Inputs.{behavior_of_input, named_of};
-ghost use Rattle.scf_tool.specs.JointFindings.{AreCallsOfOnly, AreFindings, IsFoundOver, IsJointlyFound};
+ghost use Rattle.scf_tool.specs.JointFindings.{AreFindings, IsNamedAs};
+ghost use Rattle.scf_tool.specs.internal.Plans.{ArePaired, IsBesideProfile, pairing_of_call};
 
 use crate::architecture_scope::{scope_of, scope_of_call};
-use crate::joint_finding::joint_finding;
+use crate::joint_findings::joint_finding;
 use crate::left_out::LeftOut;
+use crate::owned_table::OwnedTable;
+use crate::plan::{Pairing, compare_each};
 use crate::sides::{SideInput, SidesInput};
-use scf_compare::{Finding, Limit, Side, Splits, compare_sides, compare_sides_within};
-use scf_facts::WordSets;
-use scf_insn::{Architecture, Memory};
-use scf_profile::{CallTable, NamedCall, Profile, Relation, Scope, Texts};
+use scf_compare::{Finding, Limit, Side, Splits};
+use scf_insn::Memory;
+use scf_profile::{CallTable, NamedCall, Profile, Scope, Texts};
 use scf_request::{Comparison, Limits, Scopes};
 use std::alloc::{AllocError, Global};
+use std::slice;
 
 /// A call that a table names, and what the comparison over its records comes to.
 #[derive(Drop)]
@@ -87,165 +88,134 @@ fn limit_of(limits: Limits) -> Limit
     }
 }
 
-/// Compares two sides over the records of a scope by a relation, within the limit of each comparison.
-fn compare_at_once(
+/// A side beside each profile, over the records of its architecture; if the scope is a range of numbers, over those
+/// with a number in it.
+fn beside_each<'a>(
     alloc: Global,
-    left: &Side<'_>,
-    right: &Side<'_>,
-    over: Scope,
-    relation: Relation,
-    limits: Limits,
-) -> Result<Finding, Memory>
-    ensures { IfOk result (IsFound relation (behavior_of left.now) (behavior_of right.now) over
-        (comparisons.limit_of limits)) }
+    left: Side<'a>,
+    profiles: &'a [Profile],
+    scope: Scope,
+) -> Result<Vec<Pairing<'a>>, AllocError>
+    ensures { IfOk result (λ pairings. AllZip (IsBesideProfile left.entry scope) profiles.now pairings.items) }
 {
-    compare_sides::<WordSets>(alloc, left, right, over, relation, limit_of(limits))
+    let mut pairings = Vec::new(alloc);
+    for profile in profiles {
+        pairings.push(Pairing {
+            left,
+            right: Side::Profiles(slice::from_ref(profile)),
+            over: scope_of(scope, profile.architecture()),
+        })?;
+    }
+    Ok(pairings)
 }
 
-/// Compares two sides over the records of a call, which are those of a scope, by a relation, within a limit and in no
-/// more steps than remain, of its own and below splits. Those that it takes are subtracted.
-fn compare_call(
+/// A side beside one that is read, over the records of a scope; beside several profiles, each by itself.
+fn pairings_of<'a>(
     alloc: Global,
-    left: &Side<'_>,
-    right: &Side<'_>,
-    over: Scope,
-    call: &NamedCall<'_>,
-    relation: Relation,
-    limit: Limit,
-    remaining: &mut u64,
-    remaining_below: &mut u64,
-) -> Result<CallFinding, Memory>
-    ensures { IfOk result (λ finding. IsFoundOfCall relation over (behavior_of left.now) (behavior_of right.now) limit
-        remaining.old call.now finding remaining.new) }
+    left: Side<'a>,
+    right: &'a SideInput,
+    scope: Scope,
+) -> Result<Vec<Pairing<'a>>, AllocError>
+    ensures { IfOk result (λ pairings. ArePaired left.entry right.now scope pairings.items) }
 {
-    let finding = compare_sides_within::<WordSets>(
-        alloc,
-        left,
-        right,
-        over,
-        relation,
-        limit,
-        remaining,
-        remaining_below,
-    )?;
-    Ok(CallFinding {
-        number: call.number,
-        names: owned_texts(alloc, &call.names)?,
-        finding,
-    })
+    match right {
+        SideInput::Profiles(loaded) => {
+            beside_each(alloc, left, loaded.profiles.as_slice(), scope)
+        }
+        _ => {
+            let pairing = Pairing {
+                left,
+                right: right.side(),
+                over: scope,
+            };
+            Vec::from_slice(alloc, &[pairing])
+        }
+    }
 }
 
-/// Compares two sides over the records of each call of an architecture's table by a relation.
-fn compare_calls(
+/// Two sides over the records of each call of an architecture's table.
+fn pairings_of_calls<'a>(
     alloc: Global,
-    left: &Side<'_>,
-    right: &Side<'_>,
-    architecture: Architecture,
-    table: &CallTable,
-    relation: Relation,
-    limits: Limits,
-) -> Result<Vec<CallFinding>, Memory>
-    ensures { IfOk result (λ calls. AreFoundOfTable relation architecture
-        (behavior_of left.now) (behavior_of right.now) table.now limits calls.items) }
+    left: Side<'a>,
+    right: Side<'a>,
+    table: &OwnedTable,
+    calls: &[NamedCall<'_>],
+) -> Result<Vec<Pairing<'a>>, AllocError>
+    requires { AreCallsOf table.now.table calls.now }
+    ensures { IfOk result (λ pairings.
+        pairings.items ≡ map (pairing_of_call left.entry right.entry table.now.architecture) calls.now) }
 {
-    let calls = table.calls(alloc)?;
-    let mut findings = Vec::new(alloc);
-    let limit = limit_of(limits);
-    let mut remaining = limits.total;
-    let mut remaining_below = limits.total;
-    for call in &calls {
-        let over = scope_of_call(architecture, number_in(table, call));
-        let finding = compare_call(
-            alloc,
+    let mut pairings = Vec::new(alloc);
+    for call in calls {
+        pairings.push(Pairing {
             left,
             right,
-            over,
-            call,
-            relation,
-            limit,
-            &mut remaining,
-            &mut remaining_below,
-        )?;
-        findings.push(finding)?;
+            over: scope_of_call(table.architecture, number_in(&table.table, call)),
+        })?;
     }
-    Ok(findings)
+    Ok(pairings)
 }
 
-/// Compares a side with the profile of each architecture over its records, or those of them with a number in the range
-/// that the scope is, each within the limit.
-fn compare_profiles(
+/// The calls of a table with their findings.
+fn named_findings(
     alloc: Global,
-    left: &Side<'_>,
-    profiles: &[Profile],
-    scope: Scope,
-    relation: Relation,
-    limits: Limits,
-) -> Result<Finding, Memory>
-    ensures { IfOk result
-        (IsJointlyFound relation (spec_scopes.scope_of scope) (behavior_of left.now) profiles.now (comparisons.limit_of limits)) }
+    calls: &[NamedCall<'_>],
+    findings: &[Finding],
+) -> Result<Vec<CallFinding>, AllocError>
+    requires { length findings.now ≡ length calls.now }
+    ensures named { IfOk result (λ named. AllZip IsNamedAs calls.now named.items) }
+    ensures found { IfOk result (λ named. map (λ call. call.finding) named.items ≡ findings.now) }
 {
-    let mut findings = Vec::new(alloc);
-    for profile in profiles {
-        let over = scope_of(scope, profile.architecture());
-        let right = Side::Profile(profile);
-        findings.push(compare_at_once(alloc, left, &right, over, relation, limits)?)?;
+    let mut named = Vec::new(alloc);
+    for i in 0..calls.len() {
+        let call = &calls[i];
+        named.push(CallFinding {
+            number: call.number,
+            names: owned_texts(alloc, &call.names)?,
+            finding: findings[i],
+        })?;
     }
+    Ok(named)
+}
+
+/// Compares two sides over the records of a scope: the finding that speaks for all.
+fn compare_at_once(
+    alloc: Global,
+    sides: &SidesInput,
+    scope: Scope,
+    comparison: Comparison,
+) -> Result<Finding, Memory>
+    ensures { IfOk result (λ finding. AreFindings comparison (Scopes.AtOnce scope) (behavior_of_input sides.now.left)
+        sides.now.right (map named_of sides.now.tables.items) (Findings.AtOnce finding)) }
+{
+    let pairings = pairings_of(alloc, sides.left.side(), &sides.right, scope)?;
+    let limit = limit_of(comparison.limits);
+    let findings = compare_each(alloc, &pairings, comparison.relation, limit, None)?;
     Ok(joint_finding(&findings))
 }
 
-/// Compares two sides over the records of a scope.
-fn compare_over(
-    alloc: Global,
-    left: &SideInput,
-    right: &SideInput,
-    scope: Scope,
-    relation: Relation,
-    limits: Limits,
-) -> Result<Finding, Memory>
-    ensures { IfOk result (IsFoundOver relation (comparisons.limit_of limits) left.now right.now scope) }
-{
-    let left = left.side();
-    match right {
-        SideInput::Stack(stack) => {
-            let right = Side::Stack(stack.filters());
-            compare_at_once(alloc, &left, &right, scope, relation, limits)
-        }
-        SideInput::Profile(loaded) => {
-            let right = Side::Profile(&loaded.profile);
-            compare_at_once(alloc, &left, &right, scope, relation, limits)
-        }
-        SideInput::Profiles(loaded) => {
-            let profiles = loaded.profiles.as_slice();
-            compare_profiles(alloc, &left, profiles, scope, relation, limits)
-        }
-    }
-}
-
-/// Compares two sides call by call of the only table.
-#[tactic(auto, using(crate::proofs::TableLemmas::of_others))]
-fn compare_each_call(
+/// Compares two sides over the records of each call of a table.
+fn compare_calls(
     alloc: Global,
     sides: &SidesInput,
+    table: &OwnedTable,
     comparison: Comparison,
 ) -> Result<Vec<CallFinding>, Memory>
-    ensures { IfOk result (λ calls. AreCallsOfOnly comparison (map named_of sides.now.tables.items)
-        (behavior_of_input sides.now.left) (behavior_of_input sides.now.right) calls.items) }
+    ensures { IfOk result (λ calls. AreFindings comparison Scopes.EachCall (behavior_of_input sides.now.left)
+        sides.now.right (named_of table.now ∷ []) (Findings.EachCall calls)) }
 {
-    if sides.tables.len() != 1 {
-        return Ok(Vec::new(alloc));
-    }
-    let only = &sides.tables[0];
+    let calls = table.table.calls(alloc)?;
     let left = sides.left.side();
     let right = sides.right.side();
-    compare_calls(
+    let pairings = pairings_of_calls(alloc, left, right, table, &calls)?;
+    let findings = compare_each(
         alloc,
-        &left,
-        &right,
-        only.architecture,
-        &only.table,
+        &pairings,
         comparison.relation,
-        comparison.limits,
-    )
+        limit_of(comparison.limits),
+        Some(comparison.limits.total),
+    )?;
+    Ok(named_findings(alloc, &calls, &findings)?)
 }
 
 /// Compares two sides as is asked: by a relation, over the records of a scope, or call by call of the only table.
@@ -260,22 +230,25 @@ fn compare_each_call(
 /// number and within the same limits. All together take at most `limits.total` steps, and as many below splits: the
 /// calls for which no step is left are `Unfinished`. A call's number is that of the table, also where records have
 /// another one, as those of x32 do.
+#[tactic(auto, using(crate::proofs::TableLemmas::of_others))]
 pub(crate) fn findings_of(
     alloc: Global,
     sides: &SidesInput,
     comparison: Comparison,
 ) -> Result<Findings, Memory>
-    ensures { IfOk result (AreFindings comparison sides.now) }
+    ensures { IfOk result (AreFindings comparison comparison.scopes (behavior_of_input sides.now.left) sides.now.right
+        (map named_of sides.now.tables.items)) }
 {
     match comparison.scopes {
         Scopes::AtOnce(scope) => {
-            let relation = comparison.relation;
-            let limits = comparison.limits;
-            let finding = compare_over(alloc, &sides.left, &sides.right, scope, relation, limits)?;
+            let finding = compare_at_once(alloc, sides, scope, comparison)?;
             Ok(Findings::AtOnce(finding))
         }
         Scopes::EachCall => {
-            let calls = compare_each_call(alloc, sides, comparison)?;
+            if sides.tables.len() != 1 {
+                return Ok(Findings::EachCall(Vec::new(alloc)));
+            }
+            let calls = compare_calls(alloc, sides, &sides.tables[0], comparison)?;
             Ok(Findings::EachCall(calls))
         }
     }

@@ -7,7 +7,6 @@ ghost use Rattle.scf_request.specs.Bundle.{Held, IsBundle};
 ghost use Rattle.scf_request.specs.Contents.{held_by, rest_of, rest_of_table, texts_for};
 ghost use Rattle.scf_tool.specs.Commands as spec;
 ghost use Rattle.scf_tool.specs.Commands.{
-  AreCounts,
   AreInputs,
   ArePartsOfOne,
   HasNoInputs,
@@ -22,10 +21,9 @@ ghost use Rattle.scf_tool.specs.Inputs as spec_inputs;
 ghost use Rattle.scf_tool.specs.internal.Sides.{inputs_of, side_bytes, sides_bytes};
 
 use crate::fault::Fault;
-use crate::owned_table::{OwnedTable, read_tables};
-use crate::verify_fault::VerifyFault;
+use crate::owned_table::{OwnedTable, valid_tables};
 use scf_insn::Architecture;
-use scf_profile::{Reading, TableFault};
+use scf_profile::Reading;
 use scf_request::{
     BundleFault, BundleForm, Contents, Interpretation, PartReader, Scopes, TableReader,
 };
@@ -139,28 +137,6 @@ fn only(mut readers: Vec<PartReader<'_>>) -> Option<PartReader<'_>>
         readers.pop()
     } else {
         None
-    }
-}
-
-/// Counts of calls by name, which are written as syscall tables are.
-#[tactic(auto, using(crate::proofs::TableLemmas::not_counts))]
-fn counts_of(
-    alloc: Global,
-    parts: &[TableReader<PartReader<'_>>],
-) -> Result<Option<Vec<OwnedTable>>, BundleFault>
-    ensures counts { IfOk result (λ counts. MatchOption counts
-        (AreCounts (map rest_of_table parts.now) → ⊥) (λ counts. AreCounts (map rest_of_table parts.now))) }
-    ensures fault { IfErr result (λ fault. fault ≡ BundleFault.Memory) }
-{
-    match read_tables(alloc, false, parts) {
-        Ok(counts) => Ok(Some(counts)),
-        Err(fault) => match fault {
-            VerifyFault::Table(fault) => match fault {
-                TableFault::Memory => Err(BundleFault::Memory),
-                _ => Ok(None),
-            },
-            _ => Ok(None),
-        },
     }
 }
 
@@ -328,7 +304,7 @@ fn inputs_among<'a>(
     if by.stub_count() != contents.stubs.len() {
         return Ok(None);
     }
-    let Some(counts) = counts_of(alloc, &contents.counts)? else {
+    let Some(counts) = valid_tables(alloc, &contents.counts)? else {
         return Ok(None);
     };
     let filters = contents.filters;

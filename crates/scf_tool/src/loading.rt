@@ -1,16 +1,15 @@
 //! Loads profiles from bytes, however long they are.
 
 ghost use Rattle.std.specs.Prelude.{◌≡◌, map, IfErr, IfOk};
+ghost use Rattle.scf_request.specs.Contents.{rest_of_table};
 ghost use Rattle.scf_tool.specs.Commands.{AreStated, CantLoadEach};
-ghost use Rattle.scf_tool.specs.VerifyingArchitectures.{table_text};
 
-use crate::in_memory::InMemory;
 use crate::owned_table::{OwnedTable, load_under, read_tables};
 use crate::verify_fault::VerifyFault;
 use scf_compile::{CallCount, CompileFault};
 use scf_insn::Memory;
 use scf_profile::{CallTable, LoadedProfiles};
-use scf_request::{Interpretation, TableReader};
+use scf_request::{Interpretation, PartReader, TableReader};
 use std::alloc::Global;
 
 /// Adds the counts of an architecture's calls whose names its table has.
@@ -54,14 +53,14 @@ pub(crate) fn call_counts(
 }
 
 /// Loads a profile for each architecture that has a table.
-pub fn load_with_tables<R: InMemory>(
+pub fn load_with_tables(
     alloc: Global,
     by: &Interpretation,
     profile: &[u8],
-    tables: &[TableReader<R>],
+    tables: &[TableReader<PartReader<'_>>],
 ) -> Result<LoadedProfiles, VerifyFault>
-    ensures stated { IfOk result (AreStated by.now profile.now (map (table_text R.text) tables.now)) }
-    ensures fault { IfErr result (CantLoadEach by.now profile.now (map (table_text R.text) tables.now)) }
+    ensures stated { IfOk result (AreStated by.now profile.now (map rest_of_table tables.now)) }
+    ensures fault { IfErr result (CantLoadEach by.now profile.now (map rest_of_table tables.now)) }
 {
     let owned = read_tables(alloc, false, tables)?;
     Ok(load_under(alloc, by, profile, &owned)?)

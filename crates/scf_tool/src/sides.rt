@@ -1,26 +1,30 @@
 //! The sides of a command: filters or a profile, read from its inputs.
 
 ghost use Rattle.std.specs.Prelude.{◌≡◌, IfErr, IfOk, IfNone, IfSome, None, Some, map};
+ghost use Rattle.std.specs.List.{AllZip};
 ghost use Rattle.scf_profile.specs.Profile.{AreOfApart};
+ghost use Rattle.scf_request.specs.Contents.{rest_of_table};
 ghost use Rattle.scf_tool.specs.Inputs.{
   AreRead,
   AreRefused,
   HasNoStackOf,
   IsNoSide,
   IsSide,
+  IsSideOf,
   SideBytes,
+  SpellsTable,
   left_out_of_input,
   named_of,
   native_table,
   profiles_of,
 };
 ghost use Rattle.scf_tool.specs.Inputs as spec;
-ghost use Rattle.scf_tool.specs.internal.Sides.{IsOpen, IsSideOf, inputs_of, side_bytes};
+ghost use Rattle.scf_tool.specs.internal.Sides.{IsOpen, inputs_of, side_bytes};
 
 use crate::filter_stack::stack_of;
 use crate::inputs::{Inputs, SideParts, TextRules};
 use crate::left_out::LeftOut;
-use crate::owned_table::{OwnedTable, is_too_long, load_under, read_tables};
+use crate::owned_table::{OwnedTable, is_too_long, load_under, tables_once};
 use crate::verify_fault::{BesideFault, VerifyFault};
 use scf_compare::Side;
 use scf_insn::InputFault;
@@ -38,7 +42,7 @@ pub(crate) enum OpenSide<'a> {
 
 /// A side that is read.
 #[derive(Drop)]
-pub(crate) enum SideInput {
+pub enum SideInput {
     Stack(FilterStack),
     /// A profile for x86-64 alone.
     Profile(Loaded),
@@ -56,27 +60,14 @@ pub(crate) struct SidesInput {
     pub counts: Vec<OwnedTable>,
 }
 
-/// Several profiles as a side; one stands by itself.
-fn side_of_profiles(loaded: &LoadedProfiles) -> Side<'_>
-    ensures { IsSideOf (SideInput.Profiles loaded.now) result }
-{
-    let profiles = loaded.profiles.as_slice();
-    if profiles.len() == 1 {
-        Side::Profile(&profiles[0])
-    } else {
-        Side::Profiles(&loaded.profiles)
-    }
-}
-
 impl SideInput {
     /// This side for the comparer.
-    pub(crate) fn side(&self) -> Side<'_>
+    pub fn side(&self) -> Side<'_>
         ensures { IsSideOf self.now result }
     {
         match self {
             SideInput::Stack(stack) => Side::Stack(stack.filters()),
-            SideInput::Profile(loaded) => Side::Profile(&loaded.profile),
-            SideInput::Profiles(loaded) => side_of_profiles(loaded),
+            _ => Side::Profiles(self.profiles()),
         }
     }
 
@@ -93,7 +84,7 @@ impl SideInput {
     }
 
     /// What was left out of the profile, if it is one.
-    pub(crate) fn left_out(self) -> Option<LeftOut>
+    pub fn left_out(self) -> Option<LeftOut>
         ensures { result ≡ left_out_of_input self }
     {
         match self {
@@ -195,8 +186,14 @@ fn fault_of_right(is_beside: bool, fault: VerifyFault) -> BesideFault
 }
 
 /// Reads inputs: the filters on the left, those on the right, the tables, the profile on the left, the one on the
-/// right. The error is the first fault.
-pub(crate) fn read_sides(alloc: Global, inputs: Inputs<'_>) -> Result<SidesInput, BesideFault>
+/// right. The error is the first fault. Tables that are read of the inputs aren't read again.
+pub(crate) fn read_sides(
+    alloc: Global,
+    inputs: Inputs<'_>,
+    read: Option<Vec<OwnedTable>>,
+) -> Result<SidesInput, BesideFault>
+    requires { IfSome read (λ read.
+        AllZip SpellsTable (map rest_of_table inputs.tables.items) (map named_of read.items)) }
     ensures sides { IfOk result (AreRead (inputs_of inputs.entry)) }
     ensures refused { IfErr result (AreRefused (inputs_of inputs.entry)) }
 {
@@ -209,7 +206,7 @@ pub(crate) fn read_sides(alloc: Global, inputs: Inputs<'_>) -> Result<SidesInput
         Ok(side) => side,
         Err(fault) => return Err(BesideFault::Beside(fault)),
     };
-    let tables = read_tables(alloc, rules.is_limited, &parts)?;
+    let tables = tables_once(alloc, rules.is_limited, &parts, read)?;
     let left = read_side(alloc, &rules, &tables, open_left)?;
     let right = match read_side(alloc, &rules, &tables, open_right) {
         Ok(side) => side,

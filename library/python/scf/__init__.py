@@ -14,13 +14,107 @@ while the library works. Needs libscf.so.0; the environment's LIBSCF may name th
 from __future__ import annotations
 
 import ctypes
-import enum
+import operator
 import os
 from collections.abc import Callable, Sequence
-from typing import TYPE_CHECKING, Any, NamedTuple, Union
 
+TYPE_CHECKING = False
 if TYPE_CHECKING:
+    from enum import IntEnum
     from mmap import mmap
+    from typing import Any, NamedTuple, Union
+
+    Buffer = Union[bytes, bytearray, memoryview, mmap]
+else:
+    # The modules enum and typing take longer to import than all that follows. These are their classes, as far as they
+    # serve here; and both unions are made where they are asked for.
+    class _Members(type):
+        """The class of enums: each number in the body of one is a member of it."""
+
+        def __init__(cls, name, bases, body):
+            super().__init__(name, bases, body)
+            cls.__members__ = {}
+            for name, number in body.items():
+                if isinstance(number, int) and not name.startswith("_"):
+                    cls.__members__[name] = member = int.__new__(cls, number)
+                    member.name = name
+                    setattr(cls, name, member)
+            cls._value2member_map_ = {int(member): member for member in cls}
+
+        def __call__(cls, number):
+            if number not in cls._value2member_map_:
+                raise ValueError(f"{number!r} is not a valid {cls.__name__}")
+            return cls._value2member_map_[number]
+
+        def __getitem__(cls, name):
+            return cls.__members__[name]
+
+        def __iter__(cls):
+            return iter(cls.__members__.values())
+
+        def __len__(cls):
+            return len(cls.__members__)
+
+        def __contains__(cls, number):
+            return number in cls._value2member_map_
+
+    class IntEnum(int, metaclass=_Members):
+        """As enum.IntEnum: numbers with names, of which there is one each."""
+
+        value = property(int)
+        __str__ = int.__repr__
+
+        def __repr__(self):
+            return f"<{type(self).__name__}.{self.name}: {int(self)}>"
+
+        def __reduce_ex__(self, protocol):
+            return type(self), (int(self),)
+
+    class NamedTuple(tuple):
+        """As typing.NamedTuple: tuples whose members have names, which the annotations of a subclass are."""
+
+        __slots__ = ()
+        _fields, _field_defaults = (), {}
+
+        def __init_subclass__(cls):
+            if "__new__" not in cls.__dict__:
+                cls._fields = cls.__match_args__ = tuple(cls.__annotations__)
+                cls._field_defaults = {name: cls.__dict__[name] for name in cls._fields if name in cls.__dict__}
+                for index, name in enumerate(cls._fields):
+                    setattr(cls, name, property(operator.itemgetter(index)))
+
+        def __new__(cls, *given, **named):
+            names = cls._fields
+            if named or len(given) != len(names):
+                members = {**cls._field_defaults, **named, **dict(zip(names, given))}
+                if len(given) > len(names) or named.keys() & names[:len(given)] or members.keys() != {*names}:
+                    raise TypeError(f"{cls.__name__} takes {', '.join(names)}")
+                given = map(members.__getitem__, names)
+            return tuple.__new__(cls, given)
+
+        @classmethod
+        def _make(cls, members):
+            return cls(*members)
+
+        def _asdict(self):
+            return dict(zip(self._fields, self))
+
+        def _replace(self, **named):
+            return type(self)(**{**self._asdict(), **named})
+
+        def __repr__(self):
+            members = (f"{name}={member!r}" for name, member in self._asdict().items())
+            return f"{type(self).__name__}({', '.join(members)})"
+
+        def __getnewargs__(self):
+            return tuple(self)
+
+    def __getattr__(name):
+        unions = {"Buffer": (bytes, bytearray, memoryview, "mmap"), "Side": (Profile, Filters)}
+        if name not in unions:
+            raise AttributeError(f"module {__name__!r} has no attribute {name!r}")
+        from typing import Union
+        return Union[unions[name]]
 
 __all__ = ["ALL", "Action", "Answer", "Architecture", "Buffer", "Call", "Comparison", "Decision", "EACH_ARCHITECTURE",
            "EACH_CALL", "Fact", "Filters", "Finding", "KEEP_PRIVILEGES", "Kind", "LIMIT", "LeftOut", "Listing",
@@ -29,36 +123,35 @@ __all__ = ["ALL", "Action", "Answer", "Architecture", "Buffer", "Call", "Compari
            "assemble", "check", "compare", "compile", "decide", "is_proved", "listing", "load", "own_tables", "run",
            "table", "trace", "version"]
 
-Buffer = Union[bytes, bytearray, memoryview, "mmap"]
 LIMIT = 1_000_000  # the most steps of a comparison that scf takes without --limit
 KEEP_PRIVILEGES = 0x80000000
 
 
-class Relation(enum.IntEnum):
+class Relation(IntEnum):
     """What is to hold of the answers of both sides. Denied < delegated < allowed."""
 
     SAME, NO_MORE, NO_LESS, SAME_DISPOSITION = range(4)
 
 
-class Verdict(enum.IntEnum):
+class Verdict(IntEnum):
     """What a comparison comes to: HOLDS is proved of every call, FAILS is shown by one."""
 
     HOLDS, FAILS, UNDECIDED, UNFINISHED = range(1, 5)
 
 
-class Reason(enum.IntEnum):
+class Reason(IntEnum):
     """Why a profile answers a call as it does."""
 
     DEFAULT, ENTRY, FOREIGN, STUB = range(1, 5)
 
 
-class Reading(enum.IntEnum):
+class Reading(IntEnum):
     """How a profile is read: by its words, as a runtime reads it that hands it to libseccomp, or with TRAP's data."""
 
     STRICT, RUNC, CRUN, SANDBOX = range(4)
 
 
-class Architecture(enum.IntEnum):
+class Architecture(IntEnum):
     """Whose syscalls a table numbers. X86 is i386; X32's table has its numbers without the bit 0x40000000."""
 
     X86_64, X86, X32, AARCH64, ARM, RISCV64, PPC64LE, MIPSEL, MIPSEL64, MIPSEL64N32, LOONGARCH64 = range(1, 12)
@@ -70,26 +163,28 @@ class Architecture(enum.IntEnum):
                 0xC0000008, 0xE0000008, 0xC0000102)[self - 1]
 
 
-class Action(enum.IntEnum):
+class Action(IntEnum):
     """What an answer does: SECCOMP_RET_.. of linux/seccomp.h."""
 
     KILL_PROCESS, KILL_THREAD, TRAP, ERRNO = 0x80000000, 0, 0x00030000, 0x00050000
     USER_NOTIF, TRACE, LOG, ALLOW = 0x7FC00000, 0x7FF00000, 0x7FFC0000, 0x7FFF0000
 
 
-class Source(enum.IntEnum):
+class Source(IntEnum):
     """What is refused."""
 
     FILTER, BESIDE, TEXT, TABLE, PROFILE, COMPILE, STACK, COMPARE = range(1, 9)
 
 
-# Why it is refused, as docs/FAULTS.md names it.
-Kind = enum.IntEnum("Kind", [
-    "MEMORY", "READ", "TRUNCATED", "TOO_LONG", "EMPTY", "CODE", "LOAD", "SCRATCH", "DIVISOR", "SHIFT", "JUMP",
-    "LAST_NOT_RETURN", "UNSET", "NOT_ASCII", "MNEMONIC", "OPERAND", "NUMBER_RANGE", "LABEL", "JUMP_TOO_FAR", "FORM",
-    "NAME", "NUMBER", "REPEATED", "JSON", "MISSING", "KIND", "ACTION", "OPERATOR", "EMPTY_NAMES", "INDEX",
-    "REPEATED_INDEX", "ERRNO", "ERRNO_RANGE", "NO_X8664", "ENGINE_FORM", "TOO_MANY", "CONFLICT", "TOO_LARGE",
-    "NOT_LISTED"])
+class Kind(IntEnum):
+    """Why it is refused, as docs/FAULTS.md names it."""
+
+    (MEMORY, READ, TRUNCATED, TOO_LONG, EMPTY, CODE, LOAD, SCRATCH, DIVISOR, SHIFT, JUMP, LAST_NOT_RETURN, UNSET,
+     NOT_ASCII, MNEMONIC, OPERAND, NUMBER_RANGE, LABEL, JUMP_TOO_FAR, FORM, NAME, NUMBER, REPEATED, JSON, MISSING, KIND,
+     ACTION, OPERATOR, EMPTY_NAMES, INDEX, REPEATED_INDEX, ERRNO, ERRNO_RANGE, NO_X8664, ENGINE_FORM, TOO_MANY,
+     CONFLICT, TOO_LARGE, NOT_LISTED) = range(1, 40)
+
+
 NO_ENTRY = 2 ** 64 - 1
 
 
@@ -190,7 +285,7 @@ _lib.scf_table.restype, _lib.scf_table.argtypes = ctypes.c_void_p, [_U32, _NEEDE
 _lib.scf_load.restype, _lib.scf_load.argtypes = ctypes.c_int, [*_IN, _U32]
 
 
-def _member(names: type[enum.IntEnum], number: int) -> int:
+def _member(names: type[IntEnum], number: int) -> int:
     """The member with this number; the number, where a later library has one more."""
     return names(number) if number in names._value2member_map_ else number
 
@@ -328,7 +423,8 @@ class Filters(NamedTuple):
     filters: Sequence[Buffer]
 
 
-Side = Union[Profile, Filters]
+if TYPE_CHECKING:
+    Side = Union[Profile, Filters]
 
 
 class Scope(NamedTuple):

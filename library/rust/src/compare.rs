@@ -103,11 +103,11 @@ pub enum Verdict {
         /// The right side's answer.
         right: Answer,
     },
-    /// A filter computes too much.
+    /// It isn't known whether the relation holds.
     Undecided {
-        /// 1 for a filter of the left side, 2 for one of the right side.
+        /// 1 the left side, 2 the right side.
         side: u32,
-        /// The index of an instruction.
+        /// The index of an instruction where a run of that side can end, or 0.
         at: u64,
     },
     /// A limit was reached.

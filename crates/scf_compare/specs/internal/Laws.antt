@@ -1,5 +1,5 @@
 -- Laws that the trees are given with.
-use Rattle.std.specs.Prelude.{◌+◌, ◌*◌, ◌<◌, ◌≤◌, ℕ, List, [], ◌∷◌, drop}
+use Rattle.std.specs.Prelude.{◌+◌, ◌*◌, ◌<◌, ◌≤◌, ℕ, List, [], ◌∷◌, Option, None, Some, drop}
 use Rattle.std.proofs.Common.{zero, suc, arith}
 use Rattle.std.proofs.Math.Nat.{mul-le-mul_left, one-le-pow}
 use Rattle.scf_insn.specs.declared.insn.Insn.{Insn}
@@ -14,14 +14,12 @@ use Rattle.scf_compare.specs.Sides.{filter_at}
 use Rattle.scf_compare.specs.internal.Stacks.{stack_tree}
 use Rattle.scf_compare.specs.declared.profile.ProfileNode.{ProfileNode}
 use Rattle.scf_compare.specs.declared.profile.ProfileNode.TheVariants.{Answer}
-use Rattle.scf_compare.specs.declared.profiles.ProfilesNode.{ProfilesNode}
-use Rattle.scf_compare.specs.declared.profiles.ProfilesNode.TheVariants.{At as InProfile, OfNone}
 use Rattle.scf_profile.specs.declared.number_rules.NumberRules.{NumberRules}
 use Rattle.scf_profile.specs.declared.reason.Reason.TheVariants.{Foreign}
 use Rattle.scf_profile.specs.Profile.{Profile}
 use Rattle.scf_compare.specs.Effort.{spread, spread_of_all, stack_paths}
 use Rattle.scf_compare.specs.internal.Profiles.{profile_tree}
-use Rattle.scf_compare.specs.internal.SeveralProfiles.{numbered_at, profiles_tree, size_of_later}
+use Rattle.scf_compare.specs.internal.SeveralProfiles.{size_of_later, tree_at}
 use Rattle.scf_compare.specs.internal.Filters.{filter_tree}
 use Rattle.scf_compare.specs.Paths.{tree_sizes, tree_size}
 use Rattle.scf_compare.specs.declared.side.Side.{Side}
@@ -77,18 +75,16 @@ pub profile_node_counts : (s : NumberedProfile) (others : ℕ) → 0 < others �
 profile_node_counts s others some (Answer answer Foreign) = some
 profile_node_counts s others some node = grind arith
 
-pub profile_node_counts_alone : (s : NumberedProfile) (node : ProfileNode) → 0 < (profile_tree s 1).size node
-profile_node_counts_alone s = profile_node_counts s 1 (omega arith)
-
 pub spread_counts : (p : Profile) → 0 < spread p
 spread_counts p = omega arith
 
 -- each node of the tree of several profiles counts
-pub profiles_node_counts : (profiles : List Profile) (numbers : List NumberRules) (node : ProfilesNode)
-    → 0 < (profiles_tree profiles numbers).size node
-profiles_node_counts profiles numbers (InProfile index node) =
-    profile_node_counts (numbered_at profiles numbers index) (size_of_later profiles index) (omega arith) node
-profiles_node_counts profiles numbers OfNone = omega arith
+pub profiles_node_counts : (profiles : List Profile) (index : ℕ) (numbers : List NumberRules) (asked : Option Profile)
+    (node : ProfileNode) → 0 < (tree_at profiles index numbers asked).size node
+profiles_node_counts profiles index numbers (Some profile) node =
+    let s : NumberedProfile = record { profile = profile; numbers = numbers } in
+    profile_node_counts s (size_of_later profiles index) (omega arith) node
+profiles_node_counts profiles index numbers None node = omega arith
 
 pub spreads_count : (profiles : List Profile) → 0 < spread_of_all profiles
 spreads_count [] = omega arith

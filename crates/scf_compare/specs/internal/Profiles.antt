@@ -7,13 +7,14 @@ use Rattle.scf_profile.specs.declared.condition.Condition.{Condition}
 use Rattle.scf_profile.specs.declared.number_rules.NumberRules.{NumberRules}
 use Rattle.scf_profile.specs.NumberTests.{test_of}
 use Rattle.scf_profile.specs.Rule.{all_hold, meets}
-use Rattle.scf_compare.specs.Masked.{IsMaskedRule}
+use Rattle.scf_compare.specs.Masked.{IsMaskedProfile, IsMaskedRule}
 use Rattle.scf_profile.specs.Profile.{Profile}
 use Rattle.scf_profile.specs.ProfileAnswers.{ProfileAnswers}
 use Rattle.scf_profile.specs.Reasons.{IsReason}
 use Rattle.scf_profile.specs.declared.reason.Reason.TheVariants.{Foreign}
 use Rattle.scf_profile.specs.declared.rule.Rule.{Rule}
-use Rattle.scf_compare.specs.declared.origin.Origin.TheVariants.{Profile as OfReason}
+use Rattle.scf_compare.specs.declared.origin.Origin.{Origin}
+use Rattle.scf_compare.specs.declared.origin.Origin.TheVariants.{Filter, Profile as OfReason}
 use Rattle.scf_compare.specs.declared.side_tree.SideLeaf.{SideLeaf}
 use Rattle.scf_compare.specs.declared.step.Step.{Step}
 use Rattle.scf_compare.specs.declared.step.Step.TheVariants.{Leaf}
@@ -24,9 +25,26 @@ use Rattle.scf_compare.specs.declared.profile.ProfileNode.{ProfileNode}
 use Rattle.scf_compare.specs.declared.profile.ProfileNode.TheVariants.{Architecture, First, Last, Stub, Number, Condition as OfCondition, Answer as Answers}
 use Rattle.scf_compare.specs.declared.question.ConditionPart.{ConditionPart}
 use Rattle.scf_compare.specs.internal.Conditions.{IsAtTest, part_size}
-use Rattle.scf_compare.specs.Effort.{conditions_size, rules_size, stub_size}
+use Rattle.scf_compare.specs.Effort.{conditions_size, rules_size, spread, stub_size}
+use Rattle.scf_compare.specs.Sides.{Behavior}
 use Rattle.scf_compare.specs.internal.NumberedProfiles.{NumberedProfile}
 use Rattle.scf_compare.specs.internal.Trees.{Tree}
+
+-- the words of a call have the reason of an origin
+abbrev pub ProfileGives : Profile → Origin → List ℕ → Type 0
+ProfileGives p (Filter filter index) words = ⊥
+ProfileGives p (OfReason reason) words = IsReason p (call_of words) reason
+
+-- a profile by itself: its size is its spread
+abbrev pub profile_behavior : Profile → Behavior
+profile_behavior p = record {
+  answers = λ words answer. ProfileAnswers p (call_of words) answer;
+  gives = λ origin words answer. ProfileGives p origin words;
+  ends_at = λ at. at ≡ 0;
+  is_open_at = λ at. ⊥;
+  size = spread p;
+  is_masked = λ masks. IsMaskedProfile masks p;
+}
 
 -- the rules of the number at an index
 abbrev pub own_rules : List NumberRules → ℕ → List Rule

@@ -13,8 +13,8 @@ abbrev pub Under : Type 0
 Under = BTreeMap ℕ (SmallVec Rule)
 
 -- a number and the rules under it
-abbrev pub number_rules : ℕ × SmallVec Rule → NumberRules
-number_rules e = record { number = e.0; rules = e.1 }
+abbrev pub pair_of : NumberRules → ℕ × SmallVec Rule
+pair_of group = (group.number, group.rules)
 
 -- the rules under a number
 abbrev pub rules_under : Under → ℕ → List Rule

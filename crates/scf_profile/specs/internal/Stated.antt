@@ -5,10 +5,8 @@ use Rattle.scf_insn.specs.Architectures.{row_of}
 use Rattle.scf_insn.specs.declared.answer.Answer.{Answer}
 use Rattle.scf_insn.specs.declared.architecture.Architecture.{Architecture}
 use Rattle.scf_profile.specs.declared.profile_text.Head.{Head as HeadRead}
-use Rattle.scf_profile.specs.declared.profile_text.Stated.{Stated}
 use Rattle.scf_profile.specs.declared.profile_text.StatedProfiles.{StatedProfiles}
 use Rattle.scf_profile.specs.declared.profile_text.StatedRules.{StatedRules}
-use Rattle.scf_profile.specs.declared.loaded.Loaded.{Loaded}
 use Rattle.scf_profile.specs.declared.loaded.LoadedProfiles.{LoadedProfiles}
 use Rattle.scf_profile.specs.declared.reading.Reading.{Reading}
 use Rattle.scf_profile.specs.Profile.{Profile}
@@ -39,13 +37,6 @@ stated_profile default_answer s = record {
 -- and as a reading has it
 abbrev pub effective_of : Reading → Answer → StatedRules → Profile
 effective_of reading default_answer s = effective_profile reading (stated_profile default_answer s)
-
-abbrev pub loaded_of : Reading → Stated → Loaded
-loaded_of reading s = record {
-  profile = effective_profile reading (stated_profile s.default_answer s.rules);
-  skipped = s.skipped;
-  other_architectures = s.other_architectures;
-}
 
 abbrev pub loaded_profiles_of : Reading → StatedProfiles → LoadedProfiles
 loaded_profiles_of reading s = record {

@@ -1,7 +1,5 @@
 -- The inputs of a command while they are read.
-use Rattle.std.specs.Prelude.{◌≡◌, ◌≢◌, [], ◌∷◌, length, map, Some}
-use Rattle.scf_compare.specs.declared.side.Side.{Side}
-use Rattle.scf_compare.specs.declared.side.Side.TheVariants as sides
+use Rattle.std.specs.Prelude.{◌≡◌, map, Some}
 use Rattle.scf_request.specs.Contents.{rest_of, rest_of_table}
 use Rattle.scf_tool.specs.FilterStacks.{HasStack}
 use Rattle.scf_tool.specs.Inputs.{Inputs as ReadInputs, SideBytes}
@@ -11,8 +9,6 @@ use Rattle.scf_tool.specs.declared.inputs.SideParts.{SideParts}
 use Rattle.scf_tool.specs.declared.inputs.SideParts.TheVariants as parts
 use Rattle.scf_tool.specs.declared.sides.OpenSide.{OpenSide}
 use Rattle.scf_tool.specs.declared.sides.OpenSide.TheVariants as opens
-use Rattle.scf_tool.specs.declared.sides.SideInput.{SideInput}
-use Rattle.scf_tool.specs.declared.sides.SideInput.TheVariants as inputs
 
 -- what the readers of a side have still to give
 abbrev pub side_bytes : SideParts → SideBytes
@@ -36,12 +32,3 @@ abbrev pub IsOpen : SideBytes → OpenSide → Type 0
 IsOpen (OfFilters filters) (opens.Stack stack) = HasStack (map Some filters) stack
 IsOpen (OfProfile profile) (opens.Profile reader) = rest_of reader ≡ profile
 IsOpen bytes side = ⊥
-
--- the comparer's side for one that is read
-abbrev pub IsSideOf : SideInput → Side → Type 0
-IsSideOf (inputs.Stack stack) (sides.Stack filters) = filters.now ≡ stack
-IsSideOf (inputs.Profile loaded) (sides.Profile p) = p.now ≡ loaded.profile
-IsSideOf (inputs.Profiles loaded) (sides.Profile p) = loaded.profiles ≡ p.now ∷ []
-IsSideOf (inputs.Profiles loaded) (sides.Profiles profiles) =
-    (profiles.now ≡ loaded.profiles) × (length loaded.profiles ≢ 1)
-IsSideOf input side = ⊥

@@ -1,6 +1,6 @@
 //! What sides answer to the records of a scope.
 
-ghost use Rattle.std.specs.Prelude.{IfOk};
+ghost use Rattle.std.specs.Prelude.{IfOk, Some};
 ghost use Rattle.scf_tool.specs.Commands.{Replies};
 ghost use Rattle.scf_tool.specs.Explorations.{ListsDiffering, ListsSide};
 ghost use Rattle.scf_tool.specs.Inputs.{behavior_of_input};
@@ -12,18 +12,18 @@ use crate::sides::{SideInput, SidesInput};
 use scf_compare::Side;
 use scf_insn::Memory;
 use std::alloc::Global;
+use std::slice;
 
 /// Lists what a side answers: profiles each to the records of its architecture.
 fn listed(alloc: Global, side: &SideInput, exploration: Exploration) -> Result<Reply, Memory>
     ensures { IfOk result (ListsSide exploration side.now) }
 {
     match side {
-        SideInput::Stack(stack) => list_side(alloc, &Side::Stack(stack.filters()), exploration),
-        SideInput::Profile(loaded) => list_side(
-            alloc,
-            &Side::Profile(&loaded.profile),
-            exploration,
-        ),
+        SideInput::Stack(stack) => list_side(alloc, Side::Stack(stack.filters()), exploration),
+        SideInput::Profile(loaded) => {
+            let profiles = slice::from_ref(&loaded.profile);
+            list_side(alloc, Side::Profiles(profiles), exploration)
+        }
         SideInput::Profiles(loaded) => list_each(alloc, loaded.profiles.as_slice(), exploration),
     }
 }
@@ -34,7 +34,7 @@ pub(super) fn list_answers(
     side: &SideInput,
     exploration: Exploration,
 ) -> Result<Reply, Fault>
-    ensures { Replies (ListsSide exploration side.now) result }
+    ensures { Replies (Some Fault.Answers) (ListsSide exploration side.now) result }
 {
     Ok(listed(alloc, side, exploration)?)
 }
@@ -45,11 +45,11 @@ pub(super) fn list_differences(
     sides: &SidesInput,
     exploration: Exploration,
 ) -> Result<Reply, Fault>
-    ensures { Replies (ListsDiffering exploration
+    ensures { Replies (Some Fault.Answers) (ListsDiffering exploration
         (behavior_of_input sides.now.left) (behavior_of_input sides.now.right)) result }
 {
     let left = sides.left.side();
     let right = sides.right.side();
-    let reply = list_differing(alloc, &left, &right, exploration)?;
+    let reply = list_differing(alloc, left, right, exploration)?;
     Ok(reply)
 }

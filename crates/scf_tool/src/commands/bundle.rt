@@ -1,13 +1,15 @@
 //! Commands on a bundle: what each takes, over which records it goes, and what it replies.
 
-ghost use Rattle.std.specs.Prelude.{◌≡◌, ◌↔◌, ◌⊎◌, map, IfOk, IfErr, IsTrue};
+ghost use Rattle.std.specs.Prelude.{◌≡◌, ◌↔◌, ◌⊎◌, map, IfOk, IfErr, IfSome, IsTrue};
+ghost use Rattle.std.specs.List.{AllZip};
 ghost use Rattle.scf_request.specs.Contents.{rest_of_table};
 ghost use Rattle.scf_tool.specs.Commands as spec;
 ghost use Rattle.scf_tool.specs.Commands.{EndsOnBundle, GoesOver, GoesOverNone, IsRefused, RepliesTo};
-ghost use Rattle.scf_tool.specs.Inputs.{AreRead};
+ghost use Rattle.scf_tool.specs.ArchitectureScopes.{NameNoCall};
+ghost use Rattle.scf_tool.specs.Inputs.{AreRead, SpellsTable, named_of};
 ghost use Rattle.scf_tool.specs.internal.Sides.{inputs_of};
 
-use crate::architecture_scope::{has_record_among, names_no_call};
+use crate::architecture_scope::{has_record_among, name_no_call};
 use crate::commands::answers::{list_answers, list_differences};
 use crate::commands::compare::compare_sides;
 use crate::commands::decide::decide;
@@ -15,6 +17,7 @@ use crate::commands::profile::{ask_profile, compile_profile};
 use crate::exploration::exploration_of;
 use crate::fault::Fault;
 use crate::inputs::{Inputs, Shape, Takes, open};
+use crate::owned_table::{OwnedTable, valid_tables};
 use crate::reply::Reply;
 use crate::sides::{SidesInput, read_sides};
 use scf_profile::Scope;
@@ -87,30 +90,51 @@ fn has_record_under(of_each: bool, scope: Scope, tables: &[TableReader<PartReade
     }
 }
 
-/// Checks that a command goes over a record under its tables. The error: it goes over none, or out of memory.
+/// Checks that the only table, if there is one, names a call. Returns the tables, if each of them is one. The error:
+/// there is no call, or out of memory.
+fn check_calls(
+    alloc: Global,
+    tables: &[TableReader<PartReader<'_>>],
+) -> Result<Option<Vec<OwnedTable>>, Fault>
+    ensures some { IfOk result (λ _. NameNoCall (map rest_of_table tables.now) → ⊥) }
+    ensures read { IfOk result (λ read. IfSome read
+        (λ read. AllZip SpellsTable (map rest_of_table tables.now) (map named_of read.items))) }
+    ensures fault { IfErr result (λ fault. ((fault ≡ Fault.Calls) × NameNoCall (map rest_of_table tables.now))
+        ⊎ (fault ≡ Fault.Bundle BundleFault.Memory)) }
+{
+    match valid_tables(alloc, tables)? {
+        Some(read) => {
+            if name_no_call(alloc, &read)? {
+                return Err(Fault::Calls);
+            }
+            Ok(Some(read))
+        }
+        None => Ok(None),
+    }
+}
+
+/// Checks that a command goes over a record under its tables. Returns the tables, if they are read for this. The error:
+/// it goes over none, or out of memory.
 #[tactic(auto, using(crate::proofs::ScopeLemmas::none_under))]
 fn check_records(
     alloc: Global,
     of_each: bool,
     over: Scopes,
     tables: &[TableReader<PartReader<'_>>],
-) -> Result<(), Fault>
+) -> Result<Option<Vec<OwnedTable>>, Fault>
     ensures some { IfOk result (λ _. GoesOver of_each over (map rest_of_table tables.now)) }
+    ensures read { IfOk result (λ read. IfSome read
+        (λ read. AllZip SpellsTable (map rest_of_table tables.now) (map named_of read.items))) }
     ensures fault { IfErr result (λ fault. GoesOverNone of_each over (map rest_of_table tables.now) fault
         ⊎ (fault ≡ Fault.Bundle BundleFault.Memory)) }
 {
     match over {
-        Scopes::EachCall => {
-            if names_no_call(alloc, tables)? {
-                return Err(Fault::Calls);
-            }
-            Ok(())
-        }
+        Scopes::EachCall => check_calls(alloc, tables),
         Scopes::AtOnce(scope) => {
             if !has_record_under(of_each, scope, tables) {
                 return Err(Fault::Range);
             }
-            Ok(())
+            Ok(None)
         }
     }
 }
@@ -122,8 +146,8 @@ fn read_over(alloc: Global, over: Scopes, inputs: Inputs<'_>) -> Result<SidesInp
     ensures read { IfOk result (AreRead (inputs_of inputs.entry)) }
     ensures refused { IfErr result (IsRefused over (inputs_of inputs.entry)) }
 {
-    check_records(alloc, inputs.rules.of_each, over, &inputs.tables)?;
-    Ok(read_sides(alloc, inputs)?)
+    let read = check_records(alloc, inputs.rules.of_each, over, &inputs.tables)?;
+    Ok(read_sides(alloc, inputs, read)?)
 }
 
 /// Replies to the sides of a command.

@@ -1,7 +1,8 @@
 //! The comparison of two sides.
 
 ghost use Rattle.std.specs.Prelude.{◌≡◌, IfOk};
-ghost use Rattle.scf_tool.specs.Commands.{IsReport, Replies};
+ghost use Rattle.scf_request.specs.declared.request.Command.TheVariants as commands;
+ghost use Rattle.scf_tool.specs.Commands.{IsReport, Replies, memory_fault_of};
 ghost use Rattle.scf_tool.specs.Reports.{finding_status, findings_status};
 
 use crate::call_reporting::worst_of_calls;
@@ -62,7 +63,7 @@ pub(super) fn compare_sides(
     sides: SidesInput,
     comparison: Comparison,
 ) -> Result<Reply, Fault>
-    ensures { Replies (IsReport comparison sides) result }
+    ensures { Replies (memory_fault_of (commands.Compare comparison)) (IsReport comparison sides) result }
 {
     match report_of(alloc, sides, comparison) {
         Ok(reply) => Ok(reply),

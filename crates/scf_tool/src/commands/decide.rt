@@ -4,7 +4,8 @@ ghost use Rattle.std.specs.Prelude.{◌≡◌, ◌++◌, ℕ, List, string_bytes
 ghost use Rattle.scf_insn.specs.Words.{words_of};
 ghost use Rattle.scf_machine.specs.Path.{IsPathOf};
 ghost use Rattle.scf_machine.specs.Precedence.{IsDecidedBy};
-ghost use Rattle.scf_tool.specs.Commands.{Decides, Replies, ShowsRuns};
+ghost use Rattle.scf_request.specs.declared.request.Command.TheVariants as commands;
+ghost use Rattle.scf_tool.specs.Commands.{Decides, Replies, ShowsRuns, memory_fault_of};
 ghost use Rattle.scf_tool.specs.Lines.{decision_text, traced_text};
 
 use crate::fault::Fault;
@@ -67,7 +68,7 @@ pub(super) fn decide(
     call: &CallRecord,
     detail: Detail,
 ) -> Result<Reply, Fault>
-    ensures { Replies (Decides call.now detail side.now) result }
+    ensures { Replies (memory_fault_of (commands.Decide call.now detail)) (Decides call.now detail side.now) result }
 {
     let SideInput::Stack(stack) = side else {
         return Err(Fault::Parts);

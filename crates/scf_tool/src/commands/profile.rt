@@ -1,5 +1,6 @@
 //! Commands on a profile and its tables.
 
+ghost use Rattle.std.specs.Prelude.{None};
 ghost use Rattle.scf_tool.specs.Commands.{Compiles, GivesReason, Replies};
 
 use crate::compilation::{behind_left_out, filter_of};
@@ -34,7 +35,7 @@ pub(super) fn compile_profile(
 
 /// `ask`: what a profile answers to a call, or that of its architecture, and why.
 pub(super) fn ask_profile(side: &SideInput, call: &CallRecord) -> Result<Reply, Fault>
-    ensures { Replies (GivesReason call.now side.now) result }
+    ensures { Replies None (GivesReason call.now side.now) result }
 {
     match side {
         SideInput::Profile(loaded) => Ok(Reply::Asked {

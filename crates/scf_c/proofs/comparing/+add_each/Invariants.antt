@@ -2,4 +2,4 @@ use Rattle.std.proofs.Common.{length}
 use Rattle.scf_c.proofs.comparing.+add_each.Given as goal
 
 abbrev pub decreases-add_each : goal.decreases-add_each
-decreases-add_each l = length l.several.now
+decreases-add_each l = length l.scopes.now

@@ -15,5 +15,5 @@ number_in-requires-clause-names c =
     (c.loop-call.call-index, c.loop-call-test.true, sym c.call-item.is) in
     has_its_names c.args.table.now c.args.calls.now c.call-item.result c.requires among
 
-pub of_call-requires : goal.of_call-requires
-of_call-requires c = number_fits c.args.architecture c.number_in.result c.number_in.ensures.below
+pub scope_of_call-requires : goal.scope_of_call-requires
+scope_of_call-requires c = number_fits c.args.architecture c.number_in.result c.number_in.ensures.below

@@ -16,22 +16,11 @@ of_one same finding is = record {
   below = is.below;
 }
 
-pub returns-in-Profile : goal.returns-in-Profile
-returns-in-Profile g c =
-    rw c.in-Profile.is
-    (IfOk-weaker c.compare_with-in-Profile.result _ _ (of_one (λ own. absurd own))
-    (rw c.new-left.ensures.profile at c.compare_with-in-Profile.ensures))
-
 pub returns-in-Stack : goal.returns-in-Stack
 returns-in-Stack g c =
     rw c.in-Stack.is
     (IfOk-weaker c.compare_with.result _ _ (of_one (rw c.in-Stack.is at c.are_same_stacks-is_same.ensures.all))
     c.compare_with.ensures)
-
-pub compare_with-requires-in-Profile : goal.compare_with-requires-in-Profile
-compare_with-requires-in-Profile g c = λ same.
-    rw c.new-left.ensures.profile
-    (rw c.in-Profile.is at (c.are_same_stacks-is_same.ensures.related same c.args.by c.args.over))
 
 pub returns-in-Profiles : goal.returns-in-Profiles
 returns-in-Profiles g c =

@@ -19,24 +19,24 @@ returns-in-AllSeen g c =
     let seen = rw c.in-AllSeen.is at after.explores in
     let compared = g.C.Comparison.compared c.args.comparison.now in
     let so_far = c.loop-steps.invariant in
-    let passed = c.pass-passed.ensures in
-    let counts = g.met.C.Comparison.counts c.args.comparison.now c.pass-passed.new.known c.pass-passed.result.node in
+    let passed = c.pass_on-passed.ensures in
+    let counts = g.met.C.Comparison.counts c.args.comparison.now c.pass_on-passed.new.known c.pass_on-passed.new.node in
     let all = λ (none : c.advance.new.first_undecided ≡ None).
     all_related compared c.advance.new.first_undecided none
     (λ words within. elim (so_far.words words within) [
       | inl was ↦ grind (arith, was, after.kept)
       | inr ahead ↦ seen words (ahead_later _ _ _ _ _ _ _ passed.later words ahead)
     ]) in
-    rw c.seen_in.ensures (of_all compared _ (c.loop-steps.steps + (c.pass-passed.result.steps + 1)) c.args.limit _ c.advance.new.first_undecided
+    rw c.seen_in.ensures (of_all compared _ (c.loop-steps.steps + (c.pass_on-passed.result + 1)) c.args.limit _ c.advance.new.first_undecided
     after.index all (λ masks given. let before = so_far.exact masks given.0 given.1 given.2 in
     after.exact masks given.0 (exact_later _ _ _ _ _ _ _ passed.later masks before.1) ∙ before.0)
     (omega arith) (omega (arith, passed.most)) (omega (arith, so_far.size, passed.size, counts)))
 
 pub returns-in-Found : goal.returns-in-Found
 returns-in-Found g c =
-    let passed = c.pass-passed.ensures in
-    let counts = g.met.C.Comparison.counts c.args.comparison.now c.pass-passed.new.known c.pass-passed.result.node in
-    of_found _ _ (c.loop-steps.steps + (c.pass-passed.result.steps + 1)) c.args.limit _ c.in-Found.finding
+    let passed = c.pass_on-passed.ensures in
+    let counts = g.met.C.Comparison.counts c.args.comparison.now c.pass_on-passed.new.known c.pass_on-passed.new.node in
+    of_found _ _ (c.loop-steps.steps + (c.pass_on-passed.result + 1)) c.args.limit _ c.in-Found.finding
     (rw c.in-Found.is at c.in_ok-next.ensures.explores) (omega arith) (omega (arith, passed.most))
     (omega (arith, c.loop-steps.invariant.size, passed.size, counts))
 
@@ -45,7 +45,7 @@ loop-steps-preserved g c =
     let after = c.in_ok-next.ensures in
     let over = rw c.in-At.is at after.explores in
     let so_far = c.loop-steps.invariant in
-    let passed = c.pass-passed.ensures in
+    let passed = c.pass_on-passed.ensures in
     record {
       frontier = over.frontier;
       node = over.node;

@@ -27,8 +27,8 @@ returns-in-AllSeen-clause-regions g c =
     let after = c.in_ok-next.ensures in
     let seen = rw c.in-AllSeen.is at after.explores in
     let regions = rw c.in-AllSeen.is at after.regions in
-    let passed = c.pass-passed.ensures in
-    let counts = g.met.C.Comparison.counts c.args.comparison.now c.pass-passed.new.known c.pass-passed.result.node in
+    let passed = c.pass_on-passed.ensures in
+    let counts = g.met.C.Comparison.counts c.args.comparison.now c.pass_on-passed.new.known c.pass_on-passed.new.node in
     record {
       covered = λ call is within.
           let words = words_of call in
@@ -48,7 +48,7 @@ returns-in-AllSeen-clause-regions g c =
 pub returns-in-AllSeen-clause-decided : goal.returns-in-AllSeen-clause-decided
 returns-in-AllSeen-clause-decided g c = λ masks few among plain.
     let before = c.loop-steps.invariant.decided masks few among plain in
-    let here = exact_later _ _ _ _ _ _ _ c.pass-passed.ensures.later masks before.2 in
+    let here = exact_later _ _ _ _ _ _ _ c.pass_on-passed.ensures.later masks before.2 in
     (c.in_ok-next.ensures.decided masks few here before.0).1 before.1
 
 pub loop-steps-preserved : goal.loop-steps-preserved
@@ -56,7 +56,7 @@ loop-steps-preserved g c =
     let after = c.in_ok-next.ensures in
     let over = rw c.in-At.is at after.explores in
     let regions = rw c.in-At.is at after.regions in
-    let passed = c.pass-passed.ensures in
+    let passed = c.pass_on-passed.ensures in
     record {
       frontier = over.frontier;
       node = over.node;
@@ -76,4 +76,4 @@ loop-steps-preserved g c =
     }
 
 pub region_step-requires-clause-whole : goal.region_step-requires-clause-whole
-region_step-requires-clause-whole g c = goes_on c.loop-steps.invariant.whole c.pass-passed.ensures.later.reached
+region_step-requires-clause-whole g c = goes_on c.loop-steps.invariant.whole c.pass_on-passed.ensures.later.reached

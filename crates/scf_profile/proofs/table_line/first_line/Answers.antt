@@ -1,4 +1,4 @@
-use Rattle.scf_profile.proofs.Common.{◌≡◌, eqb, false, sym, ◌-◌, arith, eq-eqb, ne_eqb, take_all, All-more, All-same, nat_tests, common_steps}
+use Rattle.scf_profile.proofs.Common.{◌≡◌, eqb, false, arith, eq-eqb, ne_eqb, take_all, All-more, All-same, nat_tests, common_steps}
 use Rattle.std.proofs.lemmas.List.{length-drop}
 use Rattle.scf_profile.proofs.Cuts.{line_ends, last_line}
 use Rattle.scf_profile.proofs.table_line.first_line.Goals as goal
@@ -13,6 +13,4 @@ loop-i-preserved c =
 
 pub returns-clause-lines : goal.returns-clause-lines
 returns-clause-lines c =
-    let xs = c.args.text.now in
-    last_line xs c.requires
-    (All-same (λ b. eqb b 10 ≡ false) xs _ (sym (take_all _ _ c.loop-i-test.false)) c.loop-i.invariant)
+    grind (arith, c.requires, c.loop-i-test.false, c.loop-i.invariant, last_line, All-same, take_all)

@@ -1,11 +1,7 @@
 use Rattle.scf_request.proofs.Common.{◌+◌, arith, take}
 use Rattle.scf_request.proofs.BundleLemmas.{tail}
-use Rattle.scf_request.proofs.HeaderLemmas.{at_blank, first_line, header_in_front, no_blank, no_line_end}
+use Rattle.scf_request.proofs.HeaderLemmas.{at_blank, first_line, header_in_front, no_blank}
 use Rattle.scf_request.proofs.bundle.header_of.Goals as goal
-
-pub returns-in_err-end-clause-none : goal.returns-in_err-end-clause-none
-returns-in_err-end-clause-none c = rw c.from_residual.ensures
-    (λ kind count among front. no_line_end c.args.bytes.now kind count c.in_err-end.ensures.none front)
 
 pub returns-in_err-blank-clause-none : goal.returns-in_err-blank-clause-none
 returns-in_err-blank-clause-none c =

@@ -1,4 +1,4 @@
-use Rattle.scf_request.proofs.Common.{[], ◌∙◌, ap₂, option_of, option_rule, sym, take_all, with_rule}
+use Rattle.scf_request.proofs.Common.{[], ◌∙◌, ap₂, option_of, option_rule, sym, with_rule}
 use Rattle.scf_request.proofs.OptionLemmas.{rules_more}
 use Rattle.scf_request.proofs.command_line.command_with.Goals as goal
 
@@ -8,6 +8,3 @@ loop-option-preserved c =
     ∙ ap₂ with_rule c.loop-option.invariant c.argument_of.ensures.rule
     ∙ sym (rules_more option_rule option_of c.args.definition.now.name.now [] c.args.definition.now.options.now
     c.loop-option.option-index _ c.loop-option-test.true)
-
-pub returns : goal.returns
-returns c = rw (take_all _ _ c.loop-option-test.false) at c.loop-option.invariant

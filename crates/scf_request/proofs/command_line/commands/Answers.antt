@@ -18,6 +18,3 @@ returns-clause-each c = (
     ),
   ),
 )
-
-pub returns-clause-whole : goal.returns-clause-whole
-returns-clause-whole c = refl

@@ -1,4 +1,4 @@
-use Rattle.scf_request.proofs.Common.{◌∙◌, ap₂, flag_rule, options_kept, rules_of_options, sym, take_all, with_rule}
+use Rattle.scf_request.proofs.Common.{◌∙◌, ap₂, flag_rule, options_kept, rules_of_options, sym, with_rule}
 use Rattle.scf_request.proofs.OptionLemmas.{rules_more}
 use Rattle.scf_request.proofs.command_line.define.Goals as goal
 
@@ -9,6 +9,3 @@ loop-flag-preserved c =
     ∙ sym (rules_more flag_rule (λ flag. flag.0.now) c.args.definition.now.name.now
     (rules_of_options (options_kept c.args.definition.now.options.now) c.args.definition.now.takes_reading)
     c.args.definition.now.flags.now c.loop-flag.flag-index _ c.loop-flag-test.true)
-
-pub returns : goal.returns
-returns c = rw (take_all _ _ c.loop-flag-test.false) at c.loop-flag.invariant

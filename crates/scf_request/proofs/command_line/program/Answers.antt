@@ -1,4 +1,4 @@
-use Rattle.scf_request.proofs.Common.{◌∙◌, refl, take_all}
+use Rattle.scf_request.proofs.Common.{◌∙◌, refl}
 use Rattle.scf_request.proofs.CommandLineLemmas.{one_more_command, program_more}
 use Rattle.scf_request.proofs.command_line.program.Goals as goal
 
@@ -8,6 +8,3 @@ loop-definition-preserved c =
     c.in_ok-define.ensures refl
     ∙ program_more c.args.definitions.now c.loop-definition.definition-index _ c.loop-definition-test.true
     _ c.loop-definition.invariant
-
-pub returns : goal.returns
-returns c = rw (take_all _ _ c.loop-definition-test.false) at c.loop-definition.invariant

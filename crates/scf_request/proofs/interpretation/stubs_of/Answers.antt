@@ -1,4 +1,4 @@
-use Rattle.scf_request.proofs.Common.{◌∙◌, sym, take_all}
+use Rattle.scf_request.proofs.Common.{◌∙◌, sym}
 use Rattle.scf_request.proofs.InterpretationLemmas.{no_stub, stub_added}
 use Rattle.scf_request.proofs.interpretation.stubs_of.Goals as goal
 use Rattle.scf_request.proofs.interpretation.stubs_of.Goals.{in-Some+in_ok-push, in_default}
@@ -11,6 +11,3 @@ loop-part-preserved c = elim c.match-stub_of.branch [
   | in_default w ↦ rw w.stubs-is (no_stub c.args.parts.now c.loop-part.part-index _ c.loop-part-test.true
       c.loop-part.stubs.items c.loop-part.invariant (sym c.stub_of.ensures ∙ w.in_default.is))
 ]
-
-pub returns : goal.returns
-returns c = rw (take_all _ _ c.loop-part-test.false) at c.loop-part.invariant

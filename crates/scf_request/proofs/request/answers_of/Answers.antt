@@ -1,7 +1,7 @@
-use Rattle.scf_request.proofs.Common.{◌≡◌, Answers, arith, err_from_is_err_and, false, found_of, is_given, not-true, refl, rows_of, true}
+use Rattle.scf_request.proofs.Common.{◌≡◌, Answers, arith, err_from_is_err_and, found_of, refl, rows_of, true}
 use Rattle.std.proofs.Common.{inr}
 use Rattle.std.proofs.lemmas.Grind.{common_steps}
-use Rattle.scf_request.specs.Options.{beside_flag, comparison_options, differences_flag, numbers_of_comparison}
+use Rattle.scf_request.specs.Options.{comparison_options, excludes_walk, numbers_of_comparison}
 use Rattle.scf_request.proofs.OptionLemmas.{none_wrong}
 use Rattle.scf_request.proofs.request.answers_of.Goals as goal
 
@@ -10,12 +10,11 @@ returns-in_err-comparison-clause-fault c =
     let p = err_from_is_err_and c.from_residual.result c.from_residual.ensures.1 in
     rw (p.1, p.2) (c.in_err-comparison.ensures.fault Answers refl)
 
-pub returns-then-not-has_differences-clause-fault : goal.returns-then-not-has_differences-clause-fault
-returns-then-not-has_differences-clause-fault c =
+pub returns-then-excludes_walk-clause-fault : goal.returns-then-excludes_walk-clause-fault
+returns-then-excludes_walk-clause-fault c =
     let rows = rows_of (found_of c.args.options.now) in
     let comparison = c.in_ok-comparison in
     let none = none_wrong comparison_options rows (numbers_of_comparison comparison.comparison)
     comparison.ensures.numbers in
-    let beside : is_given rows beside_flag ≡ true = grind (arith, common_steps) in
-    let no_differences : is_given rows differences_flag ≡ false = grind (arith, common_steps, not-true) in
-    (Answers, refl, none, inr (inr (inr (inr (refl, beside, no_differences)))))
+    let excluded : excludes_walk rows ≡ true = grind (arith, common_steps) in
+    (Answers, refl, none, inr (inr excluded))

@@ -1,4 +1,4 @@
-use Rattle.scf_text.proofs.Common.{◌++◌, ◌+◌, map, arith, err_from_is_err_and, others_in, Statement, nat_tests}
+use Rattle.scf_text.proofs.Common.{◌++◌, map, arith, err_from_is_err_and, others_in, Statement, nat_tests}
 use Rattle.scf_text.proofs.IndexLemmas.{behind_is_part}
 use Rattle.scf_text.proofs.ReadLemmas.{index_left}
 use Rattle.scf_text.proofs.statement.add_line.Goals as goal

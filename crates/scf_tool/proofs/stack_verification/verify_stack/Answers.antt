@@ -1,16 +1,6 @@
 use Rattle.scf_tool.proofs.Common.{inl, inr, refl, err_from_is_err_and}
 use Rattle.scf_tool.proofs.stack_verification.verify_stack.Goals as goal
 
-pub returns-in_err-stack-clause-answer : goal.returns-in_err-stack-clause-answer
-returns-in_err-stack-clause-answer g c =
-    let p = err_from_is_err_and c.from_residual.result c.from_residual.ensures.1 in
-    rw (p.1, p.2) (inl c.in_err-stack.ensures.refused)
-
-pub returns-in_err-names-clause-answer : goal.returns-in_err-names-clause-answer
-returns-in_err-names-clause-answer g c =
-    let p = err_from_is_err_and c.from_residual-in_err-names.result c.from_residual-in_err-names.ensures.1 in
-    rw (p.1, p.2) (inr (_, c.in_ok-stack.ensures.stack, inl c.in_err-names.ensures.refused))
-
 pub returns-in_err-loaded-clause-answer : goal.returns-in_err-loaded-clause-answer
 returns-in_err-loaded-clause-answer g c =
     let p = err_from_is_err_and c.from_residual-in_err-loaded.result c.from_residual-in_err-loaded.ensures.1 in

@@ -1,16 +1,6 @@
 use Rattle.scf_tool.proofs.Common.{inl, inr, refl, err_from_is_err_and}
 use Rattle.scf_tool.proofs.verification.verify.Goals as goal
 
-pub returns-in_err-program-clause-answer : goal.returns-in_err-program-clause-answer
-returns-in_err-program-clause-answer g c =
-    let p = err_from_is_err_and c.from_residual.result c.from_residual.ensures.1 in
-    rw (p.1, p.2) (inl c.in_err-program.ensures.refused)
-
-pub returns-in_err-names-clause-answer : goal.returns-in_err-names-clause-answer
-returns-in_err-names-clause-answer g c =
-    let p = err_from_is_err_and c.from_residual-in_err-names.result c.from_residual-in_err-names.ensures.1 in
-    rw (p.1, p.2) (inr (c.in_ok-program.program, c.in_ok-program.ensures.filter, inl c.in_err-names.ensures.refused))
-
 pub returns-in_err-loaded-clause-answer : goal.returns-in_err-loaded-clause-answer
 returns-in_err-loaded-clause-answer g c =
     let p = err_from_is_err_and c.from_residual-in_err-loaded.result c.from_residual-in_err-loaded.ensures.1 in

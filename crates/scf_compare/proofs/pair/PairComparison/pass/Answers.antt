@@ -12,9 +12,9 @@ returns-then-passed-eq0 g c =
     let right = g.R.SideTree.tree c.args.self.now.right known.right in
     let counts = pending_counts right (g.met.R.SideTree.counts c.args.self.now.right known.right) known.ahead in
     let requires = rw c.in-AtLeft.is at c.requires in
-    let size = scaled_steps ((left c.pass-passed.new.known).size c.pass-passed.result.node) c.pass-passed.result.steps
+    let size = scaled_steps ((left c.pass-passed.new.known).size c.pass-passed.new.node) c.pass-passed.result.steps
     ((left known.left).size c.in-AtLeft.left) (pending_size right known.ahead) passed.size counts in
-    rw (c.in-AtLeft.is, c.at-next.ensures) (record {
+    rw c.in-AtLeft.is (record {
       later = record {
         node = (passed.later.node, requires.1);
         reached = λ words allowed r. (r.0, passed.later.reached words (r.0, allowed) r.1, r.2);
@@ -38,9 +38,9 @@ returns-else-passed-eq0 g c =
     let requires = rw c.in-AtLeft.is at c.requires in
     let from = (left known.left).size c.in-AtLeft.left in
     let all = mul-le-mul_left from ahead.size in
-    let size = scaled_steps ((left c.pass-passed.new.known).size c.pass-passed.result.node) c.pass-passed.result.steps
+    let size = scaled_steps ((left c.pass-passed.new.known).size c.pass-passed.new.node) c.pass-passed.result.steps
     from (pending_size (right after) pending) passed.size counts in
-    rw (c.in-AtLeft.is, c.at-next.ensures) (record {
+    rw c.in-AtLeft.is (record {
       later = record {
         node = (passed.later.node, ahead.node);
         reached = λ words allowed r.

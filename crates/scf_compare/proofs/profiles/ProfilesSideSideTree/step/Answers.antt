@@ -1,71 +1,63 @@
 -- The steps of the profile that is asked are steps of all.
-use Rattle.scf_compare.proofs.Common.{◌≡◌, ◌≢◌, arith, refl}
-use Rattle.scf_profile.specs.ProfileAnswers.{by_none}
-use Rattle.scf_profile.specs.declared.reason.Reason.TheVariants.{Foreign}
-use Rattle.scf_compare.specs.declared.origin.Origin.TheVariants.{Profile as OfReason}
+use Rattle.std.proofs.lemmas.Option.{gets}
+use Rattle.scf_compare.proofs.Common.{◌≡◌, ◌+◌, None, Some, arith, common_steps, length, refl, slice_get, slice_get_within}
+use Rattle.scf_profile.proofs.Common.{both_ways}
+use Rattle.scf_profile.proofs.Answering.{none_here}
+use Rattle.scf_compare.specs.internal.Profiles.{EndsForeign}
 use Rattle.scf_compare.specs.internal.SeveralProfiles.{size_of_later}
-use Rattle.scf_compare.proofs.SeveralProfiles.{here_is, to_branch, to_later, to_leaf, to_next}
+use Rattle.scf_compare.proofs.SeveralProfiles.{to_later, to_step}
 use Rattle.scf_compare.proofs.profiles.ProfilesSideSideTree.step.Goals as goal
+use Rattle.scf_compare.proofs.profiles.ProfilesSideSideTree.step.Goals.{then-self-eq1-via-then-self-eq1, then-self-eq1-via-else-self-eq1+then-not-ends_foreign}
 
 pub returns-in_default : goal.returns-in_default
-returns-in_default g c = rw c.in_default.is (rw c.leaf_by.ensures (record {
-  proper = (refl, tt);
-  leads = λ words given none. (by_none none, none);
-  costs = omega arith;
-  plain = λ masks plain. refl;
-}))
+returns-in_default g c =
+    let none : slice_get c.args.self.now.profiles.now c.args.known.now.index ≡ None =
+    grind (arith, common_steps, gets) in
+    rw (none, c.leaf_by.ensures) (record {
+      proper = (refl, tt);
+      leads = λ words given of_none. (none_here _ _ _ _ of_none refl, none_here _ _ _ _ of_none refl);
+      costs = omega arith;
+      plain = λ masks plain. refl;
+    })
 
-pub returns-in-Next : goal.returns-in-Next
-returns-in-Next g c =
-    let profiles = c.args.self.now.profiles.now in
-    let numbers = c.args.known.now.now in
-    let index = c.in-At.index in
-    let node = rw c.in-At.is at c.requires in
-    let here = here_is profiles _ numbers index _ _ c.as_slice.ensures.profiles node.0 c.index-as_slice-index.is
-    c.with_numbers.ensures.profile in
-    let step = c.step_from.ensures.step (size_of_later profiles index) (omega arith) in
-    rw c.in-At.is
-    (to_next profiles numbers index node.0 _ c.in-At.inner node.1 c.in-Next.next (rw (here, c.in-Next.is) at step))
+pub with_numbers-requires : goal.with_numbers-requires
+with_numbers-requires g c =
+    let stands : slice_get c.args.self.now.profiles.now c.args.known.now.index ≡ Some c.in-Some.profile.now =
+    grind (arith, common_steps, gets) in
+    (rw stands at c.requires).0
 
-pub returns-in-Branch : goal.returns-in-Branch
-returns-in-Branch g c =
-    let profiles = c.args.self.now.profiles.now in
-    let numbers = c.args.known.now.now in
-    let index = c.in-At.index in
-    let node = rw c.in-At.is at c.requires in
-    let here = here_is profiles _ numbers index _ _ c.as_slice.ensures.profiles node.0 c.index-as_slice-index.is
-    c.with_numbers.ensures.profile in
-    let step = c.step_from.ensures.step (size_of_later profiles index) (omega arith) in
-    rw c.in-At.is
-    (to_branch profiles numbers index node.0 _ c.in-At.inner node.1 c.in-Branch.atom c.in-Branch.if_true
-    c.in-Branch.if_false (rw (here, c.in-Branch.is) at step))
+pub step_from-step-requires : goal.step_from-step-requires
+step_from-step-requires g c =
+    let stands : slice_get c.args.self.now.profiles.now c.args.known.now.index ≡ Some c.in-Some.profile.now =
+    grind (arith, common_steps, gets) in
+    rw c.with_numbers.ensures.profile ((rw stands at c.requires).1)
 
-pub returns-else-is_foreign : goal.returns-else-is_foreign
-returns-else-is_foreign g c =
+pub returns-then-self-eq1 : goal.returns-then-self-eq1
+returns-then-self-eq1 g c =
     let profiles = c.args.self.now.profiles.now in
-    let numbers = c.args.known.now.now in
-    let index = c.in-At.index in
-    let node = rw c.in-At.is at c.requires in
-    let here = here_is profiles _ numbers index _ _ c.as_slice.ensures.profiles node.0 c.index-as_slice-index.is
-    c.with_numbers.ensures.profile in
-    let step = c.step_from.ensures.step (size_of_later profiles index) (omega arith) in
-    let own : c.in-Leaf.leaf.origin ≢ OfReason Foreign = λ e. let wrong = c.if-is_foreign.ensures.1 e in cc in
-    rw c.in-At.is
-    (to_leaf profiles numbers index node.0 _ c.in-At.inner node.1 c.in-Leaf.leaf own (rw (here, c.in-Leaf.is) at step))
+    let index = c.args.known.now.index in
+    let stands : slice_get profiles index ≡ Some c.in-Some.profile.now = grind (arith, common_steps, gets) in
+    let inside = slice_get_within profiles index _ stands in
+    let step =
+    rw c.with_numbers.ensures.profile at (c.step_from-step.ensures.step (size_of_later profiles index) (omega arith)) in
+    let last : EndsForeign c.step_from-step.result → index + 1 ≡ length profiles =
+    elim c.then-self-eq1.branch [
+      | then-self-eq1-via-then-self-eq1 w ↦ λ e. omega (arith, inside, w.if-self-eq1.true)
+      | then-self-eq1-via-else-self-eq1+then-not-ends_foreign w ↦
+          λ e. absurd (both_ways _ w.if-not-ends_foreign.true (w.ends_foreign.ensures.1 e))
+    ] in
+    rw stands
+    (to_step profiles c.args.known.now.numbers.now index _ stands _ c.args.node (rw stands at c.requires).0 _ last step)
 
-pub returns-then-is_foreign : goal.returns-then-is_foreign
-returns-then-is_foreign g c =
+pub returns : goal.returns
+returns g c =
     let profiles = c.args.self.now.profiles.now in
-    let numbers = c.args.known.now.now in
-    let index = c.in-At.index in
-    let node = rw c.in-At.is at c.requires in
-    let here = here_is profiles _ numbers index _ _ c.as_slice.ensures.profiles node.0 c.index-as_slice-index.is
-    c.with_numbers.ensures.profile in
-    let step = c.step_from.ensures.step (size_of_later profiles index) (omega arith) in
-    let foreign : c.in-Leaf.leaf.origin ≡ OfReason Foreign = c.if-is_foreign.ensures.0 refl in
-    let counts = rw (here, c.in-Leaf.is) at c.step_from.ensures.foreign in
-    let later = c.start_at-next.ensures in
-    rw c.in-At.is
-    (to_later profiles numbers index node.0 _ c.in-At.inner node.1 c.in-Leaf.leaf foreign
-    (rw (here, c.in-Leaf.is) at step) (counts foreign (size_of_later profiles index)) c.start_at-next.result.0.now
-    c.start_at-next.result.1 later.node later.reached later.size)
+    let index = c.args.known.now.index in
+    let stands : slice_get profiles index ≡ Some c.in-Some.profile.now = grind (arith, common_steps, gets) in
+    let ends = rw c.with_numbers.ensures.profile at c.step_from-step.ensures in
+    let foreign : EndsForeign c.step_from-step.result = c.ends_foreign.ensures.0 c.if-not-ends_foreign.false in
+    let later = c.start_at-root.ensures in
+    rw stands
+    (to_later profiles c.args.known.now.numbers.now index _ stands _ c.args.node (rw stands at c.requires).0 _ foreign
+    (ends.step (size_of_later profiles index) (omega arith)) (ends.foreign foreign (size_of_later profiles index)) _ _
+    later.node later.reached later.size (λ masks all. grind (arith, common_steps)))

@@ -1,4 +1,4 @@
-use Rattle.scf_facts.proofs.Common.{◌≡◌, ◌<◌, answer_at, arith, common_steps, get_or, length, true, false}
+use Rattle.scf_facts.proofs.Common.{◌≡◌, ◌<◌, arith, common_steps, get_or, length, true, false}
 use Rattle.scf_facts.proofs.StoreLaws.{each_word, exact_word, other_answer}
 use Rattle.scf_facts.proofs.snapshot.Snapshot.tell.Goals as goal
 
@@ -16,19 +16,9 @@ returns-clause-both c = λ maybe exact some h.
     )
 
 pub returns-clause-always : goal.returns-clause-always
-returns-clause-always c = λ told words h.
-    let sets = c.args.self.now in
-    let word = c.word.result in
-    let within : word < length sets = grind arith in
-    let read : c.as_set.result.now ≡ get_or sets word c.as_set.result.now = grind (arith, common_steps) in
-    rw (← c.word.ensures)
-    (each_word sets word _ within read (λ x. answer_at c.args.atom x ≡ true) (c.tell.ensures.always told) words h)
+returns-clause-always c =
+    grind (arith, common_steps, c.word.ensures, each_word, c.tell.ensures.always)
 
 pub returns-clause-never : goal.returns-clause-never
-returns-clause-never c = λ told words h.
-    let sets = c.args.self.now in
-    let word = c.word.result in
-    let within : word < length sets = grind arith in
-    let read : c.as_set.result.now ≡ get_or sets word c.as_set.result.now = grind (arith, common_steps) in
-    rw (← c.word.ensures)
-    (each_word sets word _ within read (λ x. answer_at c.args.atom x ≡ false) (c.tell.ensures.never told) words h)
+returns-clause-never c =
+    grind (arith, common_steps, c.word.ensures, each_word, c.tell.ensures.never)

@@ -1,5 +1,6 @@
+use Rattle.std.proofs.lemmas.Grind.{common_steps}
 use Rattle.std.proofs.lemmas.Result.{IfOk-weaker}
-use Rattle.scf_facts.proofs.Common.{◌≡◌, ◌↔◌, ◌∙◌, ◌++◌, ◌∷◌, [], ℕ, All-pop, All-push, AllowsNumber, Bits, LacksBits, NumberFacts, Some, and_zero_r, ap, arith, bit_and, inl, inr, refl, subst, sym}
+use Rattle.scf_facts.proofs.Common.{◌≡◌, ◌↔◌, ◌∙◌, ◌++◌, ◌∷◌, [], ℕ, All-pop, All-push, AllowsNumber, Bits, LacksBits, NumberFacts, Some, and_zero_r, ap, arith, bit_and, refl, subst, sym}
 use Rattle.scf_facts.proofs.MaskLaws.{is_one}
 use Rattle.scf_facts.proofs.word_set.WordSet.without_bits.Goals as goal
 
@@ -19,13 +20,7 @@ pushed facts bits x =
     grind (arith, All-pop P (facts.refuted ++ bits ∷ []) facts.refuted (Some bits) refl, All-push P facts.refuted bits)
 
 pub returns-in_default-clause-kept : goal.returns-in_default-clause-kept
-returns-in_default-clause-kept c =
-    IfOk-weaker c.copy.result _ _
-    (λ kept is x. rw is (
-      λ allows. (allows, c.in_default.ensures.none x (rw (← c.self.view_is) at allows.known)),
-      λ both. both.0,
-    ))
-    c.copy.ensures
+returns-in_default-clause-kept c = grind (arith, common_steps, IfOk-weaker, c.in_default.ensures.none, c.copy.ensures)
 
 pub returns-in_default-clause-refuted : goal.returns-in_default-clause-refuted
 returns-in_default-clause-refuted c = IfOk-weaker c.copy.result _ _ (λ kept is one. rw is refl) c.copy.ensures
@@ -95,16 +90,13 @@ returns-clause-kept c = λ x.
     ↔ (AllowsNumber old x × LacksBits c.args.bits x)) same (pushed facts c.args.bits x))
 
 pub returns-clause-refuted : goal.returns-clause-refuted
-returns-clause-refuted c = λ one.
-    let some : c.beyond-open.result.mask ≡ 0 → ⊥ = c.if-open-eq0.false in
-    absurd
-    (elim one [
-      | inl none ↦ some (c.beyond-open.ensures.none none)
-      | inr power ↦ elim (c.beyond-open.ensures.one power) [
-        | inl none ↦ some none
-        | inr rest ↦
-            let yes = (is_one _ _ c.is_power_of_two.ensures).1 rest in
-            let no = c.if-is_power_of_two.false in
-            cc
-      ]
-    ])
+returns-clause-refuted c = grind (
+  arith,
+  common_steps,
+  c.if-open-eq0.false,
+  c.beyond-open.ensures.none,
+  c.beyond-open.ensures.one,
+  is_one,
+  c.is_power_of_two.ensures,
+  c.if-is_power_of_two.false,
+)

@@ -1,3 +1,5 @@
+use Rattle.std.proofs.Common.{arith}
+use Rattle.std.proofs.lemmas.Grind.{common_steps}
 use Rattle.scf_facts.specs.declared.atom.Tell.{Tell}
 use Rattle.scf_facts.specs.declared.atom.Tell.TheVariants.{Always, Maybe, Never}
 use Rattle.scf_facts.proofs.Common.{◌≡◌, ℕ, List, Atom, atom_answer, refl, true, false}
@@ -37,12 +39,8 @@ returns-clause-law_never c = simp now c.tell.ensures.never
 
 pub returns-clause-told_always : goal.returns-clause-told_always
 returns-clause-told_always c =
-    simp now (λ exact some allowed all.
-    told_always c.tell.result c.args.atom _ c.tell.ensures.always c.tell.ensures.never
-    (λ maybe. c.tell.ensures.both maybe exact some allowed) some allowed all)
+    grind (arith, common_steps, now, c.tell.ensures.always, c.tell.ensures.never, c.tell.ensures.both)
 
 pub returns-clause-told_never : goal.returns-clause-told_never
 returns-clause-told_never c =
-    simp now (λ exact some allowed all.
-    told_never c.tell.result c.args.atom _ c.tell.ensures.always c.tell.ensures.never
-    (λ maybe. c.tell.ensures.both maybe exact some allowed) some allowed all)
+    grind (arith, common_steps, now, c.tell.ensures.always, c.tell.ensures.never, c.tell.ensures.both)

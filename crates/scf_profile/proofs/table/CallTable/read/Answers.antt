@@ -1,4 +1,4 @@
-use Rattle.scf_profile.proofs.Common.{ℕ, ◌<◌, ◌⊎◌, List, [], length, refl, sym, arith, inl, inr, names_of, with_lines, ◌≡◌, ◌∷◌, Option, None, Some, Result, Ok, Err, TableFault, ◌>>=◌, Names, with_entry, fields, entry_in, BeginWithCall, nat_tests, common_steps}
+use Rattle.scf_profile.proofs.Common.{ℕ, ◌<◌, ◌⊎◌, List, length, refl, arith, inl, inr, names_of, with_lines, ◌≡◌, ◌∷◌, Option, None, Some, Result, Ok, Err, TableFault, ◌>>=◌, Names, with_entry, fields, entry_in, BeginWithCall, nat_tests, common_steps}
 use Rattle.scf_profile.specs.Table.{HasCall}
 use Rattle.scf_profile.proofs.NamesOf.{call_numbers_empty, no_entries}
 use Rattle.scf_profile.proofs.table.CallTable.read.Goals as goal
@@ -12,8 +12,7 @@ begins_before line names more text texts read begins = by_entry (entry_in line (
       → (entry >>= with_entry line names) ≡ Ok more → BeginWithCall (text ∷ texts)
   by_entry (Err e) is ok = absurd (cc)
   by_entry (Ok None) is ok = inr (record { line = line; states = is }, begins)
-  by_entry (Ok (Some (name, number))) is ok =
-      inl (record { line = line; name = name; number = number; states = is })
+  by_entry (Ok (Some (name, number))) is ok = grind (arith, common_steps, nat_tests)
 
 -- a line behind which there are entries is a name and a number, or there were some before it
 has_call : (line : ℕ) (old new : List (List ℕ × ℕ)) (text : List ℕ)
@@ -21,15 +20,13 @@ has_call : (line : ℕ) (old new : List (List ℕ × ℕ)) (text : List ℕ)
     → (0 < length old) ⊎ HasCall text
 has_call line old new text read some = by_entry (entry_in line (fields text)) refl read where
   by_old : (es : List (List ℕ × ℕ)) → names_of es ≡ names_of new → (0 < length es) ⊎ HasCall text
-  by_old [] same = absurd (no_entries new (sym same) some)
-  by_old (e ∷ es) same = inl (omega arith)
+  by_old es h = grind (arith, common_steps, nat_tests, no_entries)
 
   by_entry : (entry : Result (Option (List ℕ × ℕ)) TableFault) → entry_in line (fields text) ≡ entry
       → (entry >>= with_entry line (names_of old)) ≡ Ok (names_of new) → (0 < length old) ⊎ HasCall text
   by_entry (Err e) is ok = absurd (cc)
   by_entry (Ok None) is ok = by_old old (cc)
-  by_entry (Ok (Some (name, number))) is ok =
-      inr (record { line = line; name = name; number = number; states = is })
+  by_entry (Ok (Some (name, number))) is ok = grind (arith, common_steps, nat_tests)
 
 pub loop-remaining-init : goal.loop-remaining-init
 loop-remaining-init c = grind (arith, common_steps, nat_tests, call_numbers_empty, c.new-numbers.ensures.empty)

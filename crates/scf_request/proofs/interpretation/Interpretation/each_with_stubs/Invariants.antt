@@ -1,6 +1,6 @@
 use Rattle.scf_request.proofs.Common.{◌≡◌, take}
-use Rattle.scf_request.specs.Interpretations.{each_with_stub, stubbed}
+use Rattle.scf_request.specs.Interpretations.{stubbed}
 use Rattle.scf_request.proofs.interpretation.Interpretation.each_with_stubs.Given as goal
 
 abbrev pub invariant-loop-stub : goal.invariant-loop-stub
-invariant-loop-stub l = l.profiles ≡ stubbed each_with_stub (take l.stub-index l.stub-items) l.fn.profiles
+invariant-loop-stub l = l.profiles ≡ stubbed (take l.stub-index l.stub-items) l.fn.profiles

@@ -1,5 +1,5 @@
-use Rattle.scf_request.proofs.Common.{refl}
+use Rattle.scf_request.proofs.InterpretationLemmas.{one_profile_by}
 use Rattle.scf_request.proofs.interpretation.Interpretation.load.Goals as goal
 
-pub returns-clause-ok : goal.returns-clause-ok
-returns-clause-ok c = (c.in_ok-stated.stated, rw c.reading.ensures at c.in_ok-stated.ensures.ok, rw c.with_stubs.ensures refl)
+pub into_only-requires : goal.into_only-requires
+into_only-requires c = one_profile_by c.args.self.now c.args.text.now c.args.table.now c.in-Ok.loaded c.in-Ok.ensures.ok
