@@ -49,7 +49,8 @@ class Assessor:
     def __init__(self, kernel: Kernel, snapshot: Snapshot, judges: Judges, why: str | None) -> None:
         self.kernel, self.snapshot, self.judges, self.why = kernel, snapshot, judges, why
         self.of_root, self.of_users = child.Budget(SECONDS_OF_ROOT), child.Budget(SECONDS_OF_USERS)
-        self.surfaces: dict[str, ShownSurface] = {}
+        # what stacks allow, by their digests, as it was found out of whose rows
+        self.surfaces: dict[int | None, dict[str, ShownSurface]] = {}
 
     def fill(self, rows: Iterable[AuditRow]) -> None:
         """Adds the parts of rows. What takes longer than its share has what others left, in the end."""
@@ -70,7 +71,7 @@ class Assessor:
         confined = sorted((process for row in rows for process in row.processes if process.is_confined),
                           key=lambda process: (process.is_stuck, len(process.threads), process.number))
         return Task(user, rows, Copies(self.kernel, (process.number for process in confined),
-                                       self.judges.options.is_forced), self.surfaces)
+                                       self.judges.options.is_forced), self.surfaces.setdefault(user, {}))
 
     def look(self, tasks: Sequence[Task], budget: child.Budget) -> list[Task]:
         """Looks at what is left of tasks, at once at as many as have few bytes of filters; those that came too late."""
@@ -169,4 +170,7 @@ def audit_machine(options: Options, judges: Judges) -> Audit:
             row.parts.append(RowPart(StackShape(), {row.container.first: [row.container.first]}, judgement))
             row.parts.sort(key=lambda part: part.judgement.order)
     rows = sorted((row for row in rows if row.parts), key=lambda row: row.order)
-    return Audit(rows, snapshot, now, time.monotonic() - began, options.allows_unconfined, assessor.surfaces)
+    of_root = {part.stack.digest for row in rows if row.user is None for part in row.parts}
+    surfaces = {digest: surface for user, found in assessor.surfaces.items() for digest, surface in found.items()
+                if user is None or digest not in of_root}
+    return Audit(rows, snapshot, now, time.monotonic() - began, options.allows_unconfined, surfaces)

@@ -226,8 +226,8 @@ def head_json(audit: Audit, earlier: Earlier | None = None) -> dict[str, object]
     system = os.uname()
     since = {} if earlier is None else {"since": {
         "time": output.escaped(earlier.time), "changes": [*changes(earlier, audit)]}}
-    return {"status": audit.status, "host": system.nodename, "kernel": system.release, "time": output.time_text(audit.time),
-            "seconds": round(audit.seconds, 3),
+    return {"status": audit.status, "host": system.nodename, "kernel": system.release,
+            "time": output.time_text(audit.time), "seconds": round(audit.seconds, 3),
             "verdicts": {kind: {verdict: audit.counts[kind, verdict] for verdict in AUDIT_VERDICTS}
                          for kind in ROW_KINDS},
             "processes": {"confined": len(audit.confined), "unconfined": len(audit.unconfined),

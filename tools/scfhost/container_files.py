@@ -19,7 +19,7 @@ from scftools.base import child
 from scftools.base.values import Any, Pattern, dataclass, replace
 from scftools.model import profiles
 from scftools.forms import engines
-from . import configurations, containers, owned_files, started_profiles
+from . import configurations, containers, owned_files
 from .machine import Process, Snapshot, inherited
 from .owned_files import Absent, UnreadableFile
 from .ptrace import Kernel, ticks_at_start
@@ -28,8 +28,6 @@ from .ptrace import Kernel, ticks_at_start
 # for each user in a folder called by the user's ID.
 ROOTS = ("/run/runc", "/run/crun", "/run/containerd/runc/*", "/run/docker/runtime-runc/*")
 OF_USERS, ROOTS_OF_USERS = "/run/user", ("runc", "crun")
-# The file in such a folder, and which runtime writes it.
-STATE_FILES = {"state.json": "runc", "status": "crun"}
 # systemd's slices of users (systemd.special(7)), in which these may make groups.
 SLICE_OF_A_USER = Pattern(rb"/user\.slice/user-[0-9]+\.slice/")
 # Bundles of containerd, also one that k3s or Docker starts itself, with a namespace for each client; and of the storage
@@ -147,7 +145,7 @@ class Reader:
 
     def state_in(self, folder: str) -> ContainerDescription | None:
         """The container of a runtime's folder. Raises UnreadableFile if a file is there that isn't the runtime's."""
-        for name, runtime in STATE_FILES.items():
+        for runtime, name in configurations.STATES.items():
             path = os.path.join(folder, name)
             try:
                 value = json.loads(self.read(path, MOST_BYTES).decode("utf-8"))
@@ -219,9 +217,9 @@ class Reader:
         has others by now."""
         linux = configuration.get("linux") or {} if isinstance(configuration, dict) else {}
         try:
-            state = _object(self.read, os.path.join(container.folder, "state.json"), MOST_BYTES)
-            started = started_profiles.seccomp_of(state)
-            if container.runtime != "runc" or started_profiles.state_same(started, linux.get("seccomp")):
+            state = _object(self.read, os.path.join(container.folder, configurations.STATES["runc"]), MOST_BYTES)
+            started = configurations.started_seccomp(state)
+            if container.runtime != "runc" or configurations.say_the_same(started, linux.get("seccomp")):
                 return container, configuration
         except (LookupError, TypeError, AttributeError):
             return container, configuration

@@ -122,7 +122,7 @@ class Expectations:
         path = sandbox_programs.lxc_config(container.identifier)
 
         def read() -> Expectation:
-            policy_path = sandbox_programs.lxc_policy(owned_files.read_own, path)
+            policy_path = sandbox_programs.lxc_policy(path)
             if policy_path is None:
                 return Expectation(source=path)
             policy = lxc.read_lxc_policy(owned_files.read_own(policy_path, sandbox_rules.MOST_LIST_BYTES))

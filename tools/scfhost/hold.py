@@ -29,8 +29,9 @@ PF_USER_WORKER = 0x00004000
 # vfork(2) does.
 HELD_FOR_ONE = 0.2
 # How often and for how many seconds the kernel refuses to trace a thread before that is believed: one that ends or
-# executes a program is refused for a moment, on a loaded machine for longer. A zombie is believed sooner.
-SURE_TIMES, SURE_AFTER, SURE_OF_ZOMBIE = 10, 3, 0.5
+# executes a program is refused for a moment, on a loaded machine for longer, and so is one that another audit looks at.
+# A zombie, and one that has another tracer, is believed sooner; and at once where some had that all the time.
+SURE_TIMES, SURE_AFTER, SURE_SOON, MOST_VAIN_WAITS = 10, 3, 0.5, 4
 # How often threads are waited for while PTRACE_SEIZE waits, and are listed again while none is held, in seconds.
 PAUSE, PAUSE_UNHELD = 0.005, 0.02
 # The state of a stopped thread, as waitpid(2) gives it.
@@ -64,9 +65,15 @@ def why_no_filters(kernel: Kernel) -> str | None:
     return None
 
 
-def is_sure(since: float, count: int, is_zombie: bool) -> bool:
+def is_sure(since: float, count: int, is_soon: bool) -> bool:
     """Whether a thread is taken as untraceable after the kernel refused it so often since then."""
-    return count >= SURE_TIMES and time.monotonic() - since >= (SURE_OF_ZOMBIE if is_zombie else SURE_AFTER)
+    return count >= SURE_TIMES and time.monotonic() - since >= (SURE_SOON if is_soon else SURE_AFTER)
+
+
+def other_tracer(kernel: Kernel, thread: int) -> str | None:
+    """The process that traces a thread, if this one doesn't."""
+    tracer = kernel.status_of(thread).get("TracerPid", "0")
+    return None if tracer in ("0", str(os.getpid())) else tracer
 
 
 def why_not_traced(kernel: Kernel, thread: int, process: int, error: OSError) -> str | None:
@@ -74,8 +81,8 @@ def why_not_traced(kernel: Kernel, thread: int, process: int, error: OSError) ->
     who = called(thread, process)
     if error.errno not in (errno.EPERM, errno.EACCES):
         return f"{who} can't be stopped: {error.strerror}"
-    tracer = kernel.status_of(thread).get("TracerPid", "0")
-    if tracer not in ("0", str(os.getpid())):
+    tracer = other_tracer(kernel, thread)
+    if tracer is not None:
         return f"{who} is already traced by process {tracer}, and can have only one tracer"
     if not int(kernel.status_of(os.getpid()).get("CapEff", "0"), 16) >> CAP_SYS_PTRACE & 1:
         return f"{who} can't be stopped without CAP_SYS_PTRACE: run this as root, outside of containers"
@@ -86,6 +93,9 @@ def why_not_traced(kernel: Kernel, thread: int, process: int, error: OSError) ->
 
 class Hold:
     """Threads that are stopped, and that run on where the block that holds them ends, whatever ends it."""
+
+    # how many threads this process has waited for that kept another tracer
+    vain_waits = 0
 
     def __init__(self, kernel: Kernel, listed: Callable[[], dict[int, int]], patience: float,
                  is_forced: bool = False, restarts: restart.Restarts | None = None) -> None:
@@ -108,8 +118,8 @@ class Hold:
         self.passed_over: dict[int, str] = {}
         # Those that aren't to be held any more, and couldn't be let go: they end, and are waited for.
         self.leaving: set[int] = set()
-        # Of a thread that the kernel refuses to trace: since when it does, how often it was listed so, and whether it
-        # is a zombie; and the same before the last listing.
+        # Of a thread that the kernel refuses to trace: since when it does, how often it was listed so, and whether that
+        # is soon believed; and the same before the last listing.
         self.refused: dict[int, tuple[float, int, bool]] = {}
         self.refused_before: dict[int, tuple[float, int, bool]] = {}
         # Held by this thread, but for the time in which it waits in PTRACE_SEIZE; then the other one waits for threads,
@@ -190,8 +200,14 @@ class Hold:
             self.drop(thread)
         self.process_of.update(listed)
         self.refused_before, self.refused = self.refused, {}
-        changes = [self.trace(thread, process) for thread, process in listed.items() if thread not in held]
-        return bool(others) or any(changes)
+        changes = [bool(others)]
+        for thread, process in listed.items():
+            if thread not in held:
+                changes.append(self.trace(thread, process))
+            if thread in self.refused and other_tracer(self.kernel, thread) is not None:
+                # (of two tools that look at the same threads one has the first of them, and the other one none)
+                break
+        return any(changes)
 
     def trace(self, thread: int, process: int) -> bool:
         """Whether there was a change: the thread is traced, or has ended since it was listed, or may yet be traced."""
@@ -218,9 +234,11 @@ class Hold:
         why = why_not_traced(self.kernel, thread, process, error)
         since, count, _ = self.refused_before.get(thread, (time.monotonic(), 0, False))
         is_zombie = self.kernel.status_of(thread).get("State", "Z")[:1] in "ZX"
-        self.refused[thread] = since, count + 1, is_zombie
-        if why is None and not is_sure(since, count + 1, is_zombie):
+        is_traced = Hold.vain_waits < MOST_VAIN_WAITS and other_tracer(self.kernel, thread) is not None
+        self.refused[thread] = since, count + 1, is_zombie or is_traced
+        if (why is None or is_traced) and not is_sure(*self.refused[thread]):
             return True
+        Hold.vain_waits += is_traced
         if why is None and is_zombie:
             self.passed_over[process] = "is a zombie: it has ended, and waits for its parent"
             return False

@@ -4,8 +4,8 @@ A runtime starts a hook with the container's state on standard input (OCI runtim
 config.md: POSIX-platform Hooks). The process is held by a pidfd (pidfd_open(2)) as soon as its ID is known, so that no
 other process with that ID later is taken for it, or killed in its place.
 
-A worker reads the filters and compares them, and the hook itself only waits for its report, so that the deadline holds
-whatever the worker hangs in. A watchdog kills the container if the hook is stopped or ended before that.
+A child reads the filters and compares them, and the hook itself only waits for its report, so that the deadline holds
+whatever the child hangs in. A watchdog kills the container if the hook is stopped or ended before that.
 """
 from __future__ import annotations
 
@@ -20,7 +20,7 @@ import stat
 import time
 from collections.abc import Callable, Sequence
 
-from scftools.base import inputs, output, program
+from scftools.base import child, inputs, output, program
 from scftools.base.values import Any, dataclass
 from scftools.model import profiles
 from scftools.ask import verdicts
@@ -30,7 +30,7 @@ from . import configurations, containers, hold, processes, verify
 from .configurations import ContainerError
 from .processes import Kernel
 from .ptrace import has_ended
-from .watchdog import Watchdog, Worker
+from .watchdog import Watchdog, is_ready
 
 
 # The verdict on a container whose configuration has no profile.
@@ -90,7 +90,7 @@ def state(seconds: float) -> bytes:
     until, data = time.monotonic() + seconds, b""
     while len(data) <= inputs.LIMITS["state"]:
         try:
-            if not select.select([0], [], [], max(0.0, until - time.monotonic()))[0]:
+            if not is_ready(0, until):
                 raise ContainerError(f"the container's state didn't come on standard input within {seconds:g} seconds")
             piece = os.read(0, 1 << 16)
         except OSError as error:
@@ -139,10 +139,13 @@ def members_of(kernel: Kernel, pid: int) -> containers.Container:
 
 
 def descendants(kernel: Kernel, pid: int) -> list[int]:
-    parents = {number: kernel.status_of(number).get("PPid") for number in kernel.processes()}
+    children: dict[str, list[int]] = {}
+    for number in kernel.processes():
+        if number != pid:
+            children.setdefault(kernel.status_of(number).get("PPid", ""), []).append(number)
     numbers = [pid]
     for ancestor in numbers:
-        numbers += [number for number, parent in parents.items() if parent == str(ancestor) and number not in numbers]
+        numbers += children.pop(str(ancestor), ())
     return numbers
 
 
@@ -299,32 +302,8 @@ def failure(why: str, status: int = program.TROUBLE) -> HookResult:
     return plain_finding(status, None, why)
 
 
-def send_result(result: HookResult, is_json: bool, send: Callable[[object], None]) -> None:
-    """Sends a worker's result: first the status and the verdict, then the explanation."""
-    send([result.status, result.verdict])
-    send(result.lines())
-    if is_json:
-        send(result.value())
-
-
-def result_of(worker: Worker, seconds: float, is_json: bool, settle: Callable[[int], None]) -> HookResult:
-    """The finding of a worker within this many seconds. `settle` is called as soon as the status is known."""
-    outcome = worker.receive(time.monotonic() + seconds)
-    if outcome is None:
-        finding = unknown(worker.status(), seconds)
-        settle(finding.status)
-        return finding
-    status, verdict = outcome
-    settle(status)
-    until = time.monotonic() + EXPLANATION_SECONDS
-    late = plain_finding(status, verdict, f"no explanation: it takes longer than {EXPLANATION_SECONDS:g} seconds")
-    lines = worker.receive(until) or late.lines()
-    value = is_json and worker.receive(until) or late.value()
-    return HookResult(status, verdict, lambda: lines, lambda: value)
-
-
 def unknown(status: int | None, seconds: float) -> HookResult:
-    """The finding if a worker reports nothing: it ended with a status, or still runs."""
+    """The finding if a child reports nothing: it ended with a status, or not within so many seconds."""
     if status is None:
         return failure(f"undecided after {seconds:g} seconds", program.UNKNOWN)
     if status == program.NOT_BUILT:
@@ -345,15 +324,52 @@ class Examination:
         self.watchdog: Watchdog | None = None
 
     def result(self, find: Callable[[], HookResult], is_json: bool) -> HookResult:
+        reported: list[Any] = []
+
+        def receive(value: Any) -> float | None:
+            reported.append(value)
+            if len(reported) > 1:
+                return None
+            self.settle(value[0])
+            return EXPLANATION_SECONDS
+
+        finding = unknown(None, self.seconds)
         try:
             if self.kills:
                 self.watchdog = Watchdog(self.bark, time.monotonic() + self.seconds + GRACE)
-            worker = Worker(lambda send: send_result(run_safely(find), is_json, send),
-                            [self.watchdog.end] if self.watchdog else [])
+            child.run_in_child(lambda send: self.report(find, is_json, send), self.seconds, receive)
+        except child.Late:
+            pass
+        except child.Died as died:
+            finding = unknown(died.status, self.seconds)
+        except child.Interrupted as came:
+            came.end_tool()
         except OSError as error:
-            self.settle(program.TROUBLE)
-            return failure(f"no process can be started: {error.strerror}")
-        return result_of(worker, self.seconds, is_json, self.settle)
+            if reported:
+                raise
+            finding = failure(f"no process can be started: {error.strerror}")
+        if not reported:
+            self.settle(finding.status)
+            return finding
+        (status, verdict), *explained = reported
+        late = plain_finding(status, verdict, f"no explanation: it takes longer than {EXPLANATION_SECONDS:g} seconds")
+        lines, value = (*explained, None, None)[:2]
+        return HookResult(status, verdict, lambda: lines or late.lines(), lambda: value or late.value())
+
+    def report(self, find: Callable[[], HookResult], is_json: bool, send: Callable[[object], None]) -> None:
+        """Sends, in a child, first the status and the verdict, and then the explanation. If the hook ends, it ends too,
+        with all that it started, once it holds no thread of another process any more."""
+        if self.watchdog is not None:
+            # (which is to know at once if the hook ends)
+            os.close(self.watchdog.end)
+        signal.signal(signal.SIGTERM, lambda *_: os.killpg(0, signal.SIGKILL))
+        signal.pthread_sigmask(signal.SIG_UNBLOCK, [signal.SIGTERM])
+        result = run_safely(find)
+        send([result.status, result.verdict])
+        child.have_seconds(EXPLANATION_SECONDS)
+        send(result.lines())
+        if is_json:
+            send(result.value())
 
     def settle(self, status: int) -> None:
         """Acts on the status: kills the container on request, and dismisses the watchdog."""
@@ -404,16 +420,14 @@ def dry_run_line(status: int, kills: bool) -> str:
 def hook_words(words: Sequence[str]) -> list[str]:
     """The words that the hook is called with. A runtime calls it in a folder of its own, so the table's path is the
     absolute one."""
-    words_of_hook: list[str] = []
-    for word in words:
-        name = word.removeprefix("--table=")
-        if words_of_hook[-1:] == ["--table"]:
-            words_of_hook.append(os.path.abspath(word))
-        elif name != word:
-            words_of_hook.append(f"--table={os.path.abspath(name)}")
-        elif word != "--print-hook":
-            words_of_hook.append(word)
-    return words_of_hook
+    named = [word for word in words if word != "--print-hook"]
+    for at, word in enumerate(named):
+        option, equals, path = word.partition("=")
+        if option == "--table" and equals:
+            named[at] = f"--table={os.path.abspath(path)}"
+        elif named[at - 1:at] == ["--table"]:
+            named[at] = os.path.abspath(word)
+    return named
 
 
 def hook_file(path: str, words: Sequence[str], seconds: float) -> str:

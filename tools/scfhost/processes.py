@@ -7,7 +7,6 @@ may be reused later.
 """
 from __future__ import annotations
 
-import os
 from collections.abc import Callable
 
 from scftools.base import child, output, program
@@ -16,7 +15,7 @@ from scftools.base.values import Any
 from scftools.forms.stacks import Inspection, Stack, called
 from .containers import Container, container_of
 from .hold import Ended, Hold, Unreadable, Waiting, stack_of, why_no_filters
-from .ptrace import Kernel
+from .ptrace import Kernel, is_executing
 from .restart import Restarts
 
 __all__ = ("Container", "Interrupted", "Kernel", "Unreadable", "container_of")
@@ -73,8 +72,11 @@ def look(kernel: Kernel, listed: Callable[[], dict[int, int]], patience: float, 
     try:
         return child.run_in_child(lambda: read_threads(kernel, listed, TO_STOP * patience, is_forced), patience)
     except child.Late as late:
-        raise Unreadable(f"the threads couldn't be read within {patience:g} seconds: the kernel makes a tracer wait, "
-                         f"as for a thread that executes a program; all stopped threads continue") from late
+        # (else it may be scf that took so long, or the machine)
+        why = ": the kernel makes a tracer wait, as for a thread that executes a program" if any(
+            map(is_executing, listed())) else ""
+        raise Unreadable(f"the threads couldn't be read within {patience:g} seconds{why}; all stopped threads "
+                         f"continue") from late
     except child.Died as died:
         raise Unreadable(str(died)) from died
 
@@ -142,8 +144,6 @@ def read_or_end(read: Callable[[], Any], has_force: bool = False, is_json: bool 
     except Interrupted as came:
         import signal  # pylint: disable=import-outside-toplevel
 
-        number = came.args[0]
-        program.say(f"ended by {signal.Signals(number).name}; all stopped threads continue")
-        signal.signal(number, signal.SIG_DFL)
-        os.kill(os.getpid(), number)
+        program.say(f"ended by {signal.Signals(came.args[0]).name}; all stopped threads continue")
+        came.end_tool()
         raise program.ToolError("the signal didn't end it") from came

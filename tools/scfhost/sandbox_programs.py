@@ -9,7 +9,7 @@ from __future__ import annotations
 
 import itertools
 import os
-from collections.abc import Callable, Iterator
+from collections.abc import Iterator
 
 from scftools.base.values import Pattern, dataclass
 from scftools.model.answers import ALLOW
@@ -20,11 +20,10 @@ from .machine import Process, inherited
 from .owned_files import UnreadableFile
 from .ptrace import Kernel, contents
 
-# Where root's containers of LXC have their folders; what files of one may have, and how they may include each other.
-LXC_CONTAINERS, MOST_CONFIG_BYTES, MOST_FILES, DEEPEST = "/var/lib/lxc", 1 << 18, 64, 8
+# Where root's containers of LXC have their folders; the most bytes of a file of one, and how many it may include.
+LXC_CONTAINERS, MOST_CONFIG_BYTES, MOST_FILES = "/var/lib/lxc", 1 << 18, 64
 # The most names of a folder that are read.
 MOST_NAMES = 1 << 16
-Read = Callable[[str, int], bytes]
 # Where firejail's files are, and the most bytes of a path.
 FIREJAIL_SANDBOXES, MOST_PATH = "/run/firejail/profile", 4096
 # By how many seconds the time of a file may seem to be before the start of the process that wrote it.
@@ -51,25 +50,25 @@ def lxc_config(name: str) -> str:
     return os.path.join(LXC_CONTAINERS, name, "config")
 
 
-def lxc_policy(read: Read, path: str) -> str | None:
+def lxc_policy(path: str) -> str | None:
     """The path of the policy that a configuration names last, if it names one. Raises UnreadableFile."""
     policy = None
-    for name, value in _lxc_settings(read, path, itertools.count(1)):
+    for name, value in _lxc_settings(path, itertools.count(1)):
         if name in ("lxc.seccomp.profile", "lxc.seccomp"):
             policy = value or None
     return policy
 
 
-def _lxc_settings(read: Read, path: str, files: Iterator[int], depth: int = 0) -> Iterator[tuple[str, str]]:
+def _lxc_settings(path: str, files: Iterator[int]) -> Iterator[tuple[str, str]]:
     """The settings in a file and in those that it includes; `files` counts them."""
-    if next(files) > MOST_FILES or depth > DEEPEST:
+    if next(files) > MOST_FILES:
         raise UnreadableFile(f"'{path}' is included after too many others")
-    for line in read(path, MOST_CONFIG_BYTES).decode("utf-8", "surrogateescape").split("\n"):
+    for line in owned_files.read_own(path, MOST_CONFIG_BYTES).decode("utf-8", "surrogateescape").split("\n"):
         name, equals, value = (part.strip() for part in line.partition("="))
         if not equals or name.startswith("#"):
             continue
         for included in _included(value) if name == "lxc.include" else ():
-            yield from _lxc_settings(read, included, files, depth + 1)
+            yield from _lxc_settings(included, files)
         yield name, value
 
 

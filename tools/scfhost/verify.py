@@ -57,7 +57,8 @@ class Block:
 
 @dataclass(frozen=True)
 class Request:
-    """A profile, and how each stack is compared with it; with a runtime also what that makes of the profile."""
+    """A profile, and how each stack is compared with it; with a runtime also what that makes of the profile. Or filters
+    that were saved, in its place."""
 
     profile: bytes
     table: Table
@@ -70,6 +71,7 @@ class Request:
     others: tuple[Request, ...] = ()
     # whether the profile is what a container's configuration says, and that has one
     configured: bool | None = None
+    saved: Sequence[Filter] = ()
 
     @property
     def remarks(self) -> list[str]:
@@ -90,12 +92,14 @@ class Request:
     def judge(self, stack: Stack) -> Block:
         unit = [each.comparison(stack.named) for each in (self, *self.others)]
         comparison, status, report = compare.compare_unit(unit, self.scope)
-        has_stub = report.verdict is not None and report.verdict.word == verdicts.SAME
+        has_stub = not self.saved and report.verdict is not None and report.verdict.word == verdicts.SAME
         return Block(stack, status, comparison, report, comparison.stub if has_stub else {},
                      self.scope or comparison.scope)
 
-    def comparison(self, stack: Sequence[Filter], relation: str | None = None) -> Comparison:
-        """The comparison of filters with the profile."""
+    def comparison(self, stack: Sequence[Filter], relation: str | None = None) -> Any:
+        """The comparison of filters with the profile, or with those that were saved."""
+        if self.saved:
+            return StackComparison(stack, self.saved, self.table, relation or self.relation)
         origins, stub = (None, {}) if self.applied is None else (self.applied.origins, self.applied.stub)
         return Comparison(stack, self.profile, self.table, relation or self.relation, origins, stub,
                           is_native=self.scope == verdicts.NATIVE_SCOPE, elsewhere=self.elsewhere)
@@ -145,38 +149,13 @@ def read_saved(folder: str) -> list[Filter]:
     return filters.read_stack(names)
 
 
-@dataclass(frozen=True)
-class SavedRequest:
-    """Saved filters, and how each stack is compared with them, as `verify.Request` does with a profile."""
-
-    saved: Sequence[Filter]
-    table: Table
-    scope: str | None
-    relation: str
-    remarks: Sequence[str] = ()
-    configured: bool | None = None
-
-    def judge(self, stack: Stack) -> Block:
-        comparison = StackComparison(stack.named, self.saved, self.table, self.relation)
-        scope = self.scope or verdicts.ALL
-        status, report = comparison.run(scope)
-        return Block(stack, status, comparison, report, scope=scope)
-
-    def notes(self, block: Block) -> Iterator[str]:
-        """What is added to scf's lines."""
-        return compare_output.comparison_notes(block.comparison, block.report, block.scope)
-
-    def as_json(self, block: Block) -> dict[str, object]:
-        return compare_output.comparison_json(block.comparison, block.report, block.scope, block.status)
-
-
-def blocks(inspection: Inspection, request: Request | SavedRequest) -> list[Block]:
+def blocks(inspection: Inspection, request: Request) -> list[Block]:
     """The blocks of stacks that are compared."""
     return blocks_of(inspection, request.judge,
                      lambda stack, status: Block(stack, status, configured=request.configured))
 
 
-def verification_lines(made: Sequence[Block], inspection: Inspection, request: Request | SavedRequest,
+def verification_lines(made: Sequence[Block], inspection: Inspection, request: Request,
                        is_verbose: bool = False) -> Iterator[str]:
     """The text output: scf's lines for each block, with --verbose also the skipped names, and then added lines,
     marked by `# `."""
@@ -197,14 +176,14 @@ def verification_lines(made: Sequence[Block], inspection: Inspection, request: R
     yield from output.notes(inspection.notes)
 
 
-def _block_json(block: Block, inspection: Inspection, request: Request | SavedRequest) -> dict[str, object]:
+def _block_json(block: Block, inspection: Inspection, request: Request) -> dict[str, object]:
     members: dict[str, object] = {"status": block.status, "verdict": block.verdict}
     if block.report is not None:
         members = request.as_json(block)
     return {**members, **block.stack.as_json(inspection.names)}
 
 
-def verification_json(made: Sequence[Block], inspection: Inspection, request: Request | SavedRequest,
+def verification_json(made: Sequence[Block], inspection: Inspection, request: Request,
                       container: str | None) -> dict[str, object]:
     """The object with everything that `verification_lines` prints, and the container: the verdict is that of the
     worst stack."""

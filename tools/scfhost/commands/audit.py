@@ -97,7 +97,7 @@ def earlier_in(name):
     try:
         return audit_output.Earlier.of_object(json.loads(inputs.read_whole(name, "object")))
     except (ValueError, RecursionError) as why:
-        raise program.ToolError(f"'{name}' isn't an object that --json printed") from why
+        raise program.ToolError(f"{inputs.label(name)} isn't an object that --json printed") from why
 
 
 def write(report, given, options, earlier):

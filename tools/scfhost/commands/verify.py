@@ -22,10 +22,10 @@ makes init.scope and system.slice. If other processes of the PID namespace are i
 container's, status 0 becomes 4. In a cgroup namespace other than the initial one only a group below the namespace's
 root can be known.
 
-CONTAINER is the name of one of root's containers, or the beginning of its ID, as `scf audit` finds them; with --user
-that of a user's. All of its processes are read, as with --container. Without a PROFILE they are compared with what the
-container's own configuration says, as its runtime reads it, and the first line names the container, its ID, its engine
-and its config.json. If that has no profile, the container is `unconfined by configuration`.
+CONTAINER is the name of one of root's containers, or the beginning of its ID, as runc, crun or an engine tells them;
+with --user that of a user's. All of its processes are read, as with --container. Without a PROFILE they are compared
+with what the container's own configuration says, as its runtime reads it, and the first line names the container, its
+ID, its engine and its config.json. If that has no profile, the container is `unconfined by configuration`.
 
 --no-more and --no-less ask what they ask of `scf compare`: `more` and `less` count as `differs`.
 
@@ -67,7 +67,7 @@ from scftools.model import profiles, tables
 from scftools.ask import verdicts
 from scftools.cli import words
 from scftools.forms import engines, profile_inputs, runtimes
-from .. import audit, configurations, container_files, containers, processes, verify
+from .. import audit, configurations, container_files, containers, processes, units, verify
 from ..machine import Snapshot
 
 
@@ -111,8 +111,8 @@ def read_words():
 
 def containers_of(kernel, user):
     """The containers of root, or of a user, that run, with their settings of seccomp, as audit finds them."""
-    budget = child.Budget(audit.SECONDS_OF_FILES)
-    return [found for found in container_files.described_containers(kernel, Snapshot(), (), budget) if found.user == user]
+    described = container_files.described_containers(kernel, Snapshot(), (), child.Budget(audit.SECONDS_OF_FILES))
+    return [found for found in described if found.user == user]
 
 
 def container_named(owned, name, user):
@@ -121,6 +121,9 @@ def container_named(owned, name, user):
         [found for found in owned if found.identifier.startswith(name)]
     if len(fitting) == 1:
         return fitting[0]
+    if name.startswith(inputs.UNIT) or name.rpartition(".")[2] in units.SECTIONS:
+        raise program.ToolError(f"'{name}' is a unit: its process is what `systemctl show -p MainPID --value UNIT` "
+                                "prints, and its profile is unit:UNIT")
     whose = "root" if user is None else f"user {user}"
     listed = ", ".join(f"{found.identifier[:12]} ({found.name})" if found.name else found.identifier[:12]
                        for found in fitting or owned)
@@ -198,7 +201,7 @@ def request_of(options, kernel, named):
     """How each stack is compared, and with what."""
     settings = tables.read_table(options.table), options.scope, options.relation
     if options.beside is not None:
-        return verify.SavedRequest(verify.read_saved(options.beside), *settings)
+        return verify.Request(b"", *settings, saved=verify.read_saved(options.beside))
     if options.profile is None:
         return configured_request(named, settings)
     data = read_profile(options.profile, options.runtime is not None)

@@ -8,10 +8,11 @@ from support.own_machine import OwnMachine
 from host.test_audit import STATED
 
 USER = 12345
-# Audits a machine: prints the object, the lines, the metrics and the page, and what the largest of its processes took.
+# Audits a machine: prints the object, the lines, the metrics and the page, how many seconds of a processor it took with
+# all that it started, and the most bytes that its processes had together: a child is beside it, and beside that scf.
 # Its words are the tools' folder, and what is to be set: module and name, and a value.
 AUDIT = """
-import importlib, json, resource, sys, time
+import importlib, json, os, resource, sys
 sys.path.insert(0, sys.argv[1])
 from scftools.base import program
 from scftools.model import tables
@@ -24,14 +25,14 @@ options = expectations.Options(tables.read_table(None), has_surfaces=True, allow
 options.check()
 judges = audit_judge.Judges(options)
 for _ in range(2):
-    began = time.monotonic()
+    began = sum(os.times()[:4])
     report = audit.audit_machine(options, judges)
     print(json.dumps({
         "object": audit_output.audit_json(report, options.table), "metrics": audit_output.metrics(report),
         "lines": list(audit_output.audit_lines(report, options.table)), "page": audit_page.page(report, options.table),
-        "seconds": time.monotonic() - began,
-        "bytes": 1024 * sum(resource.getrusage(who).ru_maxrss for who in (resource.RUSAGE_SELF,
-                                                                          resource.RUSAGE_CHILDREN))}))
+        "seconds": sum(os.times()[:4]) - began,
+        "bytes": 1024 * sum(resource.getrusage(who).ru_maxrss for who in (
+            resource.RUSAGE_SELF, resource.RUSAGE_CHILDREN, resource.RUSAGE_CHILDREN))}))
 """
 # The budgets in tests: root's things have time on any machine, and a user's end soon.
 BUDGETS = {"scftools.base.child.LONGEST": 600.0, "scfhost.audit.SECONDS_OF_ROOT": 3000.0,
@@ -151,7 +152,9 @@ class Attacks(Audits):
             of_user = [line for line in answer["object"]["left_out"] if f"user {USER}" in line]
             self.assertLessEqual(len(of_user), 1, of_user)
             self.assertIn(answer["object"]["status"], (before["object"]["status"], 4))
-            self.assertLess(answer["bytes"], 1 << 30)
+            figures = [{name: each[name] for name in ("seconds", "bytes")} for each in (before, answer)]
+            self.assertLess(answer["bytes"], 1 << 30, figures)
+            self.assertLess(answer["seconds"], 100, figures)
         return answer
 
     def rows_of_user(self, answer):
@@ -164,11 +167,11 @@ def thread(at):
     assert load(insn(0, at) + ALLOW) >= 0
     time.sleep(1000)
 be(b"many", *(insn(0, at) * 4000 + ALLOW for at in range(7)))
-for at in range(400):
+for at in range(1500):
     threading.Thread(target=thread, args=(at,), daemon=True).start()
 def has_all(it):
     return "Seccomp_filters:\\t8" in open(f"/proc/self/task/{it}/status").read()
-while sum(map(has_all, os.listdir("/proc/self/task"))) < 400:
+while sum(map(has_all, os.listdir("/proc/self/task"))) < 1500:
     time.sleep(0.1)
 ready()
 """)
@@ -182,7 +185,7 @@ for at in range(300):
         time.sleep(1000)
 time.sleep(2)
 ready()
-""", **{"scfhost.machine_pass.MOST_FILTER_BYTES": 1 << 20})
+""", **{"scfhost.machine_pass.MOST_FILTER_BYTES": 1 << 20, "scfhost.audit.SECONDS_OF_USERS": 600.0})
         (row,) = self.rows_of_user(answer)
         self.assertIn("its filters, and those that were read before, have too many bytes", [
             part.get("why") for part in row["parts"]])
@@ -196,16 +199,27 @@ time.sleep(10000)
 """)
         self.assertEqual(len(self.rows_of_user(answer)), 1)
 
-    def test_a_chain_of_processes(self):
-        """Each is the child of the one before: the parent's answer is remembered."""
-        self.attack("""
-for _ in range(400):
-    if os.fork():
-        break
-else:
-    ready()
-signal.pause()
+    def test_regions_of_many_bytes(self):
+        """Of a filter of 4005 instructions beside one of 10, scf would print 110 MB."""
+        answer = self.attack("""
+long = insn(0x20, 16) + b"".join(insn(0x45, 1 << at, 0, 1) + insn(0x20, 24) + insn(0x20, 16) for at in range(17))
+long += insn(0x20, 16) * (4004 - len(long) // 8) + ALLOW
+short = insn(0x20, 32) + b"".join(insn(0x45, 1 << at, 0, 1) + insn(0x20, 32) for at in range(4)) + ALLOW
+be(b"regions", long, short)
+threading.Thread(target=ready, daemon=True).start()
+time.sleep(10000)
 """)
+        self.assertEqual(len(self.rows_of_user(answer)), 1)
+
+    def test_a_chain_of_processes(self):
+        """Each is the child of the one before: the parent's answer is remembered. (The kernel takes the longer for each
+        fork(2), the longer a chain is of which none executes a program.)"""
+        answer = self.attack("""
+with open(HOME + "/chain", "w") as file:
+    file.write('[ $1 -eq 0 ] && exec touch ' + HOME + '/ready; sh "$0" $(($1 - 1)) & exec sleep 10000')
+os.execv("/bin/sh", ["sh", HOME + "/chain", "2000"])
+""")
+        self.assertGreater(answer["object"]["processes"]["unconfined"], 2000)
 
     def test_configurations_that_take_long(self):
         """Long ones, nested ones, ones of empty lists, and pipes that nobody writes to."""

@@ -9,7 +9,9 @@ import time
 import unittest
 from unittest import mock
 
-from support.common import ALLOW, EPERM, LOADER, TOP, Case, filter_of, gate, jeq, load, profile_of, ret, tool
+from support.common import (ALLOW, EPERM, LOADER, TOP, Case, comes, filter_of, gate, jeq, load, profile_of, ret,
+                            text_of,
+                            tool)
 from support import json_schema
 from support.confined import processes
 from support.own_machine import OwnMachine, Systemd, podman_settings
@@ -17,7 +19,7 @@ from scftools.base import output
 from scftools.base.values import replace
 from scftools.model import tables
 from scftools.model.profiles import not_compared_of
-from scfhost import audit_judge, audit_output, audit_rows, container_files, machine, sandbox_programs
+from scfhost import audit, audit_judge, audit_output, audit_rows, container_files, machine, sandbox_programs
 from scftools.forms.stacks import Stack
 from scfhost.expectations import Expectations, Options, RowMaker
 
@@ -106,10 +108,10 @@ class Audited:
             {"name": called, "action": 2, "errnoRet": entry["errnoRet"], "args": []}
             for entry in seccomp["syscalls"] for called in entry["names"]]}
         if not keeps:
-            self.on("/usr/bin/python3", "-c", RESTATE, f"/run/runc/{name}/state.json", given=json.dumps(started).encode())
+            self.on("/usr/bin/python3", "-c", RESTATE, f"/run/runc/{name}/state.json",
+                    given=json.dumps(started).encode())
         path = os.path.join(self.folder, "bundles", name, "config.json")
-        with open(path, encoding="utf-8") as file:
-            config = json.load(file)
+        config = json.loads(text_of(path))
         config["linux"].pop("seccomp", None)
         config["linux"].update({} if seccomp is None else {"seccomp": seccomp})
         self.file(path, json.dumps(config))
@@ -143,7 +145,7 @@ class Programs(Audited, OwnMachine):
         self.assertEqual(value["left_out"], ["processes outside of the PID namespace that this tool runs in"])
         for number in numbers:
             self.assertEqual(self.on("cat", f"/proc/{number}/wchan")[0], 0)
-            self.assertRegex(self.on("grep", "TracerPid", f"/proc/{number}/status")[1], r"TracerPid:\t0\n")
+            self.assertTrue(comes(lambda it=number: "TracerPid:\t0\n" in self.on("cat", f"/proc/{it}/status")[1]))
 
     def test_since_an_earlier_audit(self):
         """Of programs without a configuration the lines have only the count; the object has all changes."""
@@ -274,8 +276,7 @@ class Containers(Audited, OwnMachine):
 
     def test_one_of_lxc(self):
         """Its configuration, and the policy that this names through a file that it includes."""
-        if not shutil.which("lxc-start"):
-            self.skipTest("there is no LXC here")
+        self.needs("lxc-start")
         where = "/var/lib/lxc/scf-web"
         policy = self.file("policy", "2\ndenylist\nmount errno 1\nsocket errno 1 [0,16,==]\n")
         included = self.file("more.conf", f"lxc.seccomp.profile = {policy}\n")
@@ -491,8 +492,8 @@ class Users(Audited, OwnMachine):
         self.assertEqual(self.on("sh", "-c", f"cd /run/user/{self.USER}/crun && {script}")[0], 0)
         value = self.audit(status=4)
         self.assertEqual([row["kind"] for row in value["rows"]], ["program"])
-        self.assertIn(f"of user {self.USER}: 1 of the folders of containers: '/run/user/{self.USER}/crun/b/status' isn't "
-                      f"a regular file", value["left_out"])
+        self.assertIn(f"of user {self.USER}: 1 of the folders of containers: '/run/user/{self.USER}/crun/b/status' "
+                      f"isn't a regular file", value["left_out"])
 
     def test_a_process_in_a_container_of_root(self):
         """One that runs as the user, in a container that root's files describe: it stays there."""
@@ -722,11 +723,10 @@ class Node(Podman, Systemd):
 class Service(Audited, Systemd):
     """The service of contrib/systemd, with its restrictions, under a real systemd."""
 
-    with open(os.path.join(TOP, "contrib", "systemd", "scf-audit.service"), encoding="ascii") as opened:
-        # (nothing else of the system is started)
-        UNITS = {"scf-audit.service": opened.read(),
-                 "scf-audit.service.d/alone.conf": "[Unit]\nDefaultDependencies=no\n",
-                 "scf-same.service": UNIT.format("SystemCallFilter=~mount")}
+    # (nothing else of the system is started)
+    UNITS = {"scf-audit.service": text_of(os.path.join(TOP, "contrib", "systemd", "scf-audit.service")),
+             "scf-audit.service.d/alone.conf": "[Unit]\nDefaultDependencies=no\n",
+             "scf-same.service": UNIT.format("SystemCallFilter=~mount")}
 
     def started(self):
         """Starts the service: how its program ended, and whether that counts as a success."""
@@ -736,7 +736,8 @@ class Service(Audited, Systemd):
     def test_it(self):
         where = os.path.join(self.folder, "metrics")
         # (this folder may be in /tmp)
-        self.file("units/scf-audit.service.d/here.conf", f"[Service]\nPrivateTmp=no\nReadWritePaths=-{where}\nExecStart=\n"
+        self.file("units/scf-audit.service.d/here.conf",
+                  f"[Service]\nPrivateTmp=no\nReadWritePaths=-{where}\nExecStart=\n"
                   f"ExecStart={tool('audit')} --allow-unconfined --prometheus {where}/scf.prom\n")
         for words in (("daemon-reload",), ("start", "scf-same.service")):
             self.assertEqual(self.on("systemctl", *words)[0], 0, words)
@@ -745,8 +746,7 @@ class Service(Audited, Systemd):
         os.mkdir(where)
         # (what has ended well isn't remembered)
         self.assertIn("Result=success", self.started())
-        with open(f"{where}/scf.prom", encoding="ascii") as file:
-            text = file.read()
+        text = text_of(f"{where}/scf.prom")
         for line in ('scf_unit_verdict{unit="scf-same.service",user="",verdict="as configured"} 1',
                      "scf_audit_status 4"):
             self.assertIn(f"\n{line}\n", text)
@@ -796,6 +796,18 @@ class Belonging(Case):
         for path in ("/system.slice/x.service", f"/machine.slice/libpod-conmon-{IDENTIFIER}.scope",
                      f"/system.slice/crio-conmon-{IDENTIFIER}.scope"):
             self.assertIsNone(container_files.named_container(process(groups={"": path.encode()}), self.kernel), path)
+
+
+class IncludedFiles(Case):
+    def test_files_that_include_each_other(self):
+        """A configuration of LXC names its policy last, through some files, but not without end."""
+        names = [f"{self.folder}/{at}" for at in range(70)]
+        for at, name in enumerate(names):
+            self.file(name, f"lxc.include = {(names + names)[at + 1]}\n")
+        self.file(names[30], "lxc.seccomp.profile = /policy\n")
+        self.assertEqual(sandbox_programs.lxc_policy(names[0]), "/policy")
+        said = self.text_of_error(container_files.UnreadableFile, sandbox_programs.lxc_policy, names[31])
+        self.assertIn("is included after too many others", said)
 
 
 class Firejail(Case):
@@ -1106,6 +1118,17 @@ class Kept(Case):
         self.assertEqual([self.judged("weaker", is_root) for is_root in (True, False)], ["stricter"] * 2)
         self.assertEqual(len(self.asked), 3)
 
+    def test_whose_surfaces_they_are(self):
+        """What a user's child says of a stack isn't taken for what root's stack of the same digest allows."""
+        assessor = audit.Assessor(processes.Kernel(), machine.Snapshot(), self.judges, None)
+        of_user, of_root = (assessor.task(user, []).surfaces_of for user in (12345, None))
+        of_user["ab"] = "forged"
+        task = self.task(True)
+        task.surfaces_of = of_root
+        task.begin()
+        self.judges.keep(task)
+        self.assertEqual((of_root, self.judges.surfaces), ({}, {}))
+
     def test_answers_of_another_form(self):
         task, self.verdict = self.task(True), "fine"
         with self.assertRaises(ValueError):
@@ -1127,10 +1150,12 @@ class Output(Case):
         self.table = tables.read_table(None)
         container = container_files.ContainerDescription("ab" * 32, "podman", "crun", 7, "/c", name='a"} 1\nb\\',
                                                          image="i\x1b[0m")
-        self.row = audit_rows.AuditRow(audit_rows.CONTAINER, container.identifier, [process(name=b"x\n# y")], audit_rows.Expectation(),
+        self.row = audit_rows.AuditRow(audit_rows.CONTAINER, container.identifier, [process(name=b"x\n# y")],
+                                       audit_rows.Expectation(),
                                   container)
         stack = audit_rows.StackShape((9,), digest="cd" * 32)
-        self.row.parts = [audit_rows.RowPart(stack, {7: [7]}, audit_rows.StackJudgement(audit_rows.NOT_KNOWN, "it\nis"))]
+        self.row.parts = [audit_rows.RowPart(stack, {7: [7]},
+                                             audit_rows.StackJudgement(audit_rows.NOT_KNOWN, "it\nis"))]
         self.audit = audit_rows.Audit([self.row], machine.Snapshot({7: self.row.processes[0]}), 0.0, 1.5)
 
     def test_lines(self):
@@ -1161,7 +1186,8 @@ class Output(Case):
     def test_labels(self):
         """Each name has a label of its own, of some length, from which Prometheus reads it back."""
         long = "x" * (1 << 20)
-        names = ["a\nb", "a\\nb", "a\\x0ab", "a\\\\x0ab", "\udcff", "\\xff", "\xff", "\ud800", "\\", '"', '\\"', "x", long,
+        names = ["a\nb", "a\\nb", "a\\x0ab", "a\\\\x0ab", "\udcff", "\\xff", "\xff", "\ud800", "\\", '"', '\\"', "x",
+                 long,
                  f"{long}y", long[:256], long[:257], "\n" * 257, "\n" * 258]
         label = re.compile(r'name="((?:[^"\\\n]|\\["\\n])*)",engine=')
         labels = [label.search(self.metrics_of(name))[1] for name in names]
@@ -1192,7 +1218,8 @@ class Output(Case):
         self.assertIn("SUCCESS: 5 rules found", self.run_words(["promtool", "check", "rules", rules])[1])
         for rows, left_out, step, alerts in (
                 ([], [], 60, []), ([], ["no filters could be read"], 60, ["ScfNotLookedAt"]),
-                ([], [], 0, ["ScfAuditStale"]), ([self.row], [], 60, ["ScfNotKnown"]), (None, [], 60, ["ScfAuditAbsent"]),
+                ([], [], 0, ["ScfAuditStale"]), ([self.row], [], 60, ["ScfNotKnown"]),
+                (None, [], 60, ["ScfAuditAbsent"]),
                 ([self.row, unit("a.service")], [], 60, ["ScfNotConfinedAsConfigured", "ScfNotKnown"])):
             self.audit.rows = rows or []
             self.audit.snapshot = machine.Snapshot(left_out_of={None: left_out} if left_out else {})
@@ -1210,13 +1237,13 @@ class Output(Case):
     def test_a_file_is_replaced_at_once(self):
         path = self.file("out.prom", "old")
         output.replace_file(path, "new")
-        with open(path, encoding="ascii") as file:
-            self.assertEqual((file.read(), os.listdir(self.folder)), ("new", ["out.prom"]))
+        self.assertEqual((text_of(path), os.listdir(self.folder)), ("new", ["out.prom"]))
         with self.assertRaises(FileNotFoundError):
             output.replace_file(os.path.join(self.folder, "none", "out.prom"), "new")
 
     def test_a_link_that_is_put_into_the_folder_meanwhile_is_not_followed(self):
-        secret, folder, path = self.file("secret", "s"), os.path.dirname(self.file("own/x", "")), f"{self.folder}/own/out"
+        secret, folder = self.file("secret", "s"), os.path.dirname(self.file("own/x", ""))
+        path = f"{self.folder}/own/out"
         os.chmod(secret, 0o600)
 
         class Meanwhile(str):

@@ -8,7 +8,7 @@ import shutil
 import subprocess
 import unittest
 
-from support.common import ALLOW, EPERM, Case, filter_of, gate, insn, jeq, load, profile_of, ret
+from support.common import ALLOW, EPERM, Case, filter_of, gate, insn, jeq, load, profile_of, ret, text_of
 from host.test_audit import process
 from scftools.model import tables
 from scftools.ask import verdicts
@@ -77,7 +77,8 @@ class Pages(Case):
         seven, eight = process(name=os.fsencode(HOSTILE)), process(8)
         asked = compare.Comparison(stack.named, profile_of("read"), table)
         verdict = asked.run(verdicts.NATIVE_SCOPE, verdicts.NO_MORE)[1].verdict
-        rows = [audit_rows.AuditRow(audit_rows.CONTAINER, container.identifier, [seven], audit_rows.Expectation(source=HOSTILE),
+        rows = [audit_rows.AuditRow(audit_rows.CONTAINER, container.identifier, [seven],
+                                    audit_rows.Expectation(source=HOSTILE),
                                container),
                 audit_rows.AuditRow(audit_rows.UNIT, "a.service", [eight], audit_rows.Expectation(why=HOSTILE))]
         weaker = audit_rows.StackJudgement(audit_rows.WEAKER, shown=verdict,
@@ -104,11 +105,13 @@ class Pages(Case):
             self.assertIn(expected, text)
 
     def test_a_reason_stands_once(self):
-        rows = [audit_rows.AuditRow(audit_rows.UNIT, name, [process(8)], audit_rows.Expectation()) for name in ("a", "b")]
+        rows = [audit_rows.AuditRow(audit_rows.UNIT, name, [process(8)], audit_rows.Expectation())
+                for name in ("a", "b")]
         for row in rows:
             judgement = audit_rows.StackJudgement(audit_rows.NOT_KNOWN, "slow")
             row.parts = [audit_rows.RowPart(audit_rows.StackShape(), {8: [8]}, judgement)]
-        text = Page(audit_page.page(audit_rows.Audit(rows, machine.Snapshot(), 0.0), tables.read_table(None)), self).check()
+        text = Page(audit_page.page(audit_rows.Audit(rows, machine.Snapshot(), 0.0), tables.read_table(None)),
+                    self).check()
         self.assertIn("not known unit a, unit b", text)
         self.assertEqual(text[text.index("What shows the verdicts"):].count("slow"), 1)
 
@@ -137,8 +140,7 @@ class Pages(Case):
         first, two = self.file("one.bpf", data), self.file("<two>.bpf", filter_of([0]))
         path = os.path.join(self.folder, "page.html")
         self.assertEqual(self.run_tool("surface", "--html", path, first, "--beside", two)[0], 1)
-        with open(path, encoding="utf-8") as file:
-            text = Page(file.read(), self).check()
+        text = Page(text_of(path), self).check()
         self.assertIn("some: 1 depends of ", text)
         self.assertIn("clonedenied where flags & CLONE_NEWUSERdenied", text)
         self.assertIn("denied (EPERM) where flags & CLONE_NEWUSER == CLONE_NEWUSER, else allowed", text)
@@ -147,8 +149,7 @@ class Pages(Case):
             self.assertIn(hashlib.sha256(content).hexdigest(), text)
         profile = self.file("p&q.json", profile_of("read", "write"))
         status, out, _ = self.run_tool("compare", f"--html={path}", "-", profile, given=filter_of([0]))
-        with open(path, encoding="utf-8") as file:
-            text = Page(file.read(), self).check()
+        text = Page(text_of(path), self).check()
         self.assertEqual(status, 1)
         self.assertIn(out, text + "\n")
         self.assertIn("syscall(SYS_write, ", text)

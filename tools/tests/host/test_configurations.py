@@ -14,8 +14,8 @@ from scfhost.container_files import ContainerDescription
 
 ONE, TWO = "01" * 32, "ef" * 32
 BY_CONFIGURATION, THOUGH = "unconfined by configuration", "unconfined though configured"
-NOTHING = ("nothing is configured (linux.seccomp), as with --privileged and seccomp=unconfined; that counts as a profile "
-           "that allows every syscall")
+NOTHING = ("nothing is configured (linux.seccomp), as with --privileged and seccomp=unconfined; that counts as a "
+           "profile that allows every syscall")
 # runc 1.1 starts a container without seccomp for each of these, and crun 1.8 for each that it takes.
 WITHOUT = ({"linux": {}}, {"linux": {"seccomp": None}}, {"ociVersion": "1.0.2", "linux": None},
            {"ociVersion": "1.0.2", "process": {"args": ["true"]}}, {"linux": {"seccomp": {}}},
@@ -105,7 +105,8 @@ class Configurations(Confined):
     def test_what_only_some_runtimes_read(self):
         child = self.child([])
         for given, says in (({"linux": {"Seccomp": {}}}, "has a member 'Seccomp', which runc reads as seccomp"),
-                            ({"ociVersion": "1", "process": {}, "Linux": {}}, "has a member 'Linux', which runc reads as linux"),
+                            ({"ociVersion": "1", "process": {}, "Linux": {}},
+                             "has a member 'Linux', which runc reads as linux"),
                             ({"linux": 7}, "isn't a container's configuration"),
                             ({"linux": {"seccomp": {"DefaultAction": "SCMP_ACT_ALLOW"}}}, "'DefaultAction'"),
                             # what `runc state` prints, and the files that runc and crun keep
@@ -126,8 +127,8 @@ class Configurations(Confined):
         for seccomp in (7, {"syscalls": [{}]}, {"defaultAction": "SCMP_ACT_X"}):
             path = self.file("config.json", json.dumps({"linux": {"seccomp": seccomp}}))
             status, out, err = self.run_tool("verify-process", str(child.pid), path)
-            self.assertEqual((status, out), (1, f"# process {child.pid} (python3) has no filter: it isn't confined, and "
-                                                "every syscall is allowed\n"), err)
+            self.assertEqual((status, out), (1, f"# process {child.pid} (python3) has no filter: it isn't confined, "
+                                                "and every syscall is allowed\n"), err)
             for words in RUNTIMES[1:]:
                 self.assertEqual(self.run_tool("verify-process", *words, str(child.pid), path)[:2], (2, ""))
 
@@ -192,8 +193,8 @@ class OtherRuntimes(unittest.TestCase):
             for runtime in (None, "runc", "crun", "docker", "podman"):
                 is_it = runtime in {"runc": ("runc", "docker"), "crun": ("crun", "podman")}[name]
                 self.assertEqual(self.other(state, runtime), None if is_it else (
-                    f"the container's runtime is {name}, by /run/{name}/{ONE}: --runtime {name} reads the profile as it "
-                    "does"))
+                    f"the container's runtime is {name}, by /run/{name}/{ONE}: --runtime {name} reads the profile as "
+                    "it does"))
         self.assertIsNone(self.other("/run/runc/x/state.json", "crun"))
 
 
@@ -210,6 +211,8 @@ class Names(unittest.TestCase):
         for word, user, says in (
                 ("a", None, "'a' isn't a process ID, and several containers of root have that name or an ID that "
                  "begins so; these: abc100000000 (box), abd200000000 (web), abc1 (ab)"),
+                *((unit, None, f"'{unit}' is a unit: its process is what `systemctl show -p MainPID --value UNIT` "
+                               "prints, and its profile is unit:UNIT") for unit in ("unit:x", "x.service", "-.mount")),
                 ("none", 1000, "'none' isn't a process ID, and no container of user 1000 has that name or an ID that "
                  "begins so; those that run: abc100000000 (box), abd200000000 (web), bo0000000000, abc1 (ab)")):
             with self.subTest(word), self.assertRaises(program.ToolError) as raised:
@@ -289,7 +292,8 @@ class Mistakes(Confined):
         self.assertNotIn("has ended", self.says(process, f"{self.folder}/folder/config.json"))
         self.file("bundle/config.json", "{}")
         self.assertEqual(self.says(process, f"{self.folder}/bundle"),
-                         f"verify-process: '{self.folder}/bundle' is a bundle's folder: take the file config.json in it")
+                         f"verify-process: '{self.folder}/bundle' is a bundle's folder: take the file config.json in "
+                         f"it")
         self.assertEqual(self.says(process, f"{self.folder}/p.json"),
                          f"verify-process: there is no file '{self.folder}/p.json'")
 
@@ -301,5 +305,5 @@ class Mistakes(Confined):
             is_first = os.fstat(file.fileno()).st_ino == 0xEFFFFFFC
         if not is_first:
             self.skipTest("this isn't the machine's own PID namespace")
-        self.assertIn(" is in no container with this configuration, which has a PID namespace of its own: `podman inspect "
-                      "-f '{{.State.Pid}} {{.OCIConfigPath}}' NAME` prints", self.says(str(child.pid), path))
+        self.assertIn(" is in no container with this configuration, which has a PID namespace of its own: `podman "
+                      "inspect -f '{{.State.Pid}} {{.OCIConfigPath}}' NAME` prints", self.says(str(child.pid), path))

@@ -4,7 +4,7 @@ import os
 import shutil
 import unittest
 
-from support.common import tool
+from support.common import text_of, tool
 from support.own_machine import OwnMachine
 from host.test_audit import STATED, STRICTER, Audited
 
@@ -77,5 +77,5 @@ class Containerd(Audited, OwnMachine):
                                               "env": [f"PATH={os.environ['PATH']}"]}]}
             path = self.file(f"{name}.json", json.dumps(config))
             self.assertEqual(self.on("ctr", "run", "--detach", "--config", path, name)[0], status)
-            with open(f"{self.folder}/{name}.said", encoding="utf-8") as file:
-                self.assertEqual(file.readline(), f"oci-hook: container {name}: {says}\n")
+            said = text_of(f"{self.folder}/{name}.said").splitlines()
+            self.assertEqual(said[0], f"oci-hook: container {name}: {says}")

@@ -59,7 +59,8 @@ class Groups(Case):
 
     def test_mounts(self):
         """A runtime mounts the container's own group; what isn't above the process says nothing."""
-        for path, roots, expected in (("/box/inner/most", ["/box"], "/box"), ("/box/inner", ["/box/inner", "/box"], "/box"),
+        for path, roots, expected in (("/box/inner/most", ["/box"], "/box"),
+                                      ("/box/inner", ["/box/inner", "/box"], "/box"),
                                       ("/box", ["/box"], "/box"), ("/box/inner", ["/bo", "/", "/../x"], None),
                                       (f"/box/docker/{IDENTIFIER}/a", ["/box"], "/box")):
             actual = self.group_of(path, [root.encode() for root in roots])
@@ -91,8 +92,9 @@ class Groups(Case):
         self.assertEqual(containers.container_of(kernel, 7).processes(), [7, 8])
 
     def test_mounts_of_a_process(self):
-        text = (b"78 77 0:45 / /sys/fs/cgroup rw - tmpfs tmpfs rw\n79 78 0:29 /a\\040b\\134 /sys/fs/cgroup/cpu ro shared:1 "
-                b"master:2 - cgroup cgroup rw,cpu\n80 78 0:30 /c /sys/fs/cgroup ro - cgroup2 cgroup rw\nx - cgroup \n")
+        text = (b"78 77 0:45 / /sys/fs/cgroup rw - tmpfs tmpfs rw\n79 78 0:29 /a\\040b\\134 /sys/fs/cgroup/cpu ro "
+                b"shared:1 master:2 - cgroup cgroup rw,cpu\n80 78 0:30 /c /sys/fs/cgroup ro - cgroup2 cgroup rw\n"
+                b"x - cgroup \n")
         with unittest.mock.patch.object(ptrace, "contents", return_value=text):
             self.assertEqual(processes.Kernel().mounted_groups(7), [b"/a b\\", b"/c"])
 

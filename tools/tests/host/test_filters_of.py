@@ -10,10 +10,10 @@ import sys
 import time
 import unittest
 
-from support.common import (ALLOW, EPERM, I386, KILL_PROCESS, PATIENCE, TOP, X86_64, comes, jeq, jge, load, module,
-                            profile_of, ret, tool)
-from support.confined import CHILD, NEWEST, OLDEST, OTHER, Confined, ended, here, processes, status_of
-from support.own_machine import remove_groups
+from support.common import (ALLOW, EPERM, I386, KILL_PROCESS, PATIENCE, TABLE, X86_64, comes, jeq, jge, load, module,
+                            profile_of, ret, text_of, tool)
+from support.confined import CHILD, NEWEST, OLDEST, OTHER, Confined, children_of, ended, here, processes, status_of
+from support.own_machine import make_rootfs, remove_groups, spec_of
 from scftools.forms import filters
 from scftools.forms.stacks import Stack
 from scfhost import containers
@@ -101,14 +101,14 @@ class Programs(Confined):
     @here
     def test_the_first_process_of_a_namespace(self):
         """It is looked at as any other; a process without a filter isn't confined."""
-        if not shutil.which("unshare"):
-            self.skipTest("there is no unshare here")
+        self.needs("unshare")
         script = f"{tool('verify-process')} 1 {self.file('p', ALLOWS_ALL)}; echo status $?; {tool('filters-of')} 1 out"
         words = ["unshare", "--pid", "--fork", "--mount-proc", "sh", "-c", script]
         status, out, err = self.run_words(words)
         if err.startswith("unshare:"):
             self.skipTest(err)
-        self.assertEqual(out, "# process 1 (sh) has no filter: it isn't confined, and every syscall is allowed\nstatus 1\n")
+        self.assertEqual(out, "# process 1 (sh) has no filter: it isn't confined, and every syscall is allowed\n"
+                              "status 1\n")
         self.assertEqual((status, err), (1, "filters-of: process 1 has no filter\n"))
 
     def beside(self):
@@ -159,11 +159,10 @@ class Programs(Confined):
             # so it was ended by the signal, and not since the child didn't stop, which it says after some seconds
             self.assertEqual((held.returncode, out, err),
                              (-number, "", f"filters-of: ended by {number.name}; all stopped threads continue\n"))
-            self.assertEqual(status_of(child.pid)["TracerPid"], "0")
-        ignoring = ("import os, signal, sys; signal.signal(signal.SIGHUP, signal.SIG_IGN); "
-                    "os.execv(sys.argv[1], sys.argv[1:])")
-        held = subprocess.Popen([sys.executable, "-c", ignoring, tool("filters-of"), str(child.pid), "out"],
-                                stdout=subprocess.PIPE, stderr=subprocess.PIPE, text=True, cwd=self.folder)
+            self.let_go(child)
+        held = subprocess.Popen([tool("filters-of"), str(child.pid), "out"], stdout=subprocess.PIPE,
+                                stderr=subprocess.PIPE, text=True, cwd=self.folder,
+                                preexec_fn=lambda: signal.signal(signal.SIGHUP, signal.SIG_IGN))
         self.traced(child)
         held.send_signal(signal.SIGHUP)
         with open(fifo, "wb"):
@@ -294,8 +293,7 @@ class VerifyProcess(Confined):
         return status, out
 
     def called(self, child):
-        with open(f"/proc/{child.pid}/comm", encoding="utf-8") as file:
-            return f"process {child.pid} ({file.read().strip()})"
+        return f"process {child.pid} ({text_of(f'/proc/{child.pid}/comm').strip()})"
 
     @here
     def test_one_stack(self):
@@ -479,14 +477,13 @@ class Containers(Confined):
 
     def child_in_a_namespace(self):
         """A child whose own child is the first process of a PID namespace, and that one's number."""
-        if not shutil.which("unshare"):
-            self.skipTest("there is no unshare here")
+        self.needs("unshare")
         child = subprocess.Popen(["unshare", "--pid", "--fork", "--kill-child", sys.executable, "-c", CHILD, "[[]]"],
                                  stdin=subprocess.PIPE, stdout=subprocess.PIPE, text=True)
         self.addCleanup(ended, child)
         if child.stdout.readline() != "1\n":
             self.skipTest("no PID namespace can be made here")
-        first = self.children(child.pid)[0]
+        first = children_of(child.pid)[0]
         self.skip_in_a_group(first)
         return child, first
 
@@ -506,7 +503,7 @@ class Containers(Confined):
         self.do(child, f"(os.fork() or (confine([{lax!r}]), time.sleep(1000))); confine([{strict!r}]); "
                        f"print(2, flush=True)")
         self.assertEqual(child.stdout.readline(), "2\n")
-        second = self.children(first)[0]
+        second = children_of(first)[0]
         self.wait_for(second, "S")
         status, out, err = self.verify(first, refuses("mount"), "--all")
         self.assertEqual((status, err), (1, ""))
@@ -519,10 +516,6 @@ class Containers(Confined):
         self.assertEqual((value["status"], value["verdict"], value["container"]), (1, "differs", "a PID namespace"))
         self.assertEqual([stack["processes"][0]["process"] for stack in value["stacks"]], [second, first])
         self.assertEqual(self.verify(first, refuses("mount"))[0], 0)
-
-    def children(self, pid):
-        with open(f"/proc/{pid}/task/{pid}/children", encoding="ascii") as file:
-            return [int(number) for number in file.read().split()]
 
     def grouped(self, *places):
         """Puts processes into a control group of the test's own and into groups below it; gives its path.
@@ -563,13 +556,11 @@ class Containers(Confined):
         child, first = self.child_in_a_namespace()
         self.do(child, f"confine([{name!r}]); os.fork() or time.sleep(1000); print(2, flush=True)")
         self.assertEqual(child.stdout.readline(), "2\n")
-        second = self.children(first)[0]
+        second = children_of(first)[0]
         group = self.grouped((child, "inner", first))
         status, out, err = self.verify(first, refuses("mount"), "--all")
-        with open(f"/proc/{second}/comm", encoding="utf-8") as file:
-            called = file.read().strip()
         note = (f"processes of its PID namespace in other control groups weren't checked: {second} "
-                f"({called}); whether they are the container's can't be known")
+                f"({text_of(f'/proc/{second}/comm').strip()}); whether they are the container's can't be known")
         self.assertEqual((status, err, comments(out)[-2:]),
                          (4, "", [note, f"the container is the control group {group}/inner; its processes that "
                                         f"were checked: 1"]))
@@ -601,15 +592,10 @@ class Containers(Confined):
 
     def started(self, runtime, profile):
         """Why a runtime starts no container with this profile, or None where it runs."""
-        shutil.rmtree(os.path.join(self.folder, "box"), ignore_errors=True)
-        os.makedirs(os.path.join(self.folder, "box/rootfs/bin"))
-        os.makedirs(os.path.join(self.folder, "box/rootfs/proc"))
-        shutil.copy2(shutil.which("busybox"), os.path.join(self.folder, "box/rootfs/bin/busybox"))
         where, name = os.path.join(self.folder, "box"), f"scf-test-{os.getpid()}"
-        subprocess.run([runtime, "spec"], cwd=where, check=True)
-        with open(os.path.join(where, "config.json"), encoding="utf-8") as file:
-            config = json.load(file)
-        config["process"].update(terminal=False, args=["busybox", "sleep", "1000"])
+        shutil.rmtree(where, ignore_errors=True)
+        make_rootfs(where)
+        config = spec_of(where, ["busybox", "sleep", "1000"])
         config["linux"]["seccomp"] = profile
         self.file("box/config.json", json.dumps(config))
         self.addCleanup(subprocess.run, [runtime, "delete", "--force", name], stderr=subprocess.DEVNULL, check=False)
@@ -629,8 +615,7 @@ class Containers(Confined):
         for runtime in there:
             why = self.started(runtime, profile)
             if why is None:
-                with open(os.path.join(self.folder, "box/pid"), encoding="ascii") as file:
-                    return int(file.read())
+                return int(text_of(os.path.join(self.folder, "box/pid")))
             reasons.append(why)
         return self.skipTest(f"no container can be started here: {'; '.join(reasons)}")
 
@@ -639,8 +624,7 @@ class Containers(Confined):
     def test_a_container(self):
         """A list of what is allowed: runc refuses newer calls by ENOSYS, and that comes first; more that differs is
         told before it."""
-        with open(os.path.join(TOP, "tables", "x86_64.table"), encoding="ascii") as file:
-            names = [line.split() for line in file if line.strip() and not line.startswith("#")]
+        names = [line.split() for line in text_of(TABLE).splitlines() if line and not line.startswith("#")]
         # the names that runc's library has known for long
         allowed = [name for name, number in names if int(number) <= 334 or 424 <= int(number) <= 439]
         allowed = [name for name in allowed if name not in ("mount", "ptrace")]
@@ -655,8 +639,8 @@ class Containers(Confined):
         dispositions, first = comments(out)[:2]
         self.assertEqual(dispositions, "it is neither more permissive nor stricter than the profile: only the answers "
                                        "differ")
-        self.assertTrue(first.startswith("only syscalls with numbers above all that the profile names differ, the first is "
-                                         "process_madvise (440)"), first)
+        self.assertTrue(first.startswith("only syscalls with numbers above all that the profile names differ, the "
+                                         "first is process_madvise (440)"), first)
         self.assertIn(f"# process {pid} (busybox) has 1 filter, of ", out)
         profile["syscalls"][0]["names"] = [name for name in allowed if name != "chroot"] + ["mount"]
         status, out, _ = self.verify(pid, json.dumps(profile))

@@ -88,7 +88,8 @@ class Gates(Podman, OwnMachine):
         """podman's, which names all ABIs of the machine."""
         self.runtime("podman")
         rootfs = f"{self.bundle('box', None)}/rootfs"
-        status, _, err = self.podman("run", "--detach", "--name", "box", "--cgroup-parent", f"/{self.group}", "--rootfs",
+        status, _, err = self.podman("run", "--detach", "--name", "box", "--cgroup-parent", f"/{self.group}",
+                                     "--rootfs",
                                      rootfs, "sleep", "1000")
         if status:
             self.skipTest(f"podman starts no container here: {err}")
@@ -101,8 +102,7 @@ class Gates(Podman, OwnMachine):
 
     def test_a_sandbox(self):
         """bwrap, which loads what scf made of a profile; nothing is configured for it but what an audit expects."""
-        if not shutil.which("bwrap"):
-            self.skipTest("there is no bwrap here")
+        self.needs("bwrap")
         loaded, stated = (self.file(f"{name}.json", json.dumps(profile)) for name, profile in (
             ("loaded", denying(NATIVE, I386)), ("stated", denying(NATIVE))))
         self.on("sh", "-c", f"bwrap --bind / / --seccomp 9 sleep 1234 9<{self.compiled(loaded)} >/dev/null 2>&1 &")

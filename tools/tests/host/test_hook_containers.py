@@ -9,16 +9,15 @@ import signal
 import subprocess
 import time
 
-from support.common import TOP, comes, tool
+from support.common import TOP, comes, text_of, tool
 from support.confined import here
-from support.own_machine import podman_settings
+from support.own_machine import make_rootfs, podman_settings, spec_of
 from host.test_filters_of import ROOT, refuses
 from host.test_oci_hook import Hook, processes
 from host.test_processes import EXECUTE
 from forms.test_runtimes import MOBY, PODMAN
 from scfhost import ptrace
 
-BUSYBOX = shutil.which("busybox")
 LOADED = {"defaultAction": "SCMP_ACT_ALLOW", "architectures": ["SCMP_ARCH_X86_64"],
           "syscalls": [{"names": ["mount", "ptrace"], "action": "SCMP_ACT_ERRNO", "errnoRet": 1}]}
 # crun takes no mix of both versions of control groups: it is run where there is none.
@@ -45,29 +44,19 @@ class Containers(Hook):
 
     def setUp(self):
         super().setUp()
-        if not BUSYBOX:
-            self.skipTest("there is no busybox here")
+        self.needs("busybox")
         self.name = f"scf-hook-{os.getpid()}"
         self.where = os.path.join(self.folder, "box")
-        for name in ("bin", "proc", "dev", "sys", "tmp", "etc", "run"):
-            os.makedirs(f"{self.where}/rootfs/{name}")
-        shutil.copy2(BUSYBOX, f"{self.where}/rootfs/bin/busybox")
-        for name in ("sh", "sleep", "true"):
-            os.symlink("busybox", f"{self.where}/rootfs/bin/{name}")
+        make_rootfs(self.where)
 
     def words_of(self, runtime):
         """How a runtime is called; skips the test where it isn't there."""
-        if not shutil.which(runtime):
-            self.skipTest(f"there is no {runtime} here")
+        self.needs(runtime)
         return [*(ALONE if runtime == "crun" else []), runtime, "--root", f"{self.folder}/{runtime}"]
 
     def configure(self, loaded, stated, words, args=("sleep", "1000"), shared=(), hooks=None):
         """A configuration with a profile, whose hook finds another one that is stated in its place."""
-        runtime = shutil.which("runc") or shutil.which("crun")
-        subprocess.run([runtime, "spec"], cwd=self.where, check=True)
-        with open(f"{self.where}/config.json", encoding="utf-8") as file:
-            config = json.load(file)
-        config["process"].update(terminal=False, args=list(args), rlimits=[])
+        config = spec_of(self.where, args)
         config["linux"]["namespaces"] = [namespace for namespace in config["linux"]["namespaces"]
                                          if namespace["type"] not in shared]
         config["linux"]["seccomp"] = stated
@@ -101,8 +90,7 @@ class Containers(Hook):
                 self.skipTest(f"{runtime} starts no container here: {message.strip()}")
             pid = None
             if os.path.exists(pid_file):
-                with open(pid_file, encoding="ascii") as file:
-                    pid = int(file.read())
+                pid = int(text_of(pid_file))
                 os.remove(pid_file)
             yield status, message, pid
         finally:
@@ -120,10 +108,6 @@ class Containers(Hook):
         status, out, err = self.run_tool("verify-process", "--all", *words, str(pid), profile)
         self.assertEqual((status, out.split("\n")[0]), (0, "same"), err)
         self.assertFalse([line for line in out.split("\n") if "differ" in line], out)
-
-    def text(self, path):
-        with open(path, encoding="utf-8") as file:
-            return file.read()
 
     def called(self, *words):
         """The processes that were called so."""
@@ -209,7 +193,7 @@ class Runtimes(Containers):
                 status, lines = self.by_hand(runtime)
                 named = [line for line in lines if line.startswith("# process ")]
                 self.assertEqual((status, len(named)), (0, 3), lines)
-                config = json.loads(self.text(f"{self.where}/config.json"))
+                config = json.loads(text_of(f"{self.where}/config.json"))
                 config["linux"]["seccomp"] = json.loads(refuses("chroot"))
                 self.file("box/config.json", json.dumps(config))
                 status, lines = self.by_hand(runtime, "--kill")
@@ -247,7 +231,7 @@ class Runtimes(Containers):
         or that it ends at its timeout, and lets the container run on. Its process, once crun has done all."""
         call = self.words_of("crun")
         self.configure(stated=LOADED, words=words, **settings)
-        config = json.loads(self.text(f"{self.where}/config.json"))
+        config = json.loads(text_of(f"{self.where}/config.json"))
         if timeout is not None:
             config["hooks"]["poststart"][1]["timeout"] = timeout
         self.file("box/config.json", json.dumps(config))
@@ -259,7 +243,7 @@ class Runtimes(Containers):
             # (where a hook kills the container early, crun may write to one that is gone)
             status, _ = self.said([*call, "start", self.name])
             self.assertTrue(status == 0 or "--kill" in words and status == -signal.SIGPIPE, status)
-            yield int(self.text(f"{self.folder}/pid"))
+            yield int(text_of(f"{self.folder}/pid"))
         finally:
             self.said([*call, "delete", "--force", self.name])
             os.remove(f"{self.where}/config.json")
@@ -292,11 +276,8 @@ class Podman(Containers):
         return self.said([*ALONE, "podman", *words], env={**os.environ, **settings})
 
     def test_the_default_profile(self):
-        if not shutil.which("podman"):
-            self.skipTest("there is no podman here")
+        self.needs("podman", "runc", "crun")
         for runtime in ("runc", "crun"):
-            if not shutil.which(runtime):
-                self.skipTest(f"there is no {runtime} here")
             with self.subTest(runtime):
                 self.file("hooks/scf.json", self.run_tool("oci-hook", "--print-hook", "--kill", "--runtime",
                                                           runtime)[1])
@@ -313,7 +294,7 @@ class Podman(Containers):
                 config = self.config_of(message.strip())
                 self.is_same(pid, config, "--runtime", runtime)
                 if runtime == "crun":
-                    held = json.loads(self.text(config))["process"]["capabilities"]["bounding"]
+                    held = json.loads(text_of(config))["process"]["capabilities"]["bounding"]
                     self.is_same(pid, PODMAN, "--runtime", "podman", "--caps", ",".join(held))
                 self.podman("rm", "--force", "--time", "0", self.name)
 
@@ -351,9 +332,7 @@ class Podman(Containers):
 
     def test_with_and_without_a_profile(self):
         """A container, one in a pod, a privileged one, and one without a profile, by both runtimes."""
-        for item in ("podman", "runc", "crun"):
-            if not shutil.which(item):
-                self.skipTest(f"there is no {item} here")
+        self.needs("podman", "runc", "crun")
         self.addCleanup(self.remove_groups)
         pod, parent = f"{self.name}-pod", ("--cgroup-parent", f"/{self.name}")
         self.addCleanup(self.podman, "pod", "rm", "--force", pod)
@@ -380,8 +359,7 @@ class Podman(Containers):
 
     def test_the_installed_hook(self):
         """A default container starts with what make install puts for hooks.d, which finds it confined as configured."""
-        if not shutil.which("podman"):
-            self.skipTest("there is no podman here")
+        self.needs("podman")
         prefix = f"{self.folder}/prefix"
         subprocess.run(["make", "-s", "-C", TOP, "install", f"PREFIX={prefix}"], check=True)
         self.addCleanup(self.remove_groups)
@@ -394,8 +372,7 @@ class Podman(Containers):
         self.assertEqual(status, 0, message)
         pid = int(self.podman("inspect", "--format", "{{.State.Pid}}", self.name)[1])
         bundle = os.path.dirname(self.config_of(message.strip()))
-        with open(f"{prefix}/share/scf/hooks.d/scf.json", encoding="utf-8") as file:
-            hook = json.load(file)["hook"]
+        hook = json.loads(text_of(f"{prefix}/share/scf/hooks.d/scf.json"))["hook"]
         state = {"ociVersion": "1.0.2", "id": message.strip(), "status": "running", "pid": pid, "bundle": bundle}
         status, out, err = self.run_words([hook["path"], *hook["args"][1:]], json.dumps(state).encode())
         self.assertEqual((status, out), (0, ""))

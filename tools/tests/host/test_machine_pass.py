@@ -5,7 +5,7 @@ import subprocess
 import unittest
 from unittest import mock
 
-from support.common import ALLOW, LOADER, TOP, comes, filter_of, ret
+from support.common import ALLOW, LOADER, TOP, comes, filter_of, ret, text_of
 from support.confined import processes
 from support.own_machine import ROOT, OwnMachine
 from scfhost import machine_pass
@@ -78,8 +78,7 @@ class Passes(OwnMachine):
         script = (f'/usr/bin/python3 -c "$0" {count} {name} >/dev/null 2>&1 & '
                   f'while [ ! -e {name}.done ]; do sleep 0.1; done')
         self.assertEqual(self.on("timeout", "60", "sh", "-c", script, EXECUTES)[0], 0)
-        with open(f"{name}.done", encoding="ascii") as file:
-            return json.load(file)
+        return json.loads(text_of(f"{name}.done"))
 
     def test_processes_that_wait_in_execve_for_ever(self):
         """They don't keep others from being read, whatever their numbers are."""

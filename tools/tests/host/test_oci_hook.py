@@ -9,7 +9,7 @@ import time
 from unittest import mock
 
 from support.common import ALLOW, KILL_PROCESS, PATIENCE, X86_64, comes, insn, jeq, jge, load, ret, tool
-from support.confined import Confined, FakeKernel, here, let_on, status_of
+from support.confined import Confined, FakeKernel, children_of, here, let_on, status_of
 from host.test_filters_of import MOUNT, UMOUNT2, refuses, refusing
 from scftools.base import program
 from scftools.model import tables
@@ -421,12 +421,8 @@ class OfTime(Hook):
 
     def is_watched(self, hook):
         """Waits until a hook has begun its watchdog and its worker, in process groups of their own."""
-        self.assertTrue(comes(lambda: [os.getpgid(child) for child in self.children(hook)] == self.children(hook) != []
-                              and len(self.children(hook)) == 2))
-
-    def children(self, hook):
-        with open(f"/proc/{hook.pid}/task/{hook.pid}/children", encoding="ascii") as file:
-            return [int(word) for word in file.read().split()]
+        self.assertTrue(comes(lambda: len(children_of(hook.pid)) == 2 and
+                              [*map(os.getpgid, children_of(hook.pid))] == children_of(hook.pid)))
 
     def is_killed(self, child, seconds):
         began = time.monotonic()
@@ -455,25 +451,27 @@ class OfTime(Hook):
         hook = self.begin(child, "--deadline=0.5", "--wait=0")
         self.assertEqual(hook.wait(PATIENCE), 4)
         self.is_let_on(child, fifo)
-        self.assertTrue(comes(lambda: status_of(child.pid)["TracerPid"] == "0"))
+        self.let_go(child)
         self.runs_on(child)
 
     def test_the_hook_is_ended(self):
         """As a runtime ends it at its timeout; the container is killed at once."""
-        child = self.child([])
-        hook = self.begin(child, "--kill", "--wait=60")
-        self.is_watched(hook)
-        hook.kill()
-        self.is_killed(child, 20)
-        message = self.lines(hook.stderr.read().decode())
-        # (and nothing of the worker's)
-        self.assertEqual(message, [f"container box: the hook was ended or stopped: process {child.pid} was killed"])
+        for number in (signal.SIGKILL, signal.SIGTERM):
+            child = self.child([])
+            hook = self.begin(child, "--kill", "--wait=60")
+            self.is_watched(hook)
+            hook.send_signal(number)
+            self.is_killed(child, 20)
+            message = self.lines(hook.stderr.read().decode())
+            # (and nothing of the worker's)
+            self.assertEqual(message, [f"container box: the hook was ended or stopped: process {child.pid} was killed"])
+            self.assertEqual(hook.wait(PATIENCE), -number)
 
     def test_the_worker_ends_with_the_hook(self):
         child = self.child([])
         hook = self.begin(child, "--wait=60")
-        self.assertTrue(comes(lambda: self.children(hook)))
-        worker, = self.children(hook)
+        self.assertTrue(comes(lambda: children_of(hook.pid)))
+        worker, = children_of(hook.pid)
         hook.kill()
         hook.wait()
         self.assertTrue(comes(lambda: processes.Kernel().status_of(worker).get("State", "Z")[0] in "ZX"))
@@ -492,7 +490,7 @@ class OfTime(Hook):
         child = self.child([])
         hook = self.begin(child, "--kill", "--wait=60")
         self.is_watched(hook)
-        os.kill(self.children(hook)[1], signal.SIGKILL)
+        os.kill(children_of(hook.pid)[1], signal.SIGKILL)
         self.assertEqual(hook.wait(PATIENCE), 2)
         self.is_killed(child, 20)
         self.assertIn("the check ended with signal 9", hook.stderr.read().decode())
@@ -555,12 +553,18 @@ class Inside(Hook):
         kernel = FakeKernel([refusing(MOUNT)])
         kernel.threads_of = lambda _: [child.pid]
         process.kernel, process.members = kernel, processes.Container(None, lambda: [child.pid])
-        with self.assertRaises(processes.Unreadable) as caught:
-            process.look()
-        self.assertEqual(str(caught.exception), f"process {child.pid} has ended")
+        self.assertEqual(self.text_of_error(processes.Unreadable, process.look), f"process {child.pid} has ended")
         with mock.patch("os.kill") as kill:
             self.assertEqual(process.kill(), hooks.Kill(False, f"process {child.pid} has ended already"))
         kill.assert_not_called()
+
+    def test_descendants(self):
+        """Each the child of the one before, in whichever order they are listed; numbers that were given again end."""
+        for first, parents, expected in ((2, {2: 1, **{at: at - 1 for at in range(3, 3000)}}, [*range(2, 3000)]),
+                                         (9, {9: 1, 7: 8, 8: 9, 5: 1}, [9, 8, 7]), (2, {2: 3, 3: 2}, [2, 3])):
+            kernel = mock.Mock(**{"processes.return_value": [*parents],
+                                  "status_of.side_effect": lambda number, it=parents: {"PPid": str(it[number])}})
+            self.assertEqual(hooks.descendants(kernel, first), expected)
 
     def test_a_process_that_does_not_end_at_once(self):
         """One that is killed while it is frozen: the watchdog leaves the hook the time to say so."""
@@ -578,7 +582,8 @@ class Inside(Hook):
         """It is said, and isn't taken for a process that is confined."""
         for error, says in ((MemoryError(), "out of memory"),
                             (OSError(5, "failed"), "the container can't be inspected: failed"),
-                            (program.ToolError("no scf", program.NOT_BUILT), "no scf"), (hooks.ContainerError("no"), "no"),
+                            (program.ToolError("no scf", program.NOT_BUILT), "no scf"),
+                            (hooks.ContainerError("no"), "no"),
                             (hold.Waiting("it waits"), "it waits (--force stops it)"),
                             (processes.Unreadable("it can't"), "it can't"),
                             (processes.Interrupted(15), "the check was ended by SIGTERM")):

@@ -32,9 +32,8 @@ class Files(Case):
         return owned_files.writer_of(os.path.join(self.folder, name))
 
     def refused(self, name, says):
-        with self.assertRaises(UnreadableFile) as caught:
-            owned_files.read_own(os.path.join(self.folder, name), 100)
-        self.assertIn(says, str(caught.exception))
+        said = self.text_of_error(UnreadableFile, owned_files.read_own, os.path.join(self.folder, name), 100)
+        self.assertIn(says, said)
 
     def test_owners(self):
         """Of the file and of each folder that leads to it, the first one."""

@@ -51,8 +51,9 @@ class Asked(Case):
 
     def setUp(self):
         super().setUp()
-        for name, soon in (("SURE_AFTER", 0), ("SURE_OF_ZOMBIE", 0), ("SURE_TIMES", 4), ("PAUSE_UNHELD", 0.001)):
-            patch = mock.patch.object(hold, name, soon)
+        for where, name, soon in ((hold, "SURE_AFTER", 0), (hold, "SURE_SOON", 0), (hold, "SURE_TIMES", 4),
+                                  (hold, "PAUSE_UNHELD", 0.001), (hold.Hold, "vain_waits", 0)):
+            patch = mock.patch.object(where, name, soon)
             patch.start()
             self.addCleanup(patch.stop)
 
@@ -61,9 +62,7 @@ class Asked(Case):
             return processes.look_at_process(kernel, process, **settings)
 
     def refused(self, kernel, says, **settings):
-        with self.assertRaises(processes.Unreadable) as caught:
-            self.look(kernel, **settings)
-        self.assertIn(says, str(caught.exception))
+        self.assertIn(says, self.text_of_error(processes.Unreadable, self.look, kernel, **settings))
         self.assertEqual(kernel.held, set())
 
     def test_filters_oldest_first(self):
@@ -169,9 +168,9 @@ class Asked(Case):
         self.refused(FakeKernel([OLDEST], {SEIZE: errno.ESRCH}, listings=[(7,), ()]), "process 7 has ended")
 
     def test_a_thread_that_executes_a_program(self):
-        """The kernel refuses to trace one that ends or executes a program, for a moment: it is listed again. Under its
-        new number the tool may trace it already."""
-        for status, count in (({}, 3), ({"TracerPid": str(os.getpid())}, 1)):
+        """The kernel refuses to trace one that ends or executes a program, or that another tool looks at, for a moment:
+        it is listed again. Under its new number the tool may trace it already."""
+        for status, count in (({}, 3), ({"TracerPid": "12"}, 3), ({"TracerPid": str(os.getpid())}, 1)):
             kernel = FakeKernel([OLDEST], {SEIZE: errno.EPERM}, status=status)
             ptrace_of, asked = kernel.ptrace, []
 
@@ -185,6 +184,27 @@ class Asked(Case):
             self.assertEqual([stack.threads for stack in self.look(kernel).stacks], [{7: [7]}])
             self.assertEqual(asked, [SEIZE] * count + [INTERRUPT, GET, GET, GET, DETACH])
         self.refused(FakeKernel([OLDEST], {SEIZE: errno.EPERM}), "run this as root")
+
+    def test_threads_that_another_tool_looks_at(self):
+        """None is traced before the first that has another tracer, so that of two tools one has all."""
+        kernel = FakeKernel([OLDEST], status={"TracerPid": "12"}, listings=[(7, 8)])
+        ptrace_of, seized = kernel.ptrace, []
+
+        def seizing(request, thread, *remaining):
+            kernel.fails = {SEIZE: errno.EPERM} if len(seized) < 2 else {}
+            seized.extend([thread] if request == SEIZE else [])
+            return ptrace_of(request, thread, *remaining)
+
+        kernel.ptrace = seizing
+        self.assertEqual([stack.threads for stack in self.look(kernel).stacks], [{7: [7, 8]}])
+        self.assertEqual(seized, [7, 7, 7, 8])
+
+    def test_threads_that_keep_another_tracer(self):
+        """Some are waited for, and the others no more."""
+        for count in (*[hold.SURE_TIMES] * hold.MOST_VAIN_WAITS, 1, 1):
+            kernel = FakeKernel([OLDEST], {SEIZE: errno.EPERM}, status={"TracerPid": "12"})
+            self.refused(kernel, "process 7 is already traced by process 12, and can have only one tracer")
+            self.assertEqual([request for request, *_ in kernel.asked], [SEIZE] * count)
 
     def test_registers_that_can_not_be_set(self):
         """Of a thread in a call that would go on by restart_syscall: it is let go, and that is said."""
@@ -231,9 +251,8 @@ class Asked(Case):
 
     def test_this_tool_itself_is_not_stopped(self):
         kernel = FakeKernel([OLDEST], listings=[(os.getpid(),)])
-        with self.assertRaises(processes.Unreadable) as caught:
-            processes.look_at_process(kernel, os.getpid())
-        self.assertIn("is this tool itself", str(caught.exception))
+        said = self.text_of_error(processes.Unreadable, processes.look_at_process, kernel, os.getpid())
+        self.assertIn("is this tool itself", said)
         self.assertEqual(kernel.asked, [])
 
     def test_the_tool_has_no_right_to_see_filters(self):
@@ -269,13 +288,10 @@ class Asked(Case):
     def test_the_process_ends_or_never_stops(self):
         for fails, states in (({}, [0]), ({}, [signal.SIGKILL]), ({}, [ChildProcessError(errno.ECHILD, "none")]),
                               ({INTERRUPT: errno.ESRCH}, [ChildProcessError(errno.ECHILD, "none")])):
-            with self.assertRaises(processes.Unreadable) as caught:
-                self.look(FakeKernel([OLDEST], fails, states=states, listings=[(7,), ()]))
-            self.assertEqual(str(caught.exception), "process 7 has ended")
+            kernel = FakeKernel([OLDEST], fails, states=states, listings=[(7,), ()])
+            self.assertEqual(self.text_of_error(processes.Unreadable, self.look, kernel), "process 7 has ended")
         kernel = FakeKernel([OLDEST], states=[None], status={"State": "D (disk sleep)"})
-        with self.assertRaises(processes.Unreadable) as caught:
-            self.look(kernel, patience=0.01)
-        self.assertEqual(str(caught.exception),
+        self.assertEqual(self.text_of_error(processes.Unreadable, self.look, kernel, patience=0.01),
                          "process 7 didn't stop within 0.009 seconds: its state is D (disk sleep)")
 
     def test_one_that_does_not_stop_does_not_hold_the_others(self):
@@ -317,9 +333,8 @@ class Asked(Case):
         container = processes.container_of(kernel, 7)
         self.assertEqual((container.group, container.processes()), (None, [7, 8]))
         spaces[7] = [(1, 1)]
-        with self.assertRaises(processes.Unreadable) as caught:
-            processes.container_of(kernel, 7)
-        self.assertIn("process 7 is in no container", str(caught.exception))
+        said = self.text_of_error(processes.Unreadable, processes.container_of, kernel, 7)
+        self.assertIn("process 7 is in no container", said)
 
     def test_containers_in_a_cgroup_namespace(self):
         """Its root may be any group, and what is outside of it isn't known; what is below it is."""
@@ -383,9 +398,8 @@ class Real(Confined):
         inspection = self.look(child, thread=child.threads[1])
         self.assertEqual([(stack.filters, stack.threads) for stack in inspection.stacks],
                          [((NEWEST,), {child.pid: [child.threads[1]]})])
-        with self.assertRaises(processes.Unreadable) as caught:
-            self.look(child, thread=os.getpid())
-        self.assertEqual(str(caught.exception), f"process {child.pid} has no thread {os.getpid()}")
+        said = self.text_of_error(processes.Unreadable, self.look, child, thread=os.getpid())
+        self.assertEqual(said, f"process {child.pid} has no thread {os.getpid()}")
         self.assertEqual(processes.process_of(processes.Kernel(), child.threads[1]), child.pid)
         self.runs_on(child)
 
@@ -411,10 +425,8 @@ class Real(Confined):
         child = self.child([OLDEST])
         child.kill()
         self.wait_for(child.pid, "Z")
-        with self.assertRaises(processes.Unreadable) as caught:
-            self.look(child)
-        self.assertEqual(str(caught.exception), f"process {child.pid} is a zombie: it has ended, and waits for its "
-                                                f"parent")
+        said = self.text_of_error(processes.Unreadable, self.look, child)
+        self.assertEqual(said, f"process {child.pid} is a zombie: it has ended, and waits for its parent")
 
     def test_a_main_thread_that_has_ended(self):
         child = self.child([OLDEST], [NEWEST])
@@ -429,9 +441,7 @@ class Real(Confined):
         number = next(is_of_kernel, None)
         if number is None:
             self.skipTest("no kernel thread is seen here")
-        with self.assertRaises(processes.Unreadable) as caught:
-            processes.look_at_process(kernel, number)
-        self.assertEqual(str(caught.exception),
+        self.assertEqual(self.text_of_error(processes.Unreadable, processes.look_at_process, kernel, number),
                          f"process {number} is a kernel thread, which makes no syscalls")
 
     def test_a_process_that_is_traced_already(self):
@@ -447,12 +457,10 @@ class Real(Confined):
         self.runs_on(child)
 
     def test_no_process_and_this_one(self):
-        with self.assertRaises(processes.Unreadable) as caught:
-            processes.process_of(processes.Kernel(), 2**22 + 1)
-        self.assertRegex(str(caught.exception), f"^there is no process {2**22 + 1}: it has ended, or ")
-        with self.assertRaises(processes.Unreadable) as caught:
-            processes.look_at_process(processes.Kernel(), os.getpid())
-        self.assertIn("is this tool itself", str(caught.exception))
+        said = self.text_of_error(processes.Unreadable, processes.process_of, processes.Kernel(), 2**22 + 1)
+        self.assertRegex(said, f"^there is no process {2**22 + 1}: it has ended, or ")
+        said = self.text_of_error(processes.Unreadable, processes.look_at_process, processes.Kernel(), os.getpid())
+        self.assertIn("is this tool itself", said)
 
     def test_strict_mode(self):
         child = self.strict_child()
@@ -530,10 +538,11 @@ class Real(Confined):
         with self.assertRaises(processes.Unreadable) as caught:
             processes.look_at_process(kernel, child.pid, patience=0.5)
         self.assertLess(time.monotonic() - begun, PATIENCE)
-        self.assertIn("couldn't be read within 0.5 seconds", str(caught.exception))
+        self.assertEqual(str(caught.exception), "the threads couldn't be read within 0.5 seconds: the kernel makes a "
+                         "tracer wait, as for a thread that executes a program; all stopped threads continue")
         os.waitpid(second, ptrace.WALL)
         self.assertTrue(comes(lambda: kernel.name_of(child.pid) == b"sleep"))
-        self.assertEqual(status_of(child.pid)["TracerPid"], "0")
+        self.let_go(child)
 
     def held(self, *words):
         """A process that looks at a child which doesn't stop, with a thread of it held, and that thread."""
@@ -546,8 +555,8 @@ class Real(Confined):
         self.assertTrue(comes(lambda: status_of(child.threads[1])["TracerPid"] != "0"))
         return child, looks
 
-    def let_go(self, child):
-        self.assertTrue(comes(lambda: {status_of(thread)["TracerPid"] for thread in child.threads} == {"0"}))
+    def goes_on(self, child):
+        self.let_go(child)
         self.wait_for(child.threads[1], "S")
 
     def test_a_tool_that_is_stopped(self):
@@ -555,20 +564,21 @@ class Real(Confined):
         child, looks = self.held("200", "0.01")
         looks.send_signal(signal.SIGSTOP)
         self.wait_for(looks.pid, "T")
-        self.let_go(child)
+        self.goes_on(child)
         looks.send_signal(signal.SIGCONT)
         self.assertIn("didn't stop within 2 seconds", looks.communicate()[0])
 
     def test_a_tool_that_is_killed(self):
         child, looks = self.held(str(PATIENCE))
         looks.kill()
-        self.let_go(child)
+        self.goes_on(child)
 
     def test_a_tool_whose_child_is_stopped(self):
         child, looks = self.held("6")
         os.kill(int(status_of(child.threads[1])["TracerPid"]), signal.SIGSTOP)
-        self.assertIn("couldn't be read within 6 seconds", looks.communicate()[0])
-        self.let_go(child)
+        self.assertEqual(looks.communicate()[0], "the threads couldn't be read within 6 seconds; all stopped threads "
+                         "continue\n")
+        self.goes_on(child)
 
     def test_what_calls_end_early(self):
         """What is said of calls that a stop ends with EINTR, and of one that goes on."""

@@ -1,5 +1,5 @@
-"""System calls that a look interrupts: what the kernel makes of them behind it, under filters that allow restart_syscall
-and under others, on real processes."""
+"""System calls that a look interrupts: what the kernel makes of them behind it, under filters that allow
+restart_syscall and under others, on real processes."""
 import errno
 import json
 import os
@@ -11,7 +11,7 @@ import unittest
 from unittest import mock
 
 from support.common import (ALLOW, EPERM, I386, KILL_PROCESS, KILL_THREAD, LOG, PATIENCE, TRACE, TRAP, X86_64, Case,
-                            comes, jeq, load, profile_of, ret)
+                            comes, jeq, load, profile_of, ret, text_of)
 from support.confined import USER_NOTIF, Confined, here, processes, ptrace
 from scftools.base import program
 from scftools.model.calls import Call
@@ -110,8 +110,7 @@ class Restarts(Confined):
     def call_of(self, thread):
         """The number of the call in which a thread waits."""
         try:
-            with open(f"/proc/{thread}/syscall", encoding="ascii") as file:
-                word = file.read().split()[0]
+            word = text_of(f"/proc/{thread}/syscall").split()[0]
         except OSError:
             return None
         return int(word) if word.isdigit() else None
@@ -224,7 +223,8 @@ class Restarts(Confined):
 
     def test_a_filter_that_denies_the_call_itself(self):
         """Another thread has put the waiting one under it (SECCOMP_FILTER_FLAG_TSYNC): its call can't begin anew."""
-        for numbers, call in (((RESTART, NANOSLEEP), f"{NANOSLEEP}, ctypes.create_string_buffer(b'\\x09' + bytes(15)), 0"),
+        for numbers, call in (((RESTART, NANOSLEEP), f"{NANOSLEEP}, ctypes.create_string_buffer(b'\\x09' + bytes(15)), "
+                                                     f"0"),
                               ((PAUSE,), f"{PAUSE}, 0, 0")):
             given, child = self.file("later", denying(KILL_PROCESS, *numbers)), self.child([])
             self.do(child, f"threading.Thread(target=lambda: print(library.syscall({call}), ctypes.get_errno(), "
@@ -289,7 +289,8 @@ class Restarts(Confined):
 
 @here
 class Supervised(Confined):
-    """Threads that wait for a supervisor: the kernel takes their calls back when they are stopped, and makes them anew."""
+    """Threads that wait for a supervisor: the kernel takes their calls back when they are stopped, and makes them
+    anew."""
 
     def waiting(self, number=MKDIR):
         """A child whose call was received by its supervisor, and wasn't answered yet."""
@@ -308,10 +309,9 @@ class Supervised(Confined):
 
     def test_a_thread_that_waits_is_not_stopped(self):
         child, supervisor, call = self.waiting()
-        with self.assertRaises(processes.Unreadable) as caught:
-            processes.look_at_process(processes.Kernel(), child.pid, patience=5)
-        self.assertIn(f"process {child.pid} has waited 4.5 seconds for a seccomp supervisor",
-                      str(caught.exception))
+        said = self.text_of_error(processes.Unreadable, processes.look_at_process, processes.Kernel(), child.pid,
+                                  patience=5)
+        self.assertIn(f"process {child.pid} has waited 4.5 seconds for a seccomp supervisor", said)
         self.is_made_once(child, supervisor, call)
 
     def test_it_is_looked_at_once_it_has_its_answer(self):

@@ -8,7 +8,7 @@ import re
 import shutil
 import unittest
 
-from support.common import CORE, SCF, TABLE, Case, part, tool
+from support.common import CORE, SCF, TABLE, Case, part, text_of, tool
 from support.own_machine import Systemd
 from scftools.forms.lists import unit_restrictions
 from scfhost import units
@@ -144,8 +144,7 @@ class UnitProfile(Case):
 
     def test_what_systemd_is_asked(self):
         self.of_unit(SystemCallFilter="read")
-        with open(os.path.join(self.folder, "systemctl.words"), encoding="ascii") as file:
-            asked = file.read().split("\n")[:-1]
+        asked = text_of(os.path.join(self.folder, "systemctl.words")).split("\n")[:-1]
         self.assertEqual(asked[-3:], ["--no-pager", "show", "--property=Version"])
         asked = asked[:-3]
         self.assertEqual((asked[:2], asked[-2:]), (["--no-pager", "show"], ["--", "box.service"]))
@@ -157,8 +156,7 @@ class UnitProfile(Case):
     def test_in_a_container_of_the_machine(self):
         """There systemctl would ignore its command: it is told not to."""
         self.shows(SystemCallFilter="read")
-        with open(f"{self.folder}/bin/systemctl", encoding="utf-8") as file:
-            script = file.read()
+        script = text_of(f"{self.folder}/bin/systemctl")
         self.stand_in("systemctl", f'[ "$SYSTEMD_IGNORE_CHROOT" = 1 ] || exit 0\n{script}')
         self.assertEqual(self.printed("box.service")[1], {(ALLOW, None): {"read"}})
 
@@ -212,7 +210,8 @@ class UnitProfile(Case):
                               ({"FragmentPath": "/none/box.service"}, "'/none/box.service' can't be read: No"),
                               ({"FragmentPath": ""}, "'' can't be read"), ({"DropInPaths": '"'}, "No closing"),
                               ({"FragmentPath": self.unit_file("u", "[Service]\nSystemCallFilter=mount\n"
-                                                               "SystemCallFilter=~clone3:EINVAL")}, "the list in its files differs"),
+                                                               "SystemCallFilter=~clone3:EINVAL")},
+                                                               "the list in its files differs"),
                               ({"FragmentPath": self.unit_file("v", "[Service]\nSystemCallFilter=~clone3:EINVAL")},
                                "the list in its files differs")):
             self.shows(SystemCallFilter="read", **members)
@@ -510,8 +509,7 @@ class UnitProfile(Case):
         self.shows(SystemCallFilter="~mount swapon:EPERM nosuchcall", SystemCallLog="read",
                    SystemCallArchitectures="native")
         out = self.run_tool("unit-profile", "box", env=self.env)[1]
-        with open(TABLE, "rb") as file:
-            bundle = part("profile", out.encode()) + part("table", file.read())
+        bundle = part("profile", out.encode()) + part("table", text_of(TABLE).encode())
         for name, number, line in (("mount", 165, "KILL_PROCESS 0 entry 0"), ("swapon", 167, "ERRNO 1 entry 1"),
                                    ("read", 0, "LOG 0 entry 2"), ("write", 1, "ALLOW 0 default")):
             self.assertEqual(self.run_words([*CORE, "ask", "--nr", str(number)], bundle)[1].split("\n")[0], line, name)
@@ -584,10 +582,8 @@ class OwnUnits(Systemd):
         inner = self.on("systemctl", "show", "--property=MainPID", "--value", unit)[1].strip()
         for name in filter(str.isdigit, os.listdir("/proc")) if inner not in ("", "0") else ():
             try:
-                with open(f"/proc/{name}/status", encoding="utf-8", errors="replace") as file:
-                    status = file.read()
-                with open(f"/proc/{name}/cgroup", encoding="utf-8") as file:
-                    is_ours = os.path.basename(self.cgroup) in file.read()
+                status = text_of(f"/proc/{name}/status")
+                is_ours = os.path.basename(self.cgroup) in text_of(f"/proc/{name}/cgroup")
             except OSError:
                 continue
             if is_ours and re.search(rf"^NSpid:.*\t{inner}$", status, re.M) and "\nName:\tsleep\n" in f"\n{status}":
@@ -689,8 +685,7 @@ class OtherSettings(Audited, OwnUnits):
         # the page has the command that shows it
         page = f"{self.folder}/page.html"
         self.assertEqual(self.on(tool("audit"), "--html", page)[0], 1)
-        with open(page, encoding="utf-8") as file:
-            text = html.unescape(file.read())
+        text = html.unescape(text_of(page))
         for words in ("scf-LockPersonality.service", "--arch i386 scf-MemoryDenyWriteExecute.service"):
             self.assertIn(f"scf unit-profile {words} >unit.json", text)
 
