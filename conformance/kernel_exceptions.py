@@ -1,4 +1,4 @@
-"""Where the kernel does otherwise than scf's definitions say, on purpose: the rows of conformance/README.md, each tried."""
+"""Where the kernel, on purpose, does otherwise than scf's definitions say: each row of conformance/README.md, tried."""
 from __future__ import annotations
 
 from collections.abc import Callable

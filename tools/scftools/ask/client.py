@@ -79,7 +79,7 @@ class Fault:
 
     @classmethod
     def read(cls, line: str) -> Fault | None:
-        match = FAULT.fullmatch(line)
+        match = FAULT.fullmatch(line) if line.startswith("fault ") else None
         if not match:
             return None
         words = match[3].split()
@@ -156,8 +156,7 @@ def memory_file(data: bytes) -> int:
 
 
 def _limit(child: int, seconds: float | None) -> None:
-    """Limits scf's memory, so that it reports `Memory` instead of taking more, and its CPU time, after which it is
-    killed without a core dump."""
+    """Limits scf's memory, so that it reports `Memory`, and its CPU time, after which it is killed without a core."""
     import resource  # pylint: disable=import-outside-toplevel
 
     limits = [(resource.RLIMIT_AS, MAX_MEMORY)]
@@ -251,8 +250,7 @@ def begin_limits(seconds: float = SECONDS, is_reported: bool = True) -> None:
 
 
 def _seconds_left(until: float) -> float:
-    """The CPU time that may still be taken, of so many seconds for this process and its ended children, or for scf
-    alone."""
+    """The CPU time that is left of so many seconds for this process and its ended children, or for scf alone."""
     return until - (sum(os.times()[:4]) if _seconds_of_scf is None else _seconds_of_scf)
 
 

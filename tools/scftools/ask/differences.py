@@ -41,8 +41,7 @@ def beyond(names: Collection[str]) -> Iterator[Span]:
 
 
 def _record_in(region: Region, span: Span) -> Call | None:
-    """A record of a region in a span, None if there is none: scf's example, or one with the least numbers. Raises
-    TooManyRanges."""
+    """A record of a region in a span: scf's example, or one with the least numbers; or None. Raises TooManyRanges."""
     architecture = region.words.get(ARCHITECTURE, FREE).within(*span[0])
     shown = region.call if architecture else None
     if shown and all(low <= value <= high for value, (low, high) in zip((shown.architecture, shown.number), span)):
@@ -63,8 +62,7 @@ def holds(relation: str, region: Region) -> bool:
 
 
 def _verdict(relation: str, listed: Iterable[Region], record_in: Callable[[Region], Call | None]) -> Verdict | None:
-    """The verdict on those records of regions that count: `record_in` gives one of a region, or None if there is none.
-    None if the regions don't tell."""
+    """The verdict on those records of regions of which `record_in` gives one; None if the regions don't tell."""
     is_known = True
     for region in listed:
         call = None if holds(relation, region) else record_in(region)
@@ -75,8 +73,7 @@ def _verdict(relation: str, listed: Iterable[Region], record_in: Callable[[Regio
 
 
 class Differences(Lookup):
-    """The regions that scf prints of two sides, in its order, or None if they are unfinished; and what it calls the
-    second side."""
+    """The regions that scf prints of two sides, None if they are unfinished; and what it calls the second side."""
 
     def __init__(self, listed: Sequence[Region] | None, beside: str):
         super().__init__(listed)
@@ -99,13 +96,15 @@ class Differences(Lookup):
             return None
 
     def calls(self, name: str, table: Table, relation: str) -> list[NamedCall] | None:
-        """The syscalls in the table of an architecture, by its OCI name, of which a relation fails; None if the regions
-        don't tell."""
+        """The syscalls in the table of an OCI architecture that fail a relation; None if regions don't tell."""
         architecture, failing = JUDGED[name], []
+        numbers = self.of_architecture(architecture)
         for number in sorted(table.numbers()) if self.regions is not None else ():
+            here = numbers.of(architecture.first + number)
+            if not here:
+                continue
             call = Call(architecture.first + number, architecture.number)
-            verdict = _verdict(relation, self.of_number(call),
-                               lambda region: region.call_of(call.number, call.architecture) or call)
+            verdict = _verdict(relation, here, lambda region: region.call_of(call.number, call.architecture) or call)
             if verdict is None:
                 return None
             if verdict.call is not None:

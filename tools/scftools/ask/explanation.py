@@ -50,10 +50,10 @@ def what_a_row_says(line: str) -> list[str]:
 
 
 def explain_fault(fault: Fault, table: Table | None = None) -> Iterator[str]:
-    """The explanation of a fault, and what to do; with a table also the x86-64 syscall of which two entries
-    conflict."""
+    """The explanation of a fault, and what to do; with a table also the syscall of which two entries conflict, if a
+    line that somebody cut has it."""
     yield from what_a_row_says(fault.line)
-    if (fault.source, fault.kind) == ("profile", "Conflict") and table is not None:
+    if (fault.source, fault.kind) == ("profile", "Conflict") and table is not None and "number" in fault.numbers:
         yield f"the syscall is {Call(fault.numbers['number']).describe(table)}"
 
 
@@ -64,8 +64,7 @@ def explain_line(line: str) -> Iterator[str]:
 
 
 def explain_call(call: Call, table: Table, is_native: bool | None = None) -> Iterator[str]:
-    """A syscall's name, with the arguments as C would have them, and whether --native leaves it out, if that could be
-    given."""
+    """A syscall's name, also as C would have it, and whether --native leaves it out, if that could be given."""
     shown = call.as_c(table) if any(call.arguments) else None
     yield f"the syscall is {call.describe(table)}" + (f": {shown}" if shown is not None else "")
     if is_native is False and not call.is_native:

@@ -29,8 +29,7 @@ EVERY_SYSCALL_DENIED = "other ABIs: every {} syscall is denied; the kernel has n
 
 @dataclass(frozen=True)
 class AbiAccess:
-    """An ABI, and whether each of its syscalls is denied: the verdict beside a profile that kills for them, with one
-    that isn't."""
+    """An ABI, and whether its syscalls are denied: the verdict beside a profile that kills, with one that isn't."""
 
     abi: Architecture
     verdict: Verdict
@@ -70,13 +69,6 @@ class AbiAccess:
         return {"kind": self.abi.name, "is_decided": self.is_decided, "not_denied": shown}
 
 
-def _shown_number(architecture: Architecture, low: int, high: int) -> int:
-    """Of a range of numbers the first that has a name, if any has."""
-    table = tables.architecture_table(architecture.oci) or Table(b"")
-    named = sorted(architecture.first + number for number in table.numbers())
-    return next((number for number in named if low <= number <= high), low)
-
-
 def abi_access(filters: Sequence[bytes], filter_regions: Sequence[Region] | None,
                architecture: Architecture, last: int = NO_CALL - 1) -> AbiAccess:
     """Whether filters deny each syscall of an ABI with a number up to the last that a kernel may have, or another one,
@@ -87,7 +79,10 @@ def abi_access(filters: Sequence[bytes], filter_regions: Sequence[Region] | None
     for low, high, here in ranges or ():
         for region in here:
             if region.is_decided and not region.answer.denies:
-                call = region.call_of(_shown_number(architecture, low, high), architecture.number)
+                # (if any number there has a name, the first that has one is shown)
+                table = tables.architecture_table(architecture.oci) or Table(b"")
+                named = (number for number in map(architecture.first.__add__, table.numbers()) if low <= number <= high)
+                call = region.call_of(min(named, default=low), architecture.number)
                 return AbiAccess(architecture, Verdict(MORE, call, region.answer, KILL_PROCESS))
     are_denied = ranges is not None and all(region.answer is not None and region.answer.denies
                                             for _, _, here in ranges for region in here)

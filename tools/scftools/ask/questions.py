@@ -46,9 +46,11 @@ class Asker:
 
     def _asked(self, profile: bytes, relation: str, words: Sequence[str], table: bytes = b"") -> Report:
         judged = Tables({self.architecture.oci: Table(table)}, profiles.reading_of(profile))
-        return verdicts.compared(self.filters, profile, judged, [*judged.words, *words, *RELATIONS[relation]])
+        return verdicts.compared(self.filters, profile, judged, [*judged.words, *words, *RELATIONS[relation]],
+                                 self.architecture)
 
-    def _profile_of(self, question: Question) -> bytes:
+    def profile_of(self, question: Question) -> bytes:
+        """The profile of a question, for the architecture."""
         return question.answer.as_profile([self.architecture.oci]) or b""
 
     @property
@@ -59,21 +61,17 @@ class Asker:
         """Raises Refusal if scf refuses a table that isn't its own."""
         usual_table = tables.architecture_table(self.architecture.oci)
         if usual_table is None or table.data != usual_table.data:
-            client.compile_profile(self._profile_of(IS_ALLOWED), Tables({self.architecture.oci: table}))
+            client.compile_profile(self.profile_of(IS_ALLOWED), Tables({self.architecture.oci: table}))
 
     def of_calls(self, profile: bytes, relation: str, table: bytes) -> Report:
         """The report on each syscall in a table, beside what a profile answers to it. Raises Refusal."""
-        return self._asked(profile, relation, SCOPES[CALLS], table).on(self.architecture)
-
-    def of_named(self, question: Question, table: bytes) -> Report:
-        """The report on each syscall in a table."""
-        return self.of_calls(self._profile_of(question), question.relation, table)
+        return self._asked(profile, relation, SCOPES[CALLS], table)
 
     def of_numbers(self, question: Question, first: int, last: int) -> Verdict:
         """The verdict on all syscalls with numbers from `first` to `last`, with a complete record as example."""
         added = self.architecture.first
         words = [f"--nr-from={added + first}", f"--nr-to={added + last}"]
-        return self._asked(self._profile_of(question), question.relation, words).verdict
+        return self._asked(self.profile_of(question), question.relation, words).verdict
 
     def decided(self, call: Call) -> Answer | None:
         """The filters' answer to a record."""
@@ -82,8 +80,7 @@ class Asker:
 
 
 def gaps(table: Table, architecture: Architecture = JUDGED[NATIVE]) -> Iterator[tuple[int, int]]:
-    """The ranges of numbers of an architecture that its table doesn't name: the first of each, and the one after the
-    last."""
+    """The ranges of numbers that an architecture's table doesn't name: each first, and the one after the last."""
     before = 0
     for number in [*sorted(table.numbers()), architecture.last - architecture.first + 1]:
         if before < number:

@@ -12,7 +12,7 @@ import functools
 from collections.abc import Iterable, Iterator, Mapping, Sequence
 
 from ..base import program
-from ..model import architectures, bundles
+from ..model import bundles
 from ..model.answers import Answer
 from ..model.architectures import Architecture
 from ..model.calls import ARCHITECTURE, ARGUMENTS, NUMBER, Call
@@ -131,8 +131,7 @@ class Region(Side):
         return self.words.get(NUMBER, FREE).has(number) and self.words.get(ARCHITECTURE, FREE).has(architecture)
 
     def has(self, arguments: Mapping[int, int], halves: Sequence[int] = (0, 1)) -> bool:
-        """Whether some of its records have these arguments, or these halves of them, by their indexes; the instruction
-        pointer's is POINTER."""
+        """Whether some record has these arguments, or these halves, by their indexes; the pointer's is POINTER."""
         for word, values in self.words.items():
             index, half = divmod(word - ARGUMENTS, 2)
             if index in arguments and half in halves and not values.has(arguments[index] >> 32 * half & GREATEST_WORD):
@@ -157,8 +156,7 @@ class Region(Side):
         return call
 
     def call_of(self, number: int, architecture: int, given: Mapping[int, int] | None = None) -> Call | None:
-        """One of its records that has a number, an architecture and arguments which some have; None if scf shows none
-        of its records."""
+        """A record with this number and architecture and such given arguments; None if scf shows none."""
         if self.call is None:
             return None
         arguments = tuple((given or {}).get(index, value) for index, value in enumerate(self.call.arguments))
@@ -177,8 +175,7 @@ def _side_in(text: str, places: Sequence[int] | None) -> tuple[str, Answer | Non
 
 
 def parse_regions(text: str, places: Sequence[int] | None = None) -> list[Region] | None:
-    """Parses the output of `scf answers --examples`; None if it isn't one. An entry may have another place in the
-    profile that a user gave."""
+    """Parses what `scf answers --examples` prints, None if it isn't that. Entries may get a user's places."""
     *lines, last = text.splitlines() or [""]
     shown: list[list[str]] = []
     for line in lines:
@@ -230,8 +227,7 @@ def regions_of_filters(filters: Sequence[bytes]) -> list[Region] | None:
 
 
 def regions_of_profile(profile: bytes, judged: Tables, places: Sequence[int] | None = None) -> list[Region] | None:
-    """The regions of a profile's architectures, on request with other places of entries; None if they are unfinished.
-    Raises Refusal."""
+    """The regions of a profile, on request with other places of entries; None if unfinished. Raises Refusal."""
     return asked(judged.words, bundles.compilation_bundle(profile, judged), places)
 
 
@@ -292,14 +288,17 @@ class Lookup:
         # by the OCI names of architectures
         self._numbers: dict[str, Numbers] = {}
 
-    def of_number(self, call: Call) -> Sequence[Region]:
-        """Those with records of its number and architecture."""
-        architecture = architectures.JUDGED.get(call.abi or "")
-        if architecture is None:
-            return [region for region in self._regions or () if region.is_of(call.number, call.architecture)]
+    def of_architecture(self, architecture: Architecture) -> Numbers:
+        """Those of an architecture, by syscall numbers."""
         if architecture.oci not in self._numbers:
             self._numbers[architecture.oci] = Numbers(self._regions, architecture)
-        return self._numbers[architecture.oci].of(call.number)
+        return self._numbers[architecture.oci]
+
+    def of_number(self, call: Call) -> Sequence[Region]:
+        """Those with records of its number and architecture."""
+        architecture = call.judged
+        return self.of_architecture(architecture).of(call.number) if architecture is not None else \
+            [region for region in self._regions or () if region.is_of(call.number, call.architecture)]
 
     def of(self, call: Call) -> Region | None:
         """The decided region of a record, None if there is none."""

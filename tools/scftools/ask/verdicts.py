@@ -13,7 +13,7 @@ from ..base import program
 from ..base.values import Pattern, dataclass, replace
 from ..model import bundles
 from ..model.answers import ALLOWED, DENIED, Answer
-from ..model.architectures import NATIVE, Architecture
+from ..model.architectures import JUDGED, NATIVE, Architecture
 from ..model.calls import Call
 from ..model.tables import Table, Tables
 from . import client
@@ -84,16 +84,6 @@ class Verdict:
         """scf's exit status with it."""
         return program.SUCCESS if self.holds else program.NEGATIVE if self.fails else program.UNKNOWN
 
-    @property
-    def both_deny(self) -> bool:
-        return bool(self.filters and self.profile and self.filters.denies and self.profile.denies)
-
-    @property
-    def is_allowed_and_denied(self) -> bool:
-        """Whether one side allows the example, and the other denies it."""
-        answers = (answer for answer in (self.filters, self.profile) if answer is not None)
-        return {ALLOWED, DENIED} == {answer.disposition for answer in answers}
-
     def as_json(self, table: Table, sides: tuple[str, str] = ("filter", "profile")) -> dict[str, object]:
         """Its example, as members of an object, with these names of both sides."""
         members: dict[str, object] = {} if self.call is None else {"call": self.call.as_json(table)}
@@ -112,7 +102,7 @@ class NamedCall:
     number: int
     names: tuple[str, ...]
     verdict: Verdict
-    architecture: Architecture | None = None
+    architecture: Architecture = JUDGED[NATIVE]
 
     @classmethod
     def of(cls, verdict: Verdict, architecture: Architecture, names: Sequence[str],
@@ -126,21 +116,11 @@ class NamedCall:
     @property
     def record(self) -> Call:
         """A record of the syscall."""
-        if self.verdict.call is not None or self.architecture is None:
-            return self.verdict.call or Call(self.number)
-        return Call(self.architecture.first + self.number, self.architecture.number)
-
-    def on(self, architecture: Architecture) -> NamedCall:
-        """The same line as that of a table of this architecture."""
-        verdict, call = self.verdict, self.verdict.call
-        if call is not None:
-            call = replace(call, number=architecture.first + self.number, architecture=architecture.number)
-            verdict = replace(verdict, call=call)
-        return replace(self, line=architecture.marked(self.line), verdict=verdict, architecture=architecture)
+        return self.verdict.call or Call(self.architecture.first + self.number, self.architecture.number)
 
     def as_json(self) -> dict[str, object]:
         members: dict[str, object] = {"number": self.number, "names": list(self.names), "verdict": self.verdict.word}
-        if self.architecture is not None and self.architecture.oci != NATIVE:
+        if self.architecture.oci != NATIVE:
             members["architecture"] = self.architecture.name
         return members
 
@@ -158,10 +138,6 @@ class Report:
     calls: tuple[NamedCall, ...] = ()
     skipped: tuple[str, ...] = ()
     architectures: tuple[str, ...] = ()
-
-    def on(self, architecture: Architecture) -> Report:
-        """The same report as one on the table of this architecture."""
-        return replace(self, calls=tuple(call.on(architecture) for call in self.calls))
 
     @classmethod
     def of(cls, verdict: Verdict, beside: str = "profile") -> Report:
@@ -201,25 +177,26 @@ def _verdict(lines: Sequence[str]) -> Verdict | None:
     return Verdict(UNDECIDED, at=int(place[1])) if word == UNDECIDED and place else None
 
 
-def named_call(line: str, pointer: int | None = 0) -> NamedCall | None:
-    """Parses a line of `--calls`, which lacks the instruction pointer."""
-    match = NAMED_CALL_LINE.fullmatch(line)
+def named_call(line: str, pointer: int | None, architecture: Architecture) -> NamedCall | None:
+    """Parses a line of `--calls` on the table of an architecture, which lacks the instruction pointer."""
+    match = NAMED_CALL_LINE.fullmatch(line) if line[:1].isdigit() else None
     if not match:
         return None
     number, answered = int(match[1]), ANSWERED.fullmatch(match[4])
     verdict = Verdict(match[3])
     if verdict.fails and answered:
-        call = Call(number, pointer=pointer, arguments=tuple(int(argument, 16) for argument in answered[1].split()))
+        call = Call(architecture.first + number, architecture.number, pointer,
+                    tuple(int(argument, 16) for argument in answered[1].split()))
         verdict = Verdict(match[3], call, Answer.read(answered[2]), Answer.read(answered[3]))
-    return NamedCall(line, number, tuple(match[2].split(",")), verdict)
+    return NamedCall(architecture.marked(line), number, tuple(match[2].split(",")), verdict, architecture)
 
 
-def report(text: str, pointer: int | None = 0) -> Report:
+def report(text: str, pointer: int | None = 0, architecture: Architecture = JUDGED[NATIVE]) -> Report:
     """Parses the output of `scf compare`, but for what was left out of a profile. The records of lines get this
-    instruction pointer, None if it matters and is unknown."""
+    instruction pointer, None if it matters and is unknown, and are of this architecture."""
     lines = client.lines_of(text)
     count = next((at for at, line in enumerate(lines) if line.startswith(LEFT_OUT)), len(lines))
-    calls = tuple(filter(None, (named_call(line, pointer) for line in lines[1:count])))
+    calls = tuple(filter(None, (named_call(line, pointer, architecture) for line in lines[1:count])))
     verdict, fault = (_verdict(lines[:count]), Fault.read(lines[0])) if count else (None, None)
     return Report(tuple(lines[:count]), verdict, fault, calls)
 
@@ -258,8 +235,9 @@ def most_telling(checked_report: Report, table: Table, calls_of: Callable[[], Se
     """A report of a difference with the most telling example: a native syscall with a name that one side allows and the
     other denies, if there is one among those that differ."""
     def is_telling(verdict: Verdict) -> bool:
+        dispositions = {answer.disposition for answer in (verdict.filters, verdict.profile) if answer is not None}
         return verdict.call is not None and verdict.call.is_native and verdict.call.pointer is not None and \
-            verdict.is_allowed_and_denied and bool(table.names_of(verdict.call.number))
+            dispositions == {ALLOWED, DENIED} and bool(table.names_of(verdict.call.number))
 
     whole = checked_report.verdict
     if whole is None or not whole.fails or whole.call is None or is_telling(whole):
@@ -269,10 +247,11 @@ def most_telling(checked_report: Report, table: Table, calls_of: Callable[[], Se
     return replace(checked_report, lines=Report.of(shown, beside).lines, verdict=shown)
 
 
-def compared(filters: Sequence[bytes], profile: bytes, tables: Tables, words: Sequence[str]) -> Report:
+def compared(filters: Sequence[bytes], profile: bytes, tables: Tables, words: Sequence[str],
+             architecture: Architecture = JUDGED[NATIVE]) -> Report:
     """scf's report on filters compared with a profile by these options, `checked`."""
     done = client.compare(words, bundles.comparison_bundle(filters, profile, tables))
-    return checked(done.status, report(done.text), "--calls" in words)
+    return checked(done.status, report(done.text, 0, architecture), "--calls" in words)
 
 
 @dataclass(frozen=True)

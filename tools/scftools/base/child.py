@@ -34,7 +34,12 @@ MEMORY, MOST_OF_LINE, MOST_OF_ANSWER, LONGEST, NOBODY = 256 << 20, 5 << 20, 24 <
 
 
 class Interrupted(Exception):
-    """A signal that ends the tool arrived meanwhile, and was consumed."""
+    """A signal that ends the tool arrived meanwhile, and was consumed: its number."""
+
+    def end_tool(self) -> None:
+        """Has the signal end this process after all."""
+        signal.signal(self.args[0], signal.SIG_DFL)
+        os.kill(os.getpid(), self.args[0])
 
 
 class Late(Exception):
@@ -42,7 +47,11 @@ class Late(Exception):
 
 
 class Died(Exception):
-    """The child ended without a result."""
+    """The child ended without a result: `status` is its status, below 0 for a signal, None if that isn't known."""
+
+    def __init__(self, status: int | None) -> None:
+        super().__init__("the inspecting process ended without a result")
+        self.status = status
 
 
 def look_for_signals() -> None:
@@ -52,24 +61,28 @@ def look_for_signals() -> None:
         raise Interrupted(came.si_signo)
 
 
-def run_in_child(work: Callable[..., Any], seconds: float, receive: Callable[[Any], object] | None = None) -> Any:
+def run_in_child(work: Callable[..., Any], seconds: float,
+                 receive: Callable[[Any], float | None] | None = None) -> Any:
     """The result or exception of a function run in a child process; it calls `look_for_signals` now and then. With
-    `receive` the function is given another one, by which it sends values: each is received, however the child ends."""
+    `receive` the function is given another one, by which it sends values: each is received, however the child ends.
+    Where `receive` returns seconds, the child has these from then on."""
     ended: list[tuple[bool, Any]] = []
     pending = bytearray()
 
-    def take(piece: bytes) -> None:
+    def take(piece: bytes) -> float | None:
         import pickle  # pylint: disable=import-outside-toplevel
 
+        seconds = None
         pending.extend(piece)
         while len(pending) >= LENGTH.size and len(pending) >= LENGTH.size + LENGTH.unpack_from(pending)[0]:
             end = LENGTH.size + LENGTH.unpack_from(pending)[0]
             is_well, value = pickle.loads(pending[LENGTH.size:end])
             del pending[:end]
             if is_well is None and receive is not None:
-                receive(value)
+                seconds = receive(value) or seconds
             else:
                 ended.append((is_well, value))
+        return seconds
 
     def write(file: int) -> None:
         try:
@@ -78,19 +91,19 @@ def run_in_child(work: Callable[..., Any], seconds: float, receive: Callable[[An
             result = False, error
         _send(file, *result)
 
-    read_child(write, seconds, take)
+    status = read_child(write, seconds, take)
     if not ended:
-        raise Died("the inspecting process ended without a result")
+        raise Died(status)
     is_well, result = ended[0]
     if not is_well:
         raise result
     return result
 
 
-def read_child(write: Callable[[int], object], seconds: float, take: Callable[[bytes], float | None]) -> None:
+def read_child(write: Callable[[int], object], seconds: float, take: Callable[[bytes], float | None]) -> int | None:
     """Has a function write into a file in a child process, and takes what it wrote as soon as it is there. Where `take`
     returns seconds, the child has these from then on, and none if they are 0. The child has a process group of its own,
-    which is killed at the end. Raises Late."""
+    which is killed at the end: its status, below 0 for a signal, None if that isn't known. Raises Late."""
     until = time.monotonic() + seconds
     heeded = {number for number in ENDING if signal.getsignal(number) != signal.SIG_IGN}
     parent = os.getpid()
@@ -107,9 +120,10 @@ def read_child(write: Callable[[int], object], seconds: float, take: Callable[[b
             _take_output(child, ends[0], heeded - mask, until, take)
         finally:
             os.close(ends[0])
-            _end(child)
+            status = _end(child)
     finally:
         signal.pthread_sigmask(signal.SIG_SETMASK, mask)
+    return status
 
 
 def write_all(file: int, data: bytes) -> None:
@@ -148,26 +162,35 @@ def _take_output(child: int, file: int, heeded: set[int], until: float, take: Ca
             late, until = Interrupted(came.si_signo), min(until, time.monotonic() + TO_END)
 
 
-def _end(child: int) -> None:
-    """Kills a child and what it started, and waits for it."""
+def _end(child: int) -> int | None:
+    """Kills a child and what it started, and waits for it: its status."""
     for kill in (os.killpg, os.kill):
         try:
             kill(child, signal.SIGKILL)
         except OSError:
             # it has no group of its own yet
             pass
-    _wait_for(child)
+    return _status_of(child)
 
 
-def _wait_for(child: int) -> None:
+def _status_of(child: int) -> int | None:
     """Waits for a child that has ended or was killed, unless a syscall blocks it even then."""
     until = time.monotonic() + LAST_WAIT
     try:
-        while not os.waitpid(child, os.WNOHANG)[0] and time.monotonic() < until:
+        while time.monotonic() < until:
+            ended, status = os.waitpid(child, os.WNOHANG)
+            if ended:
+                return os.waitstatus_to_exitcode(status)
             time.sleep(0.001)
     except ChildProcessError:
         # SIGCHLD is ignored
         pass
+    return None
+
+
+def have_seconds(seconds: float) -> None:
+    """Has this child's own timer end it, if nobody else does after so many seconds."""
+    signal.setitimer(signal.ITIMER_REAL, seconds + TIMER_DELAY)
 
 
 def _be_child(work: Callable[[], Any], seconds: float, parent: int) -> NoReturn:
@@ -178,7 +201,7 @@ def _be_child(work: Callable[[], Any], seconds: float, parent: int) -> NoReturn:
         os.setpgid(0, 0)
         for number in (*ENDING, signal.SIGALRM):
             signal.signal(number, signal.SIG_DFL)
-        signal.setitimer(signal.ITIMER_REAL, seconds + TIMER_DELAY)
+        have_seconds(seconds)
         signal.pthread_sigmask(signal.SIG_UNBLOCK, (signal.SIGALRM,))
         ctypes.CDLL(None).prctl(PR_SET_PDEATHSIG, signal.SIGTERM, 0, 0, 0)
         if os.getppid() != parent:
@@ -271,7 +294,7 @@ class _Turns:
         try:
             begin()
             while self.at is not None:
-                signal.setitimer(signal.ITIMER_REAL, self.seconds + TIMER_DELAY)
+                have_seconds(self.seconds)
                 works[self.at](send, self.seconds)
                 send(None)
                 self.next()

@@ -133,13 +133,6 @@ def notes(lines: Iterable[str]) -> Iterator[str]:
     return (f"# {line}" for line in lines if has_notes)
 
 
-def put_explained(lines: Iterable[str], added: Iterable[str]) -> None:
-    """Prints scf's lines, and those that explain them, for which the verdict doesn't wait."""
-    put_lines(lines)
-    flush()
-    put_lines(notes(added))
-
-
 def flush() -> None:
     """Flushes the output."""
     try:

@@ -28,7 +28,7 @@ MOST_OF_REASON = 200
 
 def table_lines(table: str) -> list[str]:
     """The lines of a file in tables/, but for empty ones and comments, which begin with `#`."""
-    with open(os.path.join(TOP, "tables", table), encoding="ascii") as file:
+    with open(os.path.join(TOP, "tables", table), encoding="utf-8") as file:
         return [line for line in file if line.strip() and not line.startswith("#")]
 
 

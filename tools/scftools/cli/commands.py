@@ -12,7 +12,8 @@ OTHERS = {"bundle": "several files as one input, for standard input",
 # the names of inputs.
 ALIASES = {"answers": "surface --regions", "ask": "decide --as profile", "asm": "compile --as assembler",
            "compare-profiles": "diff --profiles", "dis": "list --plain", "explain": "help",
-           "resolve-profile": "profile-of --as profile", "run": "decide --steps", "unit-profile": "profile-of unit:", "verify-process": "verify"}
+           "resolve-profile": "profile-of --as profile", "run": "decide --steps", "unit-profile": "profile-of unit:",
+           "verify-process": "verify"}
 NAMES = (*COMMANDS, *ALIASES, *OTHERS)
 # The commands of scfhost; scftools has all others.
 OF_HOST = ("audit", "filters-of", "oci-hook", "verify")

@@ -88,7 +88,8 @@ def main():
     parser.add_argument("--hot", metavar="FILE",
                         help="how often syscalls are called, as `scf needs --counts` prints it; - is standard input")
     parser.add_argument("--no-bitmap", action="store_true",
-                        help="count syscalls that are always allowed, too: for Linux before 5.11, which runs the filter")
+                        help="count syscalls that are always allowed, too: for Linux before 5.11, which runs the "
+                             "filter")
     parser.add("--architectures", "--reading", "--left-out", "profile")
     runtimes.add_option(parser, is_sandboxes=True)
     options = parser.parse_args()

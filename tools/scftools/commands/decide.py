@@ -12,9 +12,9 @@ for the profile of a unit; a file may be a pipe, and one input `-` for standard 
 or by its name in the table; with --arch by its name in that architecture's. An ARGUMENT, from the first on, is a
 number, which may be negative, or constants of C joined by `|`, such as CLONE_NEWUSER|SIGCHLD. More FILTERs, the oldest
 first, go with --nr, --calls-from or --expect. A line of --calls-from is a CALL with its ARGUMENTs; a line that begins
-with `#` is a comment. So it is in ROWS, of at most 65536 rows, where `=` and the answer follow that is expected, such as
-`socket AF_NETLINK SOCK_RAW = ERRNO EPERM` or `read = ALLOW`; an action alone is met with any data. Only the rows with
-another answer are printed, and how many rows there are.
+with `#` is a comment. So it is in ROWS, of at most 65536 rows, where `=` and the answer follow that is expected, such
+as `socket AF_NETLINK SOCK_RAW = ERRNO EPERM` or `read = ALLOW`; an action alone is met with any data. Only the rows
+with another answer are printed, and how many rows there are.
 
 For each syscall scf's line comes first; the lines after it are marked by `# `: the syscall, what the answer does, which
 of several filters gives it, and the path through that filter, the indexes of the instructions that ran, from 0 on (3-7
@@ -51,7 +51,7 @@ from ..ask.client import Refusal
 from ..cli import words
 from ..forms import operands, refusals, runtimes
 from ..forms.profile_inputs import ProfileInput
-from ..report import decisions, expectations
+from ..report import decisions
 from ..report.blocks import Block, put_blocks
 from ..report.decisions import Numbering
 
@@ -103,16 +103,16 @@ def read_input(options):
 def unmet_block(options, table, stack):
     """The rows that are answered otherwise than they expect, and their number."""
     numbering = Numbering(table, options.arch)
-    rows = list(expectations.read_expectations(options.expect, numbering, dict(decisions.rest_of(options, numbering))))
+    rows = list(decisions.read_expectations(options.expect, numbering, dict(decisions.rest_of(options, numbering))))
     try:
-        answers = expectations.Answers([bpf_filter.data for bpf_filter in stack])
+        answers = decisions.FilterAnswers([bpf_filter.data for bpf_filter in stack])
     except Refusal as why:
         fault = why.fault
         sentences = [*explanation.explain_fault(fault), *refusals.stack_refusals(stack, fault)] if fault else []
         return Block(why.status, [why.line, *output.notes(sentences)],
                      {"calls": [{"status": why.status, "fault": fault.as_json(sentences)}]} if options.json else {})
     pairs = ((row, answers.of(row.call)) for row in rows)
-    unmet = [expectations.Unmet(row, answer) for row, answer in pairs if not row.is_met_by(answer)]
+    unmet = [decisions.Unmet(row, answer) for row, answer in pairs if not row.is_met_by(answer)]
     counted = f"rows: {len(rows)}; answered otherwise than expected: {len(unmet)}"
     return Block(program.NEGATIVE if unmet else program.SUCCESS,
                  [*(row.describe() for row in unmet), *output.notes([counted])],

@@ -36,10 +36,10 @@ and CLONE_NEWUSER|SIGCHLD; `strace -X raw` prints numbers in place of names. A l
 strace's own log has only the lower half of many arguments: if bit 31 is set, the upper half is tried both as zero and
 as the sign, otherwise it is taken as zero. sys_enter has all arguments, audit records of syscalls the first four, and
 the other logs none. If a condition tests an argument that isn't known, all of its values are judged: `depends on arg N`
-means that the syscall is allowed with some and not with others, and shows both. Conditions on syscalls of i386, x32 and
-arm compare the lower half alone. Syscalls of an architecture that scf has no table of, names that a table doesn't have,
-and lines that can't be read aren't judged, and are reported so. sysdig has one name for some syscalls, such as pipe and
-pipe2: they aren't judged.
+means that the syscall is allowed with some and not with others, and shows both. On an architecture whose arguments have
+32 bits, such as i386, x32 and arm, conditions compare these alone. Syscalls of an architecture that scf has no table
+of, names that a table doesn't have, and lines that can't be read aren't judged, and are reported so. sysdig has one
+name for some syscalls, such as pipe and pipe2: they aren't judged.
 
 If a log of strace shows a filter being loaded, as that of a container's start does, only processes and threads that
 loaded it, or were made by one that did, are judged, and from then on. So it is where a program loads filters itself.
@@ -50,8 +50,8 @@ known; all else gets PROFILE's default, or SCMP_ACT_ERRNO if that allows. It all
 has proved that. What the logs need and PROFILE denies is a line each on standard error, and the status 1; what fails in
 the log as PROFILE answers is left out. Where PROFILE answers ENOSYS to clone3 or faccessat2, so that libc calls clone
 or faccessat, that stays, with PROFILE's conditions on the older one. As far as PROFILE allows them the profile also has
-restart_syscall, rt_sigreturn, exit and exit_group, and with syscalls of i386 or arm sigreturn: a process calls these to
-continue after a stop or a signal and to end, which the log may not show.
+restart_syscall, rt_sigreturn, exit and exit_group, and with syscalls of an architecture that has it, such as i386,
+sigreturn: a process calls these to continue after a stop or a signal and to end, which the log may not show.
 
 --widen prints that profile with what the logs need and PROFILE denies, each said on standard error: also a value whose
 upper half the log doesn't show, either way, and of a log that shows a filter being loaded what failed as PROFILE

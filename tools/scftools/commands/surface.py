@@ -59,6 +59,7 @@ Examples:
     scf surface old.bpf --beside new.bpf
     scf surface --caps docker --machine arm64 engine.json
 """
+import sys
 import types
 
 from ..base import inputs, output
@@ -66,14 +67,20 @@ from ..model import architectures, tables
 from ..ask import client, other_abis
 from ..cli import words
 from ..forms import engines, operands
-from ..report import stack_surfaces, surface_output
 from ..report.blocks import put_blocks
-from scfhost import processes
+
+
+def needs_of_process():
+    """The paragraph of --help on what pid:N needs."""
+    if "--help" not in sys.argv:
+        return ""
+    from scfhost import processes  # pylint: disable=import-outside-toplevel
+
+    return processes.NEEDS.replace("This needs", "A process needs", 1)
 
 
 def read_words():
-    parser = words.Parser(__doc__, processes.NEEDS.replace("This needs", "A process needs", 1),
-                          command=lambda options: "answers" if options.regions else None)
+    parser = words.Parser(__doc__, needs_of_process(), lambda options: "answers" if options.regions else None)
     parser.add_argument("--regions", action="store_true", help="list everything that the filters answer")
     parser.add_argument("--conditions", action="store_true",
                         help="say which arguments get which answer, instead of examples")
@@ -91,6 +98,8 @@ def read_words():
                         help="a filter, of several the oldest first, a profile, or pid:PID; - is standard input")
     options = parser.parse_args()
     if options.pid is not None:
+        from scfhost import processes  # pylint: disable=import-outside-toplevel
+
         options.filters.append(f"pid:{processes.number_in(options.pid)}")
     if options.beside and (options.arch is not None or options.machine not in (None, "amd64")):
         parser.error("give either --arch or --beside, which compares the syscalls of all architectures of this machine")
@@ -118,6 +127,8 @@ def main():
 
         return put_blocks(given, lambda stack: region_output.of_stack(
             stack, table, architecture, options.examples, options.json), options.json)
+    from ..report import stack_surfaces, surface_output  # pylint: disable=import-outside-toplevel
+
     beside = operands.read_stack(options.beside, of_engine, compiles=True)
     settings = stack_surfaces.Settings(table, beside, architecture,
                                        architecture.oci == machine and machine in other_abis.OF_MACHINES,

@@ -1,7 +1,7 @@
 """How often syscalls are called: lines NAME COUNT, as `scf needs --counts` prints them, or ARCH NAME COUNT.
 
-Linux from 5.11 on answers syscalls that a filter always allows from a bitmap and doesn't run the filter (kernel/seccomp.c,
-seccomp_cache_check_allow): these take no step, however often they are called.
+Linux from 5.11 on answers syscalls that a filter always allows from a bitmap and doesn't run the filter
+(kernel/seccomp.c, seccomp_cache_check_allow): these take no step, however often they are called.
 """
 from __future__ import annotations
 
@@ -58,8 +58,8 @@ def _without_allowed(counts: dict[Architecture, dict[str, int]], profile: bytes,
 
 
 def read_counts(file: str, profile: bytes, tables: Tables, has_bitmap: bool) -> list[tuple[str, bytes]]:
-    """The parts of a bundle with the counts of a file, divided if they are too great for scf; for a kernel with a bitmap
-    without the syscalls that the profile always allows there. Lines without ARCH are of the first of the tables;
+    """The parts of a bundle with the counts of a file, divided if they are too great for scf; for a kernel with a
+    bitmap without the syscalls that the profile always allows there. Lines without ARCH are of the first of the tables;
     syscalls that no table has are reported."""
     counts: dict[Architecture, dict[str, int]] = {}
     unknown: dict[str, None] = {}

@@ -14,6 +14,7 @@ from ..base import output
 from ..base.values import Any, dataclass, field
 from ..model import architectures, profiles
 from ..model.answers import ACTIONS_WITH_DATA, Answer
+from ..model.entries import Object
 from ..model.profiles import NUMBER_TYPE, SECCOMP_MEMBERS, TEXT_TYPE, VERSION_TYPE, Origin, Refused, where_in
 
 # What a container has by default: moby's oci/caps, and containers-common's containers.conf.
@@ -113,14 +114,10 @@ def answer_of(action: str, number: int | None) -> Answer:
 
 
 def members(pairs: list[tuple[str, Any]]) -> dict[str, Any]:
-    members_found = dict(pairs)
-    if len(members_found) < len(pairs):
-        seen: set[str] = set()
-        for name, _ in pairs:
-            if name in seen:
-                raise Refused(f"the member '{excerpt(name)}' is repeated in one object")
-            seen.add(name)
-    return members_found
+    found = dict(pairs)
+    if len(found) < len(pairs):
+        raise Refused(f"the member '{excerpt(Object(pairs).repeated[0])}' is repeated in one object")
+    return found
 
 
 def refuse_fraction(text: str) -> Any:
@@ -166,30 +163,34 @@ def printed(profile: dict[str, Any]) -> str:
     return text + "\n"
 
 
-def _check_one(value: Any, kind: str, where: str, name: str) -> None:
-    """Refuses a member that isn't a string, a number or a kernel version as the engines read it."""
-    if kind == NUMBER_TYPE:
+# A member: the object that has it, its name, its value, and its kind, None if no engine reads it.
+Member = tuple[str, str, Any, Any]
+
+
+def _checked_member(value: Any, kind: Any, where: str, name: str, setting: Setting) -> Iterator[Member]:
+    """The members in a member. Refuses one that isn't an object, a list, a string, a number or a kernel version as the
+    engines read it."""
+    at = where_in(where, name)
+    if isinstance(kind, dict):
+        yield from checked(value, kind, at, setting)
+    elif isinstance(kind, list):
+        are_texts = kind == [TEXT_TYPE]
+        if not isinstance(value, list) or are_texts and not all(isinstance(item, str) for item in value):
+            raise Refused(f"{at} isn't a list" + " of strings" * are_texts)
+        for index, element in enumerate(() if are_texts else value):
+            yield from checked(element, kind[0], where_in(where, name, index), setting)
+    elif kind == NUMBER_TYPE:
         if type(value) is not int or not 0 <= value < 1 << 64:
-            raise Refused(f"{where_in(where, name)} isn't an integer from 0 to 2^64-1")
+            raise Refused(f"{at} isn't an integer from 0 to 2^64-1")
     elif not isinstance(value, str):
-        what = "isn't a string" if kind == TEXT_TYPE else "isn't a kernel version such as 4.8"
-        raise Refused(f"{where_in(where, name)} {what}")
+        raise Refused(f"{at} " + ("isn't a string" if kind == TEXT_TYPE else "isn't a kernel version such as 4.8"))
     elif kind == VERSION_TYPE:
-        version_of(value, where_in(where, name))
+        version_of(value, at)
 
 
-def _check_list(value: Any, kind: Any, where: str, setting: Setting) -> None:
-    if not isinstance(value, list) or (kind == TEXT_TYPE and not all(isinstance(item, str) for item in value)):
-        raise Refused(f"{where} isn't a list" + " of strings" * (kind == TEXT_TYPE))
-    if kind != TEXT_TYPE:
-        parent, _, name = where.rpartition(": ")
-        for index, element in enumerate(value):
-            check(element, kind, where_in(parent or "the profile", name, index), setting)
-
-
-def check(value: Any, members: dict[str, Any], where: str, setting: Setting) -> None:
-    """Refuses an object that the engines refuse for what stands in its members, or that they read otherwise than it is
-    spelled. A member that is null is absent."""
+def checked(value: Any, members: dict[str, Any], where: str, setting: Setting) -> Iterator[Member]:
+    """The members of an object and of those in it. Refuses an object that the engines refuse for what stands in its
+    members, or that they read otherwise than it is spelled. A member that is null is absent."""
     if not isinstance(value, dict):
         raise Refused(f"{where} isn't an object")
     for name, member in value.items():
@@ -198,27 +199,9 @@ def check(value: Any, members: dict[str, Any], where: str, setting: Setting) -> 
             read_as = next((member for member in members if profiles.folded(member) == profiles.folded(name)), None)
             if read_as is not None:
                 raise Refused(profiles.Misread(where, name, read_as).describe())
-        elif member is None or name in setting.unread:
-            pass
-        elif isinstance(kind, dict):
-            check(member, kind, where_in(where, name), setting)
-        elif isinstance(kind, list):
-            _check_list(member, kind[0], where_in(where, name), setting)
-        else:
-            _check_one(member, kind, where, name)
-
-
-def members_in(value: Any, members: dict[str, Any], where: str) -> Iterator[tuple[str, str, Any, Any]]:
-    """The members of an object and of those in it: where each stands, its name, its value, and its kind, None if no
-    engine reads it."""
-    for name, member in value.items():
-        kind = members.get(name)
         yield where, name, member, kind
-        if member is not None and isinstance(kind, dict):
-            yield from members_in(member, kind, where_in(where, name))
-        elif member is not None and isinstance(kind, list) and isinstance(kind[0], dict):
-            for index, inner in enumerate(member):
-                yield from members_in(inner, kind[0], where_in(where, name, index))
+        if kind is not None and member is not None and name not in setting.unread:
+            yield from _checked_member(member, kind, where, name, setting)
 
 
 def members_of(value: dict[str, Any] | None, setting: Setting) -> dict[str, Any]:
@@ -329,16 +312,17 @@ class Resolver:
     def seccomp_of(self, value: Any) -> Any:
         """The seccomp object of a profile, or of a whole config.json."""
         if isinstance(value, dict) and value.get("defaultAction") is None and value.get("linux") is not None:
-            check(value, {"linux": {}}, "the profile", self.setting)
-            check(value["linux"], {"seccomp": {}}, "linux", self.setting)
+            for _ in (*checked(value, {"linux": {}}, "the profile", self.setting),
+                      *checked(value["linux"], {"seccomp": {}}, "linux", self.setting)):
+                pass
             return value["linux"].get("seccomp")
         return value
 
-    def tell_unread(self, top: dict[str, Any]) -> None:
+    def tell_unread(self, members: Sequence[Member]) -> None:
         """Reports the members that nothing reads, and refuses those that may be conditions; of those that only other
         engines read each once."""
         of_others: dict[str, str] = {}
-        for where, name, member, kind in members_in(top, SECCOMP_MEMBERS, "the profile"):
+        for where, name, member, kind in members:
             is_ignored = self.setting.ignored is None or name in self.setting.ignored
             if kind is None and where.startswith("entry ") and not is_ignored:
                 raise Refused(f"{where} has a member '{excerpt(name)}', which no engine reads, and which may be a "
@@ -353,11 +337,12 @@ class Resolver:
     def resolved(self, value: Any) -> dict[str, Any]:
         """The profile that the engine makes in this setting."""
         value = self.seccomp_of(value)
-        check(value, SECCOMP_MEMBERS, "linux.seccomp" if value is None else "the profile", self.setting)
+        where = "linux.seccomp" if value is None else "the profile"
+        members = list(checked(value, SECCOMP_MEMBERS, where, self.setting))
         top = members_of(value, self.setting)
         if not top.get("defaultAction"):
             raise Refused("there is no defaultAction")
-        self.tell_unread(value)
+        self.tell_unread(members)
         profile = {"defaultAction": top["defaultAction"]}
         number = self.errno_of(top, "defaultErrno", "defaultErrnoRet", "the profile")
         if number is not None:
@@ -366,21 +351,18 @@ class Resolver:
         if architectures:
             profile["architectures"] = architectures
         profile.update((name, top[name]) for name in PASSED_ON if name in top)
-        profile["syscalls"] = [made for at, entry in enumerate(top.get("syscalls", []))
-                               for made in self.resolved_entry(at, entry)]
+        profile["syscalls"] = []
+        for at, raw_entry in enumerate(top.get("syscalls", [])):
+            entry = members_of(raw_entry, self.setting)
+            why = why_left_out(entry, self.setting, f"entry {at}")
+            made = None if why else self.entry_of(entry, f"entry {at}")
+            origin = Origin(at, excerpts([entry["name"]] if entry.get("name") else entry.get("names", [])))
+            if made is None:
+                self.note(f"{origin.describe()} left out: {why or 'it has no name'}")
+            else:
+                self.origins.append(origin)
+                profile["syscalls"].append(made)
         return profile
-
-    def resolved_entry(self, at: int, raw_entry: dict[str, Any]) -> list[dict[str, Any]]:
-        """The entry at this index, where the engine keeps it."""
-        entry = members_of(raw_entry, self.setting)
-        why = why_left_out(entry, self.setting, f"entry {at}")
-        made = None if why else self.entry_of(entry, f"entry {at}")
-        origin = Origin(at, excerpts([entry["name"]] if entry.get("name") else entry.get("names", [])))
-        if made is None:
-            self.note(f"{origin.describe()} left out: {why or 'it has no name'}")
-            return []
-        self.origins.append(origin)
-        return [made]
 
     def keep_first(self, profile: dict[str, Any]) -> None:
         """Leaves names out of an entry without conditions that another such entry answers otherwise: the first one

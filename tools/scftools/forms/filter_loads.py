@@ -10,7 +10,7 @@ from collections.abc import Iterable
 
 from ..base.values import Pattern
 from . import c_arrays, strace
-from .confinement import SUPERSEDED, Confinement
+from .strace_reader import SUPERSEDED, Confinement
 
 # The most filters that are loaded in a log, and the most bytes of a line, which holds a filter of 4096 instructions.
 MOST_LOADS, LONGEST_LOAD = 4096, 1 << 20

@@ -10,8 +10,6 @@ import json
 import os
 import re
 import sys
-from collections.abc import Iterator
-
 from ..base.values import Any
 from ..model.answers import Answer
 from ..model.profiles import OCI_ACTIONS, Refused
@@ -34,22 +32,17 @@ TAG = "tag:yaml.org,2002:"
 YAML_CONSTANTS = {"true": True, "false": False, "null": None, "~": None, "": None}
 
 
-def _answers(profile: dict[str, Any]) -> Iterator[tuple[str, Any, Any]]:
-    """The actions of a profile with their errnos, each with where it stands."""
-    yield "the default", profile["defaultAction"], profile.get("defaultErrnoRet")
-    for at, entry in enumerate(profile.get("syscalls") or []):
-        yield f"entry {at}", entry["action"], entry.get("errnoRet")
-
-
 def _check(profile: dict[str, Any]) -> None:
     """Refuses what an object can't state."""
-    for where, action, number in _answers(profile):
+    entries = list(enumerate(profile.get("syscalls") or []))
+    for where, action, number in (("the default", profile["defaultAction"], profile.get("defaultErrnoRet")),
+                                  *((f"entry {at}", entry["action"], entry.get("errnoRet")) for at, entry in entries)):
         if action not in OCI_ACTIONS:
             raise Refused(f"{where} has an action that a {KIND} doesn't have")
         is_left_out = number == 0 or where == "the default"
         if is_left_out and Answer.of_profile(action, number) != Answer.of_profile(action, None):
             raise Refused(f"{where} has the errno {number}, which a {KIND} can't state")
-    for at, entry in enumerate(profile.get("syscalls") or []):
+    for at, entry in entries:
         for condition in entry.get("args") or []:
             if max(condition.get("value") or 0, condition.get("valueTwo") or 0) > GREATEST_SIGNED:
                 raise Refused(f"entry {at} compares with more than 2^63-1, which a {KIND} can't state")

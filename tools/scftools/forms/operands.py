@@ -8,7 +8,7 @@ from ..base import inputs, program
 from ..base.values import Any
 from ..model import tables
 from ..ask import client
-from . import filters, profile_inputs, refusals, runtimes
+from . import filters, profile_inputs
 from .filters import Filter
 from .profile_inputs import ProfileInput
 from .stacks import Inspection
@@ -40,6 +40,8 @@ def read(word: str, options: Any = None) -> Filter | ProfileInput | Inspection:
     data = profile_inputs.read_text(word)
     if not word.startswith(inputs.UNIT) and not profile_inputs.looks_like_profile(data):
         return filters.filter_in(word, data)
+    from . import runtimes  # pylint: disable=import-outside-toplevel
+
     named = runtimes.with_profile(options, word)
     runtimes.check_words(named)
     return runtimes.input_in(data, named, named.strict)
@@ -80,5 +82,7 @@ def compiled(word: str, profile: ProfileInput) -> Filter:
     try:
         return Filter(word, client.compile_profile(profile.data, judged))
     except client.Refusal as why:
+        from . import refusals  # pylint: disable=import-outside-toplevel
+
         sentences = refusals.sentences(why.fault, profile.data, judged, profile.origins) if why.fault else ()
         raise program.ToolError(" ".join([f"{inputs.label(word)}: {why.line}.", *sentences]), why.status) from why

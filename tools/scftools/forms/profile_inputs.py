@@ -127,8 +127,11 @@ def _sandbox_of(data: bytes) -> Sandbox | None:
 def looks_like_profile(data: bytes) -> bool:
     """Whether an input is meant to be a profile, and not a filter: an object, which no C array is, if only behind what
     JSON doesn't allow; YAML, or a sandbox's list."""
-    text = BEFORE_JSON.sub(b"", data, 1)
-    is_object = text[:1] == b"{" and not re.match(rb"\{\s*(?:[{(0-9]|BPF_)", text)
+    if bpf.are_codes(data):
+        return False
+    text = data if data.startswith(b"{") else BEFORE_JSON.sub(b"", data, 1)
+    first = text[1:].lstrip()[:4]
+    is_object = text[:1] == b"{" and not (first[:1].isdigit() or first.startswith((b"{", b"(", b"BPF_")))
     return is_object or IN_OTHER_FORMS.match(text) is not None or kubernetes.is_yaml(data) or \
         _sandbox_of(data) is not None
 
@@ -191,11 +194,6 @@ def read_text(name: str, kind: str | None = None) -> bytes:
         raise program.ToolError(f"'{name}' is a process, not a profile: `scf profile-of {name}` prints the profile of "
                                 "its filters")
     return inputs.read_input(name, "profile") if kind is None else inputs.read_whole(name, kind)
-
-
-def read_engines(name: str) -> bytes:
-    """A profile that an engine may have made for itself."""
-    return plain(read_text(name, "engine's profile"), name)
 
 
 def read_profile(name: str, caps: str | None = None, is_runtimes: bool = False) -> ProfileInput:

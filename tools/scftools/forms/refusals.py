@@ -150,16 +150,6 @@ def _root(value: Any) -> tuple[Any, list[str]]:
     return linux["seccomp"], ["linux", "seccomp"]
 
 
-def _read(data: bytes) -> tuple[str, Any] | None:
-    """A profile's text, and its value; a number that scf doesn't take stays a text."""
-    try:
-        text = data.decode("utf-8")
-        return text, json.loads(text, parse_int=lambda digits: int(digits) if len(digits) <= LONGEST_NUMBER
-                                else float("nan"))
-    except (ValueError, RecursionError):
-        return None
-
-
 def _line(data: bytes, text: str, path: Path, what: str) -> str:
     within = getattr(data, "within", None)
     member = json_places.path_text([within, *path] if within else path) or "the profile"
@@ -167,26 +157,25 @@ def _line(data: bytes, text: str, path: Path, what: str) -> str:
     return f"{member} {what}" + (f", at {where}" if where is not None else "")
 
 
-def _of_conflict(data: bytes, text: str, path: Path, fault: Fault) -> Iterator[str]:
-    places = [json_places.place_of(text, [*path, "syscalls", fault.numbers[name]]) for name in ("first", "second")]
-    if not isinstance(data, DerivedProfile) and None not in places:
-        yield f"the entries begin at {places[0]} and at {places[1]}"
-
-
 def _of_member(fault: Fault, data: bytes) -> Iterator[str]:
     """The member that a fault of a profile is about, and where it stands, if that is known."""
     is_resolved = isinstance(data, DerivedProfile) and data.within is None
-    is_explained = fault.source == "profile" and fault.kind in FAULT_KINDS and not is_resolved
-    document = _read(data) if is_explained else None
-    if document is None:
+    if fault.source != "profile" or fault.kind not in FAULT_KINDS or is_resolved:
         return
-    text, value = document
     try:
+        text = data.decode("utf-8")
+        # (a number that scf doesn't take is none)
+        value = json.loads(text, parse_int=lambda digits: int(digits) if len(digits) <= LONGEST_NUMBER
+                           else float("nan"))
         top, path = _root(value)
-        if fault.kind == "Conflict":
-            yield from _of_conflict(data, text, path, fault)
-        else:
+        if fault.kind != "Conflict":
             _profile(top, path, profiles.reading_of(data))
+            return
+        places = [json_places.place_of(text, [*path, "syscalls", fault.numbers[name]]) for name in ("first", "second")]
+        if not isinstance(data, DerivedProfile) and None not in places:
+            yield f"the entries begin at {places[0]} and at {places[1]}"
+    except (ValueError, RecursionError):
+        return
     except MemberFault as first:
         if first.kind == fault.kind and fault.numbers.get("entry") == first.entry:
             yield _line(data, text, first.path, first.says)

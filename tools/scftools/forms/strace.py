@@ -197,19 +197,13 @@ def errno_in(text: str, name: re.Match[str]) -> int | None:
     return NUMBERS_OF_ERRNOS.get(match[1]) if match[1] else int(match[2])
 
 
-def _pieces(name: str) -> Iterator[bytes]:
-    length = 0
+def log_lines(name: str, most: int = LONGEST_LINE) -> Iterator[str]:
+    """The lines of a log (`-` is standard input), of each at most so many characters."""
+    unread_part, length = b"", 0
     for piece in inputs.input_pieces(name, "log", LONGEST_LOG + 1):
         length += len(piece)
         if length > LONGEST_LOG:
             raise program.ToolError(f"the log '{output.escaped(name)}' has more than {LONGEST_LOG} bytes")
-        yield piece
-
-
-def log_lines(name: str, most: int = LONGEST_LINE) -> Iterator[str]:
-    """The lines of a log (`-` is standard input), of each at most so many characters."""
-    unread_part = b""
-    for piece in _pieces(name):
         *whole, last = piece.split(b"\n")
         for line in whole:
             yield (unread_part + line)[:most].decode("latin-1")

@@ -13,7 +13,7 @@ from ..model import constants
 from ..model.answers import Answer
 from ..model.architectures import JUDGED
 from ..model.argument_sets import Sets, Steps
-from ..model.entries import LOW_HALF, Condition, Entry
+from ..model.entries import EQUAL, LOW_HALF, MASKED, Condition, Entry
 from ..model.tables import Tables
 from ..ask.answer_sets import arguments_of
 from ..ask.regions import Region
@@ -28,7 +28,7 @@ UPPER_UNIT = 1 << 32
 def _always_holds(condition: Condition, greatest: int) -> bool:
     """Whether every argument up to the greatest meets a condition."""
     op, value = condition.op, condition.value
-    if op == "SCMP_CMP_MASKED_EQ":
+    if op == MASKED:
         return not value & greatest and not value & condition.two
     return (op, value) == ("SCMP_CMP_GE", 0) or op == "SCMP_CMP_LE" and value >= greatest or \
         op in ("SCMP_CMP_LT", "SCMP_CMP_NE") and value > greatest
@@ -36,21 +36,10 @@ def _always_holds(condition: Condition, greatest: int) -> bool:
 
 def _is_null_test(condition: Condition, greatest: int) -> bool:
     """Whether a condition only tests whether an address, up to the greatest, is 0."""
-    if condition.op == "SCMP_CMP_MASKED_EQ":
+    if condition.op == MASKED:
         return condition.value & greatest == greatest and condition.two == 0
     return (condition.op.removeprefix("SCMP_CMP_"), condition.value) in (
         ("EQ", 0), ("NE", 0), ("GT", 0), ("LE", 0), ("GE", 1), ("LT", 1))
-
-
-def _of_value(entry: Entry, place: int, condition: Condition, greatest: int) -> Iterator[Finding]:
-    """Findings about a condition's value alone."""
-    where, more = f"entry {entry.place}, condition {place}", {"entry": entry.place, "condition": place}
-    if _always_holds(condition, greatest):
-        swapped = "; value is the mask, and valueTwo what is compared with: they may be swapped" * bool(condition.two)
-        yield Finding("always-met", f"{where}: {condition.op} {condition.value} holds for every value{swapped}", more)
-    elif condition.op == "SCMP_CMP_MASKED_EQ" and condition.two & ~condition.value:
-        yield Finding("odd-mask", f"{where}: valueTwo {condition.two:#x} has bits that the mask "
-                      f"{condition.value:#x} lacks, and these aren't compared", more)
 
 
 # Names of syscalls by the architectures of which something is true.
@@ -73,18 +62,24 @@ def _kinds_of(entry: Entry, index: int, judged: Tables) -> tuple[Named, ...]:
     return named
 
 
-def _of_argument(entry: Entry, place: int, condition: Condition, kinds: tuple[Named, ...],
-                 greatest: int) -> Iterator[Finding]:
-    """Findings about a condition and the argument that it tests."""
+def _of_condition(entry: Entry, place: int, kinds: tuple[Named, ...], greatest: int) -> Iterator[Finding]:
+    """Findings about a condition's value, and about the argument that it tests."""
     where, more = f"entry {entry.place}, condition {place}", {"entry": entry.place, "condition": place}
+    condition = entry.conditions[place]
     (lacking, addresses, halves), index, value = kinds, condition.index, condition.value
+    if _always_holds(condition, greatest):
+        swapped = "; value is the mask, and valueTwo what is compared with: they may be swapped" * bool(condition.two)
+        yield Finding("always-met", f"{where}: {condition.op} {value} holds for every value{swapped}", more)
+    elif condition.op == MASKED and condition.two & ~value:
+        yield Finding("odd-mask", f"{where}: valueTwo {condition.two:#x} has bits that the mask {value:#x} lacks, and "
+                      "these aren't compared", more)
     sentences = [("no-such-argument", on, names, f"{where}: {listed(names, 'and')} "
                   f"{'has' if len(names) == 1 else 'have'} no argument {index} (the first is 0){on.where}, and the "
                   "kernel doesn't read its register") for on, names in lacking.items()]
     if not _is_null_test(condition, greatest):
         sentences += [("pointer-argument", on, names, f"{where}: argument {index} of {listed(names, 'and')}{on.where} "
                        "is an address: a filter can't see what it points to") for on, names in addresses.items()]
-    if condition.op == "SCMP_CMP_EQ" and value > LOW_HALF:
+    if condition.op == EQUAL and value > LOW_HALF:
         sentences += [("high-half", on, names, f"{where}: the kernel reads 32 bits of argument {index} of "
                        f"{listed(names, 'and')}{on.where}, and {value:#x} has more: a program that passes "
                        f"{value & LOW_HALF:#x} doesn't meet it") for on, names in halves.items()]
@@ -97,11 +92,8 @@ def of_conditions(entries: Sequence[Entry], judged: Tables) -> Iterator[Finding]
     for entry in entries:
         on = {oci for name in entry.names for oci in judged.numbers_of(name)} or judged.of
         greatest = max(JUDGED[oci].greatest for oci in on)
-        tested = {condition.index for condition in entry.conditions}
-        kinds = {index: _kinds_of(entry, index, judged) for index in tested}
         for place, condition in enumerate(entry.conditions):
-            yield from _of_value(entry, place, condition, greatest)
-            yield from _of_argument(entry, place, condition, kinds[condition.index], greatest)
+            yield from _of_condition(entry, place, _kinds_of(entry, condition.index, judged), greatest)
 
 
 def of_unions(judged: Tables, entries: Sequence[Entry]) -> Iterator[Finding]:

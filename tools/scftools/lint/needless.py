@@ -1,5 +1,5 @@
-"""Entries without effect: a profile without them answers every syscall as before, by a verdict of `scf compare`; and
-entries that give one syscall two answers, with an example.
+"""Findings on entries without effect, without which a profile answers every syscall as before, by a verdict of `scf
+compare`; and on entries that give one syscall two answers, with an example.
 
 What an entry alone answers is found by sets of arguments. Entries and names that answer nothing alone are left out, the
 last first, and scf compares the profile with itself without all of them. So all reported entries can be removed
@@ -10,7 +10,7 @@ from __future__ import annotations
 
 from collections.abc import Iterator, Sequence
 
-from ..base.values import dataclass, replace
+from ..base.values import replace
 from ..model.answers import Answer
 from ..model.architectures import JUDGED
 from ..model.argument_sets import FULL_SET, Sets, Steps, TooMany
@@ -21,23 +21,16 @@ from ..model.tables import Tables
 from ..ask import verdicts
 from ..ask.verdicts import SAME, Verdict
 from ..forms import runtimes
-from .findings import Owners
+from .findings import MOST, Finding, Owners, listed
 
 # The most pairs of entries to check.
 PAIRS = 10000
+# Why an entry, or some of its names, has no effect: another entry covers it, the default answers the same, no syscall
+# meets it, several other entries cover it together, or a runtime takes another one's answer instead.
 ONE, BY_DEFAULT, BY_NONE, TOGETHER, INSTEAD = "one", "default", "none", "together", "instead"
-
-
-@dataclass(frozen=True)
-class Needless:
-    """An entry, or some of its names, without effect, and why: another entry covers it, the default answers the same,
-    no syscall meets it, several other entries cover it together, or a runtime takes another one's answer instead."""
-
-    place: int
-    names: tuple[str, ...]
-    is_whole: bool
-    why: str
-    others: tuple[int, ...] = ()
+WHYS = {ONE: "{what} {is_} covered by entry {others}", BY_DEFAULT: "the default answers {what} in the same way",
+        BY_NONE: "no syscall meets its conditions", TOGETHER: "{what} {is_} covered by entries {others} together",
+        INSTEAD: "entry {others}, which has no conditions, answers {syscalls} instead"}
 
 
 # A name of an entry, by the entry's index; and a syscall: the OCI name of an architecture, and a number of its table.
@@ -98,13 +91,10 @@ class Search:
         self.gone: set[EntryName] = set()
         # names of which it is undecided, each with the verdict
         self.undecided: list[tuple[EntryName, Verdict]] = []
-        names = dict.fromkeys(name for entry in entries for name in entry.names)
-        self._syscalls: dict[str, Sequence[ArchitectureNumber]] = {
-            name: tuple(judged.numbers_of(name).items()) for name in names}
         self._having: dict[ArchitectureNumber, dict[EntryName, Entry]] = {}
         for entry in entries:
             for name in entry.names:
-                for call in self._syscalls[name]:
+                for call in judged.numbers_of(name).items():
                     self._having.setdefault(call, {})[entry.place, name] = entry
 
     def _beside(self, entry: Entry, call: ArchitectureNumber) -> list[Entry]:
@@ -122,7 +112,7 @@ class Search:
         return bool(stub) and any(
             stub.get(oci) == JUDGED[oci].first + number + 1
             and all(at in self.gone or at[0] == entry.place for at in self._having[oci, number])
-            for oci, number in self._syscalls[name])
+            for oci, number in self.judged.numbers_of(name).items())
 
     def _answers(self, entry: Entry, call: ArchitectureNumber) -> bool:
         """Whether an entry alone answers some arguments of a syscall. Raises TooMany."""
@@ -133,7 +123,7 @@ class Search:
         """Whether an entry alone answers some syscall by a name, and differently than the default."""
         try:
             return self._is_greatest(entry, name) or entry.answer != self.default and any(
-                self._answers(entry, call) for call in self._syscalls[name])
+                self._answers(entry, call) for call in self.judged.numbers_of(name).items())
         except TooMany:
             return True
 
@@ -158,9 +148,10 @@ class Search:
         return verdicts.compared([self.filter], profile, judged, judged.words).verdict
 
     def _why(self, entry: Entry, names: Sequence[str]) -> tuple[str, tuple[int, ...]]:
+        """Why names of an entry have no effect, and the entries by which."""
         if entry.answer == self.default:
             return BY_DEFAULT, ()
-        calls = [call for name in names for call in self._syscalls[name]]
+        calls = [call for name in names for call in self.judged.numbers_of(name).items()]
         having = [{other.place for other in self._beside(entry, call)} for call in calls]
         try:
             if all(self.met.is_within(entry, [], oci) for oci, _ in calls):
@@ -173,28 +164,28 @@ class Search:
             pass
         return TOGETHER, tuple(sorted(set.union(*having)))
 
-    def run(self) -> Iterator[Needless]:
+    def _finding(self, entry: Entry, names: Sequence[str]) -> Finding:
+        """The finding on an entry, or on some of its names."""
+        why, others = self._why(entry, names)
+        is_whole = len(names) == len(entry.names) and not entry.has_others
+        shown, are_several = listed(names, "and"), not is_whole and len(names) > 1
+        text = WHYS[why].format(
+            what="it" if is_whole else f"its name{'s' * are_several} {shown}", is_="are" if are_several else "is",
+            syscalls="its syscalls" if is_whole else shown, others=listed(list(map(str, others)), "and"))
+        by = {"by": others[0]} if why == ONE else {"why": why, "others": list(others)}
+        return Finding("covered" if why == ONE else "without-effect", f"entry {entry.place}: {text}",
+                       {"entry": entry.place, "names": list(names), "is_whole": is_whole, **by})
+
+    def run(self) -> Iterator[Finding]:
         """What is without effect, all together, by entry; afterwards `undecided` has what is undecided."""
         self._leave_out()
         verdict = self.verdict() if self.gone else None
         if verdict is not None and verdict.word != SAME:
             self.undecided, self.gone = [(left_out, verdict) for left_out in sorted(self.gone)], set()
         for entry in self.entries.values():
-            names = tuple(name for name in entry.names if (entry.place, name) in self.gone)
+            names = [name for name in entry.names if (entry.place, name) in self.gone]
             if names:
-                is_whole = len(names) == len(entry.names) and not entry.has_others
-                yield Needless(entry.place, names, is_whole, *self._why(entry, names))
-
-
-@dataclass(frozen=True)
-class Conflict:
-    """Two entries that give a syscall two answers, on which architectures, and an example on the first of them."""
-
-    first: Entry
-    second: Entry
-    name: str
-    owners: Owners
-    call: Call
+                yield self._finding(entry, names)
 
 
 def _pairs(entries: Sequence[Entry], judged: Tables) -> Iterator[tuple[Entry, Entry, str, list[str]]]:
@@ -214,20 +205,24 @@ def _pairs(entries: Sequence[Entry], judged: Tables) -> Iterator[tuple[Entry, En
             yield from ((other, entry, name, on) for other, on in others.values())
 
 
-def conflicts(judged: Tables, default: Answer, entries: Sequence[Entry], most: int) -> Iterator[Conflict]:
-    """Entries that conflict, each two once, at most so many of them. Raises TooMany."""
+def conflicts(judged: Tables, default: Answer, entries: Sequence[Entry]) -> Iterator[Finding]:
+    """Entries that conflict, each two once, at most MOST of them, with a call that both meet. Raises TooMany."""
     seen: set[tuple[int, int]] = set()
     met = Met()
     counting = [entry for entry in entries if judged.reading in BY_WORDS or entry.answer != default]
     for count, (first, second, name, on) in enumerate(_pairs(counting, judged)):
-        if count >= PAIRS or len(seen) >= most:
+        if count >= PAIRS or len(seen) >= MOST:
             return
         places = first.place, second.place
         both = {} if places in seen else {oci: met.of(oci).both(met.by(first, oci), met.by(second, oci)) for oci in on}
         where = [oci for oci, arguments in both.items() if arguments]
         if where:
             seen.add(places)
-            architecture = JUDGED[where[0]]
-            call = Call(architecture.first + judged.numbers_of(name)[architecture.oci], architecture.number,
-                        arguments=met.of(architecture.oci).least(both[architecture.oci]))
-            yield Conflict(first, second, name, Owners.of(where, on, judged), call)
+            owners, number = Owners.of(where, on, judged), judged.numbers_of(name)[where[0]]
+            call = Call(JUDGED[where[0]].first + number, JUDGED[where[0]].number,
+                        arguments=met.of(where[0]).least(both[where[0]]))
+            yield Finding("conflict", f"entries {first.place} and {second.place} answer {owners.named(name, number)} "
+                          f"by {first.answer} and by {second.answer}: arguments "
+                          f"{' '.join(map(hex, call.arguments))} meet both{owners.also}",
+                          {"first": first.place, "second": second.place, "name": name,
+                           "call": call.as_json(judged.native), **owners.as_json()})

@@ -8,11 +8,10 @@ from __future__ import annotations
 from collections.abc import Iterator, Sequence
 
 from ..base import output
-from ..base.values import dataclass
 from ..model import profiles, tables
 from ..model.answers import ERRNOS, MAX_ERRNO
 from ..model.architectures import NATIVE, NUMBERS, PREFIX, X32
-from ..model.entries import HOLDS, Object
+from ..model.entries import HOLDS, MASKED, Object
 from ..model.profiles import ALLOWING, FLAGS, OCI_ACTIONS
 from ..model.tables import Tables
 from .findings import MOST, Finding, listed
@@ -24,18 +23,32 @@ OCI_ARCHITECTURES = tuple(NUMBERS)
 ALIASES = {"AMD64": "X86_64", "X86-64": "X86_64", "X64": "X86_64", "ARM64": "AARCH64"}
 
 
-def _places(top: Object) -> dict[str, int]:
-    """The first entry of each name."""
-    places: dict[str, int] = {}
-    for place, entry in enumerate(top.get("syscalls", [])):
-        for name in entry["names"]:
-            places.setdefault(name, place)
-    return places
+def _objects_of(value: Object, name: str) -> Iterator[tuple[int, Object]]:
+    """The objects in a member, if it is a list, each with its index."""
+    listed_values = value.get(name)
+    for at, each in enumerate(listed_values if isinstance(listed_values, list) else ()):
+        if isinstance(each, Object):
+            yield at, each
+
+
+# An object of a profile: where it is, its members in JSON, it, and the members that are known.
+Part = tuple[str, dict[str, object], Object, dict[str, object]]
+
+
+def parts_of(top: Object) -> Iterator[Part]:
+    """The profile, its entries and their conditions."""
+    yield "the profile", {}, top, profiles.SECCOMP_MEMBERS
+    for place, entry in _objects_of(top, "syscalls"):
+        yield f"entry {place}", {"entry": place}, entry, profiles.ENTRY
+        for at, condition in _objects_of(entry, "args"):
+            yield f"entry {place}, condition {at}", {"entry": place}, condition, profiles.ARGUMENT
 
 
 def of_names(top: Object, judged: Tables) -> Iterator[Finding]:
     """Names that no syscall has, and a count of names that only other architectures have than those that are judged."""
-    places = _places(top)
+    places: dict[str, int] = {}
+    for place, entry in _objects_of(top, "syscalls"):
+        places.update((name, place) for name in entry["names"] if name not in places)
     skipped = tables.classify([name for name in places if not judged.has(name)], judged)
     slips = {name: tables.misspelt_as(name, *judged.of.values()) for name, _ in skipped.unknown}
     # (those come first, since of too many the last aren't listed)
@@ -50,7 +63,7 @@ def of_names(top: Object, judged: Tables) -> Iterator[Finding]:
     if skipped.elsewhere:
         yield Finding("other-architectures", f"names that only other architectures have: {len(skipped.elsewhere)}",
                       {"count": len(skipped.elsewhere), "names": skipped.elsewhere})
-    for place, entry in enumerate(top.get("syscalls", [])):
+    for place, entry in _objects_of(top, "syscalls"):
         seen: set[str] = set()
         twice = list(dict.fromkeys(name for name in entry["names"] if name in seen or seen.add(name)))
         if twice:
@@ -72,26 +85,19 @@ def _nearest(near: str | None) -> str:
     return f"; the nearest is {near}" if near else ""
 
 
-def _words(top: Object) -> Iterator[tuple[str, str, object]]:
-    """The actions and operators of a profile that may be faulty: where each is, whether it's an action, and it."""
-    yield "the default", "action", top.get("defaultAction")
-    syscalls = top.get("syscalls")
-    for place, entry in enumerate(syscalls if isinstance(syscalls, list) else []):
-        if isinstance(entry, Object):
-            yield f"entry {place}", "action", entry.get("action")
-            conditions = entry.get("args")
-            for at, condition in enumerate(conditions if isinstance(conditions, list) else []):
-                if isinstance(condition, Object):
-                    yield f"entry {place}, condition {at}", "operator", condition.get("op")
+# What a profile says by words: the member, what such a word is, how all begin, and all.
+WORDS = (("defaultAction", "action", "SCMP_ACT_", OCI_ACTIONS), ("action", "action", "SCMP_ACT_", OCI_ACTIONS),
+         ("op", "operator", "SCMP_CMP_", tuple(HOLDS)))
 
 
 def of_words(top: Object) -> Iterator[Finding]:
-    """Unknown actions and operators, for which scf refuses a profile."""
-    words_of = {"action": OCI_ACTIONS, "operator": tuple(HOLDS)}
-    wrong = (given for given in _words(top) if isinstance(given[2], str) and given[2] not in words_of[given[1]])
-    for at, (where, kind, word) in enumerate(wrong):
-        near = _near(str(word), "SCMP_ACT_" if kind == "action" else "SCMP_CMP_", words_of[kind], at)
-        yield Finding(f"unknown-{kind}", f"{where}: {output.cut(str(word))} is no {kind}{_nearest(near)}",
+    """Unknown actions and operators, for which scf refuses a profile, so that the rest of it may be malformed, too."""
+    wrong = [(where.replace("the profile", "the default"), kind, prefix, words, value[member])
+             for where, _, value, known in parts_of(top) for member, kind, prefix, words in WORDS
+             if member in known and isinstance(value.get(member), str) and value[member] not in words]
+    for at, (where, kind, prefix, words, word) in enumerate(wrong):
+        near = _near(word, prefix, words, at)
+        yield Finding(f"unknown-{kind}", f"{where}: {output.cut(word)} is no {kind}{_nearest(near)}",
                       {"where": where, "name": word, "nearest": near})
 
 
@@ -132,52 +138,38 @@ ENGINE_MEMBERS = {
     "name": "only engines read name, and none takes it beside names"}
 
 
-@dataclass
-class Members:
-    """A walk over the members of a profile's objects; how many nearest names are still to be searched for."""
+def _of_object(part: Part, searches: Iterator[int]) -> Iterator[Finding]:
+    """The members of an object that aren't read, with the nearest one as long as there are searches for it, and those
+    that are repeated."""
+    where, at, value, known = part
+    read_members = [member for member in known if member not in ENGINE_MEMBERS]
+    folded = set(map(profiles.folded, known))
+    for name in value:
+        if name in read_members or name == COMMENT:
+            continue
+        if name in known:
+            yield Finding("engine-member", f"{where}: {ENGINE_MEMBERS[name]}: resolve-profile does so",
+                          {**at, "member": name})
+        elif profiles.folded(name) not in folded:
+            near = None if next(searches, None) is None else tables.nearest_member(name, read_members)
+            nearest = f"; the nearest that is read is {near}" if near else ""
+            yield Finding("unread-member", f"{where}: nothing reads {output.cut(name)}{nearest}",
+                          {**at, "member": name, "nearest": near})
+    for name in value.repeated:
+        keeps = isinstance(known.get(name), list) and isinstance(known[name][0], dict)
+        then = "; programs in Go keep members of the earlier one's entries" if keeps else ""
+        yield Finding("repeated-member", f"{where}: {output.cut(name)} is repeated, and the last one is taken{then}",
+                      {**at, "member": name})
+    if known is profiles.ARGUMENT and value.get("valueTwo") and value["op"] != MASKED:
+        yield Finding("unread-member", f"{where}: nothing reads valueTwo beside {value['op']}",
+                      {**at, "member": "valueTwo", "nearest": None})
 
-    nearest: int = MOST
 
-    def _near(self, name: str, members: Sequence[str]) -> str | None:
-        """The member most similar to this one, ignoring case."""
-        self.nearest -= 1
-        return tables.nearest_member(name, members) if self.nearest >= 0 else None
-
-    def of_object(self, value: Object, members: dict[str, object], where: str, place: int | None) -> Iterator[Finding]:
-        """The members of an object that aren't read, and those that are repeated."""
-        at = {} if place is None else {"entry": place}
-        read_members = [member for member in members if member not in ENGINE_MEMBERS]
-        folded = set(map(profiles.folded, members))
-        for name in value:
-            if name in read_members or name == COMMENT:
-                continue
-            if name in members:
-                yield Finding("engine-member", f"{where}: {ENGINE_MEMBERS[name]}: resolve-profile does so",
-                              {**at, "member": name})
-            elif profiles.folded(name) not in folded:
-                near = self._near(name, read_members)
-                nearest = f"; the nearest that is read is {near}" if near else ""
-                yield Finding("unread-member", f"{where}: nothing reads {output.cut(name)}{nearest}",
-                              {**at, "member": name, "nearest": near})
-        for name in value.repeated:
-            keeps = isinstance(members.get(name), list) and isinstance(members[name][0], dict)
-            then = "; programs in Go keep members of the earlier one's entries" if keeps else ""
-            yield Finding("repeated-member", f"{where}: {output.cut(name)} is repeated, and the last one is "
-                          f"taken{then}", {**at, "member": name})
-
-    def of_condition(self, condition: Object, where: str, place: int) -> Iterator[Finding]:
-        yield from self.of_object(condition, profiles.ARGUMENT, where, place)
-        if condition.get("valueTwo") and condition["op"] != "SCMP_CMP_MASKED_EQ":
-            yield Finding("unread-member", f"{where}: nothing reads valueTwo beside {condition['op']}",
-                          {"entry": place, "member": "valueTwo", "nearest": None})
-
-    def of_profile(self, top: Object) -> Iterator[Finding]:
-        """The members of the profile, its entries and their conditions."""
-        yield from self.of_object(top, profiles.SECCOMP_MEMBERS, "the profile", None)
-        for place, entry in enumerate(top.get("syscalls", [])):
-            yield from self.of_object(entry, profiles.ENTRY, f"entry {place}", place)
-            for at, condition in enumerate(entry.get("args", [])):
-                yield from self.of_condition(condition, f"entry {place}, condition {at}", place)
+def of_members(top: Object) -> Iterator[Finding]:
+    """The members of the profile, its entries and their conditions."""
+    searches = iter(range(MOST))
+    for part in parts_of(top):
+        yield from _of_object(part, searches)
 
 
 def misread(data: bytes) -> Iterator[Finding]:
@@ -201,7 +193,7 @@ SUPERVISORS = {"SCMP_ACT_NOTIFY": "a supervisor that listens to the filter",
 def _answers(top: Object) -> Iterator[tuple[str, dict[str, object], str, str, object]]:
     """For the default and each entry: its name, its members in JSON, its action, the name and value of its errno."""
     yield "the default", {}, top["defaultAction"], "defaultErrnoRet", top.get("defaultErrnoRet")
-    for place, entry in enumerate(top.get("syscalls", [])):
+    for place, entry in _objects_of(top, "syscalls"):
         yield f"entry {place}", {"entry": place}, entry["action"], "errnoRet", entry.get("errnoRet")
 
 

@@ -41,22 +41,24 @@ RESTARTED: tuple[tuple[str, tuple[Condition, ...]], ...] = (
 @dataclass(frozen=True)
 class Needed:
     """A syscall that must be allowed with any arguments if one of its users is; the kind of finding if it isn't, and
-    why it is called."""
+    why it is called; and on architectures of how many bits."""
 
     kind: str
     name: str
     users: tuple[tuple[str, tuple[Condition, ...]], ...]
     why: str
+    bits: tuple[int, ...] = (32, 64)
 
 
 # The program itself doesn't call these (arch/x86/kernel/signal.c; vdso and libc return from a handler by sigreturn(2)).
-# On i386 and arm those without SA_SIGINFO do so by sigreturn (setup_frame in signal_32.c and arch/arm/kernel/signal.c).
+# On i386, arm and mipsel those without SA_SIGINFO do so by sigreturn (setup_frame in signal_32.c and in signal.c of
+# arch/arm and arch/mips); powerpc has it for 32 bits alone (do_signal in arch/powerpc/kernel/signal.c).
 NEEDED = (
     Needed("no-restart", "restart_syscall", RESTARTED, "a thread stopped in such a syscall, by SIGSTOP or a "
            "debugger, calls it to continue, and"),
     Needed("no-return", "rt_sigreturn", (("rt_sigaction", ()),), "each signal handler ends with it, and it"),
     Needed("no-return", "sigreturn", (("rt_sigaction", ()), ("sigaction", ()), ("signal", ())),
-           "each signal handler without SA_SIGINFO ends with it, and it"))
+           "each signal handler without SA_SIGINFO ends with it, and it", (32,)))
 # What libc calls instead of newer syscalls if they fail with ENOSYS, and not with any other errno (glibc's
 # __clone_internal and faccessat); with arguments of a thread and of a fork, by linux/sched.h.
 FALLBACKS = (("clone3", "clone", (0x3D0F00, 0x1200011)), ("faccessat2", "faccessat", (0,)))
@@ -90,7 +92,7 @@ class Watch:
     def __init__(self, architecture: Architecture, table: Table, profile_regions: Sequence[Region] | None):
         self.architecture, self.table, self.is_finished = architecture, table, profile_regions is not None
         self._numbers, self._sets = Numbers(profile_regions, architecture), Sets(architecture.bits, Steps())
-        self._allowed: dict[str, tuple[Region, tuple[int, ...]] | None] = {}
+        self.allowed = functools.lru_cache(None)(self._find_allowed)
 
     def has(self, name: str) -> bool:
         return self.table.number_of(name) is not None
@@ -100,13 +102,8 @@ class Watch:
         number = self.table.number_of(name)
         return [] if number is None else self._numbers.of(self.architecture.first + number)
 
-    def allowed(self, name: str) -> tuple[Region, tuple[int, ...]] | None:
-        """A region in which a syscall is allowed with arguments that are meant, and these; None if there is none."""
-        if name not in self._allowed:
-            self._allowed[name] = self._find_allowed(name)
-        return self._allowed[name]
-
     def _find_allowed(self, name: str) -> tuple[Region, tuple[int, ...]] | None:
+        """A region in which a syscall is allowed with arguments that are meant, and these; None if there is none."""
         sets = self._sets
         for region in self.regions_of(name):
             if region.answer is not None and region.answer.allows:
@@ -140,12 +137,6 @@ class Watch:
         """The users of a syscall that are allowed, or of which that is undecided."""
         return [name for name in dict.fromkeys(name for name, _ in needed.users)
                 if self.has(name) and (not self.is_finished or self.allowed(name))]
-
-    def lacks(self, needed: Needed) -> bool | None:
-        """Whether a syscall isn't always allowed, but users of it are, and whether that is decided; None if it is."""
-        if not self.users(needed) or self.is_finished and not self.denied(needed.name):
-            return None
-        return self.is_finished
 
     def keeps_from(self, newer: str, older: str, first_arguments: Sequence[int]) -> Region | None:
         """The denial of a newer syscall by which libc doesn't call the older one, which is allowed; None if there is
@@ -183,16 +174,9 @@ def _allowed(name: str, danger: Dangerous, watch: Watch, owners: Owners) -> Find
                     **owners.as_json()})
 
 
-def _allowed_by_default(names: Sequence[str], owners: Owners) -> Finding:
-    """Several dangerous syscalls that the default always allows, so that one change of the profile denies them all."""
-    return Finding("dangerous-call", f"the default allows {len(names)} syscalls{owners.where} that make a sandbox "
-                   f"useless: {listed(names, 'and')}",
-                   {"names": list(names), "reasons": {name: dangerous()[name].reason for name in names},
-                    "is_always": True, "entry": None, **owners.as_json()})
-
-
 def of_dangerous(judged: Tables, watches: Mapping[str, Watch]) -> Iterator[Finding]:
-    """The dangerous syscalls that are allowed, or of which that is undecided; what the default allows together."""
+    """The dangerous syscalls that are allowed, or of which that is undecided; what the default always allows is one
+    finding, since one change of the profile denies it."""
     by_default: dict[Owners, list[str]] = {}
     for name, danger in dangerous().items():
         how = {oci: watch.how(name) for oci, watch in watches.items() if watch.has(name)}
@@ -203,8 +187,13 @@ def of_dangerous(judged: Tables, watches: Mapping[str, Watch]) -> Iterator[Findi
             else:
                 yield _allowed(name, danger, watches[owners.first], owners)
     for owners, names in by_default.items():
-        yield _allowed_by_default(names, owners) if len(names) > 1 else \
-            _allowed(names[0], dangerous()[names[0]], watches[owners.first], owners)
+        if len(names) == 1:
+            yield _allowed(names[0], dangerous()[names[0]], watches[owners.first], owners)
+        else:
+            yield Finding("dangerous-call", f"the default allows {len(names)} syscalls{owners.where} that make a "
+                          f"sandbox useless: {listed(names, 'and')}",
+                          {"names": names, "reasons": {name: dangerous()[name].reason for name in names},
+                           "is_always": True, "entry": None, **owners.as_json()})
 
 
 def _lacking(needed: Needed, watch: Watch, owners: Owners) -> Finding:
@@ -221,8 +210,11 @@ def _lacking(needed: Needed, watch: Watch, owners: Owners) -> Finding:
 def of_needed(judged: Tables, watches: Mapping[str, Watch]) -> Iterator[Finding]:
     """A finding if a syscall isn't always allowed, but others that need it are, or if that is undecided."""
     for needed in NEEDED:
-        is_decided = {name: watch.lacks(needed) for name, watch in watches.items() if watch.has(needed.name)}
-        yield from (_lacking(needed, watches[owners.first], owners) for _, owners in by_owners(is_decided, judged))
+        # whether users are allowed and it isn't, and that is decided; None where it is
+        lacks = {oci: watch.is_finished if watch.users(needed) and (not watch.is_finished or watch.denied(needed.name))
+                 else None for oci, watch in watches.items()
+                 if watch.has(needed.name) and watch.architecture.bits in needed.bits}
+        yield from (_lacking(needed, watches[owners.first], owners) for _, owners in by_owners(lacks, judged))
 
 
 def of_start(judged: Tables, watches: Mapping[str, Watch]) -> Iterator[Finding]:

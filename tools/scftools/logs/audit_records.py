@@ -34,8 +34,9 @@ OF_KERNEL = (rf"(?:(?:<[0-9]{{1,3}}>)?(?:[a-z0-9]{{1,9}} {{0,9}}:[a-z]{{1,9}} {{
 OF_AUDITD = rf"(?:{LOGGED}audisp[a-z-]{{1,9}}(?:\[[0-9]{{1,10}}\])?: )?(?:node=\S{{1,255}} )?"
 # How the two kinds of records begin: by their number (linux/audit.h), auditd's name, and journald's, where a record is
 # one that it took from the kernel itself.
-RECORD_KINDS = Pattern(rf"\A(?:(?:{OF_KERNEL}(?:audit: )?|{OF_AUDITD})type=(1326|SECCOMP|1300|SYSCALL) (?:msg=)?"
-                       rf"(?=audit\()|{LOGGED}audit(?:\[[0-9]{{1,10}}\])?: (SECCOMP|SYSCALL) )")
+BARE_KINDS = Pattern(r"type=(1326|SECCOMP|1300|SYSCALL) (?:msg=)?(?=audit\()")
+RECORD_KINDS = Pattern(rf"\A(?:(?:{OF_KERNEL}(?:audit: )?|{OF_AUDITD}){BARE_KINDS.pattern}|"
+                       rf"{LOGGED}audit(?:\[[0-9]{{1,10}}\])?: (SECCOMP|SYSCALL) )")
 SECCOMP_KINDS, SYSCALL_KINDS = ("1326", "SECCOMP"), ("1300", "SYSCALL")
 # Records of other types, and ausearch's lines between those of one event.
 OTHER = Pattern(rf"\A(?:(?:{OF_KERNEL}(?:audit: )?|{OF_AUDITD})type=[A-Z0-9_\[\]]{{1,40}} (?:msg=)?audit\(|"
@@ -154,8 +155,9 @@ def name_of(text: str) -> str:
 
 def kind_of(line: str) -> tuple[str, int] | None:
     """Which record a line has, by its type's name, and where it begins."""
-    match = RECORD_KINDS.search(line)
-    return (match[1] or match[2], match.end() - 1) if match else None
+    # (what may stand before a record has no `=`)
+    match = BARE_KINDS.match(line) if line.startswith("type=") else RECORD_KINDS.search(line)
+    return (match[match.lastindex], match.end() - 1) if match else None
 
 
 def is_of_kernel(line: str, at: int) -> bool:

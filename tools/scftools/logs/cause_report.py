@@ -1,21 +1,141 @@
-"""What `why` prints of a log: the causes of its events and denials, and what else stands in it."""
+"""What `why` prints of a log: the causes of its events and denials, and what else stands in it.
+
+Denials are the failed syscalls of a log to which a profile, or filters, answer as they failed, by syscall and entry,
+the most telling first.
+"""
 from __future__ import annotations
 
+import errno
+from collections import Counter
 from collections.abc import Iterator, Sequence
 
 from ..base import output, program
-from ..base.values import dataclass
+from ..base.values import dataclass, field, replace
+from ..model.tables import Table
 from ..ask import client
 from ..ask.client import Refusal
-from . import causes, denials
-from .causes import Cause, Inputs
-from .denials import Denials
-from .events import EVENTS, EventLog
+from . import causes
+from .causes import CONTRADICTS, FITS, Cause, Inputs, cases, verdict_of
+from .events import EVENTS, Event, EventLog, Failure, Failures
 
 WANTED = ("no syscall that a filter may have answered is in it: an audit record has type=1326 or type=SECCOMP, and of "
           "strace the line is wanted of a syscall that failed, or the one before SIGSYS")
 # How many denials are shown unless all are asked for.
 SHOWN = 5
+
+
+@dataclass
+class Denial:
+    """Failures of one syscall by one entry: the last one, how many, its place among all failures, and what all of them
+    have in common."""
+
+    event: Event
+    count: int
+    last: int
+    common: Event
+    # whether a process that ended with a failure had none after it
+    has_ended: bool = False
+
+    def add(self, failure: Failure) -> None:
+        self.count += failure.count
+        pairs = zip(self.common.arguments, failure.event.arguments)
+        self.common = replace(self.common, arguments=tuple(old if old == new else None for old, new in pairs))
+        if failure.last > self.last:
+            self.event, self.last = failure.event, failure.last
+
+    @property
+    def order(self) -> tuple[bool, int, int]:
+        """By which the most telling comes first: what a process ended after; then what was tried least, since
+        libraries try and ignore the same again and again; then the last."""
+        return not self.has_ended, self.count, -self.last
+
+    def cause(self, given: Inputs) -> Cause:
+        cause = causes.cause_of(self.event, self.count, given, self.common)
+        cause.has_ended = self.has_ended
+        return cause
+
+
+@dataclass
+class Denials:
+    """What the failures of a log are: denials; those with EPERM, which a process without a capability gets
+    (capabilities(7)), but not by the profile, or the filters; and those of which it isn't known."""
+
+    failures: Failures
+    of: list[Denial] = field(default_factory=list)
+    by_other_cause: list[Failure] = field(default_factory=list)
+    unknown: int = 0
+
+    @property
+    def count(self) -> int:
+        return sum(denial.count for denial in self.of)
+
+    @property
+    def is_partial(self) -> bool:
+        """Whether of some it isn't known whether they are denials."""
+        return bool(self.unknown or self.failures.beyond)
+
+
+def denials_of(failures: Failures, given: Inputs) -> Denials:
+    """Which failures are denials by the profile, or else by the filters. Raises Refusal."""
+    denials, stack = Denials(failures), given.of_profile if given.profile is not None else given.of_filters
+    # by what is reported together, the syscall, its errno and the entry, and what that is of each kind of failure
+    by_key: dict[tuple[object, ...], Denial] = {}
+    key_of: dict[tuple[object, ...], tuple[object, ...]] = {}
+    for kind, failure in failures.of.items():
+        answers = list(cases(stack, failure.event))
+        verdict = verdict_of(answers) if answers else None
+        if verdict == CONTRADICTS:
+            denials.by_other_cause += [failure] if failure.event.outcome.data == errno.EPERM else []
+        elif verdict != FITS:
+            denials.unknown += failure.count
+        else:
+            call = next(case.call for case in answers if case.fits)
+            entry = None if given.profile is None else given.reason(call).entry
+            key = key_of[kind] = call.number, call.architecture, failure.event.outcome, entry
+            by_key.setdefault(key, Denial(failure.event, 0, failure.last, failure.event)).add(failure)
+    for kinds in failures.of_ended:
+        last = next((key_of[kind] for kind in kinds if kind in key_of), None)
+        if last is not None:
+            by_key[last].has_ended = True
+    denials.of = sorted(by_key.values(), key=lambda denial: denial.order)
+    return denials
+
+
+def _counted(failures: Sequence[Denial | Failure], table: Table) -> str:
+    counts: Counter[str] = Counter()
+    for failure in failures:
+        counts[failure.event.call.describe(table)] += failure.count
+    return ", ".join(name + (f" {count} times" if count > 1 else "") for name, count in counts.items())
+
+
+def denial_lines(denials: Denials, shown: int, given: Inputs) -> Iterator[str]:
+    failures, table = denials.failures, given.table
+    name = "the profile" if given.profile is not None else "the filter" if len(given.filters) == 1 else "the filters"
+    if failures.count:
+        denies, count = "deny" if name[-1] == "s" else "denies", denials.count or "none: look elsewhere"
+        yield f"syscalls that failed: {failures.count}, of which {name} {denies} {count}"
+    hidden, others = _counted(denials.of[shown:], table), _counted(denials.by_other_cause, table)
+    if hidden:
+        yield f"of these aren't shown, since they tell less (--every shows them): {hidden}"
+    if others:
+        yield (f"with EPERM, but not by {name}: {others}: the kernel itself answers so, for example if the process "
+               "lacks a capability, or another filter does")
+    if denials.unknown:
+        yield f"syscalls that failed, of which it isn't known: {denials.unknown}"
+    if failures.beyond:
+        yield f"syscalls that failed with too many different arguments, which aren't judged: {failures.beyond}"
+    if failures.before_load:
+        yield ("syscalls that failed before a filter is loaded, or in a process without one, which aren't judged: "
+               f"{failures.before_load}")
+
+
+def denials_json(denials: Denials, shown: int, table: Table) -> dict[str, object]:
+    failures = denials.failures
+    listed = {name: [{"call": each.event.call.as_json(table), "errno": each.event.outcome.data, "count": each.count}
+                     for each in its]
+              for name, its in (("not_shown", denials.of[shown:]), ("by_other_cause", denials.by_other_cause))}
+    return {"count": failures.count, "denied": denials.count, **listed, "unknown": denials.unknown,
+            "not_judged": failures.beyond, "before_load": failures.before_load}
 
 
 @dataclass
@@ -49,7 +169,7 @@ def _denials(log: EventLog, given: Inputs) -> Denials | None:
         denied, failure = None, log.last_failure
     else:
         try:
-            denied = denials.denials_of(log.failures, given)
+            denied = denials_of(log.failures, given)
             failure = None if denied.of else log.last_failure
         except Refusal:
             denied, failure = None, next((failure.event for failure in log.failures.of.values()), None)
@@ -79,7 +199,7 @@ def log_report_lines(report: LogReport) -> Iterator[str]:
     if log.beyond:
         yield f"# records of more syscalls than {EVENTS} different ones, which aren't judged: {log.beyond}"
     if denied is not None and not (report.causes and log.failures.count == 1):
-        yield from output.notes(denials.denial_lines(denied, report.shown, report.given))
+        yield from output.notes(denial_lines(denied, report.shown, report.given))
     yield from output.notes(core.describe() for core in log.cores)
     if not report.causes and not log.faults and not log.failures.count and not log.cores:
         yield from output.notes(report.lacking)
@@ -92,4 +212,4 @@ def log_report_json(report: LogReport) -> dict[str, object]:
             "faults": [{"line": number, "why": why} for number, why in log.faults],
             "suppressed": log.suppressed, "not_judged": log.beyond,
             **({"cores": [core.as_json() for core in log.cores]} if log.cores else {}),
-            **({"failures": denials.denials_json(denied, report.shown, report.given.table)} if has_failures else {})}
+            **({"failures": denials_json(denied, report.shown, report.given.table)} if has_failures else {})}

@@ -14,10 +14,9 @@ from ..model.architectures import JUDGED, Architecture
 from ..model.calls import Call
 from ..model.tables import Table
 from ..forms import strace
-from ..forms.confinement import SUPERSEDED
+from ..forms.strace_reader import LONGEST_BEGINNING, PENDING, SUPERSEDED, Line, Reader, Sink
 from . import audit_records, journals
 from .audit_records import Malformed
-from .reader import LONGEST_BEGINNING, PENDING, Line, Reader, Sink
 
 # The most distinct events and failed syscalls that are kept of a text, the most failed ones of a process that are
 # remembered for its end, and the most values that unknown bits of arguments may take; and the most audit records whose
@@ -209,16 +208,13 @@ class _Ends(Sink):
     """A strace log, of which the last syscall of each process is kept, those that SIGSYS ended, and those that
     failed."""
 
-    def __init__(self, tables_of: dict[str, Table]):
-        self.reader = Reader(self, tables_of)
+    def __init__(self, tables_of: dict[str, Table], log: EventLog):
+        self.reader, self._log = Reader(self, tables_of), log
         # the last syscall of each process
         self.last: dict[str | None, _Printed] = {}
         self.killed: list[_Printed] = []
         # each SIGSYS: the process, the signal's members, and the syscall before it
         self.signals: list[tuple[str | None, str, _Printed | None]] = []
-        self.failures = Failures()
-        # the last syscall, if it failed and may be under a filter
-        self.last_failure: Event | None = None
         # of each process what failed, the last at the end
         self._failed: dict[str | None, dict[tuple[object, ...], None]] = {}
 
@@ -233,19 +229,19 @@ class _Ends(Sink):
         self.last[who] = printed
         if len(self.last) > PENDING:
             self.last.pop(next(iter(self.last)))
-        self.last_failure = None
+        self._log.last_failure = None
         if printed.failure is not None and not is_judged:
-            self.failures.before_load += 1
+            self._log.failures.before_load += 1
         elif printed.failure is not None:
             self._fails(who, printed.failure)
 
     def show_load(self) -> None:
         self._failed = {}
-        self.failures.shows_load()
+        self._log.failures.shows_load()
 
     def _fails(self, who: str | None, event: Event) -> None:
-        self.last_failure = event
-        self.failures.add(event)
+        self._log.last_failure = event
+        self._log.failures.add(event)
         failed = self._failed.setdefault(self.reader.confinement.process_of(who), {})
         failed.pop(event.key, None)
         failed[event.key] = None
@@ -256,8 +252,8 @@ class _Ends(Sink):
     def _ends(self, who: str | None, text: str) -> None:
         process, is_bad = self.reader.confinement.process_of(who), ENDED_BADLY.match(text) is not None
         failed = self._failed.pop(process, None) if is_bad or process == who else None
-        if failed and is_bad and len(self.failures.of_ended) < EVENTS:
-            self.failures.of_ended.append([*reversed(failed)])
+        if failed and is_bad and len(self._log.failures.of_ended) < EVENTS:
+            self._log.failures.of_ended.append([*reversed(failed)])
 
     def end_line(self, who: str | None, line: Line) -> None:
         signal = SIGSYS_LINE.match(line.text)
@@ -338,7 +334,7 @@ def _of_signal(who: str | None, members: str, call: _Printed | None, tables_of: 
 
 
 def _of_ends(ends: _Ends, log: EventLog) -> None:
-    """Adds the events of a strace log: each SIGSYS; and what failed."""
+    """Adds the events of a strace log: each SIGSYS."""
     for who, members, call in ends.signals:
         try:
             log.add(_of_signal(who, members, call, ends.reader.tables))
@@ -349,15 +345,14 @@ def _of_ends(ends: _Ends, log: EventLog) -> None:
         # of a process with several threads all are killed, and the syscalls of the others don't end
         for printed in numbered or ends.killed:
             log.add(printed.event(Outcome(KILLS if numbered else ("KILL_THREAD",))))
-    log.failures, log.last_failure = ends.failures, ends.last_failure
 
 
 class _LogReader:
     """What the lines of a log of any kind have."""
 
     def __init__(self, lines: Iterable[str], table: Table):
-        self.log, self._lines, self._ends = EventLog(), iter(lines), _Ends(tables.architecture_tables(JUDGED, table).of)
-        self._records = _Records()
+        self.log, self._lines, self._records = EventLog(), iter(lines), _Records()
+        self._ends = _Ends(tables.architecture_tables(JUDGED, table).of, self.log)
 
     def _take(self, number: int, line: str) -> None:
         is_entry = line.startswith('{"')
@@ -369,7 +364,8 @@ class _LogReader:
 
     def _is_record(self, line: str) -> bool:
         """Takes what the kernel writes; whether it is that."""
-        kind, suppressed = audit_records.kind_of(line), audit_records.SUPPRESSED.search(line)
+        kind = audit_records.kind_of(line)
+        suppressed = audit_records.SUPPRESSED.search(line) if "callbacks suppressed" in line else None
         # a text that a program writes may look like a record
         if (kind is None and suppressed is None) or strace.is_own(line):
             return False

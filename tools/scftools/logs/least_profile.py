@@ -22,8 +22,8 @@ from ..lint.watchlist import FALLBACKS
 from ..report.covers import Alternative
 from ..report.profile_of import entry_of
 from . import requirements
-from .counting import Seen
 from .requirements import NOT_ALLOWED, Judgement, Judges, Needs, TracedCall
+from .traces import Seen
 
 # What each least profile allows where the base does and an architecture has it: a process calls these, which a log
 # needn't show, to continue after a stop or a signal, and to end.
@@ -121,7 +121,7 @@ class Making:
         is_answered = errnos == answers and 0 not in errnos
         if has_name and self._older(traced.architecture, traced.name):
             return
-        if not is_answered or self.widens and self.needs.has_load:
+        if not is_answered or self.widens and self.needs.log.has_load:
             self._deny(judgement, has_name, requirements.where(traced.seen, self.needs.are_several))
             return
         self.failing[traced.shown_name] = None
@@ -203,7 +203,7 @@ class Making:
         """What is to be known of the profile, for standard error."""
         failing = list(self.failing)
         more = f" and {len(failing) - MOST_LISTED} more" if len(failing) > MOST_LISTED else ""
-        more += "; --widen allows them" if self.needs.has_load else ""
+        more += "; --widen allows them" if self.needs.log.has_load else ""
         return [*requirements.log_remarks(self.needs), *self.denied, *self.remarks,
                 *([f"left out, since PROFILE answers as they fail in the log: {', '.join(failing[:MOST_LISTED])}{more}"]
                   if failing else [])]

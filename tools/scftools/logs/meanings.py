@@ -59,7 +59,8 @@ STATUSES = {
     0: "success: the verdict holds, the filter is accepted, an answer is printed",
     1: "the answer is no: something differs, is found or isn't confined; the output says what",
     2: "an input can't be read, is refused or is misspelt, or the output can't be written: what was printed says which",
-    3: "of scf core: an input can't be read, is cut or too long, the output can't be written, or memory ran out",
+    3: "of scf core, and of a tool that is given no file: an input can't be read, is cut or too long, a bundle is "
+       "malformed or has other parts, the output can't be written, or memory ran out",
     4: "not known: `undecided`, `unfinished` or `undetermined`; the output says why",
     70: "an internal error: scf or a tool itself failed, and nothing is concluded; please report it",
     125: "the program isn't built, or a tool lacks Python 3.9 or modules of its standard library",

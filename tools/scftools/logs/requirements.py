@@ -22,19 +22,18 @@ from ..ask.answer_sets import arguments_of
 from ..ask.regions import Lookup
 from ..ask.verdicts import UNDECIDED, UNFINISHED
 from ..forms import runtimes
+from ..forms.strace_reader import OWN_MODE, modes_of
 from ..report.covers import Alternative, Covers
 from . import audit_records, traces
-from .counting import Seen
-from .reader import OWN_MODE, modes_of
-from .traces import Trace
+from .traces import CUT, FOREIGN, LOST, MORE, UNREAD, Seen, Trace
 
 NOT_ALLOWED = "not allowed"
 # What in a log isn't judged, by its name in JSON.
-UNJUDGED = {"foreign": "syscalls not judged, since scf has no table of their architecture",
-            "cut": "syscalls not judged, since the log lacks their beginning or end",
-            "more": "syscalls not judged, since there are too many with other arguments",
-            "lines": "lines not judged, since they can't be parsed",
-            "lost": "syscalls not judged, since the log has lost them"}
+UNJUDGED = {FOREIGN: "syscalls not judged, since scf has no table of their architecture",
+            CUT: "syscalls not judged, since the log lacks their beginning or end",
+            MORE: "syscalls not judged, since there are too many with other arguments",
+            UNREAD: "lines not judged, since they can't be parsed",
+            LOST: "syscalls not judged, since the log has lost them"}
 TAKEN = ("a log that doesn't say its architecture is taken as {}'s, since the profile doesn't list {}: --arch names "
          "another")
 RUNTIME_HELP = "add what this container runtime calls before it executes the program, and read the profile as it does"
@@ -68,11 +67,10 @@ class TracedCall:
         for values in itertools.product(*(values for _, values in pairs)):
             yield dict(zip((index for index, _ in pairs), values))
 
-    def call(self, values: dict[int, int]) -> Call:
-        """A record of the syscall with these arguments, and 0 as the others."""
-        architecture = self.architecture
-        return Call(architecture.first + self.number, architecture.number,
-                    arguments=tuple(values.get(index, 0) for index in range(6)))
+    @property
+    def call(self) -> Call:
+        """A record of the syscall, with zeros as its arguments."""
+        return Call(self.architecture.first + self.number, self.architecture.number)
 
     @property
     def shown_name(self) -> str:
@@ -102,23 +100,16 @@ class Judgement:
 
 @dataclass
 class Needs:
-    """The result: the syscalls that were judged, and what wasn't."""
+    """The result: the logs, of which not all is judged, the syscalls that were, and names that the table doesn't have,
+    each with how often it was met."""
 
+    log: Trace
     judged: list[Judgement]
-    # names that the table doesn't have, and other kinds of UNJUDGED, each with how often it was met
     unnamed: dict[str, int]
-    unjudged: dict[str, int]
-    # what is the matter with the first record that can't be read
-    fault: str = ""
-    # whether a log shows a filter being loaded, and how many syscalls aren't judged since no filter is before
-    has_load: bool = False
-    before_load: int = 0
-    # whether a log is the kernel's
-    is_of_kernel: bool = False
     # whether there are several logs, whose names lines then say
-    are_several: bool = False
+    are_several: bool
     # as what a log is taken that doesn't say its architecture, if that isn't this machine's
-    taken: str = ""
+    taken: str
 
     @property
     def unlisted(self) -> list[Architecture]:
@@ -131,7 +122,7 @@ class Needs:
     @property
     def isnt_whole(self) -> bool:
         """Whether something in the log wasn't judged, or there was nothing to judge."""
-        return bool(self.unnamed or any(self.unjudged.values()) or not self.judged)
+        return bool(self.unnamed or any(self.log.unjudged.values()) or not self.judged)
 
     @property
     def status(self) -> int:
@@ -159,7 +150,7 @@ class Judge:
                        for name in (*table.names_of(number), f"syscall_{number:#x}")}
 
     def of(self, traced: TracedCall) -> Judgement:
-        call = traced.call({})
+        call = traced.call
         allowed, denied, passing = [], [], []
         for values in traced.known_values():
             denied_before = len(denied)
@@ -186,7 +177,7 @@ class Judge:
         regions say; none if there are none, or too many."""
         sets = Sets(traced.architecture.bits, Steps())
         try:
-            allowed = sets.union(arguments_of(sets, region) for region in self._lookup.of_number(traced.call({}))
+            allowed = sets.union(arguments_of(sets, region) for region in self._lookup.of_number(traced.call)
                                  if region.is_decided and region.answer.allows)
             return [] if allowed == EMPTY_SET else Covers(sets).of_set(allowed) or []
         except TooMany:
@@ -227,11 +218,9 @@ class Judges:
         return self._looked[architecture].get(name, ())
 
 
-def find(log: Trace, judges: Judges) -> Needs:
-    """The calls of a log, by their architectures and numbers, each judged."""
-    counts = log.foreign.count, log.cut.count, log.not_remembered.count, log.unread.count, log.lost.count
-    needs = Needs([], {}, dict(zip(UNJUDGED, counts)), log.fault, log.has_load, log.before_load.count,
-                  log.is_of_kernel, taken=judges.taken)
+def find(log: Trace, judges: Judges, are_several: bool) -> Needs:
+    """The calls of logs, by their architectures and numbers, each judged."""
+    needs = Needs(log, [], {}, are_several, judges.taken)
     traced: list[TracedCall] = []
     for (architecture, name, values), seen in log.calls.items():
         in_architecture, number = JUDGED[architecture], log.reader.number_of(architecture, name)
@@ -248,7 +237,7 @@ def find(log: Trace, judges: Judges) -> Needs:
         if ways <= MOST_WAYS and not client.is_spent():
             needs.judged.append(judges.of(call.architecture.oci).of(call))
         else:
-            needs.unjudged["more"] += call.seen.count
+            log.unjudged[MORE] += call.seen.count
     return needs
 
 
@@ -295,18 +284,18 @@ def log_remarks(needs: Needs) -> Iterator[str]:
                + ("; it is a syscall of other architectures alone" if name in elsewhere else ""))
     if len(needs.unnamed) > tables.MOST_LISTED:
         yield f"more such names: {len(needs.unnamed) - tables.MOST_LISTED}"
-    for kind, count in needs.unjudged.items():
-        if count:
-            yield f"{UNJUDGED[kind]}: {count}"
-        if kind == "lines" and needs.fault:
-            yield needs.fault
-    if needs.before_load:
-        yield ("syscalls before a filter is loaded, or in a process without one, which aren't judged: "
-               f"{needs.before_load}")
-    if needs.is_of_kernel:
+    log = needs.log
+    for kind, text in UNJUDGED.items():
+        if log.unjudged[kind]:
+            yield f"{text}: {log.unjudged[kind]}"
+        if kind == UNREAD and log.fault:
+            yield log.fault
+    if log.before_load:
+        yield f"syscalls before a filter is loaded, or in a process without one, which aren't judged: {log.before_load}"
+    if log.is_of_kernel:
         yield audit_records.RATE_LIMITED
     if not needs.judged:
-        yield "the log has no syscall" + (" under a filter" if needs.has_load else "")
+        yield "the log has no syscall" + (" under a filter" if log.has_load else "")
 
 
 def needs_lines(needs: Needs) -> Iterator[str]:
@@ -351,7 +340,8 @@ def needs_json(needs: Needs, table: Table) -> dict[str, object]:
             shown["verdict"] = judgement.line
         calls.append(shown)
     return {"status": needs.status, "calls": calls,
-            "not_judged": {"names": needs.unnamed, **needs.unjudged, "before_load": needs.before_load}}
+            "not_judged": {"names": needs.unnamed, **{kind: needs.log.unjudged[kind] for kind in UNJUDGED},
+                           "before_load": needs.log.before_load}}
 
 
 def read_needs(names: Sequence[str], judges: Judges, runtime: str | None = None) -> Needs:
@@ -365,6 +355,4 @@ def read_needs(names: Sequence[str], judges: Judges, runtime: str | None = None)
     for name in runtimes.OWN_CALLS[runtime].names if runtime else ():
         if log.reader.number_of(architecture, name) is not None:
             log.keep(0, architecture, name, {})
-    needs = find(log, judges)
-    needs.are_several = len(names) > 1
-    return needs
+    return find(log, judges, len(names) > 1)

@@ -1,4 +1,5 @@
-"""Logs of syscalls by any program that writes them line by line, and profiles that another tool made of such a log.
+"""Logs of syscalls by any program that writes them line by line: how often each syscall stands there, by architecture
+and by what is asked for of its arguments; and profiles that another tool made of such a log.
 
 Beside strace's lines these are read: audit records of seccomp and of syscalls; what `perf trace` prints of each syscall
 and, with -s, their counts; raw_syscalls:sys_enter as `perf script` and the kernel's trace_pipe print it; a map of
@@ -10,20 +11,29 @@ from __future__ import annotations
 import itertools
 import json
 import re
+from collections import Counter
 from collections.abc import Callable, Iterator, Sequence
 
 from ..base import output, program
-from ..base.values import Pattern
-from ..model import architectures
+from ..base.inputs import LONGEST_LINE
+from ..base.values import Pattern, dataclass, replace
+from ..model import architectures, multiplexed
 from ..model.architectures import JUDGED, NATIVE
 from ..model.calls import SKIPPED
 from ..model.profiles import ALLOWING, Refused
 from ..model.tables import Table
 from ..forms import kubernetes, strace
+from ..forms.strace import Arguments
+from ..forms.strace_reader import PENDING, Line, Reader, Sink
 from . import audit_records
-from .counting import MOST_NOT_REMEMBERED, MOST_REMEMBERED, Log, Seen
-from .reader import PENDING
 
+# What isn't judged, by its name in JSON: syscalls of architectures without a table, those without a result or without a
+# beginning, those with other names or arguments than are kept; lines that aren't read; and syscalls that were lost.
+FOREIGN, CUT, MORE, UNREAD, LOST = "foreign", "cut", "more", "lines", "lost"
+# The most syscalls with other names or arguments that are kept, and how many more are counted.
+MOST_REMEMBERED, MOST_NOT_REMEMBERED = 1000, 100000
+# How a log of all registers (`strace -e raw=all`) begins: other logs have a text there.
+RAW_BEGIN = Pattern(r"execve\(0x[0-9a-f]+, (?:0x[0-9a-f]+|0), (?:0x[0-9a-f]+|0)\) += 0\Z")
 # How an object of Kubernetes begins as YAML.
 YAML_BEGINNINGS = ("apiVersion:", "kind:")
 NAME, HEXADECIMAL = "[a-z_][a-z0-9_]{0,63}", Pattern("0x[0-9a-f]{1,16}")
@@ -32,9 +42,9 @@ NAME, HEXADECIMAL = "[a-z_][a-z0-9_]{0,63}", Pattern("0x[0-9a-f]{1,16}")
 PERF = Pattern(rf" *(?:[0-9]+\.[0-9]+|\?) \( *(?:[0-9.]+ ms *)?\): (?:(?:.{{0,64}}?/)?([0-9]{{1,10}}) +)?"
                rf"(?:\.\.\. \[continued\]: ({NAME})\(|({NAME})\()")
 COUNTED = Pattern(rf" +({NAME}) +([0-9]{{1,12}}) +[0-9]{{1,12}}(?: +[0-9]+\.[0-9]+){{4}} +[0-9.]+%")
-SYS_ENTER = Pattern(r"\bsys_enter: NR (-?[0-9]{1,10}) \(((?:[0-9a-f]{1,16}, ){5}[0-9a-f]{1,16})\)$")
-MAP = Pattern(r"@[A-Za-z0-9_]{0,64}\[([^\],]{1,128})\]: ([0-9]{1,18})$")
-PROBE = Pattern(rf"(?:tracepoint:syscalls:)?sys_enter_({NAME})")
+SYS_ENTER = Pattern(r".*\bsys_enter: NR (-?[0-9]{1,10}) \(((?:[0-9a-f]{1,16}, ){5}[0-9a-f]{1,16})\)$")
+MAP = Pattern(rf"@[A-Za-z0-9_]{{0,64}}\[\s{{0,64}}(?:(?:tracepoint:syscalls:)?sys_enter_({NAME})|([0-9]{{1,10}}))"
+              r"\s{0,64}\]: ([0-9]{1,18})$")
 # `7 05:35:00.123456789 0 ls (1234) > openat dirfd=..`, and `<` where it returns.
 SYSDIG = Pattern(rf"[0-9]{{1,18}} [0-9:.]{{8,24}} [0-9]{{1,5}} .{{1,256}}? \(-?[0-9]{{1,10}}(?:\.[0-9]{{1,10}})?\) "
                  rf"([<>]) ({NAME})(?: |$)")
@@ -52,38 +62,110 @@ SYSDIG_NAMES = {"pread": "pread64", "prlimit": "prlimit64", "pwrite": "pwrite64"
 HEADINGS = Pattern(r"#| Summary of events:$| +syscall +calls +errors| +\(msec\)|[ -]*$|"
                    r" .{1,64} \([0-9]{1,10}\), [0-9]+ events|Attach(?:ing|ed) [0-9]+ probes?")
 # Syscalls that the kernel's log and perf trace say they lost.
-LOST = Pattern(audit_records.SUPPRESSED.pattern + r"|\ALOST ([0-9]{1,18}) events!")
+LOSSES = Pattern(audit_records.SUPPRESSED.pattern + r"|\ALOST ([0-9]{1,18}) events!")
 
 
-class Trace(Log):
-    """The syscalls of logs, by their names and the values of those arguments that are asked for."""
+@dataclass
+class Seen:
+    """How often something stands in logs, in which line of which one first (0 is no line), and the errnos with which it
+    failed, 0 where it didn't."""
+
+    line: int = 0
+    count: int = 0
+    log: str = ""
+    errnos: frozenset[int] = frozenset()
+
+
+class Trace(Sink):
+    """The syscalls of logs by the OCI names of their architectures, their names, and the values of those arguments that
+    are asked for."""
 
     def __init__(self, looked_at: Callable[[str, str], tuple[int, ...]], tables: dict[str, Table],
                  own_architecture: str = NATIVE):
-        super().__init__(looked_at, tables, own_architecture)
-        # syscalls that a log says it lost, and whether it is the kernel's, which may not say so
-        self.lost, self.is_of_kernel = Seen(), False
-        # what is the matter with the first record that can't be read
-        self.fault = ""
+        self.looked_at = looked_at
+        self.reader = Reader(self, tables, own_architecture)
+        self.calls: dict[tuple[str, str, tuple], Seen] = {}
+        self.unjudged: Counter[str] = Counter()
+        # syscalls before a filter is loaded, or in a process without one, and whether a log shows one being loaded
+        self.before_load, self.has_load = 0, False
+        # whether a log is the kernel's, which may not say what it lost; what is the matter with the first record that
+        # can't be read; and the file's name
+        self.is_of_kernel, self.fault, self.name = False, "", ""
+        # what earlier logs have
+        self._earlier: tuple[dict[tuple[str, str, tuple], Seen], Counter[str]] = {}, Counter()
+        self._names: set[tuple[str, str]] = set()
+        # whether strace prints registers (-e raw=all), None before the first syscall
+        self._is_raw: bool | None = None
         # the syscalls of perf trace that were interrupted, by thread and name
         self._interrupted: dict[tuple[str, str], None] = {}
+
+    def begin(self, name: str) -> None:
+        """Begins a log, with processes of its own."""
+        self.name, self._is_raw = name, None
+        self._earlier = {call: replace(seen) for call, seen in self.calls.items()}, self.unjudged.copy()
+        self.reader.begin()
 
     def add(self, number: int, line: str) -> None:
         """Takes a line of a log."""
         if strace.is_own(line) or not self._is_other(number, line.rstrip("\r")):
-            super().add(number, line)
+            self.reader.add(number, line)
 
-    def _is_other(self, number: int, line: str) -> bool:
-        """Takes a line that isn't strace's; whether it did."""
-        lost = LOST.search(line)
-        if lost:
-            self.count(self.lost, number, int(lost[1] or lost[2]))
-            return True
-        return (self._is_record(number, line) or "): " in line and self._is_perfs(number, line)
-                or line.startswith("@") and self._is_map(number, line)
-                or "sys_enter: NR " in line and self._is_sys_enter(number, line)
-                or ") " in line and self._is_sysdigs(number, line)
-                or self._is_counted(number, line) or HEADINGS.match(line) is not None)
+    def end(self) -> None:
+        self.reader.end()
+
+    def show_load(self) -> None:
+        calls, unjudged = self._earlier
+        for kind in (FOREIGN, CUT, MORE):
+            self.before_load += self.unjudged[kind] - unjudged[kind]
+            self.unjudged[kind] = unjudged[kind]
+        self.before_load += sum(seen.count for seen in self.calls.values()) - sum(seen.count for seen in calls.values())
+        self.calls, self.has_load = calls, True
+
+    def count_unread(self, line: Line, is_call: bool) -> None:
+        self.unjudged[CUT if is_call else UNREAD] += 1
+
+    def take_call(self, who: str | None, line: Line, name: re.Match[str], architecture: str, is_cut: bool,
+                  is_judged: bool) -> None:
+        """Counts a call; where the log doesn't say which of several it is, each of them."""
+        if self._is_raw is None:
+            self._is_raw = RAW_BEGIN.match(line.text) is not None
+        numbered = self.reader.numbered(architecture, name[1])
+        if not is_judged:
+            self.before_load += 1
+        elif not (is_cut or len(line.text) >= LONGEST_LINE or " = " in line.text):
+            self.count_unread(line, bool(numbered))
+        elif architecture != self.reader.own_architecture and architecture not in self.reader.tables:
+            self.unjudged[FOREIGN] += 1
+        else:
+            errno = strace.errno_in(line.text, name) or 0
+            for named in [named for named in numbered if line.nr in (None, numbered[named])] or [name[1]]:
+                arguments = self._arguments(architecture, named, line.text, name)
+                self.keep(line.number, architecture, named, arguments, errno=errno)
+
+    def _arguments(self, architecture: str, syscall: str, text: str, name: re.Match[str]) -> Arguments:
+        """The known arguments of a syscall, which strace prints by its name or as what it does."""
+        if not self.looked_at(architecture, syscall):
+            return {}
+        if syscall != name[1]:
+            return {0: (multiplexed.CALL_NUMBERS[syscall][name[1]],)}
+        return strace.registers_in(text, name, architecture, bool(self._is_raw))
+
+    def keep(self, number: int, architecture: str, name: str, arguments: Arguments, count: int = 1,
+             errno: int = 0) -> None:
+        """Counts a syscall by its name, with what is asked for of its arguments; the first one of a name that has a
+        number is always kept."""
+        call = architecture, name, tuple(arguments.get(at) for at in self.looked_at(architecture, name))
+        if call not in self.calls and len(self.calls) >= MOST_REMEMBERED and (
+                len(self.calls) >= 2 * MOST_REMEMBERED or call[:2] in self._names
+                or self.reader.number_of(architecture, name) is None):
+            self.unjudged[MORE] += count
+            return
+        self._names.add(call[:2])
+        seen = self.calls.setdefault(call, Seen())
+        if not seen.count:
+            seen.line, seen.log = number, self.name
+        seen.count += count
+        seen.errnos |= {errno}
 
     def _by_name(self, number: int, name: str, count: int = 1) -> None:
         """Counts a syscall by its name, in the log's own architecture."""
@@ -95,17 +177,27 @@ class Trace(Log):
         audit_value = JUDGED[self.reader.own_architecture].number if architecture is None else architecture
         of = architectures.architecture_of_record(audit_value, nr)
         if nr == SKIPPED:
-            self.count(self.unread, number, count)
+            self.unjudged[UNREAD] += count
         elif of is None or of not in self.reader.tables:
-            self.count(self.foreign, number, count)
+            self.unjudged[FOREIGN] += count
         else:
             nr -= JUDGED[of].first
             names = self.reader.tables[of].names_of(nr)
             values = {at: (value & strace.GREATEST_ARGUMENTS[of],) for at, value in arguments.items()}
             self.keep(number, of, names[0] if names else f"syscall_{nr:#x}", values, count)
 
+    def _is_other(self, number: int, line: str) -> bool:
+        """Takes a line that isn't strace's; whether it did."""
+        if self._is_record(number, line):
+            return True
+        for mark, pattern, take in self._FORMATS:
+            match = pattern.match(line) if mark in line else None
+            if match and take(self, number, match) is not False:
+                return True
+        return False
+
     def _is_record(self, number: int, line: str) -> bool:
-        """An audit record, of whatever type."""
+        """Takes an audit record, of whatever type; whether the line is one."""
         kind = audit_records.kind_of(line)
         if kind is None:
             return audit_records.OTHER.search(line) is not None
@@ -114,70 +206,62 @@ class Trace(Log):
             if kind[0] in audit_records.SYSCALL_KINDS:
                 record = audit_records.syscall_in(line, kind[1], self.reader.tables)
                 values = {at: int(text, 16) for at, text in enumerate(record.arguments) if HEXADECIMAL.fullmatch(text)}
-                self._by_number(number, record.number, values, architecture=record.architecture)
             else:
-                record = audit_records.record_in(line, kind[1], self.reader.tables)
-                self._by_number(number, record.number, {}, architecture=record.architecture)
+                record, values = audit_records.record_in(line, kind[1], self.reader.tables), {}
+            self._by_number(number, record.number, values, architecture=record.architecture)
         except audit_records.Malformed as why:
             self.fault = self.fault or f"line {number} can't be read: {why}"
-            self.count(self.unread, number)
+            self.unjudged[UNREAD] += 1
         return True
 
-    def _is_perfs(self, number: int, line: str) -> bool:
-        match = PERF.match(line)
-        if not match:
-            return False
+    def _take_loss(self, _: int, match: re.Match[str]) -> None:
+        self.unjudged[LOST] += int(match[1] or match[2])
+
+    def _take_perf(self, number: int, match: re.Match[str]) -> None:
         thread, continued, begun = match.groups()
-        if continued:
-            if (thread, continued) in self._interrupted:
-                del self._interrupted[thread, continued]
-                return True
-        elif line.endswith("..."):
+        if continued and (thread, continued) in self._interrupted:
+            del self._interrupted[thread, continued]
+            return
+        if begun and match.string.endswith("..."):
             self._interrupted[thread, begun] = None
             if len(self._interrupted) > PENDING:
                 del self._interrupted[next(iter(self._interrupted))]
         self._by_name(number, continued or begun)
-        return True
 
-    def _is_counted(self, number: int, line: str) -> bool:
-        match = COUNTED.match(line)
-        if match:
-            self._by_name(number, match[1], int(match[2]))
-        return match is not None
+    def _take_count(self, number: int, match: re.Match[str]) -> None:
+        self._by_name(number, match[1], int(match[2]))
 
-    def _is_map(self, number: int, line: str) -> bool:
-        match = MAP.match(line)
-        key = match[1].strip() if match else ""
-        probe = PROBE.fullmatch(key)
-        if match and probe:
-            self._by_name(number, probe[1], int(match[2]))
-        elif match and re.fullmatch("[0-9]{1,10}", key) and int(key) <= SKIPPED:
-            self._by_number(number, int(key), {}, int(match[2]))
-        else:
-            return False
-        return True
+    def _take_map(self, number: int, match: re.Match[str]) -> bool:
+        name, nr, count = match.groups()
+        if name:
+            self._by_name(number, name, int(count))
+        elif int(nr) <= SKIPPED:
+            self._by_number(number, int(nr), {}, int(count))
+        return bool(name) or int(nr) <= SKIPPED
 
-    def _is_sys_enter(self, number: int, line: str) -> bool:
-        match = SYS_ENTER.search(line)
-        if match:
-            values = [int(text, 16) for text in match[2].split(", ")]
-            self._by_number(number, int(match[1]) % (1 << 32), dict(enumerate(values)))
-        return match is not None
+    def _take_sys_enter(self, number: int, match: re.Match[str]) -> None:
+        values = [int(text, 16) for text in match[2].split(", ")]
+        self._by_number(number, int(match[1]) % (1 << 32), dict(enumerate(values)))
 
-    def _is_sysdigs(self, number: int, line: str) -> bool:
-        match = SYSDIG.match(line)
-        if not match:
-            return False
-        name, generic = match[2], GENERIC.search(line, match.end())
+    def _take_sysdig(self, number: int, match: re.Match[str]) -> None:
+        name, generic = match[2], GENERIC.search(match.string, match.end())
         if match[1] == "<" or name in NO_SYSCALLS:
-            return True
+            return
         if name == "syscall" and generic is None:
-            self.count(self.unread, number)
+            self.unjudged[UNREAD] += 1
         elif name == "syscall":
             self._by_name(number, generic[1])
         else:
             self._by_name(number, f"{name} or {SEVERAL[name]}" if name in SEVERAL else SYSDIG_NAMES.get(name, name))
-        return True
+
+    def _take_heading(self, _: int, __: re.Match[str]) -> None:
+        """A heading has no syscall."""
+
+    # What programs beside strace write: what each such line has somewhere, its pattern, and what takes it, unless that
+    # says that it didn't.
+    _FORMATS = (("", LOSSES, _take_loss), ("): ", PERF, _take_perf), ("@", MAP, _take_map),
+                ("sys_enter: NR ", SYS_ENTER, _take_sys_enter), (") ", SYSDIG, _take_sysdig),
+                ("", COUNTED, _take_count), ("", HEADINGS, _take_heading))
 
     def add_profile(self, text: str) -> None:
         """Takes a profile that was made of a log: each syscall that it allows, with arguments that aren't known."""
@@ -204,7 +288,7 @@ def _read(name: str, lines: Iterator[str], trace: Trace) -> None:
         return
     for number, line in itertools.chain([(number, line)], numbered):
         trace.add(number, line)
-        if trace.not_remembered.count > MOST_NOT_REMEMBERED:
+        if trace.unjudged[MORE] > MOST_NOT_REMEMBERED:
             raise program.ToolError(f"the log has more than {MOST_REMEMBERED + MOST_NOT_REMEMBERED} syscalls with "
                                     "other names or arguments: log fewer syscalls by strace -e trace=..")
     trace.end()

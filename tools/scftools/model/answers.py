@@ -148,8 +148,7 @@ class Answer:
         return self.members("defaultAction", "defaultErrnoRet")
 
     def as_profile(self, architectures: Sequence[str] = ()) -> bytes | None:
-        """A profile that gives every syscall of these architectures, by default x86-64's, this answer, or None if none
-        can."""
+        """A profile that gives each syscall of these architectures, or x86-64's, this answer, or None if none can."""
         if self.action == "USER_NOTIF" or not self.is_of_profiles:
             return None
         return json.dumps({**self.default(), "architectures": list(architectures)}).encode()

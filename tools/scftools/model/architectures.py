@@ -1,5 +1,4 @@
-"""Architectures: their AUDIT_ARCH numbers, their names on a command line and in a profile, and what scf knows of those
-that it judges."""
+"""Architectures: their AUDIT_ARCH numbers, the names that people and profiles have, and what scf knows of its own."""
 from __future__ import annotations
 
 import os
@@ -164,7 +163,8 @@ def profile_name(number: int) -> str | None:
 
 def name_in(text: str) -> str | None:
     """The name in NUMBERS of what a text names: as libseccomp, the kernel's headers, systemd or people call it."""
-    name = re.sub("^(?:SCMP|AUDIT)_ARCH_", "", text.upper().replace("-", "_"))
+    name = text.upper().replace("-", "_")
+    name = name.removeprefix(next(filter(name.startswith, (PREFIX, "AUDIT_ARCH_")), ""))
     name = PREFIX + OTHER_NAMES.get(name, name)
     return name if name in NUMBERS else None
 

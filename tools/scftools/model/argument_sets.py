@@ -158,8 +158,7 @@ class Sets:
         return self._variables[node]
 
     def for_some(self, node: int, first: int, end: int = LEAF_VARIABLE) -> int:
-        """The projection of a set: what is in it for some values of the variables from `first` up to `end`, on which it
-        doesn't depend."""
+        """The projection of a set: what is in it for some values of the variables from `first` up to `end`."""
         memo = self._projected.setdefault((first, end), {})
 
         def visit(now: int) -> int:
@@ -229,8 +228,7 @@ class Sets:
         return tuple(arguments)
 
     def agreeing(self, variables: range, value: int, mask: int, greater: int = EMPTY_SET) -> int:
-        """Where variables, the highest bit first, agree with a value in these bits; if `greater` is ALL, or are greater
-        in them."""
+        """Where variables, highest bit first, agree with a value in these bits; or exceed it, if `greater` is ALL."""
         node = FULL_SET
         for at, variable in enumerate(reversed(variables)):
             if mask >> at & 1:

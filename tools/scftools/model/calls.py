@@ -4,6 +4,7 @@ from __future__ import annotations
 from ..base.values import Pattern, dataclass
 from . import architectures, constants, tables
 from .answers import FIRST_X32, I386_NUMBER, X86_64
+from .architectures import Architecture
 from .tables import Table
 
 # The fields of a record, by the names of scf's options, in scf's order.
@@ -65,18 +66,20 @@ class Call:
         return architectures.architecture_of_record(self.architecture, self.number)
 
     @property
+    def judged(self) -> Architecture | None:
+        """The architecture that it is of, if scf judges that."""
+        return architectures.JUDGED.get(self.abi or "")
+
+    @property
     def bits(self) -> int:
         """The bits of an argument, as a profile compares them."""
-        judged = architectures.JUDGED.get(self.abi or "")
-        return 64 if judged is None else judged.bits
+        return 64 if self.judged is None else self.judged.bits
 
     def names(self, table: Table) -> list[str]:
         """Its names: an x86-64 syscall's in this table, another one's in the table of its architecture."""
-        if self.is_native:
-            return table.names_of(self.number)
-        judged = architectures.JUDGED.get(self.abi or "")
-        own_table = None if judged is None else tables.architecture_table(judged.oci)
-        return [] if own_table is None or judged is None else own_table.names_of(self.number - judged.first)
+        judged = self.judged
+        own_table = table if self.is_native else None if judged is None else tables.architecture_table(judged.oci)
+        return [] if own_table is None else own_table.names_of(self.number - judged.first)
 
     def words(self) -> list[str]:
         """The options of scf that give this record."""

@@ -68,8 +68,16 @@ def _unlike() -> dict[str, set[str]]:
 @functools.lru_cache(None)
 def numbers_on(architecture: str) -> dict[str, int]:
     """The constants that are on the architecture of this OCI name what they are on x86-64, and their numbers."""
+    if architecture == architectures.NATIVE:
+        return numbers()
     unlike = _unlike().get(architecture)
     return {} if unlike is None else {name: number for name, number in numbers().items() if name not in unlike}
+
+
+@functools.lru_cache(None)
+def _ordered(architecture: str) -> list[str]:
+    """The names of these constants in their order."""
+    return sorted(numbers_on(architecture))
 
 
 def number_of(name: str, architecture: str) -> int:
@@ -101,24 +109,17 @@ def _width(architecture: str) -> int:
     return 64 if row is None else row.register_bits
 
 
-def _negative(text: str, architecture: str) -> str | None:
-    number, width = number_in(text[1:]), _width(architecture)
-    if text[:1] != "-" or number is None:
-        return None
-    if number > 1 << width - 1:
-        raise program.ToolError(f"{text} has more than {width} bits")
-    return hex(-number % (1 << width))
-
-
 def argument_in(text: str, architecture: str) -> str:
     """An argument as scf takes it: given as a number, as a negative one (-1), or as constants and numbers with `|`.
 
     A negative number has 64 bits, on i386 and arm 32. What is neither is left to scf, which refuses it. Raises
     ToolError if a constant isn't known on the architecture of this OCI name.
     """
-    negative = _negative(text, architecture)
-    if negative is not None:
-        return negative
+    number, width = number_in(text.removeprefix("-")), _width(architecture)
+    if text.startswith("-") and number is not None:
+        if number > 1 << width - 1:
+            raise program.ToolError(f"{text} has more than {width} bits")
+        return hex(-number % (1 << width))
     parts = [part.strip() for part in text.split("|")]
     octal = next((part for part in parts if re.fullmatch("0[0-7]{1,30}", part) and int(part) != int(part, 8)), None)
     if octal is not None:
@@ -127,7 +128,7 @@ def argument_in(text: str, architecture: str) -> str:
     if "|" not in text and not C_IDENTIFIER.fullmatch(text):
         return text
     arguments = (_part(part, text, architecture) for part in parts)
-    return hex(functools.reduce(operator.or_, arguments) % (1 << _width(architecture)))
+    return hex(functools.reduce(operator.or_, arguments) % (1 << width))
 
 
 # More constants than these are shown as a number, and of so many zeros at the end of a call each by itself. Numbers
@@ -148,23 +149,25 @@ class Family:
     ranks: dict[str, int] = field(default_factory=dict)
 
     @classmethod
-    def read(cls, words: Sequence[str], numbers_by_name: dict[str, int]) -> Family:
-        """The family of the table's words: the mask, and names, or the beginnings of names before `*`, that are in the
-        family, or after `-` are not. Of two constants with one number the first in the list of numbers is kept."""
+    def read(cls, words: Sequence[str], architecture: str) -> Family:
+        """The family of the table's words on the architecture of this OCI name: the mask, and names, or the beginnings
+        of names before `*`, that are in the family, or after `-` are not. Of two constants with one number the first in
+        the list of numbers is kept."""
         masks = [word for word in words if word.startswith("0")]
         patterns = [word for word in words if not word.startswith("0")]
         family = cls(int(masks[-1], 0) if masks else 0)
         rank_of: dict[str, int] = {}
-        ordered = sorted(numbers_by_name)
+        ordered = _ordered(architecture)
         for rank, pattern in enumerate(patterns):
             name = pattern.strip("-*")
             begin = bisect.bisect_left(ordered, name)
             end = bisect.bisect_left(ordered, name + "~") if pattern.endswith("*") else bisect.bisect(ordered, name)
             rank_of.update(dict.fromkeys(ordered[begin:end], rank))
-        for name, number in numbers_by_name.items():
-            rank = rank_of.get(name)
+        numbers_by_name = numbers_on(architecture)
+        for name in filter(rank_of.__contains__, numbers_by_name):
+            number, rank = numbers_by_name[name], rank_of[name]
             # a bit of the sign of 32 bits would be 33 bits of a register
-            if rank is not None and not patterns[rank].startswith("-") and number > -SMALL:
+            if not patterns[rank].startswith("-") and number > -SMALL:
                 number, family.ranks[name] = number % WORD_VALUES, rank
                 if number & ~family.mask == 0:
                     family.of_mask.setdefault(number, name)
@@ -215,15 +218,7 @@ def _words() -> tuple[dict[str, list[str]], dict[str, list[str]]]:
 @functools.lru_cache(None)
 def _family(name: str, architecture: str) -> Family:
     """A family, of constants that are on an architecture what they are on x86-64."""
-    return Family.read(_words()[0][name], numbers_on(architecture))
-
-
-def _number_text(value: int, kind: str) -> str:
-    if kind == ADDRESS:
-        return hex(value) if value else "NULL"
-    if value >= REGISTER_VALUES - SMALL:
-        return str(value - REGISTER_VALUES)
-    return str(value) if value < SMALL else hex(value)
+    return Family.read(_words()[0][name], architecture)
 
 
 def _value_text(value: int, kind: str, family: Family | None) -> str:
@@ -232,13 +227,18 @@ def _value_text(value: int, kind: str, family: Family | None) -> str:
     if kind == HALF and value >= REGISTER_VALUES - WORD_VALUES // 2:
         masked = value % WORD_VALUES
     named = family.describe(masked) if family is not None and masked < WORD_VALUES else None
-    return _number_text(value, kind) if named is None else named
+    if named is not None:
+        return named
+    if kind == ADDRESS:
+        return hex(value) if value else "NULL"
+    if value >= REGISTER_VALUES - SMALL:
+        return str(value - REGISTER_VALUES)
+    return str(value) if value < SMALL else hex(value)
 
 
 def family_of(name: str, index: int, values: Mapping[int, int],
               architecture: str = architectures.NATIVE) -> Family | None:
-    """The constants of an argument on the architecture of this OCI name, given the arguments that are known, by their
-    indices."""
+    """The constants of an argument on an OCI architecture, given the arguments that are known, by their indices."""
     families, calls = _words()
     words = calls.get(name, [])
     first = next((at for at, word in enumerate(words) if word in families), index)

@@ -51,8 +51,7 @@ class Entry:
 
     @property
     def alternatives(self) -> Sequence[Sequence[Condition]]:
-        """Its conditions, all of which hold at once; or if two are on one argument, which only a runtime's reading has,
-        each alone."""
+        """Its conditions, which hold at once; of two on one argument, which only runtimes' readings have, each."""
         is_repeated = len({condition.index for condition in self.conditions}) < len(self.conditions)
         return [(condition,) for condition in self.conditions] if is_repeated else [self.conditions]
 

@@ -12,6 +12,7 @@ from collections.abc import Iterator, Sequence
 from ..base import json_places
 from ..base.values import Any, Pattern, dataclass
 from . import entries
+from .answers import Answer
 from .entries import LONGEST_NUMBER
 
 DEEPEST_JSON = 127
@@ -131,6 +132,12 @@ def architectures_of(data: bytes) -> tuple[str, ...]:
     return tuple(name for name in names if isinstance(name, str)) if isinstance(names, list) else ()
 
 
+def default_of(data: bytes) -> Answer | None:
+    """The answer of a profile to what it doesn't name; None if it can't be read."""
+    top = _top(data)
+    return entries.default_of(top) if isinstance(top.get("defaultAction"), str) else None
+
+
 def _listed(top: dict[str, Any]) -> list[object]:
     """The entries of an object; none if it has no list of them."""
     listed = top.get("syscalls")
@@ -242,9 +249,8 @@ def unread_members(data: bytes) -> Iterator[tuple[str, str, Sequence[str]]]:
 def errno_by_name(data: bytes) -> str | None:
     """Where a profile has an errno by name, which only podman reads, or None if it has none."""
     top = _top(data) if any(member in data for member in (b'errno"', b'defaultErrno"', b"\\u")) else {}
-    holders = [("the profile", "defaultErrno", top), *((f"entry {at}", "errno", entry)
-                                                       for at, entry in enumerate(_listed(top)))]
-    errnos = ((where, name, holder.get(name)) for where, name, holder in holders if isinstance(holder, dict))
+    errnos = ((where, name, value.get(name)) for where, value, members in _objects(top) if isinstance(value, dict)
+              for name in ("defaultErrno", "errno") if name in members)
     return next((f"{where} has {name} {json.dumps(value)}" for where, name, value in errnos if value), None)
 
 

@@ -17,8 +17,7 @@ NEAR, NEAR_MEMBER = 0.75, 0.7
 
 
 def _blanked(name: str) -> list[str]:
-    """A name with a blank for each of its letters in turn; no digit is one, since a name with another digit may be a
-    newer syscall's."""
+    """A name with a blank for each letter in turn; not for a digit, since another digit may be a newer syscall's."""
     return [f"{name[:at]} {name[at + 1:]}" for at, letter in enumerate(name) if letter.isalpha()]
 
 
@@ -85,8 +84,7 @@ def read_table(name: str | None, architecture: Architecture = JUDGED[NATIVE]) ->
 
 @functools.lru_cache(None)
 def architecture_table(name: str) -> Table | None:
-    """The table that comes with scf of an architecture, by its OCI name, or None if none does. x32's has its numbers
-    without 0x40000000."""
+    """The table that comes with scf of an OCI architecture, if one does. x32's has its numbers without 0x40000000."""
     try:
         with open(JUDGED[name].file, "rb") as file:
             return Table(file.read())
@@ -109,18 +107,10 @@ class Tables:
         """Whether they are x86-64's alone."""
         return list(self.of) == [NATIVE]
 
-    @functools.cached_property
-    def _numbers(self) -> dict[str, dict[str, int]]:
-        """The numbers of each syscall."""
-        numbers: dict[str, dict[str, int]] = {}
-        for oci, table in self.of.items():
-            for name, number in table.numbered():
-                numbers.setdefault(name, {})[oci] = number
-        return numbers
-
     def numbers_of(self, name: str) -> dict[str, int]:
         """The numbers of a syscall in those that have it, by OCI names."""
-        return self._numbers.get(name, {})
+        numbers = ((oci, table.number_of(name)) for oci, table in self.of.items())
+        return {oci: number for oci, number in numbers if number is not None}
 
     def number_of(self, name: str) -> int | None:
         """The number of a syscall in the first one that has it."""
@@ -128,7 +118,7 @@ class Tables:
 
     def has(self, name: str) -> bool:
         """Whether any of them has a syscall by this name."""
-        return self.number_of(name) is not None
+        return any(table.number_of(name) is not None for table in self.of.values())
 
     @property
     def names(self) -> list[str]:
@@ -141,14 +131,10 @@ class Tables:
         return self.of.get(NATIVE) or next(iter(self.of.values()))
 
     @property
-    def reading_words(self) -> list[str]:
-        """The option by which scf reads the profile."""
-        return [] if self.reading == profiles.STRICT else [f"--reading={self.reading}"]
-
-    @property
     def words(self) -> list[str]:
         """The options by which scf judges these architectures, and reads the profile."""
-        return [*([] if self.is_native else ["--architectures"]), *self.reading_words]
+        reading = [] if self.reading == profiles.STRICT else [f"--reading={self.reading}"]
+        return [*([] if self.is_native else ["--architectures"]), *reading]
 
     @property
     def parts(self) -> list[tuple[str, bytes]]:

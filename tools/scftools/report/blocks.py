@@ -15,8 +15,7 @@ OF_ALL = ("profile", "table", "number", "command", "input")
 
 def blocks_of(inspection: Inspection, judge: Callable[[Stack], Any],
               unfiltered: Callable[[Stack, int], Any]) -> list[Any]:
-    """A block for each distinct stack, the worst first, and before all that of threads that aren't confined; a fault of
-    all stacks is reported once."""
+    """A block for each distinct stack, unconfined threads first, then the worst; a fault of all stacks once."""
     # strict mode allows four syscalls, which no profile can express
     unconfined = [unfiltered(stack, program.NEGATIVE)
                   for stack in inspection.stacks if not stack.filters and not stack.is_strict]

@@ -1,5 +1,4 @@
-"""Changes: an old and a new profile compared syscall by syscall, by all that scf says they answer differently; in lines
-and as JSON."""
+"""Changes: an old and a new profile syscall by syscall, by all that scf says they answer differently; also as JSON."""
 from __future__ import annotations
 
 import math
@@ -14,9 +13,11 @@ from ..model.calls import Call
 from ..ask import questions, reasons
 from ..ask.explanation import MORE_SPLITS, join_names
 from ..ask.reasons import Reason
+from ..ask.regions import Region
 from ..ask.verdicts import (FAILING_WORDS, LESS, MORE, OTHERWISE, SAME, SAME_DISPOSITION, UNDECIDED, UNFINISHED, Report,
                             Verdict, relation_json)
-from .compare import ProfileComparison, Side
+from .compare import ProfileComparison
+from .pair import Side
 
 OLD, NEW = "old", "new"
 BOTH_WAYS = (OLD, NEW), (NEW, OLD)
@@ -97,10 +98,10 @@ def _kind(old: Answer, new: Answer) -> str:
     return MORE if before < after else LESS if before > after else OTHERWISE
 
 
-def _of_number(pair: ProfileComparison, architecture: Architecture, number: int) -> dict[str, Call] | None:
-    """The kinds of change of a number, each with an example; None if the differences don't tell."""
+def _of_number(here: Sequence[Region], architecture: Architecture, number: int) -> dict[str, Call] | None:
+    """The kinds of change of a number with these differences, each with an example; None if they don't tell."""
     kinds: dict[str, Call] = {}
-    for region in pair.differences.of_number(Call(architecture.first + number, architecture.number)):
+    for region in here:
         if not region.is_decided:
             return None
         call = region.call_of(architecture.first + number, architecture.number)
@@ -118,12 +119,14 @@ def _reasons(pair: ProfileComparison, call: Call) -> dict[str, Reason]:
 def _of_calls(pair: ProfileComparison) -> list[Change]:
     """The syscalls that differ: first more permissive, then stricter, then others. Where the differences don't tell,
     a number for which scf has an example may have others."""
-    changes = []
+    changes, differences = [], pair.differences
     for name, table in pair.named.items():
         architecture = JUDGED[name]
-        listed = [(number, tuple(table.names_of(number)), _of_number(pair, architecture, number))
+        numbers = differences.of_architecture(architecture)
+        listed = [(number, tuple(table.names_of(number)),
+                   _of_number(numbers.of(architecture.first + number), architecture, number))
                   for number in sorted(table.numbers())]
-        if pair.differences.regions is None or None in [kinds for _, _, kinds in listed]:
+        if differences.regions is None or None in [kinds for _, _, kinds in listed]:
             listed = [(line.number, line.names, {UNDECIDED if line.verdict.fails else line.verdict.word:
                                                  line.verdict.call}) for line in pair.calls_of(name, SAME)]
         changes += [Change(number, names, kind, call, _reasons(pair, call) if call else {}, architecture)
@@ -157,8 +160,7 @@ def changes_of(pair: ProfileComparison, report: Report) -> Changes:
 
 
 def _by(reason: Reason, side: Side) -> str:
-    """The reason of an answer in a word or two: an entry by its index in the user's profile, the default, or
-    another."""
+    """The reason of an answer in a word or two: an entry by its index in the user's profile, or the default or such."""
     if reason.is_stub or reason.is_foreign:
         return "stub" if reason.is_stub else "foreign"
     index = reasons.index_of(reason, side.origins)
@@ -201,8 +203,7 @@ def _entries(changes: Changes) -> Iterator[str]:
 
 
 def _apart(subject: str, of_sides: dict[str, Sequence[str]]) -> Iterator[str]:
-    """Counts of the names or architectures that scf leaves out of each profile, and those that it leaves out of one
-    alone."""
+    """Counts of what scf leaves out of each profile, names or architectures, and what it leaves out of one alone."""
     counts = {side: len(set(names)) for side, names in of_sides.items()}
     if not any(counts.values()):
         return

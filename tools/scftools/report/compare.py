@@ -1,117 +1,26 @@
-"""Comparisons of two sides, each filters or a profile: what scf says over each scope, and how both sides are called."""
+"""Comparisons of filters with a profile, of two stacks of filters, and of two profiles, by what scf says of each."""
 from __future__ import annotations
 
 import functools
 from collections.abc import Sequence
 
 from ..base import program
-from ..base.values import Any, Pattern, dataclass, field, replace
-from ..model import architectures, bundles, entries, profiles, tables
-from ..model.answers import Answer
+from ..base.values import Any, dataclass, field, replace
+from ..model import architectures, bundles, profiles, tables
 from ..model.architectures import JUDGED, Architecture
 from ..model.calls import SKIPPED, Call
-from ..model.profiles import Origin, Profile
+from ..model.profiles import Origin
 from ..model.tables import Table, Tables
 from ..ask import client, other_abis, reasons, regions, verdicts
 from ..ask.client import Fault, Refusal
 from ..ask.differences import EVERY_RECORD, Differences, beyond
 from ..ask.other_abis import AbiAccess
 from ..ask.reasons import Reason
-from ..ask.sides import Sides
-from ..ask.verdicts import (ALL, CALLS, FOR_OTHER_ABI, LESS, LISTED, MORE, NATIVE_SCOPE, NO_LESS, NO_MORE, RELATIONS,
-                            SAME, SCOPES, UNDETERMINED, UNFINISHED, NamedCall, Report, Verdict, checked)
+from ..ask.verdicts import (ALL, CALLS, FOR_OTHER_ABI, LISTED, NATIVE_SCOPE, NO_LESS, RELATIONS, SAME, SCOPES,
+                            UNDETERMINED, UNFINISHED, NamedCall, Report, Verdict, checked)
 from ..forms.filters import Filter
 from ..forms.profile_inputs import ProfileInput
-
-# Both answers, in scf's lines of a difference or in its line of a syscall; and the words that depend on which side is
-# judged, with those where it is the other one.
-ANSWERS = Pattern(r"(?:filter|profile) (\w+ \w+)([\n ])(?:profile|beside) (\w+ \w+)")
-TURNING = Pattern(r"(?m)(^| )(no more|no less|more|less)(?= args|$)")
-TURNED = {NO_MORE: NO_LESS, NO_LESS: NO_MORE, MORE: LESS, LESS: MORE}
-
-
-def default_of(profile: bytes) -> Answer | None:
-    """The answer of a profile to what it doesn't name."""
-    top = entries.parse_seccomp(profile)
-    return entries.default_of(top) if top is not None and "defaultAction" in top else None
-
-
-@dataclass(frozen=True)
-class Side:
-    """Filters, oldest first, or a profile, of a resolved one with where its entries come from."""
-
-    filters: Sequence[Filter] = ()
-    profile: bytes | None = None
-    origins: Sequence[Origin] | None = None
-
-    @property
-    def noun(self) -> str:
-        return "profile" if self.profile is not None else "filter" + "s" * (len(self.filters) > 1)
-
-
-class Pair(Sides):
-    """Two sides as they are shown. The relation and all verdicts are scf's, of the left side to the right one. The left
-    one is judged by the right one, or in a turned pair the right one; in a diff the new side is judged by the old
-    one."""
-
-    is_turned = is_diff = False
-    # scf's words for both sides
-    kinds = "filter", "profile"
-    sides: tuple[Side, Side]
-
-    @property
-    def names(self) -> tuple[str, str]:
-        """The words for both sides in lines and objects, the left one first."""
-        return self.kinds if not self.is_diff else ("old", "new") if self.is_turned else ("new", "old")
-
-    @property
-    def judging(self) -> int:
-        """Which side judges: 0 for the left one."""
-        return 0 if self.is_turned else 1
-
-    def in_order(self, left: Any, right: Any) -> tuple[Any, Any]:
-        """What belongs to both sides, in the order in which they are shown: the judged side is the first, and in a
-        diff the last."""
-        return (right, left) if self.is_turned != self.is_diff else (left, right)
-
-    def title(self, at: int) -> str:
-        """What a side is called in sentences."""
-        is_other = at == self.judging and (self.sides[0].profile is None) == (self.sides[1].profile is None)
-        kind = self.names[at] if self.is_diff else "other" if is_other else ""
-        return " ".join(filter(None, ["the", kind, self.sides[at].noun]))
-
-    def word(self, word: str) -> str:
-        """A relation or the word of a verdict, as it is of the judged side to the other one; or scf's word for that."""
-        return TURNED.get(word, word) if self.is_turned else word
-
-    def texts(self, lines: Sequence[str]) -> list[str]:
-        """Lines of scf, or of syscalls, as they are printed."""
-        if self.names == ("filter", self.beside) and not self.is_turned:
-            return list(lines)
-        (first, answer), (second, other) = self.in_order(*zip(self.names, (r"\1", r"\3")))
-        text = ANSWERS.sub(rf"{first} {answer}\2{second} {other}", "\n".join(lines))
-        return TURNING.sub(lambda match: match[1] + self.word(match[2]), text).split("\n")
-
-    def fault(self, fault: Fault) -> Fault:
-        """A fault of scf, as it is printed."""
-        return fault
-
-    def printed(self, report: Report) -> Report:
-        """A report with its lines as they are printed."""
-        lines = self.texts(report.lines) if report.fault is None else [self.fault(report.fault).line]
-        return replace(report, lines=tuple(lines))
-
-    def run_by_stub(self, scope: str | None = None) -> tuple[Any, int, Report]:
-        """The comparison, which a runtime's stub may change, and scf's status and report over a scope."""
-        return (self, *self.run(scope))
-
-    @functools.cached_property
-    def named_calls(self) -> list[NamedCall] | None:
-        """The syscalls in the tables of which the relation isn't proved; None if scf refuses to say."""
-        try:
-            return self.of_calls()
-        except Refusal:
-            return None
+from .pair import TURNED, Pair, Side
 
 
 @dataclass
@@ -137,7 +46,7 @@ class Comparison(Pair):
     def sides(self) -> tuple[Side, Side]:  # type: ignore
         return Side(self.filters), Side((), self.profile, self.origins)
 
-    @property
+    @functools.cached_property
     def tables(self) -> Tables:
         """The tables of the architectures that are judged, and how the profile is read."""
         judged = tables.tables_of_profile(self.profile, self.table, self.is_native, self.architecture)
@@ -149,28 +58,14 @@ class Comparison(Pair):
         return NATIVE_SCOPE if self.tables.is_native else LISTED
 
     @property
-    def facts(self) -> Profile | None:
-        """The profile as the tools themselves read it."""
-        return profiles.parse_profile(self.profile)
-
-    @property
     def stacks(self) -> list[list[bytes]]:
         return [[each.data for each in self.filters]]
 
     def bundle(self, judged: Tables, is_by_call: bool = False) -> bytes:
         return bundles.comparison_bundle(self.stacks[0], self.profile, judged)
 
-    def run(self, scope: str | None = None, relation: str | None = None) -> tuple[int, Report]:
-        """scf's exit status and report, for this relation or the comparison's own, by default over all architectures
-        that are judged. Over all records the verdict is `undetermined` if the syscall that decides is of an
-        architecture that the profile names, and scf has no table of it."""
-        status, report = self.run_unchecked(scope, relation)
-        self.check(report)
-        return status, report
-
     def run_by_stub(self, scope: str | None = None) -> tuple[Comparison, int, Report]:
-        """The same without runc's stub if that differs and the filters answer its first number on no architecture as it
-        does."""
+        """The same without runc's stub if that differs and the filters answer its first number nowhere as it does."""
         comparison, (status, report) = self, self.run_unchecked(scope)
         if self.stub and report.verdict is not None and not report.verdict.holds and \
                 not any(self.of_numbers(name, first, first).holds for name, first in self.stub.items()):
@@ -180,7 +75,8 @@ class Comparison(Pair):
         return comparison, status, report
 
     def run_unchecked(self, scope: str | None = None, relation: str | None = None) -> tuple[int, Report]:
-        """The same without a second look at the record that is shown."""
+        """Over all records the verdict is `undetermined` if the syscall that decides is of an architecture that the
+        profile names, and scf has no table of it."""
         scope, relation = scope or self.scope, relation or self.relation
         # (other ABIs are told by the differences alone, which also tell whether all holds)
         known = self.known_verdict(scope, relation) if scope != ALL and self.abis and "splits" not in client.limits \
@@ -188,7 +84,7 @@ class Comparison(Pair):
         if known is not None and known.holds:
             status, report = known.status, Report.of(known)
         else:
-            status, report = self.by_call(relation) if scope == CALLS else self.asked(SCOPES[scope], relation)
+            status, report = super().run_unchecked(scope, relation)
         if report.verdict is None:
             return status, report
         beside = left_out(self.profile, self.tables)
@@ -211,8 +107,7 @@ class Comparison(Pair):
                        verdict=replace(report.verdict, word=UNDETERMINED, profile=None))
 
     def _with_other_abis(self, report: Report, scope: str, relation: str) -> Report:
-        """The report with the verdict on other ABIs, where that is worse; call by call with a line for each of which
-        some syscall isn't denied."""
+        """The report with the verdict on other ABIs, if that is worse; call by call with a line for each not denied."""
         if scope != CALLS and report.verdict.fails:
             # (they decide nothing any more, and may take long)
             return report
@@ -248,8 +143,7 @@ class Comparison(Pair):
 
     @functools.cached_property
     def accesses(self) -> list[AbiAccess]:
-        """The access of each of them, by all numbers but -1, which skips one and which libseccomp's filters leave to
-        the default."""
+        """The access of each, by all numbers but -1, which skips one, and which libseccomp leaves to the default."""
         filters = self.stacks[0]
         try:
             listed = self.differences.regions if self.abis else []
@@ -270,10 +164,9 @@ class Comparison(Pair):
 
 
 def left_out(profile: bytes, judged: Tables) -> Report:
-    """A report on what scf leaves out of a profile that it takes: names that no table has, and architectures without
-    one."""
-    facts = profiles.parse_profile(profile)
-    return Report((), skipped=tuple(name for name in facts.names if not judged.has(name)) if facts is not None else (),
+    """A report on what scf leaves out of a profile: names that no table has, and architectures without one."""
+    facts, known_names = profiles.parse_profile(profile), set().union(*(table.names() for table in judged.of.values()))
+    return Report((), skipped=() if facts is None else tuple(name for name in facts.names if name not in known_names),
                   architectures=tuple(name for name in profiles.architectures_of(profile) if name not in judged.of))
 
 
@@ -312,15 +205,12 @@ class StackComparison(Pair):
     def bundle(self, judged: Tables, is_by_call: bool = False) -> bytes:
         return bundles.stacks_bundle(*self.stacks, self.table.data if is_by_call else None)
 
-    def run(self, scope: str | None = None, relation: str | None = None) -> tuple[int, Report]:
-        """scf's exit status and report, for this relation or the comparison's own. Two stacks of the same bytes need no
-        step: if scf takes them, each relation holds."""
+    def run_unchecked(self, scope: str | None = None, relation: str | None = None) -> tuple[int, Report]:
+        """Two stacks of the same bytes need no step: if scf takes them, each relation holds."""
         scope, relation = scope or ALL, relation or self.relation
         left, right = self.stacks
         if left != right:
-            status, report = self.by_call(relation) if scope == CALLS else self.asked(SCOPES[scope], relation)
-            self.check(report)
-            return status, report
+            return super().run_unchecked(scope, relation)
         limits = [f"--{name}={text}" for name, text in {"limit": "0", **client.limits}.items()]
         words = ["compare", "--beside", *SCOPES[scope], *RELATIONS[relation], *limits]
         done = client.run_scf(words, self.bundle(self.tables, scope == CALLS))
@@ -331,8 +221,7 @@ class StackComparison(Pair):
 @dataclass(frozen=True)
 class ProfileComparison(Pair):
     """Two profiles, of which scf has the left one as its filter where they aren't judged alike; x86-64's table, a
-    relation, and whether x86-64 alone is judged. All records are compared: of an architecture that neither names both
-    kill for each syscall."""
+    relation, and whether x86-64 alone is judged. All records are compared: both kill for what neither names."""
 
     left: ProfileInput
     right: ProfileInput
@@ -399,21 +288,13 @@ class ProfileComparison(Pair):
         both = {architecture.oci for architecture, _ in self.both}
         return [[oci for oci in side.of if oci not in both] for side in self.judged]
 
-    @property
+    @functools.cached_property
     def left_out(self) -> list[Report]:
         """What scf leaves out of each."""
         return [left_out(source.data, judged) for source, judged in zip(self.sources, self.judged)]
 
     def fault(self, fault: Fault) -> Fault:
         return Fault.read(fault.line.replace(self.beside, "profile", 1)) or fault
-
-    def _found_verdict(self, relation: str) -> Verdict:
-        """The verdict over all records. Raises Refusal."""
-        known = self.found.verdict(relation, EVERY_RECORD)
-        if known is not None and "splits" not in client.limits:
-            return known
-        of_tables = checked(*self.asked([], relation)).verdict
-        return self.differences.unknown if of_tables.holds and self.alone[0] else of_tables
 
     def known_verdict(self, scope: str, relation: str) -> Verdict | None:
         return self.differences.verdict(relation, EVERY_RECORD) if scope != CALLS else \
@@ -429,12 +310,15 @@ class ProfileComparison(Pair):
                 for number in sorted(table.numbers())]
 
     def run(self, scope: str | None = None, relation: str | None = None) -> tuple[int, Report]:
-        """The exit status and the report, for this relation or the comparison's own. A fault of the right profile is
-        called `beside` in both cases."""
+        """The exit status and the report, for this relation or its own. A fault of the right side is `beside`'s."""
         stacks: list[list[bytes]] = []
         try:
             stacks, relation = self.stacks, relation or self.relation
-            report = Report.of(self._found_verdict(relation), self.beside)
+            verdict = self.found.verdict(relation, EVERY_RECORD)
+            if verdict is None or "splits" in client.limits:
+                verdict = checked(*self.asked([], relation)).verdict
+                verdict = self.differences.unknown if verdict.holds and self.alone[0] else verdict
+            report = Report.of(verdict, self.beside)
             if scope == CALLS:
                 calls = self.of_calls(relation)
                 report = Report.by_call(min((call.verdict for call in calls), key=lambda verdict: verdict.order,

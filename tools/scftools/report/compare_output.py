@@ -2,27 +2,95 @@
 differ, the example with what gives each answer, what was left out, and what is at fault."""
 from __future__ import annotations
 
+import itertools
 from collections.abc import Iterator, Sequence
 
 from ..base import output
 from ..base.values import Any, dataclass, replace
 from ..model import profiles, tables
-from ..model.answers import DELEGATED, DENIED
+from ..model.answers import DELEGATED, DENIED, Answer
 from ..model.architectures import JUDGED
+from ..model.calls import ARCHITECTURE, NUMBER, Call
+from ..model.tables import Table
 from ..ask import explanation, reasons, verdicts
+from ..ask.explanation import join_names
+from ..ask.regions import Numbers, Region
 from ..ask.verdicts import (ALL, CALLS, DIFFERS, LESS, LISTED, MORE, NO_LESS, NO_MORE, SAME, UNDECIDED, UNDETERMINED,
                             Fault, NamedCall, Report, Verdict, relation_json)
 from ..forms import refusals
-from . import listing, newer
+from . import listing
 from .blocks import Block
-from .compare import Comparison, Pair, ProfileComparison, StackComparison, compare_unit
+from .compare import Comparison, ProfileComparison, StackComparison, compare_unit
 from .listing import Giver
+from .pair import Pair
 
 # What is printed of syscalls that fail a relation.
 FAILED_RELATIONS = {DIFFERS: "that differ", MORE: "answered more permissively than by {}",
                     LESS: "answered more strictly than by {}"}
 # At most so many syscalls without a verdict are listed.
 MOST_UNDECIDED = 20
+
+
+@dataclass(frozen=True)
+class Newer:
+    """Every syscall from these numbers on, all above those that a profile names, and both answers."""
+
+    bounds: dict[str, int]
+    filters: Answer
+    profile: Answer
+
+    def has(self, call: Call) -> bool:
+        return call.abi in self.bounds and call.number >= self.bounds[call.abi]
+
+    def describe(self, are_all: bool, table: Table) -> str:
+        firsts = [Call(first, JUDGED[name].number).describe(table) for name, first in self.bounds.items()]
+        return (f"{'only ' * are_all}syscalls with numbers above all that the profile names differ, the first "
+                f"{'is' if len(firsts) == 1 else 'are'} {join_names(firsts)}; both sides deny them, the filter with "
+                f"{self.filters.named()} and the profile with {self.profile.named()}")
+
+    def as_json(self) -> dict[str, object]:
+        return {"first": next(iter(self.bounds.values())), "firsts": self.bounds, "filter": self.filters.as_json(),
+                "profile": self.profile.as_json()}
+
+
+def newer_calls(comparison: Any, scope: str) -> Newer | None:
+    """The syscalls above all that a profile names, of each architecture from the first that differs on, if the filters
+    deny all of these with one answer, and those before them with the profile's default."""
+    if not isinstance(comparison, Comparison) or scope == ALL or comparison.relation != SAME or comparison.stub:
+        return None
+    default = profiles.default_of(comparison.profile)
+    if default is None or not default.denies:
+        return None
+    firsts: dict[str, int] = {}
+    answers: set[Answer | None] = set()
+    facts = profiles.parse_profile(comparison.profile)
+    for name, table in comparison.tables.of.items() if facts is not None else ():
+        numbers = {table.number_of(syscall) for syscall in facts.names} - {None}
+        if not numbers:
+            continue
+        least = JUDGED[name].first + max(numbers) + 1
+        ranges = Numbers(comparison.differences.regions, JUDGED[name]).ranges
+        differing = list(itertools.dropwhile(lambda part: not part[2], (
+            part for part in ranges or () if part[1] >= least)))
+        if differing:
+            firsts[name] = max(differing[0][0], least)
+            answers.update(_answer_to(here) for _, _, here in differing)
+    answer = answers.pop() if len(answers) == 1 else None
+    return Newer(firsts, answer, default) if answer is not None and answer.denies else None
+
+
+def _answer_to(here: Sequence[Region]) -> Answer | None:
+    """The answer of filters to all syscalls of numbers with these regions; None if it isn't one that is known."""
+    is_one = len(here) == 1 and here[0].is_decided and here[0].words.keys() <= {NUMBER, ARCHITECTURE}
+    return here[0].answer if is_one else None
+
+
+def another_call(comparison: Comparison, above: Newer) -> Verdict | None:
+    """The verdict on the syscalls that aren't among these, or None if they are the same."""
+    of_others = (comparison.of_numbers(name, JUDGED[name].first, above.bounds.get(name, JUDGED[name].last + 1) - 1)
+                 for name in comparison.tables.of)
+    of_others = itertools.chain(of_others, comparison.of_other_abis(LISTED, comparison.relation))
+    return next((verdict for verdict in of_others if not verdict.holds), None)
 
 
 def _failed(comparison: Pair, word: str) -> str:
@@ -43,12 +111,6 @@ def count_lines(comparison: Pair, calls: Sequence[NamedCall]) -> Iterator[str]:
         yield from [explanation.MORE_SPLITS] * any(call.verdict.word == UNDECIDED for call in calls)
 
 
-def _newer(comparison: Pair, scope: str) -> newer.Newer | None:
-    """The syscalls that are only newer than a profile, where they can be all that differ."""
-    is_asked = isinstance(comparison, Comparison) and scope != ALL
-    return newer.calls_of(comparison) if is_asked else None  # type: ignore
-
-
 def _call_lines(comparison: Any, report: Report, scope: str) -> tuple[list[str], list[str]]:
     """The lines before and after the explanation of scf's example, if syscalls differ; call by call they are scf's.
 
@@ -59,11 +121,11 @@ def _call_lines(comparison: Any, report: Report, scope: str) -> tuple[list[str],
         return [], []
     none_named = ["each syscall in the table gets the same answer from both sides" if comparison.relation == SAME else
                   f"no syscall in the table is among those {_failed(comparison, report.verdict.word)}"]
-    above = _newer(comparison, scope)
+    above = newer_calls(comparison, scope)
     if above is None:
         return [], [] if scope == CALLS else list(count_lines(comparison, calls)) or none_named
     others = [call for call in calls if not above.has(call.record)]
-    count, others_differ = len(calls) - len(others), newer.another_call(comparison, above)
+    count, others_differ = len(calls) - len(others), another_call(comparison, above)
     newer_lines = [above.describe(others_differ is None, comparison.table)]
     if count:
         newer_lines.append(f"syscalls in the table among these: {count}")
@@ -76,8 +138,7 @@ def _call_lines(comparison: Any, report: Report, scope: str) -> tuple[list[str],
 
 
 def _dispositions(comparison: Pair, scope: str) -> list[Verdict | None]:
-    """The verdicts on whether the judged side is nowhere more permissive than the other one, and whether nowhere
-    stricter."""
+    """The verdicts on whether the judged side is nowhere more permissive than the other, and nowhere stricter."""
     return [comparison.verdict(scope, comparison.word(relation)) for relation in (NO_MORE, NO_LESS)]
 
 
@@ -116,18 +177,6 @@ def _example_lines(comparison: Pair, verdict: Verdict, is_native: bool) -> Itera
         first, second = (answer.disposition + " to a supervisor or tracer" * (answer.disposition == DELEGATED)
                          + f" by {title}" for title, answer in answered)
         yield f"the syscall is {first}, and {second}"
-
-
-def _verdict_lines(comparison: Pair, report: Report, scope: str) -> Iterator[str]:
-    """The explanation of a verdict."""
-    verdict = report.verdict
-    if verdict is None or verdict.holds:
-        return
-    if verdict.fails or verdict.word == UNDETERMINED:
-        yield from _example_lines(comparison, verdict, scope != ALL)
-    else:
-        when, *what_to_do = explanation.what_a_row_says(report.lines[0])
-        yield from (when, *([explanation.MORE_SPLITS] if verdict.word == UNDECIDED else what_to_do))
 
 
 def _reasons(comparison: Any, verdict: Verdict) -> list[tuple[int, Any]]:
@@ -169,14 +218,6 @@ def _difference_json(comparison: Any, verdict: Verdict) -> dict[str, object]:
             holder: Any = members if name == "profile" and isinstance(comparison, Comparison) else members[name]
             holder.update(of_reason)
     return members
-
-
-def _left_out_lines(comparison: Any, report: Report) -> Iterator[str]:
-    """Lines on what was left out of a profile: skipped names, and architectures that aren't judged."""
-    if report.skipped:
-        facts = comparison.facts if isinstance(comparison, Comparison) else None
-        yield from explanation.explain_skipped(report, comparison.tables, bool(facts and facts.allows_by_default))
-    yield from explanation.explain_architectures(report)
 
 
 def _other_abi_lines(comparison: Pair, scope: str) -> Iterator[str]:
@@ -244,10 +285,16 @@ def comparison_notes(comparison: Any, report: Report, scope: str) -> Iterator[st
     if verdict and verdict.fails:
         before, after = _call_lines(comparison, report, scope)
     yield from before
+    if verdict and (verdict.fails or verdict.word == UNDETERMINED):
+        yield from _example_lines(comparison, verdict, scope != ALL)
+    elif verdict and not verdict.holds:
+        when, *what_to_do = explanation.what_a_row_says(report.lines[0])
+        yield from (when, *([explanation.MORE_SPLITS] if verdict.word == UNDECIDED else what_to_do))
     if verdict:
-        yield from _verdict_lines(comparison, report, scope)
         yield from difference_lines(comparison, verdict)
-        yield from _left_out_lines(comparison, report)
+        facts = profiles.parse_profile(comparison.profile) if isinstance(comparison, Comparison) else None
+        yield from explanation.explain_skipped(report, comparison.tables, bool(facts and facts.allows_by_default))
+        yield from explanation.explain_architectures(report)
         yield from _other_abi_lines(comparison, scope)
     yield from after
     yield from (line for _, line in _responsible_files(comparison, report, scope))
@@ -271,9 +318,9 @@ def comparison_json(comparison: Any, report: Report, scope: str, status: int) ->
         members.update(zip(("no_more", "no_less"), (known and comparison.word(known.word)
                                                     for known in _dispositions(comparison, scope))))
     if verdict and verdict.fails:
-        calls, above = calls if scope == CALLS else comparison.named_calls or (), _newer(comparison, scope)
+        calls, above = calls if scope == CALLS else comparison.named_calls or (), newer_calls(comparison, scope)
         if above:
-            members["newer"] = {**above.as_json(), "are_all": newer.another_call(comparison, above) is None}
+            members["newer"] = {**above.as_json(), "are_all": another_call(comparison, above) is None}
     members["calls"] = [{**call.as_json(), "verdict": comparison.word(call.verdict.word),
                          **call.verdict.as_json(comparison.table, comparison.names)} for call in calls]
     if not is_of_stacks:
@@ -303,8 +350,7 @@ class Judgement:
 
     @classmethod
     def of(cls, pairs: Sequence[Pair], scope: str | None) -> Judgement:
-        """That of a side by those that it is compared with, each for its architectures; with the most telling
-        example."""
+        """That of a side by all that judge it, each for its architectures; with the most telling example."""
         pair, status, report = compare_unit(pairs, scope)
         report = verdicts.most_telling(report, pair.table, lambda: pair.named_calls or ())
         return cls(pair, status, report, scope or pair.scope)

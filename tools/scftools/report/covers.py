@@ -25,8 +25,7 @@ Cube = "tuple[int, int, Alternative]"
 
 
 def _ranges(sets: Sets, values: int, index: int) -> Iterator[Condition]:
-    """Conditions other than masks that hold of some of an argument's values only: all but one, up to one, from one on.
-    """
+    """Conditions but masks that hold of some of an argument's values only: all but one, up to one, from one on."""
     others = sets.complement(values)
     if others == EMPTY_SET or values == EMPTY_SET:
         return
@@ -90,8 +89,7 @@ class _Listing:
         return tuple(condition for condition in conditions.values() if condition is not None)
 
     def find(self) -> list[Alternative] | None:
-        """The alternatives, None if they are more than ALL_LISTED. Each covers the most of what is left, of those that
-        begin at its least arguments."""
+        """The alternatives, each of which covers the most of what is left from its least on; None if too many."""
         sets, uncovered, alternatives = self.sets, self.whole, []
         while uncovered != EMPTY_SET:
             if len(alternatives) == ALL_LISTED:

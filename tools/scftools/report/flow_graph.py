@@ -6,7 +6,7 @@ the word that lead to each target; the instructions before them belong to it. Al
 from __future__ import annotations
 
 import heapq
-from collections.abc import Iterable, Iterator, Sequence
+from collections.abc import Iterator, Sequence
 
 from ..base import output
 from ..base.values import dataclass, field
@@ -137,20 +137,15 @@ def _value_text(value: int, node: Node, table: Table) -> str:
     return hex(value)
 
 
-def _range_text(low: int, high: int, node: Node, table: Table) -> str:
-    first = _value_text(low, node, table)
-    if low == high:
-        return first
-    return f"from {first} on" if high == GREATEST_WORD else f"{first} to {_value_text(high, node, table)}"
-
-
-def _edge_text(ranges: Ranges, is_rest: bool, node: Node, table: Table) -> str:
+def _edge_text(ranges: Ranges, node: Node, table: Table) -> str:
     """Which values of a word lead to a target."""
-    if is_rest:
-        return "all others"
-    shown = [_range_text(low, high, node, table) for low, high in ranges[:MOST_RANGES]]
-    more = f"and {len(ranges) - MOST_RANGES} more ranges" if len(ranges) > MOST_RANGES else ""
-    return "\n".join([*shown, *[more] * bool(more)])
+    shown = []
+    for low, high in ranges[:MOST_RANGES]:
+        first = _value_text(low, node, table)
+        shown.append(first if low == high else f"from {first} on" if high == GREATEST_WORD else
+                     f"{first} to {_value_text(high, node, table)}")
+    more = [f"and {len(ranges) - MOST_RANGES} more ranges"] * (len(ranges) > MOST_RANGES)
+    return "\n".join([*shown, *more])
 
 
 def quoted(text: str) -> str:
@@ -159,16 +154,10 @@ def quoted(text: str) -> str:
     return '"' + "".join(f"{line}\\l" for line in lines) + '"'
 
 
-def digraph(statements: Iterable[str]) -> str:
+def digraph(statements: Sequence[str]) -> str:
     """The text of a graph with these nodes and edges."""
-    head = ["digraph filter {", "    node [shape=box, fontname=monospace];", "    edge [fontname=monospace];"]
-    return "\n".join([*head, *(f"    {statement}" for statement in statements), "}"]) + "\n"
-
-
-def answer_node(name: str, label: str, disposition: str | None, more: str = "") -> str:
-    """The node of an answer, coloured by its disposition, None if that isn't known."""
-    return (f"{name} [shape=ellipse, style=filled, fillcolor={COLOURS.get(disposition, 'white')}, "
-            f"label={quoted(label)}{more}];")
+    head = ["node [shape=box, fontname=monospace];", "edge [fontname=monospace];"]
+    return "".join(["digraph filter {\n", *(f"    {statement}\n" for statement in [*head, *statements]), "}\n"])
 
 
 class Drawing:
@@ -207,7 +196,8 @@ class Drawing:
             insn = self.graph.insns[index]
             if insn.code == RETURN_CONSTANT:
                 answer = answers.Answer.of_word(insn.k)
-                yield answer_node(name, answer.named(), answer.disposition, mark)
+                yield (f"{name} [shape=ellipse, style=filled, fillcolor={COLOURS[answer.disposition]}, "
+                       f"label={quoted(answer.named())}{mark}];")
             else:
                 yield f"{name} [label={quoted(self._label(node))}{mark}];"
 
@@ -216,10 +206,11 @@ class Drawing:
             sizes = {target: sum(high - low + 1 for low, high in ranges) for target, ranges in node.targets.items()}
             fallback = max(sizes, key=lambda target: sizes[target], default=None) if node.word is not None else None
             for at, (target, ranges) in enumerate(node.targets.items()):
-                if node.word is not None:
-                    label = _edge_text(ranges, target == fallback and len(ranges) > 1, node, self.table)
-                else:
+                if node.word is None:
                     label = ("yes", "no")[at] if len(node.targets) > 1 else ""
+                else:
+                    is_rest = target == fallback and len(ranges) > 1
+                    label = "all others" if is_rest else _edge_text(ranges, node, self.table)
                 mark = MARK if (index, target) in self.edges else ""
                 yield f"{self.name_of(index)} -> {self.name_of(target)} [label={quoted(label)}{mark}];"
 

@@ -6,7 +6,7 @@ import itertools
 from collections.abc import Iterable, Iterator, Sequence
 
 from ..base import output
-from ..base.values import Pattern, dataclass, replace
+from ..base.values import dataclass, replace
 from ..model import bundles
 from ..model.answers import ACTIONS, FIRST_X32, X86_64, Answer
 from ..model.architectures import shown_name
@@ -31,7 +31,6 @@ TEXTS = {LOAD_WORD: "ld [{k}]", 0x80: "ld len", 0x81: "ldx len", 0x00: "ld #{k:#
          RETURN_CONSTANT: "ret #{k:#x}", 0x16: "ret a", 0x07: "tax", TXA: "txa",
          **{code | by: f"{name} {operand}{', {jt}, {jf}' * (code in TESTS)}" for code, name in (OF_BOTH | TESTS).items()
             for by, operand in ((0, "#{k:#x}"), (BY_X, "x"))}}
-PATH = Pattern(r"path((?: [0-9]+)+)")
 # At most so many of the last tests are printed.
 MOST_TESTS = 12
 
@@ -131,8 +130,7 @@ def _name_on(k: int, architecture: int, table: Table) -> str:
 
 
 def name_of(k: int, its: frozenset[int | None], table: Table) -> str:
-    """The names of a syscall number that a filter tests: x86-64's, unless other architectures alone come there or come
-    there, too."""
+    """The names of a syscall number that a filter tests: those of the architectures that come there, else x86-64's."""
     if None in its:
         return _name_on(k, X86_64, table) if X86_64 in its else f"number {k} of other architectures"
     if len(its) > MOST_NAMED:
@@ -210,9 +208,9 @@ class Path:
 
 def _path(status: int, lines: Sequence[str]) -> Path:
     """The answer of a run in its first line, and the path in the second one, if there is one."""
-    match = PATH.fullmatch("".join(lines[1:2]))
+    word, *indexes = "".join(lines[1:2]).split(" ")
     return Path(status, tuple(lines), verdicts.decision("".join(lines[:1])),
-                tuple(map(int, match[1].split())) if match else ())
+                tuple(map(int, indexes)) if word == "path" else ())
 
 
 def path_of(data: bytes, words: Sequence[str], with_path: bool = True) -> Path:
@@ -259,8 +257,7 @@ class StackRun:
         It runs the newest first, and of equal actions keeps the one that it has (seccomp_run_filters in
         kernel/seccomp.c).
         """
-        runs = (Giver(bpf_filter, len(self.filters) == 1, path)
-                for bpf_filter, path in zip(self.filters, self.paths))
+        runs = (Giver(bpf_filter, len(self.filters) == 1, path) for bpf_filter, path in zip(self.filters, self.paths))
         return [giver for giver in runs if giver.path.indexes and giver.path.decision.answer == answer]
 
 
@@ -323,7 +320,8 @@ def _tests(insns: Sequence[Instruction], indexes: Sequence[int], call: Call) -> 
 def last_tests(data: bytes, path: Path, call: Call, table: Table) -> tuple[int, list[str]]:
     """The last tests on a path and its end, as lines of the listing; and the number of tests before them."""
     insns = instructions(data)
-    tests, facts = list(_tests(insns, path.indexes, call)), known_facts(insns)
+    # (no jump goes backwards, so what stands behind the path tells nothing about it)
+    tests, facts = list(_tests(insns, path.indexes, call)), known_facts(insns[:path.indexes[-1] + 1])
     shown = {index: (insns[index].text, _meaning(index, insns[index], facts[index], table, len(insns)))
              for index, _ in tests[-MOST_TESTS:]}
     lines = _lines(shown.items(), len(insns), max((len(text) for text, _ in shown.values()), default=0))

@@ -25,7 +25,7 @@ from ..ask import client
 from ..ask.verdicts import Report
 from ..forms.filters import Filter
 from . import row_conditions, surface_output
-from .compare import Pair
+from .pair import Pair
 from .stack_surfaces import StackSurface
 from .surface_output import Groups
 from .surfaces import Surface
@@ -36,8 +36,8 @@ OF_COMPARISON = ("The first lines are scf's: the verdict is proved for all sysca
 ALL_DENIED, SOME, ALL_ALLOWED = "all denied", "some", "all allowed"
 # What stands before conditions.
 WHERE = " where "
-OF_SURFACES = ("scf has proved for all x86-64 syscalls and arguments what is allowed, delegated or denied, and under which "
-               "conditions.")
+OF_SURFACES = ("scf has proved for all x86-64 syscalls and arguments what is allowed, delegated or denied, and under "
+               "which conditions.")
 STYLE = """
 :root { color-scheme: light dark; --text: #1c1c1c; --page: #fdfdfc; --faint: #5c5c5c; --line: #cfcfca; --band: #f1f1ee;
   --bad: #a3140f; --warn: #7a4b00; --good: #1b5e2b; --link: #0b4f9e; }
@@ -108,8 +108,7 @@ def listed(items: Iterable[object]) -> Markup:
 
 
 def table(head: Iterable[object], rows: Iterable[Iterable[object]], kind: str) -> Markup:
-    """A table. If its kind is `rows`, they become blocks with labels on a narrow screen; if it is `scroll`, it
-    scrolls."""
+    """A table: of kind `rows` these are blocks with labels on a narrow screen, of kind `scroll` it scrolls."""
     names = list(head)
     body = [tag("tr", *(tag("td", cell, data_label=name if kind == "rows" else None)
                         for name, cell in zip(names, row))) for row in rows]

@@ -6,11 +6,12 @@ is nowhere more permissive. What is drafted here is printed only if scf has prov
 """
 from __future__ import annotations
 
+import functools
 from collections import Counter
-from collections.abc import Iterable, Iterator, Sequence
+from collections.abc import Callable, Iterable, Iterator, Sequence
 
 from ..base import output, program
-from ..base.values import dataclass, field, replace
+from ..base.values import Any, dataclass, field, replace
 from ..model import architectures, constants, profiles, tables
 from ..model.answers import DISPOSITIONS, ENOSYS, FIRST_X32, Answer
 from ..model.architectures import JUDGED, NATIVE, Architecture
@@ -36,6 +37,11 @@ UNFINISHED_TEXT = "unfinished: it takes too many steps to follow the filters: --
 EXACT, CONSTANT, UTMOST = range(3)
 
 
+def found_once(find: Callable[..., Any]) -> Any:
+    """A method that finds something once for each of its arguments."""
+    return functools.cached_property(lambda self: functools.lru_cache(None)(functools.partial(find, self)))
+
+
 def nearest(word: int | None, is_permissive: bool, has_trap_data: bool) -> Answer:
     """The answer of a profile, which may have TRAP's data, that is nearest to a filter's, with the same disposition."""
     if word is None:
@@ -56,8 +62,7 @@ def entry_of(names: Sequence[str], answer: Answer, alternative: Alternative) -> 
 
 @dataclass(frozen=True)
 class FilterAnswers:
-    """The answers of filters to some syscall numbers of an architecture: those in its table, and those at which the
-    filters' tests change."""
+    """The answers of filters to an architecture's numbers: those in its table, and those at which tests change."""
 
     architecture: Architecture
     sets: Sets
@@ -71,9 +76,6 @@ class FilterAnswers:
     is_unfinished: bool = False
     # whether their profile may have TRAP's data
     has_trap_data: bool = False
-    # the parts of answers, and what they depend on, each found once
-    known_parts: dict[tuple[Answers, bool], dict[Answer, int]] = field(default_factory=dict)
-    known_untested: dict[Answers, str | None] = field(default_factory=dict)
 
     def with_stub(self) -> FilterAnswers:
         """The answers without those to the numbers from one on that all get ENOSYS."""
@@ -81,26 +83,14 @@ class FilterAnswers:
         count = next((at for at in range(len(self.numbers), 0, -1) if self.answers[at - 1] != stub), 0)
         return replace(self, end=self.numbers[count]) if 0 < count < len(self.numbers) else self
 
-    def named(self) -> Iterator[tuple[int, str, Answers]]:
-        """The numbers that the table names, each with its first name and its answers."""
-        for number, answers in zip(self.numbers, self.answers):
-            if number < self.end and self.table.names_of(number):
-                yield number, self.table.names_of(number)[0], answers
+    def numbered(self, are_named: bool) -> list[tuple[int, Answers]]:
+        """The numbers that the table names, or doesn't, each with its answers."""
+        return [(number, answers) for number, answers in zip(self.numbers, self.answers)
+                if number < self.end and bool(self.table.names_of(number)) == are_named]
 
-    def others(self) -> Iterator[tuple[int, Answers]]:
-        """The other numbers, each with its answers."""
-        for number, answers in zip(self.numbers, self.answers):
-            if number < self.end and not self.table.names_of(number):
-                yield number, answers
-
+    @found_once
     def parts(self, answers: Answers, is_permissive: bool) -> dict[Answer, int]:
-        """The answers of a profile to the calls of a number, each with its arguments, the utmost first. Raises
-        TooMany."""
-        if (answers, is_permissive) not in self.known_parts:
-            self.known_parts[answers, is_permissive] = self._parts(answers, is_permissive)
-        return self.known_parts[answers, is_permissive]
-
-    def _parts(self, answers: Answers, is_permissive: bool) -> dict[Answer, int]:
+        """A profile's answers to the calls of a number with their arguments, the utmost first. Raises TooMany."""
         order = sorted(((nearest(word, is_permissive, self.has_trap_data), arguments) for word, arguments in answers),
                        key=lambda part: DISPOSITIONS.index(part[0].disposition), reverse=is_permissive)
         remaining, parts = FULL_SET, {}
@@ -113,16 +103,13 @@ class FilterAnswers:
 
     def unsaid(self, answers: Answers) -> Answer | None:
         """An answer to the calls of a number that no profile gives, such as ALLOW with data."""
-        return next((Answer.of_word(word) for word, _ in answers
-                     if word is not None and Answer.of_word(word) != nearest(word, True, self.has_trap_data)), None)
+        known_answers = (Answer.of_word(word) for word, _ in answers if word is not None)
+        return next((answer for answer in known_answers if answer != nearest(answer.word, True, self.has_trap_data)),
+                    None)
 
+    @found_once
     def untested(self, answers: Answers) -> str | None:
         """Why the answers to a number depend on something that no condition tests, or None. Raises TooMany."""
-        if answers not in self.known_untested:
-            self.known_untested[answers] = self._untested(answers)
-        return self.known_untested[answers]
-
-    def _untested(self, answers: Answers) -> str | None:
         if self.is_unfinished:
             return "it is unfinished"
         if any(word is None for word, _ in answers):
@@ -167,26 +154,28 @@ class Draft:
         """The default: of the utmost answers to numbers without a name the one that most numbers get."""
         if self.levels.get(None):
             return self._utmost()
-        firsts = [next(iter(self.filters.parts(answers, self.is_permissive))) for _, answers in self.filters.others()]
+        firsts = [self._first(answers) for _, answers in self.filters.numbered(False)]
         ranks = [DISPOSITIONS.index(answer.disposition) for answer in firsts]
         utmost = (max if self.is_permissive else min)(ranks, default=0)
         able = dict.fromkeys(answer for answer, rank in zip(firsts, ranks) if rank == utmost) or {self._utmost(): None}
-        counts = Counter(next(iter(self.filters.parts(answers, self.is_permissive)))
-                         for answers in self.filters.answers)
+        counts = Counter(map(self._first, self.filters.answers))
         return max(able, key=lambda answer: counts[answer])
+
+    def _first(self, answers: Answers) -> Answer:
+        """The utmost of a number's answers."""
+        return next(iter(self.filters.parts(answers, self.is_permissive)))
 
     def _alternatives(self, numbers: Iterable[int], answers: Answers, level: int,
                       default: Answer) -> Iterator[tuple[Answer, Alternative]]:
         """The entries for some numbers with these answers."""
-        parts = self.filters.parts(answers, self.is_permissive)
         if level == EXACT:
-            covers = self.filters.covers_beside(parts, default)
+            covers = self.filters.covers_beside(self.filters.parts(answers, self.is_permissive), default)
             if None not in covers.values():
                 yield from ((answer, alternative) for answer, alternatives in covers.items()
                             for alternative in alternatives or ())
                 return
             self.levels.update(dict.fromkeys(numbers, CONSTANT))
-        answer = self._utmost() if level == UTMOST else next(iter(parts))
+        answer = self._utmost() if level == UTMOST else self._first(answers)
         if answer != default:
             yield answer, ()
 
@@ -196,9 +185,9 @@ class Draft:
         table = self.filters.table
         # the numbers that get the same entries
         alike: dict[tuple[Answers, int], dict[int, str]] = {}
-        for number, name, answers in self.filters.named():
+        for number, answers in self.filters.numbered(True):
             if known_names.isdisjoint(table.names_of(number)):
-                alike.setdefault((answers, self.levels.get(number, EXACT)), {})[number] = name
+                alike.setdefault((answers, self.levels.get(number, EXACT)), {})[number] = table.names_of(number)[0]
         for (answers, level), names in alike.items():
             for answer, alternative in self._alternatives(names, answers, level, default):
                 entries.setdefault((answer, alternative), []).extend(names.values())
@@ -211,7 +200,7 @@ class Draft:
         """Whether a profile can say the answers to all numbers: no answer is one that profiles lack, the entries of
         each syscall are found, and all numbers without a name get one answer."""
         default, filters = self.default(), self.filters
-        named, others = ({answers for *_, answers in numbers} for numbers in (filters.named(), filters.others()))
+        named, others = ({answers for _, answers in filters.numbered(are_named)} for are_named in (True, False))
         return all(filters.unsaid(answers) is None for answers in named | others) and \
             all(filters.parts(answers, self.is_permissive) == {default: FULL_SET} for answers in others) and \
             all(filters.has_entries(answers, default) for answers in named)
@@ -220,7 +209,8 @@ class Draft:
         """Whether some syscall in the table may get another answer than by the filters, or isn't looked at."""
         filters, default = self.filters, self.default()
         return any(number >= filters.end for number in filters.table.numbers()) or \
-            any(self.levels.get(number) or filters.why_not(answers, default) for number, _, answers in filters.named())
+            any(self.levels.get(number) or filters.why_not(answers, default)
+                for number, answers in filters.numbered(True))
 
     def profile(self, others: Sequence[FilterAnswers] = ()) -> dict[str, object]:
         """The profile, which also lists other architectures, with those names that it and the ones before lack."""
@@ -284,9 +274,8 @@ def own_steps() -> Steps:
 @dataclass(frozen=True)
 class ProfileRequest:
     """Filters, oldest first, the table of an architecture, the architecture, the name of the runtime that reads the
-    profile, the OCI names of other architectures that the profile may list, too, the steps in which profiles are
-    found, the regions of the filters, None if they are unfinished, whether they begin with runc's stub, and whether the
-    profile may have TRAP's data."""
+    profile, the OCI names of other architectures that the profile may list, the steps in which profiles are found, the
+    filters' regions, None if unfinished, whether they begin with runc's stub, and whether TRAP may have data."""
 
     filters: Sequence[Filter]
     table: Table
@@ -303,8 +292,7 @@ class ProfileRequest:
         return [bpf_filter.data for bpf_filter in self.filters]
 
     def comparison(self, profile: dict[str, object], relation: str = SAME) -> Comparison:
-        """The comparison of the filters with a profile, which has the stub that they have if the relation is the
-        same."""
+        """The comparison of the filters with a profile, for the same relation with the stub that they have."""
         comparison = Comparison(self.filters, profiles.read_as(engines.to_bytes(profile), reading_of(profile)),
                                 self.table, OF_FILTERS[relation], architecture=self.architecture.oci,
                                 elsewhere=other_abis.NAMES)
@@ -356,20 +344,19 @@ class ProfileRequest:
 
     def answers_to_others(self) -> list[FilterAnswers]:
         """The answers of the filters in each other architecture, but those of which they kill every syscall."""
-        pairs = [(JUDGED[name], tables.architecture_table(name)) for name in self.others]
-        return [replace(self, table=table, architecture=architecture).answers() for architecture, table in pairs
-                if table is not None and not self._kills(architecture)]
-
-    def _kills(self, architecture: Architecture) -> bool:
-        """Whether the filters kill every syscall of an architecture."""
-        ranges = Numbers(self.regions, architecture).ranges
-        return ranges is not None and all(region.answer is not None and region.answer.action.startswith("KILL")
-                                          for _, _, here in ranges for region in here)
+        found = []
+        for architecture, table in ((JUDGED[name], tables.architecture_table(name)) for name in self.others):
+            ranges = Numbers(self.regions, architecture).ranges
+            are_killed = ranges is not None and all(
+                region.answer is not None and region.answer.action.startswith("KILL")
+                for _, _, here in ranges for region in here)
+            if table is not None and not are_killed:
+                found.append(replace(self, table=table, architecture=architecture).answers())
+        return found
 
 
 def _same(request: ProfileRequest, answers: FilterAnswers) -> ProvedProfile | None:
-    """The profile that answers as the filters do, if scf proves it; it lists each other architecture, too, of which scf
-    doesn't say otherwise."""
+    """The profile that answers as the filters do, and the other architectures that it lists, if scf proves it."""
     draft = Draft(answers, True)
     if not draft.may_be_same():
         return None
@@ -400,24 +387,16 @@ def _bound(request: ProfileRequest, answers: FilterAnswers, relation: str) -> Pr
             return ProvedProfile(profile, (relation,), [request.architecture.oci], calls)
         failed: Iterable[int | None]
         if report.fault is not None:
-            failed = {number for number, _, number_answers in answers.named() if len(number_answers) > 1}
+            failed = {number for number, number_answers in answers.numbered(True) if len(number_answers) > 1}
         else:
             failed = {call.number for call in request.calls(profile, relation)}
         draft.levels.update({number: min(draft.levels.get(number, EXACT) + 1, UTMOST) for number in failed or [None]})
     return None
 
 
-def _bounds(request: ProfileRequest, answers: FilterAnswers) -> list[ProvedProfile]:
-    """The nearest profiles on both sides of the filters; one that is on both stands once."""
-    bounds = [*filter(None, (_bound(request, answers, relation) for relation in (NO_LESS, NO_MORE)))]
-    if len(bounds) == 2 and bounds[0].profile == bounds[1].profile:
-        return [replace(bounds[0], relations=(NO_LESS, NO_MORE))]
-    return bounds
-
-
 def _other_number(answers: FilterAnswers, default: Answer) -> Iterator[str]:
     """A line with an example of a number that the table doesn't name, if a profile's default isn't its answer."""
-    for number, number_answers in answers.others():
+    for number, number_answers in answers.numbered(False):
         for word, arguments in number_answers:
             is_known = word is not None and all(variable < FIRST_OPEN for variable in answers.sets.variables(arguments))
             if is_known and Answer.of_word(word) != default:
@@ -431,7 +410,7 @@ def _differences(request: ProfileRequest, answers: FilterAnswers, proved: Proved
     yield f"proved: {' and '.join(RELATION_TEXTS[relation] for relation in proved.relations)} than the filters"
     # (of numbers that runc's stub answers nothing is known)
     whys = {number: "scf doesn't prove more" for number in answers.table.numbers()}
-    for number, _, number_answers in answers.named():
+    for number, number_answers in answers.numbered(True):
         whys[number] = answers.why_not(number_answers, proved.default) or whys[number]
     farther: list[NamedCall] = []
     if len(proved.relations) == 1:
@@ -453,8 +432,7 @@ def _differences(request: ProfileRequest, answers: FilterAnswers, proved: Proved
 
 
 def _covered(request: ProfileRequest, listed: Sequence[str], count: int = 1) -> Iterator[str]:
-    """Which architectures a profile lists, or so many, if it is more than one, or if the filters may allow syscalls of
-    others; and these."""
+    """The architectures that profiles, so many, list, if several, and those of which others are allowed."""
     others = [line for name in request.others if name not in listed for line in _allowed(request, JUDGED[name])]
     if others or len(listed) > 1:
         who = "the profile covers" if count == 1 else "the profiles cover"
@@ -479,7 +457,6 @@ class Result:
     profiles: Sequence[ProvedProfile] = ()
 
     def as_json(self) -> dict[str, object]:
-        """The result as one object."""
         remarks = [line[2:] for line in self.text.split("\n") if line.startswith("# ")]
         return {"status": self.status, "remarks": [*remarks, *self.remarks],
                 "profiles": [{"relations": list(proved.relations), "profile": proved.profile}
@@ -521,15 +498,17 @@ def _of_answers(request: ProfileRequest, answers: FilterAnswers, relation: str) 
         remarks = [*same.reading_remarks, *_covered(request, same.architectures), *stub]
         return Result(program.SUCCESS, same.text, remarks, [same])
     if relation == SAME:
-        bounds = _bounds(request, answers)
+        bounds = [*filter(None, (_bound(request, answers, each) for each in (NO_LESS, NO_MORE)))]
+        if len(bounds) == 2 and bounds[0].profile == bounds[1].profile:
+            # one that is on both sides stands once
+            bounds = [replace(bounds[0], relations=(NO_LESS, NO_MORE))]
         lines = list(_both_sides(request, answers, bounds))
-        if len(bounds) == 1:
-            return Result(program.UNKNOWN, bounds[0].text, [line[2:] for line in lines if line.startswith("# ")], bounds)
-        return Result(program.UNKNOWN, "".join(f"{line}\n" for line in lines), [], bounds)
+        remarks = [line[2:] for line in lines if line.startswith("# ")]
+        return Result(program.UNKNOWN, bounds[0].text, remarks, bounds) if len(bounds) == 1 else \
+            Result(program.UNKNOWN, "".join(f"{line}\n" for line in lines), [], bounds)
     bound = _bound(request, answers, relation)
     if bound is None:
-        return Result(program.UNKNOWN, "", [f"no profile was found that scf proves to be {RELATION_TEXTS[relation]} "
-                                            "than the filters"])
-    remarks = [*_differences(request, answers, bound), *bound.reading_remarks,
-               *_covered(request, bound.architectures)]
+        return Result(program.UNKNOWN, "", [
+            f"no profile was found that scf proves to be {RELATION_TEXTS[relation]} than the filters"])
+    remarks = [*_differences(request, answers, bound), *bound.reading_remarks, *_covered(request, bound.architectures)]
     return Result(program.SUCCESS, bound.text, remarks, [bound])

@@ -14,10 +14,9 @@ from ..ask.client import Refusal
 from ..ask.questions import Asker
 from ..ask.regions import FREE, GREATEST_WORD, POINTER, Numbers, Region, Word
 from ..ask.verdicts import UNFINISHED
-from ..forms import refusals
 from ..forms.filters import Filter
 from .blocks import OF_ALL, Block
-from .row_conditions import condition_text, name_of
+from .condition_texts import condition_text, name_of
 
 
 @dataclass
@@ -62,9 +61,11 @@ def conditions(region: Region, syscall: str, architecture: Architecture) -> list
     """The conditions on all arguments of a region's syscalls as C has them, which hold together."""
     terms: list[str] = []
     for index in range(POINTER, 6):
+        low, high = (region.words.get(ARGUMENTS + 2 * index + half, FREE) for half in (0, 1))
+        if low is high is FREE:
+            continue
         # (the instruction pointer has no constants)
         name, of = ("ip", "") if index == POINTER else (name_of(syscall, index), syscall)
-        low, high = (region.words.get(ARGUMENTS + 2 * index + half, FREE) for half in (0, 1))
         at = max(index, 0)
         if architecture.bits == 32 and index != POINTER:
             terms += _terms(name, at, low, of, architecture)
@@ -139,6 +140,8 @@ def of_stack(stack: Sequence[Filter], table: Table, architecture: Architecture, 
         region_list = regions.regions_of_filters(data)
         Asker(data, architecture).check(table)
     except Refusal as why:
+        from ..forms import refusals  # pylint: disable=import-outside-toplevel
+
         fault = why.fault
         sentences = [*explanation.explain_fault(fault), *refusals.stack_refusals(stack, fault)] if fault else []
         return Block(why.status, [why.line, *output.notes(sentences)],

@@ -13,6 +13,7 @@ from ..model.entries import Condition
 from ..ask import other_abis
 from ..ask.explanation import join_names
 from ..ask.verdicts import UNDECIDED
+from .condition_texts import condition_text
 from .surfaces import ROW_WORDS, Row, Surface
 
 # The width of a terminal that doesn't report one, and the least width of a column of names beside others.
@@ -24,8 +25,7 @@ OTHER_GROUP = "other"
 
 
 class Groups:
-    """The purposes of syscalls (tables/calls.groups, which names its sources): the group of each name, and the groups
-    in order."""
+    """The purposes of syscalls (tables/calls.groups names its sources): the group of each name, the groups in order."""
 
     def __init__(self) -> None:
         self.of_names: dict[str, str] = {}
@@ -40,8 +40,6 @@ class Groups:
 
 def _of_bits(row: Row, name: str, condition: Condition) -> tuple[str, str]:
     """What becomes of the calls of a syscall that have some bits, and the text of that condition."""
-    from .row_conditions import condition_text  # pylint: disable=import-outside-toplevel
-
     met = {region.answer.disposition if region.is_decided else UNDECIDED for region in row.regions
            if region.has_bits(condition.index, condition.value)}
     text = condition_text(condition, name, (), row.architecture.oci, row.architecture.bits)
@@ -49,8 +47,7 @@ def _of_bits(row: Row, name: str, condition: Condition) -> tuple[str, str]:
 
 
 def dangers(surface: Surface) -> list[dict[str, Any]]:
-    """What becomes of the dangerous syscalls that the table names, as objects: where calls of one differ, of those that
-    are dangerous."""
+    """What becomes of dangerous syscalls, as objects: where calls of one differ, of those that are dangerous."""
     rows, found = {name: row for row in surface.rows for name in row.names}, []
     for name, danger in dangerous().items():
         if name in rows:
@@ -118,8 +115,7 @@ def whole_lines(surface: Surface) -> list[str]:
     remaining = [access for access in surface.foreign if access.abi not in counted or access.not_denied is None]
     foreign = ["; ".join(other_abis.access_lines(remaining))] if remaining else []
     others = [f"{_summary(beside)} (--arch {beside.asker.architecture.name} lists them)" for beside in surface.others]
-    return [*of_others, _summary(surface), *foreign, *others,
-            f"numbers without a name: {surface.unnamed.describe()}"]
+    return [*of_others, _summary(surface), *foreign, *others, f"numbers without a name: {surface.unnamed.describe()}"]
 
 
 def details(row: Row, is_in_table: bool = False) -> list[str]:
@@ -128,10 +124,9 @@ def details(row: Row, is_in_table: bool = False) -> list[str]:
     if row.conditions is not None:
         return [row.conditions.describe()]
     name = row.names[0] if is_in_table else None
-    if row.has_examples:
-        return [f"{shown.answer.disposition} {shown.describe(name)}" for shown in row.of_regions]
-    if row.shown:
-        return [f"{disposition} {shown.describe(name)}" for disposition, shown in row.shown.items()]
+    examples = row.of_regions if row.has_examples else row.shown.values()
+    if examples or row.has_examples:
+        return [f"{shown.answer.disposition} {shown.describe(name)}" for shown in examples]
     return [row.answer.named() if is_in_table else str(row.answer)] if row.answer else []
 
 

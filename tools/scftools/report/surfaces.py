@@ -2,6 +2,7 @@
 where these are open by comparisons with profiles of a single answer."""
 from __future__ import annotations
 
+import functools
 from collections import Counter
 from collections.abc import Iterable, Sequence
 
@@ -176,7 +177,7 @@ class Surface:
     # whether the conditions that are asked for were looked for to the end
     are_conditions_finished: bool = True
 
-    @property
+    @functools.cached_property
     def counts(self) -> Counter[str]:
         return Counter(row.said for row in self.rows)
 
@@ -210,10 +211,13 @@ def _ask(asker: Asker, rows: Iterable[Row]) -> None:
     """Adds what comparisons say of rows that regions leave undecided. A line lacks its instruction pointer: if a filter
     looks at that, a run has to confirm the example."""
     for question, possible in QUESTIONS.items():
-        asked = [row for row in rows if not row.is_decided]
-        table = b"".join(b"%s %d\n" % (row.names[0].encode(), row.number) for row in asked)
-        lines = {line.number: line.verdict for line in asker.of_named(question, table).calls} if asked else {}
-        for row in asked:
+        rows = [row for row in rows if not row.is_decided]
+        if not rows:
+            return
+        table = b"".join(b"%s %d\n" % (row.names[0].encode(), row.number) for row in rows)
+        report = asker.of_calls(asker.profile_of(question), question.relation, table)
+        lines = {line.number: line.verdict for line in report.calls}
+        for row in rows:
             verdict = lines.get(row.number)
             if verdict is None:
                 row.possible &= possible
@@ -232,8 +236,7 @@ def _of_unnamed(numbers: Numbers, table: Table, architecture: Architecture) -> U
 
 def of_regions(filters: Sequence[bytes], filter_regions: Sequence[Region] | None, table: Table,
                architecture: Architecture, is_machine: bool = False) -> Surface:
-    """The surface of filters with these regions, or None if they are unfinished, to an architecture with this table, or
-    to a machine whose own it is."""
+    """The surface of filters with these regions, None if unfinished, to an architecture, or a whole machine."""
     asker, numbers = Asker(filters, architecture), Numbers(filter_regions, architecture)
     rows = [Row(number, table.names_of(number), architecture, numbers.of(architecture.first + number))
             for number in sorted(table.numbers())]

@@ -5,22 +5,20 @@ import random
 import unittest
 
 from support.common import ALLOW, KILL_PROCESS, KILL_THREAD, X32, X86_64, gate, ret
-from support.stand_in import StandIn
-from program.test_beside import CORNERS, decided, degree, drawn, mutated
+from support.judged import MACHINE, RELATIONS, Stack
+from support.stand_in import unpacked, words_of
+from program.test_comparisons import CORNERS, drawn, mutated
 from scftools.base.program import ToolError
 from scftools.model import architectures, tables
 from scftools.model.answers import Answer
 from scftools.model.calls import Call
 from scftools.ask import differences, regions
 from scftools.ask.differences import EVERY_RECORD, Differences, span_of
-from scftools.ask.verdicts import ALL, CALLS, NATIVE_SCOPE, NO_LESS, NO_MORE, SAME, SAME_DISPOSITION, UNDECIDED, Verdict
+from scftools.ask.verdicts import ALL, CALLS, NATIVE_SCOPE, NO_LESS, NO_MORE, SAME, UNDECIDED, Verdict
 from scftools.forms.filters import Filter
 from scftools.report.compare import Comparison, StackComparison
 
-NATIVE, HOLDS = architectures.NATIVE, {
-    SAME: lambda left, right: left == right, NO_MORE: lambda left, right: degree(left) <= degree(right),
-    NO_LESS: lambda left, right: degree(left) >= degree(right),
-    SAME_DISPOSITION: lambda left, right: degree(left) == degree(right)}
+NATIVE, HOLDS = architectures.NATIVE, {word: holds for word, _, holds in RELATIONS.values()}
 # A syscall that one side allows for some arguments, one that only gets another errno, and numbers that nothing decides.
 CLONE = ("ALLOW 0 at 0:4 beside ERRNO 1 entry 3 w0 0x38-0x39 w1 0xc000003e w4 0x5 w5 0x1-0xffffffff\n"
          "call nr 56 arch 0xc000003e ip 0x0 args 0x100000005 0x0 0x0 0x0 0x0 0x0\n")
@@ -111,6 +109,11 @@ class Parsed(unittest.TestCase):
                                   for span in (*spans, *own)].count(True), 1, (names, record))
 
 
+def call_of(words):
+    """The call of a record's sixteen words."""
+    return Call(*words[:2], 0, tuple(low | high << 32 for low, high in zip(words[4::2], words[5::2])))
+
+
 class Drawn(unittest.TestCase):
     def test_each(self):
         """Two drawn stacks, of which one is often the other with a change: what is told is so."""
@@ -118,11 +121,11 @@ class Drawn(unittest.TestCase):
         for _ in range(60):
             left = [drawn(dice) for _ in range(dice.randrange(1, 3))]
             right = [mutated(dice, left[0]), *left[1:]] if dice.random() < 0.8 else [drawn(dice)]
-            if not all(StandIn().check(data).startswith("accepted") for data in (*left, *right)):
+            if any(MACHINE.fault(unpacked(data)) for data in (*left, *right)):
                 continue
-            sides = ([Filter("", data) for data in side] for side in (left, right))
-            comparison = StackComparison(*sides, table)
-            answered = {call: (decided(left, call), decided(right, call)) for call in CORNERS}
+            stacks = Stack(left), Stack(right)
+            comparison = StackComparison(*([Filter("", data) for data in side] for side in (left, right)), table)
+            answered = {call: [stack.answer(words_of(call)) for stack in stacks] for call in map(call_of, CORNERS)}
             self.are_so(comparison.differences, answered)
             for relation, (scope, is_in) in itertools.product(HOLDS, (
                     (ALL, lambda call: True), (NATIVE_SCOPE, lambda call: call.is_native),
@@ -133,8 +136,8 @@ class Drawn(unittest.TestCase):
                     wrong = [call for call, both in answered.items() if is_in(call) and not HOLDS[relation](*both)]
                     self.assertFalse(verdict.holds and wrong, (relation, scope))
                     if verdict.call is not None:
-                        both = decided(left, verdict.call), decided(right, verdict.call)
-                        self.assertEqual(both, (verdict.filters.word, verdict.profile.word))
+                        both = [stack.answer(words_of(verdict.call)) for stack in stacks]
+                        self.assertEqual(both, [verdict.filters.word, verdict.profile.word])
                         self.assertFalse(HOLDS[relation](*both))
                         self.assertTrue(is_in(verdict.call))
         self.assertEqual(len(told), 3 * 7)
@@ -143,6 +146,6 @@ class Drawn(unittest.TestCase):
         for call, both in answered.items():
             region = listed.of(call)
             if region is not None:
-                self.assertEqual((region.answer.word, region.beside.answer.word), both, call)
+                self.assertEqual([region.answer.word, region.beside.answer.word], both, call)
             elif listed.is_finished and not listed.of_number(call):
                 self.assertEqual(*both, call)

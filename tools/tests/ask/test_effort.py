@@ -4,7 +4,7 @@ import os
 from unittest import mock
 
 from support.common import (ALLOW, EPERM, GATE, PROGRAM, TABLE, Case, filter_of, insn, jeq, jge, limited, load, part,
-                            profile_of, ret, taken)
+                            profile_of, ret, taken, text_of)
 from support.worked import size_of_paths
 from scftools.base import program
 from scftools.ask import client
@@ -38,7 +38,8 @@ class Slow(Case):
             self.assertIn(err, ("", SPENT))
 
     def test_a_masked_pair_of_more_steps_than_the_program_takes(self):
-        """scf's clauses speak of limits from the effort on: a tool's is above that of real pairs, the program's isn't."""
+        """scf's clauses speak of limits from the effort on: a tool's is above that of real pairs, the program's
+        isn't."""
         masked = load(16) + insn(0x54, 0x30) + jeq(0x10, 0, 1) + ret(ALLOW) + ret(EPERM)
         tests = b"".join(insn(0x15, at, 0, 1) + insn(5, 2 * (299 - at)) for at in range(300))
         filters = load(0) + tests + load(16) * 3480 + masked, masked
@@ -58,7 +59,8 @@ class Slow(Case):
 
     def test_an_answer_without_end(self):
         """No more than a part of it is read, then scf is ended."""
-        program_file = self.file("program", f'#!/bin/sh\n[ "$1" = --version ] && exec {PROGRAM} "$@"\nexec yes region\n')
+        program_file = self.file(
+            "program", f'#!/bin/sh\n[ "$1" = --version ] && exec {PROGRAM} "$@"\nexec yes region\n')
         os.chmod(program_file, 0o755)
         name = self.file("f.bpf", BITS)
         with mock.patch.object(client, "PROGRAMS", [program_file]):
@@ -87,9 +89,8 @@ class Slow(Case):
 class Limits(Case):
     def setUp(self):
         super().setUp()
-        with open(TABLE, "rb") as file:
-            table = file.read()
-        self.given = part("filter", filter_of([0])) + part("profile", profile_of("read")) + part("table", table)
+        self.given = (part("filter", filter_of([0])) + part("profile", profile_of("read"))
+                      + part("table", text_of(TABLE).encode()))
 
     def compared(self, seconds, most, *words):
         """What a tool whose time is over is told."""

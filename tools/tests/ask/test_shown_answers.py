@@ -24,12 +24,14 @@ LIES = f"""#!/bin/sh
 [ "$1" = compare ] || exec {PROGRAM} "$@"
 case " $* " in
 *" --calls "*) printf 'differs\\n165 mount differs args 0x0 0x0 0x0 0x0 0x0 0x0 filter TRAP 7 %s ALLOW 0\\n' "$SIDE" ;;
-*) printf 'differs\\ncall nr 165 arch 0xc000003e ip 0x0 args 0x0 0x0 0x0 0x0 0x0 0x0\\nfilter TRAP 7\\n%s ALLOW 0\\n' "$SIDE" ;;
+*)
+    printf 'differs\\ncall nr 165 arch 0xc000003e ip 0x0 args 0x0 0x0 0x0 0x0 0x0 0x0\\n'
+    printf 'filter TRAP 7\\n%s ALLOW 0\\n' "$SIDE" ;;
 esac
 exit 1
 """
-SAYS = ("internal error: the filters answer ERRNO 1 where TRAP 7 would be shown, to --nr=0xa5 --arch=0xc000003e --ip=0x0 "
-        "--a0=0x0 --a1=0x0 --a2=0x0 --a3=0x0 --a4=0x0 --a5=0x0; please report it")
+SAYS = ("internal error: the filters answer ERRNO 1 where TRAP 7 would be shown, to --nr=0xa5 --arch=0xc000003e "
+        "--ip=0x0 --a0=0x0 --a1=0x0 --a2=0x0 --a3=0x0 --a4=0x0 --a5=0x0; please report it")
 
 
 class Tools(Confined):

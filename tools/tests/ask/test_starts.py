@@ -4,8 +4,8 @@ import json
 import os
 from unittest import mock
 
-from support.common import (ALLOW, EPERM, I386, PROGRAM, TABLE, X86_64, Case, filter_of, insn, jeq, jge, load,
-                            profile_of, ret, stub)
+from support.common import (ALLOW, EPERM, I386, PROGRAM, X86_64, Case, filter_of, insn, jeq, jge, load, profile_of,
+                            ret, stub, text_of)
 from support.confined import Confined, here
 from scftools.model import tables
 from scftools.ask import client
@@ -25,8 +25,7 @@ class Counting(Case):
         with mock.patch.object(client, "PROGRAMS", [program]):
             actual, out, err = self.run_tool(name, *words)
         self.assertEqual((actual, err), (status, said), out)
-        with open(log, encoding="utf-8") as file:
-            return len(file.readlines())
+        return len(text_of(log).splitlines())
 
     def compiled(self, text):
         """The filter of a profile, and the profile's file."""
@@ -129,7 +128,8 @@ class Starts(Counting):
 
     def test_each_kind_of_side(self):
         """What is the same is one answer; where profiles are involved, their entries are part of it."""
-        few, many = ({"bpf": self.file(f"{at}.bpf", filter_of(numbers)), "json": self.file(f"{at}.json", profile_of(*names))}
+        few, many = ({"bpf": self.file(f"{at}.bpf", filter_of(numbers)),
+                      "json": self.file(f"{at}.json", profile_of(*names))}
                      for at, (numbers, names) in enumerate((([0], ["read"]), ([0, 1], ["read", "write"]))))
         for command in ("compare", "diff"):
             for kinds in itertools.product(("bpf", "json"), repeat=2):
@@ -139,8 +139,8 @@ class Starts(Counting):
                     self.assertLessEqual(self.starts(command, few[first], many[second], status=1), 3)
 
     def test_compare_by_runtime(self):
-        """With runc's stub as without a runtime; twice more where the filter has none, which is told by the first number
-        of it."""
+        """With runc's stub as without a runtime; twice more where the filter has none, which is told by the first
+        number of it."""
         profile = {"defaultAction": "SCMP_ACT_ERRNO", "architectures": ["SCMP_ARCH_X86_64"],
                    "syscalls": [{"names": ["read", "openat2"], "action": "SCMP_ACT_ALLOW"}]}
         given, says = self.file("p.json", json.dumps(profile)), (
@@ -175,8 +175,7 @@ class OfProcesses(Confined, Counting):
     @here
     def test_one_of_runc(self):
         """Its filter answers ENOSYS to numbers above all that the profile names."""
-        with open(TABLE, "rb") as file:
-            table = tables.Table(file.read())
+        table = tables.read_table(None)
         numbers = (number for number in table.numbers() if number <= 334 and number != 165)
         names = [table.names_of(number)[0] for number in numbers] + ["clone3"]
         data, path = self.compiled(json.dumps({

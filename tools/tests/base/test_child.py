@@ -23,10 +23,20 @@ class Child(Case):
                 child.run_in_child(lambda error=error: self.fails(error), 60)
             self.assertEqual(caught.exception.args, error.args)
             self.assertEqual(getattr(caught.exception, "status", None), getattr(error, "status", None))
-        with self.assertRaises(child.Died):
-            child.run_in_child(lambda: os._exit(0), 60)
-        with self.assertRaises(child.Died):
-            child.run_in_child(lambda: os.kill(os.getpid(), signal.SIGKILL), 60)
+        for work, status in ((lambda: os._exit(0), 0), (lambda: os._exit(125), 125),
+                             (lambda: os.kill(os.getpid(), signal.SIGKILL), -signal.SIGKILL)):
+            with self.assertRaises(child.Died) as caught:
+                child.run_in_child(work, 60)
+            self.assertEqual((caught.exception.status, str(caught.exception)),
+                             (status, "the inspecting process ended without a result"))
+
+    def test_who_receives_gives_the_time(self):
+        """From a value on the child has so many seconds: here it sleeps beyond them, but not beyond those of before."""
+        received = []
+        with self.assertRaises(child.Late):
+            child.run_in_child(lambda send: (send("a"), time.sleep(10000)), 5000,
+                               lambda value: received.append(value) or 0.1)
+        self.assertEqual(received, ["a"])
 
     def test_what_it_sends_is_received_however_it_ends(self):
         def works(send, end=lambda: 7):

@@ -20,8 +20,8 @@ LENGTH, LONGEST_LINE, LONGEST_PROFILE = 1 << 18, 1 << 16, 1 << 22
 LOGS_AT_ONCE = 4
 ALLOWS = b'{"defaultAction":"SCMP_ACT_ALLOW","syscalls":[%s]}'
 # A profile whose conditions make `needs` look at the arguments of some syscalls.
-ASKS = b"".join((b'{"defaultAction":"SCMP_ACT_ERRNO","syscalls":[{"names":["socket","openat"],"action":"SCMP_ACT_ALLOW",',
-                 b'"args":[{"index":0,"value":1,"op":"SCMP_CMP_EQ"}]}]}'))
+ASKS = (b'{"defaultAction":"SCMP_ACT_ERRNO","syscalls":[{"names":["socket","openat"],"action":"SCMP_ACT_ALLOW",'
+        b'"args":[{"index":0,"value":1,"op":"SCMP_CMP_EQ"}]}]}')
 
 
 def repeated(piece, length=LENGTH, before=b"", behind=b""):

@@ -2,6 +2,7 @@
 import itertools
 import os
 import random
+import re
 import resource
 import shutil
 import subprocess
@@ -113,55 +114,50 @@ def filled(head, item_of, tail, size=TEXT // 2):
         status.append(item)
 
 
+ALLOWS, DENIES = b'{"defaultAction":"SCMP_ACT_ALLOW",', b'{"defaultAction":"SCMP_ACT_ERRNO",'
+# Profiles of awkward shapes, the tools that read them, and what lint prints of each. Objects of nothing are a whole
+# profile long: each was an object of Python with several others. Of arrays as many would take scf more memory than the
+# tools give it.
+SHAPES = {
+    "a name of two million line ends": (
+        DENIES + b'"syscalls":[{"names":["read","' + b"\\n" * 2000000 + b'"],"action":"SCMP_ACT_ALLOW"}]}',
+        ("compile", "lint"), b""),
+    "architectures": (
+        filled(DENIES + b'"architectures":["SCMP_ARCH_X86_64",', lambda at: b'"SCMP_ARCH_Y%d"' % at, b"]}"),
+        ("compile", "lint"), rb"\nwarning unknown-architecture: and [0-9]+ more\n"),
+    "members": (filled(ALLOWS, lambda at: b'"%x":1' % at, b"}"), ("lint",),
+                rb"\nerror unread-member: and [0-9]+ more\n"),
+    "objects": (filled(ALLOWS + b'"x":[', lambda at: b"{}", b"]}", TEXT), ("lint",), b""),
+    "names that no syscall has": (
+        filled(DENIES + b'"syscalls":[', lambda at: b'{"names":["x%d"],"action":"SCMP_ACT_LOG"}' % at, b"]}"),
+        ("lint",), rb"\nwarning unknown-name: and [0-9]+ more\n"),
+    "arrays as deep as may be": (filled(ALLOWS + b'"x":[', lambda at: b"[" * 120 + b"]" * 120, b"]}"), ("lint",), b""),
+}
+
+
 class Profiles(Measured):
-    """Profiles at the limit, or half as long, of each awkward shape: the tools end soon, and within 300 megabytes or
-    200."""
+    """Profiles at the limit, or half as long: the tools end soon, and within 300 megabytes or 200."""
 
     # (240 and 150 are measured, in 4 seconds of a processor)
     MEGABYTES, OF_HALF = 300, 200
-    ALLOWS, DENIES = b'{"defaultAction":"SCMP_ACT_ALLOW",', b'{"defaultAction":"SCMP_ACT_ERRNO",'
-    NAMES = DENIES + b'"syscalls":[{"names":['
 
-    def ends(self, name, text):
-        path = self.file("p.json", text)
-        self.assertLessEqual(len(text), TEXT)
-        most = self.OF_HALF if len(text) <= TEXT // 2 else self.MEGABYTES
-        status, out, err = self.run_measured((name, path), most=most)
-        self.assertIn(status, (0, 1), (out[:200], err[:200]))
-        return out
-
-    def test_a_name_of_two_million_line_ends(self):
-        text = self.NAMES + b'"read","' + b"\\n" * 2000000 + b'"],"action":"SCMP_ACT_ALLOW"}]}'
-        self.ends("compile", text)
-        self.ends("lint", text)
-
-    def test_many_architectures(self):
-        text = filled(self.DENIES + b'"architectures":["SCMP_ARCH_X86_64",', lambda at: b'"SCMP_ARCH_Y%d"' % at, b"]}")
-        self.ends("compile", text)
-        self.assertRegex(self.ends("lint", text), rb"\nwarning unknown-architecture: and [0-9]+ more\n")
-
-    def test_many_members(self):
-        text = filled(self.ALLOWS, lambda at: b'"%x":1' % at, b"}")
-        self.assertRegex(self.ends("lint", text), rb"\nerror unread-member: and [0-9]+ more\n")
-
-    def test_many_objects(self):
-        """Of nothing in them: each was an object of Python with several others."""
-        self.ends("lint", filled(self.ALLOWS + b'"x":[', lambda at: b"{}", b"]}", TEXT))
+    def test_shapes(self):
+        for what, (text, names, says) in SHAPES.items():
+            path = self.file("p.json", text)
+            self.assertLessEqual(len(text), TEXT)
+            for name in names:
+                with self.subTest(what, tool=name):
+                    most = self.OF_HALF if len(text) <= TEXT // 2 else self.MEGABYTES
+                    status, out, err = self.run_measured((name, path), most=most)
+                    self.assertIn(status, (0, 1), (out[:200], err[:200]))
+                    self.assertTrue(name != "lint" or re.search(says, out))
 
     def test_more_objects_than_scf_has_memory_for(self):
         """The tools give scf 256 MiB; it says that this isn't enough, and nothing of the profile."""
-        path = self.file("p.json", filled(self.ALLOWS + b'"x":[', lambda at: b'{"":0}', b"]}", TEXT))
+        path = self.file("p.json", filled(ALLOWS + b'"x":[', lambda at: b'{"":0}', b"]}", TEXT))
         status, out, err = self.run_measured(("compile", path), most=self.MEGABYTES)
         self.assertEqual((status, out), (2, b""), err[:200])
         self.assertIn("fault profile Memory\n", err)
-
-    def test_many_entries_of_names_that_no_call_has(self):
-        text = filled(self.DENIES + b'"syscalls":[', lambda at: b'{"names":["x%d"],"action":"SCMP_ACT_LOG"}' % at, b"]}")
-        self.assertRegex(self.ends("lint", text), rb"\nwarning unknown-name: and [0-9]+ more\n")
-
-    def test_arrays_as_deep_as_may_be(self):
-        """In half of a profile: 4 MiB of them would take scf more memory than the tools give it."""
-        self.ends("lint", filled(self.ALLOWS + b'"x":[', lambda at: b"[" * 120 + b"]" * 120, b"]}"))
 
 
 class Words(Case):
@@ -186,8 +182,8 @@ class Words(Case):
             settings = {"stdout": subprocess.DEVNULL} if words[0] == "compile" else {}
             self.assertEqual(self.run_tool(*words, given=given, **settings)[0::2], (0, ""), words)
         for words in (("compare", "-", "-"), ("compare", "--table=-", "-", self.profile),
-                      ("decide", "--nr=0", "-", "-"), ("decide", "--calls-from=-", "-"), ("run", "--table=-", "-"), ("check", "-", "-"),
-                      ("list", "--table=-", "-"), ("compile", "--table=-", "-")):
+                      ("decide", "--nr=0", "-", "-"), ("decide", "--calls-from=-", "-"), ("run", "--table=-", "-"),
+                      ("check", "-", "-"), ("list", "--table=-", "-"), ("compile", "--table=-", "-")):
             status, out, err = self.run_tool(*words)
             self.assertEqual((status, out), (2, ""), words)
             self.assertIn("only one input can be '-'", err)

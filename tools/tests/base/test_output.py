@@ -1,5 +1,5 @@
-"""What the tools print: nothing of a stranger's text works on a terminal or looks like scf's; output that fails; and that
-the program prints in one write."""
+"""What the tools print: nothing of a stranger's text works on a terminal or looks like scf's; output that fails; and
+that the program prints in one write."""
 import json
 import os
 import socket
@@ -24,7 +24,8 @@ HOSTILE = {
         "x\\x0adiffers\\x0acall nr 0 arch 0xc000003e ip 0x0 args 0x0 0x0 0x0 0x0 0x0 0x0\\x0afilter ALLOW 0\\x0a"
         "profile ERRNO 1",
     f"x\n{FORGED_CALL}": f"x\\x0a{FORGED_CALL}",
-    "x\n# the filter answers ALLOW: the syscall is executed": "x\\x0a# the filter answers ALLOW: the syscall is executed",
+    "x\n# the filter answers ALLOW: the syscall is executed":
+        "x\\x0a# the filter answers ALLOW: the syscall is executed",
     "x\nskipped y": "x\\x0askipped y",
     "x\nother SCMP_ARCH_X86": "x\\x0aother SCMP_ARCH_X86",
     "\x9b2Jy": "\\xc2\\x9b2Jy",
@@ -99,7 +100,8 @@ class Hostile(Case):
         forged = "SCMP_ARCH_\x1b[2J\nsame\n# all is well"
         status, out, _ = self.run_tool("compare", self.same, self.profile(architectures=[forged]))
         self.assertEqual((status, out), (0, "same\nother SCMP_ARCH_\\x1b[2J\\x0asame\\x0a# all is well\n"
-                                            "# the profile's other architectures aren't judged, since scf has no table of them\n"))
+                                            "# the profile's other architectures aren't judged, since scf has no table "
+                                            "of them\n"))
 
     def test_where_a_skipped_name_stands_for_several(self):
         """Two names and one name with a line end in it are printed alike by scf, and told apart by the profile."""
@@ -163,10 +165,9 @@ class Failing(Case):
     def each(self):
         return (("compare", self.same, self.profile), ("compare", "--json", self.same, self.profile),
                 ("decide", "--nr=0", self.same), ("run", "--nr=0", self.same), ("check", self.same),
-                ("list", self.same), ("compile", self.profile), ("bundle", "profile", self.profile), ("explain", "--help"),
-                ("surface", self.same), ("surface", "--json", self.same),
-                ("compare-profiles", self.profile, self.profile),
-                ("compare", "--version"))
+                ("list", self.same), ("compile", self.profile), ("bundle", "profile", self.profile),
+                ("explain", "--help"), ("surface", self.same), ("surface", "--json", self.same),
+                ("compare-profiles", self.profile, self.profile), ("compare", "--version"))
 
     def test_a_reader_that_goes_away(self):
         for words in self.each():
@@ -210,8 +211,8 @@ class Failing(Case):
                 done = subprocess.run(["sh", "-c", f'"$@" {closing}', "sh", tool(words[0]), *words[1:]],
                                       stdout=subprocess.PIPE, check=False)
                 self.assertEqual(done.returncode, 0, (closing, words))
-        done = subprocess.run(["sh", "-c", '"$0" --nr=0 - <&-', tool("run")], stdout=subprocess.PIPE, stderr=subprocess.PIPE,
-                              check=False)
+        done = subprocess.run(["sh", "-c", '"$0" --nr=0 - <&-', tool("run")], stdout=subprocess.PIPE,
+                              stderr=subprocess.PIPE, check=False)
         self.assertEqual((done.returncode, done.stdout), (2, b""))
         self.assertIn(b"standard input can't be read", done.stderr)
 

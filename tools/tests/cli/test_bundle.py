@@ -26,7 +26,7 @@ class Bundle(Case):
                          (0, "filter 0\nprofile 4\none\ntable 4\none\n", ""))
 
     def test_each_kind(self):
-        """Also those of the other side; tables of each architecture, and stubs, which are numbers without a line end."""
+        """Also those of the other side, tables of each architecture, and stubs: numbers without a line end."""
         for kind in bundles.PART_KINDS:
             self.assertEqual(self.run_tool("bundle", kind, self.file("a", b"7")), (0, f"{kind} 1\n7", ""))
         one = self.file("one.bpf", filter_of([0]))

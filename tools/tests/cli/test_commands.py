@@ -24,8 +24,8 @@ def text_of(*path):
 
 LIST = text_of("tables", "commands")
 # What people type who know other programs, and the command that they mean.
-SLIPS = (("COMPARE", "compare"), ("validate", "lint"), ("disassemble", "list"), ("show", "list"), ("dump", "filters-of"),
-         ("generate", "needs"), ("trace", "record"), ("unit", "profile-of"), ("test", "decide"))
+SLIPS = (("COMPARE", "compare"), ("validate", "lint"), ("disassemble", "list"), ("show", "list"),
+         ("dump", "filters-of"), ("generate", "needs"), ("trace", "record"), ("unit", "profile-of"), ("test", "decide"))
 COMMANDS = re.findall(r"(?m)^  ([a-z-]+) +(\S.*)$", LIST)
 
 
@@ -39,18 +39,20 @@ class Dispatch(Case):
         super().setUp()
         self.filter, self.profile = self.file("f.bpf", filter_of([0])), self.file("p.json", profile_of("read"))
         with open(TABLE, "rb") as file:
-            self.bundle = part("filter", filter_of([0])) + part("profile", profile_of("read")) + part("table", file.read())
+            compilation = part("profile", profile_of("read")) + part("table", file.read())
+        self.bundle = part("filter", filter_of([0])) + compilation
 
     def scf(self, *words, given=b"", **settings):
         return self.run_words([SCF, *words], given, **settings)
 
     def test_core_is_the_program(self):
         """It prints what the program does, and needs nothing of the path."""
-        for words, given in ((["check"], filter_of([0])), (["run", "--nr", "1"], filter_of([0])), (["compare"], self.bundle),
+        filter_ = filter_of([0])
+        for words, given in ((["check"], filter_), (["run", "--nr", "1"], filter_), (["compare"], self.bundle),
                              (["compare", "--native", "--limit", "9"], self.bundle), (["run", "--nr", "read"], b""),
                              (["compare", "--help"], b""), (["run", "--no-such", "1"], b""), ([], b""),
-                             (["dis"], filter_of([0])), (["asm"], b"ret a\n"), (["--version"], b""), (["--no-such"], b""),
-                             (["decide", "--nr=1", "--a0", "0x5"], part("filter", filter_of([0]))), (["check", "-h"], b"")):
+                             (["dis"], filter_), (["asm"], b"ret a\n"), (["--version"], b""), (["--no-such"], b""),
+                             (["decide", "--nr=1", "--a0", "0x5"], part("filter", filter_)), (["check", "-h"], b"")):
             done = [subprocess.run([*name, *words], input=given, stdout=subprocess.PIPE, stderr=subprocess.PIPE,
                                    env={"PATH": "/nowhere"}, cwd=self.folder, check=False)
                     for name in ([PROGRAM], CORE)]
@@ -61,7 +63,8 @@ class Dispatch(Case):
         profile, filter_ = profile_of("read"), filter_of([0])
         compilation = self.bundle[self.bundle.index(b"profile "):]
         for words, given in ((["check"], filter_), (["run"], filter_), (["run", "--nr", "1"], filter_),
-                             (["dis"], filter_), (["run", "--nr=0x1", "--path"], filter_), (["asm"], b"ret a\n"), (["asm"], b"no\n"),
+                             (["dis"], filter_), (["run", "--nr=0x1", "--path"], filter_), (["asm"], b"ret a\n"),
+                             (["asm"], b"no\n"),
                              (["decide"], part("filter", filter_)), (["decide", "--nr", "1"], part("filter", filter_)),
                              (["decide"], b""), (["compare"], self.bundle), (["compare", "--native"], self.bundle),
                              (["compare", "--architectures"], self.bundle), (["compare", "--no-more"], self.bundle),
@@ -194,7 +197,8 @@ class Dispatch(Case):
                              (["compile", "p.json"], b"")):
             status, _, err = self.scf(*words, given=given, stdout=theirs)
             self.assertEqual(status, 2, words)
-            self.assertTrue(err.endswith(f"scf {words[0]}: a filter isn't text: redirect the output into a file\n"), err)
+            says = f"scf {words[0]}: a filter isn't text: redirect the output into a file\n"
+            self.assertTrue(err.endswith(says), err)
         self.assertEqual(self.scf("compile", given=bundle, stdout=subprocess.DEVNULL)[0], 0)
         self.assertEqual(self.scf("asm", "--help", stdout=theirs)[0], 0)
         os.close(theirs)
@@ -298,11 +302,14 @@ class Help(Case):
                             ("lint f.bpf", "`scf profile-of` prints its profile"),
                             ("list p.json", "`scf compile` makes the filter of one"),
                             ("compile pid:1", "`scf profile-of pid:1` prints"), ("check unit:a", "./unit:a is one"),
-                            ("why p.json", "hand it over as standard input"), ("profile-of p.json pid:1", "stands alone")):
+                            ("why p.json", "hand it over as standard input"),
+                            ("profile-of p.json pid:1", "stands alone")):
             with self.subTest(words):
                 status, out, err = self.run_words([SCF, *words.split()], cwd=self.folder)
                 self.assertEqual((status, out), (2, ""))
                 self.assertIn(says, err.splitlines()[-1])
+        self.file("test/f.bpf", filter_of([0]))
+        self.assertIn("the nearest is 'decide'", self.run_words([SCF, "test"], cwd=self.folder)[2])
         self.assertEqual(self.scf("--help", "list"), self.scf("help", "list"))
         self.assertEqual(self.scf("-V"), self.scf("--version"))
         for word in ("qqq", "scftools", "tests", "../scf", "plain_profile"):
@@ -395,6 +402,12 @@ class Completion(Case):
         script = 'source "$1"; shift; COMP_WORDS=("$@"); COMP_CWORD=$(($# - 1)); _scf; printf "%s\\n" "${COMPREPLY[@]}"'
         return set(self.run_words(["bash", "-c", script, "bash", self.paths[0], *words])[1].split())
 
+    def units(self):
+        """A command systemctl that knows three units."""
+        known = "a.service enabled x\\nb@.service static -\\nc.socket - -\\n"
+        os.chmod(self.file("systemctl", f"#!/bin/sh\nprintf '{known}'\n"), 0o755)
+        return mock.patch.dict(os.environ, PATH=f"{self.folder}:{os.environ['PATH']}")
+
     def test_bash(self):
         self.assertEqual(self.completed("scf", ""), {*TOOLS})
         self.assertEqual(self.completed("scf", "help", "compa"), {"compare", "compare-profiles"})
@@ -418,11 +431,20 @@ class Completion(Case):
                               (["lint", "--except", "x3"], {"x32"})):
             self.assertLessEqual(values, self.completed("scf", *words), words)
             self.assertEqual(self.completed(f"/usr/bin/scf-{words[0]}", *words[1:]), self.completed("scf", *words))
-        units = self.file("systemctl", "#!/bin/sh\nprintf 'a.service enabled x\nb@.service static -\nc.socket - -\n'\n")
-        os.chmod(units, 0o755)
-        with mock.patch.dict(os.environ, PATH=f"{self.folder}:{os.environ['PATH']}"):
+        with self.units():
             self.assertEqual(self.completed("scf", "unit-profile", ""), {"a.service", "b@.service", "c.socket"})
             self.assertEqual(self.completed("scf", "unit-profile", "--json", "b"), {"b@.service"})
+
+    def test_inputs_that_are_no_files(self):
+        """`pid:N` and `unit:NAME`, which bash takes apart, of the commands that take them."""
+        self.file("pages.bpf", b"")
+        number = str(os.getpid())
+        for words, values in ((["surface", "p"], {"pages.bpf", "pid:"}), (["lint", "p"], {"pages.bpf"}),
+                              (["compare", "pid", ":", number], {number}), (["lint", "pid", ":", number], set()),
+                              (["list", "u"], set()), (["compile", "u"], {"unit:"}), (["compile", "pi"], set()),
+                              (["diff", "old.bpf", "unit", ":", "b"], {"b@.service"})):
+            with self.subTest(words), self.units():
+                self.assertEqual(self.completed("scf", *words), values)
 
     @unittest.skipUnless(shutil.which("zsh"), "there is no zsh here")
     def test_values_in_zsh(self):
@@ -434,6 +456,7 @@ class Completion(Case):
             out = self.run_words(["zsh", "-fc", script, "zsh", self.paths[1], *words])[1]
             name = re.search(r"(?m)^\*--nr=\[.*\]:value:(_scf_values_\d+)$", out)[1]
             self.assertIn("\nrenameat2\n", out.partition(f"# {name}\n")[2].partition("\n# ")[0])
+            self.assertIn("\n*:argument: _scf_inputs pid\\: unit\\:\n", out)
 
     def test_every_option_of_a_tool(self):
         for name in sorted({*TOOLS} - {"bundle", "help"}):
@@ -451,7 +474,9 @@ class Completion(Case):
             for line, values in (("scf-compare --no-", ["--no-less", "--no-more"]),
                                  ("scf decide --a0 AF_INET6", ["AF_INET6"]),
                                  ("scf-decide --nr=read,renameat2", ["--nr=read,renameat2"]),
-                                 (f"scf verify-process {os.getpid()}", [str(os.getpid())])):
+                                 (f"scf verify-process {os.getpid()}", [str(os.getpid())]),
+                                 ("scf surface pid", ["pid:"]),
+                                 (f"scf surface pid:{os.getpid()}", [f"pid:{os.getpid()}"])):
                 out = self.run_words(["fish", "-c", f"source {self.paths[2]}; complete -C '{line}'"])[1]
                 self.assertEqual([it.split("\t")[0] for it in out.splitlines()], values)
 

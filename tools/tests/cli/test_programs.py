@@ -1,5 +1,5 @@
-"""tools/check, tools/compile and tools/run; and what the tools have in common: several calls at once, JSON, the files
-of a stack that are told, names that no call has, versions, and the name by which a tool was called."""
+"""tools/check, tools/compile and tools/run; and what the tools have in common: several syscalls at once, JSON, the
+files of a stack that are named, names that no syscall has, and the Python that runs them."""
 import glob
 import json
 import os
@@ -12,8 +12,6 @@ from support.common import (ALLOW, CORE, EPERM, I386, KILL_PROCESS, TABLE, TOP, 
 from scftools.cli.commands import NAMES
 from scftools.model import tables
 
-TOOLS = ("ask", "bundle", "check", "compare", "compare-profiles", "compile", "decide", "explain", "lint", "list",
-         "needs", "run", "surface", "why")
 NATIVE = load(4) + jeq(X86_64, 1, 0) + ret(KILL_PROCESS) + load(0) + jge(0x40000000, 0, 1) + ret(KILL_PROCESS)
 # Allows each call, but behind a test that scf leaves undecided.
 UNKNOWN = NATIVE + UNKNOWN_ZERO + jeq(0, 1, 0) + ret(EPERM) + ret(ALLOW)
@@ -136,17 +134,6 @@ class Run(Case):
             self.assertEqual(self.run_tool(name, given=filter_of([0]))[:2],
                              (0, f"ALLOW 0{' steps 6' if name == 'run' else ''}\n"))
 
-    def test_one_call(self):
-        self.assertEqual(self.run_tool("run", "--nr", "write", self.filter),
-                         (0, "ERRNO 1 steps 6\n# the syscall is write (1)\n# ERRNO 1: the syscall fails with "
-                             "EPERM\n", ""))
-        status, out, _ = self.run_tool("run", "--nr=0", "--arch", hex(I386), self.filter)
-        self.assertEqual((status, out), (0, "KILL_PROCESS 0 steps 3\n# the syscall is restart_syscall (0) of the "
-                                            "architecture i386\n# KILL_PROCESS: the process is killed\n"))
-        status, out, err = self.run_tool("run", "--nr", "raed", self.filter)
-        self.assertEqual((status, out), (2, ""))
-        self.assertIn("the table has no syscall 'raed'; the nearest name is 'read'", err)
-
 
 class Several(Case):
     """Several calls in one run of a tool."""
@@ -162,8 +149,8 @@ class Several(Case):
         for name, steps, paths in (("decide", "", [f"{path}8\n", f"{path}7\n"]), ("run", " steps 6", ["", ""])):
             status, out, err = self.run_tool(name, "--nr", "read", "--nr=1", self.filter)
             self.assertEqual((status, err), (0, ""))
-            self.assertEqual(out, f"ALLOW 0{steps}\n# the syscall is read (0)\n# ALLOW: the syscall is executed\n{paths[0]}"
-                                  f"ERRNO 1{steps}\n# the syscall is write (1)\n# ERRNO 1: the syscall fails "
+            self.assertEqual(out, f"ALLOW 0{steps}\n# the syscall is read (0)\n# ALLOW: the syscall is executed\n"
+                                  f"{paths[0]}ERRNO 1{steps}\n# the syscall is write (1)\n# ERRNO 1: the syscall fails "
                                   f"with EPERM\n{paths[1]}")
 
     def test_by_a_file(self):
@@ -176,7 +163,7 @@ class Several(Case):
         self.assertEqual(self.run_tool("decide", "--calls-from", self.file("none", ""), self.asks), (0, "", ""))
 
     def test_wrong_lines(self):
-        for text, status, says in (("no_such_call\n", 2, "the table has no syscall 'no_such_call'"),
+        for text, status, says in (("raed\n", 2, "the table has no syscall 'raed'; the nearest name is 'read'"),
                                    ("read 1 2 3 4 5 6 7\n", 2, "isn't a syscall and up to six numbers"),
                                    ("read\0\n", 2, "isn't a syscall and up to six numbers"),
                                    ("9" * 300, 2, "isn't a syscall and up to six numbers"),
@@ -228,7 +215,8 @@ class WhichFilter(Case):
 
     def test_a_fault(self):
         bad = self.file("bad.bpf", jeq(0, 9, 0) + ret(ALLOW))
-        for words in (("compare", self.allow, bad, self.one, self.profile), ("decide", "--nr=0", self.allow, bad, self.one)):
+        for words in (("compare", self.allow, bad, self.one, self.profile),
+                      ("decide", "--nr=0", self.allow, bad, self.one)):
             status, out, _ = self.run_tool(*words)
             self.assertEqual(status, 2)
             self.assertTrue(out.startswith("fault filter Jump at 0\n# This jump"), out)
@@ -329,7 +317,8 @@ class Json(Case):
                            (b'{"a": "\\ud800"}', "a has an unpaired surrogate")):
             profile = self.file("p.json", text)
             # (what is blank may be meant as either)
-            status, out, _ = self.run_tool(*("compare", same) if text.strip() else ("compare-profiles", profile), profile)
+            words = ("compare", same) if text.strip() else ("compare-profiles", profile)
+            status, out, _ = self.run_tool(*words, profile)
             self.assertEqual((status, out.split("\n")[0]), (2, "fault profile Json"), text)
             self.assertIn(says, out)
             done = subprocess.run([tool("compile"), profile], stdout=subprocess.PIPE, stderr=subprocess.PIPE,
@@ -423,24 +412,6 @@ class Objects(Case):
 
 
 class Programs(Case):
-    def test_versions(self):
-        version = self.run_words([*CORE, "--version"])[1]
-        for name in TOOLS:
-            self.assertEqual(self.run_tool(name, "--version"), (0, f"{name} of {version}", ""))
-
-    def test_each_is_named_as_it_was_called(self):
-        for name in TOOLS:
-            link = os.path.join(self.folder, f"scf-{name}")
-            os.symlink(tool(name), link)
-            self.assertIn(f"usage: scf-{name} ", self.run_words([link, "--help"])[1])
-            words = ("filter", "none") if name == "bundle" else \
-                ("none", "none") if name.startswith("compare") or name in ("needs", "why") else \
-                ("--table", "none", "same") if name == "explain" else \
-                ("none",)
-            status, out, err = self.run_words([link, *words])
-            self.assertEqual((status, out), (2, ""))
-            self.assertEqual(err, f"scf-{name}: there is no file 'none'\n")
-
     def test_a_name_of_a_stranger(self):
         link = os.path.join(self.folder, "\x1b[2J%s\\1")
         os.symlink(tool("check"), link)
@@ -477,7 +448,7 @@ class Programs(Case):
 
 
 class Python(Case):
-    """What isn't a verdict: a Python without what the tools need, and a fault of a tool itself."""
+    """A Python without what the tools need."""
 
     def test_python3_minimal(self):
         starts = self.file("lacking.py", LACKING)
@@ -492,12 +463,3 @@ class Python(Case):
                                      "runpy.run_path(sys.argv[0], run_name='__main__')\n")
         self.assertEqual(self.run_words([sys.executable, "-IS", starts, tool("lint"), "x"]),
                          (125, "", "lint: the tools need Python 3.9 or later\n"))
-
-    def test_a_fault_of_a_tool_itself(self):
-        """It isn't status 1, which says that something differs."""
-        tree = self.made_tree("#!/bin/sh\nexit 0\n")
-        with open(os.path.join(tree, "tools", "scftools", "commands", "lint.py"), "w", encoding="utf-8") as file:
-            file.write("def main():\n    return {}['a\\nb']\n")
-        status, out, err = self.run_words([os.path.join(tree, "tools", "lint"), "x"])
-        self.assertEqual((status, out), (70, ""))
-        self.assertEqual(err, "lint: internal error: KeyError: 'a\\nb', at lint.py, line 2; please report it\n")

@@ -116,7 +116,8 @@ class Hot(Case):
         """They aren't counted, where Linux has a bitmap of them; one with a condition or another answer is, and all are
         for an older kernel."""
         entries = [{"names": ["c31", "c104"], "action": "SCMP_ACT_ALLOW"},
-                   {"names": ["c236"], "action": "SCMP_ACT_ALLOW", "args": [{"index": 0, "value": 1, "op": "SCMP_CMP_EQ"}]},
+                   {"names": ["c236"], "action": "SCMP_ACT_ALLOW",
+                    "args": [{"index": 0, "value": 1, "op": "SCMP_CMP_EQ"}]},
                    {"names": ["c237"], "action": "SCMP_ACT_LOG"}]
         text = json.dumps({"defaultAction": "SCMP_ACT_ERRNO", "syscalls": entries})
         path, parts = self.file("q.json", text), bundle([a_profile(text), a_table(TABLE)])

@@ -148,7 +148,8 @@ class Texts(Case):
         self.assertEqual(len(made), 8 * 8)
         for text in (WHOLE, WHOLE.replace("\n", "\r\n"), WHOLE.replace("filter[] =", "filter[8] =")):
             self.is_read(text, texts.ARRAY, made)
-        literal = WHOLE.replace("struct sock_filter filter[] = {", "struct sock_fprog p = { 8, (struct sock_filter[]) {")
+        literal = WHOLE.replace("struct sock_filter filter[] = {",
+                                "struct sock_fprog p = { 8, (struct sock_filter[]) {")
         self.is_read(literal.replace("DENIED),\n    };", "DENIED),\n    } };"), texts.ARRAY, made)
         for words in (["-E"], ["-E", "-P"]):
             expanded = subprocess.run(["cc", *words, source], stdout=subprocess.PIPE, check=True).stdout.decode()

@@ -68,7 +68,8 @@ class Places(Case):
 
     def test_what_people_take_for_json(self):
         """It is named first, and where it stands; a comma by its own place or that of the bracket behind it."""
-        for text, says in (('{"a": [1, 2], // all\n}', "it has a comment, which JSON doesn't allow, at line 1, column 15"),
+        for text, says in (('{"a": [1, 2], // all\n}',
+                            "it has a comment, which JSON doesn't allow, at line 1, column 15"),
                            ('{"a": {"b": 1 /* one */}}',
                             "it has a comment, which JSON doesn't allow, at line 1, column 15 (after a.b)"),
                            ("# mine\n{}", "it has a comment, which JSON doesn't allow, at line 1, column 1\n"),
@@ -89,7 +90,8 @@ class Places(Case):
             profile = self.file("long.json", text)
             for words in (("compare", self.file("f.bpf", filter_of([0])), profile), ("ask", profile)):
                 status, out, err = self.run_tool(*words)
-                self.assertIn((status, out.split("\n")[0]), ((2, "fault profile TooLong"), (2, "fault profile TooMany")))
+                self.assertIn((status, out.split("\n")[0]),
+                              ((2, "fault profile TooLong"), (2, "fault profile TooMany")))
                 self.assertIn("\n# the profile has more than 4194304 bytes\n", out)
                 self.assertNotIn("malformed", out + err)
 

@@ -364,8 +364,8 @@ class Runtimes(Case):
             self.assertEqual((verdict, has_stub), ("same", name == "docker"), name)
 
     def test_a_call_above_the_stub_that_is_allowed(self):
-        """It is the call that is shown, and not one of those that runc answers by ENOSYS. A filter that allows the first of
-        them has no stub."""
+        """It is the call that is shown, and not one of those that runc answers by ENOSYS. A filter that allows the
+        first of them has no stub."""
         applied = runtimes.applied({"defaultAction": ERRNO, "architectures": [X86_64],
                                   "syscalls": [entry("read", "lchown")]}, "runc")
         stubbed = stub(applied.stub[X86_64]) + insn(0, 0) + compiled(applied)

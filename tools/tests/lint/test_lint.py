@@ -8,10 +8,11 @@ import subprocess
 import sys
 
 from support import seccomp_library
-from support.common import LOADER, TABLE, TOP, Case, comes, part, profile_of, taken
+from support.common import LOADER, TABLE, TOP, comes, part, profile_of, taken
 from support.stand_in import StandIn
 from base.test_output import HOSTILE
 from forms.test_runtimes import MOBY, PODMAN
+from lint import Linted as Checked
 import kernel_profiles
 from scftools.base import inputs
 from scftools.model import constants, dangerous_calls, libseccomp, tables
@@ -43,11 +44,7 @@ def profile(*entries, default=ERRNO, **members):
     return {"defaultAction": default, "syscalls": list(entries), **members}
 
 
-class Linted(Case):
-    def run_lint(self, given, *words, **settings):
-        text = given if isinstance(given, bytes) else json.dumps(given).encode()
-        return self.run_tool("lint", *words, self.file("p.json", text), **settings)
-
+class Linted(Checked):
     def report(self, given, *words, status=0):
         """What --json says, whose kinds and entries stand in the lines, too."""
         found, out, err = self.run_lint(given, "--json", *words)
@@ -59,20 +56,22 @@ class Linted(Case):
                          [f"{it['grade']} {it['kind']}" for it in report["findings"]])
         return report
 
-    def found(self, given, *words, kinds=(), status=0):
-        """The findings of some kinds."""
-        ended, out, err = self.run_lint(given, "--json", *words)
-        self.assertEqual((ended, err), (status, ""))
-        findings = [it for it in json.loads(out)["findings"] if it["kind"] in kinds]
-        grades = [(it["kind"], it.pop("grade")) for it in findings]
-        self.assertEqual([each for each in grades if each[0] != "unknown-name"],
-                         [(kind, FINDING_KINDS[kind]) for kind, _ in grades if kind != "unknown-name"])
-        return findings
+    def says(self, kinds, members, *rows, words=()):
+        """Of profiles, each row its entries, its other members and what is expected: of each finding of some kinds the
+        value of a member, or the values of several."""
+        names = members.split()
+        for entries, others, expected in rows:
+            with self.subTest(entries=entries, **others):
+                found = self.found(profile(*entries, **others), *words, kinds=kinds)
+                values = [tuple(map(it.get, names)) for it in found]
+                self.assertEqual(values if len(names) > 1 else [value for value, in values], expected)
 
-    def effects(self, *entries, default=ERRNO, **members):
+    def effects(self, *rows):
         """Each entry that is covered or without effect, as its place, whether all of it is, and why."""
-        found = self.found(profile(*entries, default=default, **members), kinds=("covered", "without-effect"))
-        return [(it["entry"], it["is_whole"], it.get("why") or it["by"]) for it in found]
+        for entries, others, expected in rows:
+            with self.subTest(entries=entries, **others):
+                found = self.found(profile(*entries, **others), kinds=("covered", "without-effect"))
+                self.assertEqual([(it["entry"], it["is_whole"], it.get("why") or it["by"]) for it in found], expected)
 
 
 class Usage(Linted):
@@ -211,31 +210,33 @@ class Names(Linted):
         self.assertEqual(self.found(profile(entry("read", "write")), kinds=kinds), [])
 
     def test_a_name_twice_in_an_entry(self):
-        twice = self.found(profile(entry("read", "write", "read"), entry("close")), kinds=("repeated-name",))
-        self.assertEqual([(it["entry"], it["names"]) for it in twice], [(0, ["read"])])
-        self.assertEqual(self.found(profile(entry("read"), entry("read")), kinds=("repeated-name",)), [])
+        self.says(("repeated-name",), "entry names",
+                  ([entry("read", "write", "read"), entry("close")], {}, [(0, ["read"])]),
+                  ([entry("read", "write", "write", "read")], {}, [(0, ["write", "read"])]),
+                  ([entry("read"), entry("read")], {}, []))
 
 
 class Members(Linted):
     KINDS = ("unread-member", "repeated-member")
 
-    def unread(self, *entries, **members):
-        return [(it.get("entry"), it["member"], it["nearest"]) for it in
-                self.found(profile(*entries, **members), kinds=self.KINDS)]
-
     def test_members_that_nothing_reads(self):
-        self.assertEqual(self.unread(entry("read"), entry("write", arg=[])), [(1, "arg", "args")])
-        self.assertEqual(self.unread(entry("read", flags=["SECCOMP_FILTER_FLAG_LOG"])), [(0, "flags", None)])
-        self.assertEqual(self.unread(entry("read"), defaultErno="EPERM"), [(None, "defaultErno", "defaultErrnoRet")])
         slip = {"index": 0, "op": "SCMP_CMP_EQ", "value": 1, "valueTow": 1}
-        self.assertEqual(self.unread(entry("read", args=[slip])), [(0, "valueTow", "valueTwo")])
+        is_read = {"flags": ["x"], "listenerPath": "/x", "listenerMetadata": "m", "comment": "c", "defaultErrnoRet": 1,
+                   "archMap": [], "architectures": []}
+        self.says(self.KINDS, "entry member nearest",
+                  ([entry("read"), entry("write", arg=[])], {}, [(1, "arg", "args")]),
+                  ([entry("read", flags=["SECCOMP_FILTER_FLAG_LOG"])], {}, [(0, "flags", None)]),
+                  ([entry("read")], {"defaultErno": "EPERM"}, [(None, "defaultErno", "defaultErrnoRet")]),
+                  ([entry("read", args=[slip])], {}, [(0, "valueTow", "valueTwo")]),
+                  ([entry("read", comment="c", errnoRet=None, args=None, includes={}, excludes={}),
+                    entry("write", action=ERRNO, errnoRet=2)], is_read, []), ([entry("read", arg=None)], {}, []))
 
-    def test_members_that_are_read(self):
-        self.assertEqual(self.unread(entry("read", comment="c", errnoRet=None, args=None, includes={}, excludes={}),
-                                     entry("write", action=ERRNO, errnoRet=2), flags=["x"], listenerPath="/x",
-                                     listenerMetadata="m", comment="c", defaultErrnoRet=1, archMap=[],
-                                     architectures=[]), [])
-        self.assertEqual(self.unread(entry("read", arg=None)), [])
+    def test_the_second_value_is_that_of_masks(self):
+        second = [(0, "valueTwo", None)]
+        self.says(self.KINDS, "entry member nearest", *(
+            ([entry("read", args=[(0, *condition)])], {}, expected) for condition, expected in (
+                (("EQ", 1, 5), second), (("EQ", 1, 0), []), (("MASKED_EQ", 1, 5), []), (("NE", 1, 1), second),
+                (("MASKED_EQ", 1, 0), []))))
 
     def test_members_that_engines_read(self):
         """Seccomp and Syscall in containers-common's pkg/seccomp/types.go; name in moby's, too."""
@@ -267,11 +268,6 @@ class Members(Linted):
         self.assertEqual((status, out.split("\n")[0]), (2, "fault profile Missing entry 0"))
         self.assertIn("folded-member: entry 0 has a member 'Action'", out)
 
-    def test_the_second_value_is_that_of_masks(self):
-        for operator, second, expected in (("EQ", 5, [(0, "valueTwo", None)]), ("EQ", 0, []), ("MASKED_EQ", 5, []),
-                                           ("NE", 1, [(0, "valueTwo", None)]), ("MASKED_EQ", 0, [])):
-            self.assertEqual(self.unread(entry("read", args=[(0, operator, 1, second)])), expected, operator)
-
     def test_members_that_stand_twice(self):
         text = b'{"defaultAction":"SCMP_ACT_ERRNO","syscalls":[{"names":["read"],"action":"SCMP_ACT_LOG",' \
                b'"action":"SCMP_ACT_ALLOW"}]}'
@@ -291,18 +287,17 @@ class Members(Linted):
 
 class Defaults(Linted):
     def test_a_default_that_allows(self):
-        for action in ACTIONS:
-            found = self.found(profile(default=f"SCMP_ACT_{action}"), kinds=("default-allows",))
-            self.assertEqual(len(found), action in ("ALLOW", "LOG"), action)
+        self.says(("default-allows",), "action", *(
+            ([], {"default": f"SCMP_ACT_{action}"}, [f"SCMP_ACT_{action}"] if action in ("ALLOW", "LOG") else [])
+            for action in ACTIONS))
 
     def test_architectures_without_x32(self):
-        x86_64, x86, x32 = (f"SCMP_ARCH_{name}" for name in ("X86_64", "X86", "X32"))
-        for named, is_found in (([x86_64], True), ([x86, x86_64], True), ([x86_64, x86, x32], False),
-                                ([x86_64, x32], False), ([], False), (None, False)):
-            found = self.found(profile(default=ALLOW, architectures=named), kinds=("x32",))
-            self.assertEqual([it["architectures"] for it in found], [named] if is_found else [])
+        self.says(("x32",), "architectures", *(
+            ([], {"default": ALLOW, "architectures": named}, [named] if is_found else []) for named, is_found in (
+                ([NATIVE], True), ([I386, NATIVE], True), (ENGINES, False), ([NATIVE, X32], False), ([], False),
+                (None, False), ([NATIVE, AARCH64], True), ([AARCH64], False), ([I386], False))))
         for action in ACTIONS:
-            out = self.run_lint(profile(default=f"SCMP_ACT_{action}", architectures=[x86_64]))[1]
+            out = self.run_lint(profile(default=f"SCMP_ACT_{action}", architectures=[NATIVE]))[1]
             # what denies answers them as filters that test for them do
             self.assertEqual(f"the default, SCMP_ACT_{action}, allows them" in out, action in ("ALLOW", "LOG"))
             self.assertEqual(f"the default, SCMP_ACT_{action}, answers them" in out, action in ("NOTIFY", "TRACE"))
@@ -501,30 +496,24 @@ class Restart(Running):
         self.assertEqual({name for name, _ in restarted},
                          {name for name, _ in watchlist.RESTARTED if table.number_of(name) is not None})
 
-    def missing(self, given):
-        return [it["names"] for it in self.found(given, kinds=("no-restart",))]
-
     def test_a_profile_without_it(self):
         every = ["nanosleep", "clock_nanosleep", "poll", "futex"]
-        self.assertEqual(self.missing(self.denied()), [every])
-        self.assertEqual(self.missing(profile(entry("restart_syscall", *every))), [])
-        self.assertEqual(self.missing(profile(entry("ppoll", "select", "read", "pause", "epoll_wait"))), [])
-        for name in every:
-            self.assertEqual(self.missing(profile(entry(name))), [[name]])
-            for action, is_found in (("ALLOW", False), ("LOG", False), ("KILL", True), ("TRACE", True),
-                                     ("NOTIFY", True), ("TRAP", True)):
-                given = profile(entry(name), entry("restart_syscall", action=f"SCMP_ACT_{action}"))
-                self.assertEqual(self.missing(given), [[name]] * is_found, (name, action))
-        # it has the arguments of the syscall that it goes on with, so that none may be asked for
-        self.assertEqual(self.missing(profile(entry("poll"), entry("restart_syscall", args=[(0, "EQ", 0)]))),
-                         [["poll"]])
+        self.says(("no-restart",), "names", ([entry("restart_syscall", action=ERRNO)], {"default": ALLOW}, [every]),
+                  ([entry("restart_syscall", *every)], {}, []),
+                  ([entry("ppoll", "select", "read", "pause", "epoll_wait")], {}, []),
+                  *(([entry(name)], {}, [[name]]) for name in every),
+                  *(([entry(name), entry("restart_syscall", action=f"SCMP_ACT_{action}")], {}, [[name]] * is_found)
+                    for name in every for action, is_found in (("ALLOW", False), ("LOG", False), ("KILL", True),
+                                                               ("TRACE", True), ("NOTIFY", True), ("TRAP", True))),
+                  # it has the arguments of the syscall that it goes on with, so that none may be asked for
+                  ([entry("poll"), entry("restart_syscall", args=[(0, "EQ", 0)])], {}, [["poll"]]))
 
     def test_only_what_may_be_restarted(self):
-        for name, args, is_found in (("futex", [(1, "EQ", 129)], False), ("futex", [(1, "EQ", 128)], True),
-                                     ("futex", [(1, "EQ", 137)], True), ("futex", [(3, "EQ", 0)], False),
-                                     ("clock_nanosleep", [(1, "EQ", 1)], False),
-                                     ("clock_nanosleep", [(1, "EQ", 0)], True)):
-            self.assertEqual(self.missing(profile(entry(name, args=args))), [[name]] * is_found, args)
+        self.says(("no-restart",), "names", *(
+            ([entry(name, args=args)], {}, [[name]] * is_found) for name, args, is_found in (
+                ("futex", [(1, "EQ", 129)], False), ("futex", [(1, "EQ", 128)], True),
+                ("futex", [(1, "EQ", 137)], True), ("futex", [(3, "EQ", 0)], False),
+                ("clock_nanosleep", [(1, "EQ", 1)], False), ("clock_nanosleep", [(1, "EQ", 0)], True))))
 
     def test_its_words(self):
         self.assertIn("no-restart: nanosleep and poll are allowed, and restart_syscall (219) is not: a thread "
@@ -605,12 +594,11 @@ class Errnos(Running):
 
 class Supervisors(Linted):
     def test_actions_that_wait(self):
-        for action in ACTIONS:
-            waits = action in ("TRACE", "NOTIFY")
-            given = profile(entry("read"), entry("write", action=f"SCMP_ACT_{action}"))
-            for members, is_found in (({}, waits), ({"listenerPath": "/run/x"}, action == "TRACE")):
-                found = self.found({**given, **members}, kinds=("no-supervisor",))
-                self.assertEqual([(it["entry"], it["action"]) for it in found], [(1, f"SCMP_ACT_{action}")] * is_found)
+        for action in (f"SCMP_ACT_{action}" for action in ACTIONS):
+            entries, is_traced = [entry("read"), entry("write", action=action)], action == "SCMP_ACT_TRACE"
+            self.says(("no-supervisor",), "entry action",
+                      (entries, {}, [(1, action)] * (is_traced or action == "SCMP_ACT_NOTIFY")),
+                      (entries, {"listenerPath": "/run/x"}, [(1, action)] * is_traced))
         self.assertIn("no-supervisor: the default: SCMP_ACT_TRACE needs a tracer with PTRACE_O_TRACESECCOMP: without "
                       "one the syscall fails with ENOSYS\n", self.run_lint(profile(default="SCMP_ACT_TRACE"))[1])
 
@@ -625,71 +613,63 @@ class Waiting(Running):
 
 class Architectures(Linted):
     def test_names_that_the_specification_does_not_have(self):
-        def unknown(*names):
-            found = self.found(profile(architectures=["SCMP_ARCH_X86_64", *names]), kinds=("unknown-architecture",))
-            return [(it["name"], it["nearest"]) for it in found]
-        self.assertEqual(unknown("SCMP_ARCH_X86", "SCMP_ARCH_X32", "SCMP_ARCH_AARCH64", "SCMP_ARCH_RISCV64"), [])
-        self.assertEqual(unknown("SCMP_ARCH_AMD64", "x86", "SCMP_ARCH_ARM64", "SCMP_ARCH_NONSENSE"), [
-            ("SCMP_ARCH_AMD64", "SCMP_ARCH_X86_64"), ("x86", "SCMP_ARCH_X86"), ("SCMP_ARCH_ARM64", "SCMP_ARCH_AARCH64"),
-            ("SCMP_ARCH_NONSENSE", None)])
+        near = {"SCMP_ARCH_AMD64": NATIVE, "x86": I386, "SCMP_ARCH_ARM64": AARCH64, "SCMP_ARCH_NONSENSE": None}
+        self.says(("unknown-architecture",), "name nearest",
+                  ([], {"architectures": [NATIVE, I386, X32, AARCH64, "SCMP_ARCH_RISCV64"]}, []),
+                  ([], {"architectures": [NATIVE, *near]}, list(near.items())))
 
     def test_flags_that_it_does_not_have(self):
-        def unknown(flags):
-            return [(it["name"], it["nearest"]) for it in self.found(profile(flags=flags), kinds=("unknown-flag",))]
         names = [f"SECCOMP_FILTER_FLAG_{it}" for it in ("TSYNC", "LOG", "SPEC_ALLOW", "WAIT_KILLABLE_RECV")]
-        self.assertEqual(unknown(names), [])
-        self.assertEqual(unknown(["SECCOMP_FILTER_FLAG_LOGG", "nothing"]), [("SECCOMP_FILTER_FLAG_LOGG", names[1]),
-                                                                            ("nothing", None)])
-        for odd in ("text", 5, [5], {}, None):
-            self.assertEqual(unknown(odd), [])
+        self.says(("unknown-flag",), "name nearest", ([], {"flags": names}, []),
+                  ([], {"flags": ["SECCOMP_FILTER_FLAG_LOGG", "nothing"]},
+                   [("SECCOMP_FILTER_FLAG_LOGG", names[1]), ("nothing", None)]),
+                  *(([], {"flags": odd}, []) for odd in ("text", 5, [5], {}, None)))
 
 
 class Arguments(Linted):
     """Conditions beside what the kernel does with an argument."""
 
-    def odd(self, *entries, kinds=("no-such-argument", "pointer-argument"), **members):
-        return [(it["kind"], it["entry"], it["names"]) for it in self.found(profile(*entries, **members), kinds=kinds)]
+    KINDS = ("no-such-argument", "pointer-argument")
 
     def test_arguments_that_a_syscall_does_not_have(self):
-        self.assertEqual(self.odd(entry("personality", args=[(1, "EQ", 8)]), entry("socket", args=[(2, "EQ", 0)]),
-                                  entry("socket", "getpid", "dup", args=[(3, "EQ", 1)])),
-                         [("no-such-argument", 0, ["personality"]),
-                          ("no-such-argument", 2, ["socket", "getpid", "dup"])])
+        self.says(self.KINDS, "kind entry names", (
+            [entry("personality", args=[(1, "EQ", 8)]), entry("socket", args=[(2, "EQ", 0)]),
+             entry("socket", "getpid", "dup", args=[(3, "EQ", 1)])], {},
+            [("no-such-argument", 0, ["personality"]), ("no-such-argument", 2, ["socket", "getpid", "dup"])]))
 
     def test_addresses(self):
-        self.assertEqual(self.odd(entry("openat", args=[(1, "EQ", 0x7F0000)]), entry("openat", args=[(2, "EQ", 0)])),
-                         [("pointer-argument", 0, ["openat"])])
-        for condition in (("EQ", 0), ("NE", 0), ("GT", 0), ("LE", 0), ("LT", 1), ("GE", 1), ("MASKED_EQ", TOP_OF, 0)):
-            self.assertEqual(self.odd(entry("sendto", args=[(4, *condition)])), [], condition)
-        for condition in (("EQ", 1), ("NE", 8), ("GT", 5), ("MASKED_EQ", 4095, 0)):
-            self.assertEqual(len(self.odd(entry("sendto", args=[(4, *condition)]))), 1, condition)
+        null = ("EQ", 0), ("NE", 0), ("GT", 0), ("LE", 0), ("LT", 1), ("GE", 1), ("MASKED_EQ", TOP_OF, 0)
+        values = ("EQ", 1), ("NE", 8), ("GT", 5), ("MASKED_EQ", 4095, 0)
+        self.says(self.KINDS, "kind entry names",
+                  ([entry("openat", args=[(1, "EQ", 0x7F0000)]), entry("openat", args=[(2, "EQ", 0)])], {},
+                   [("pointer-argument", 0, ["openat"])]),
+                  *(([entry("sendto", args=[(4, *each)])], {}, [("pointer-argument", 0, ["sendto"])] * (each in values))
+                    for each in (*null, *values)))
 
     def test_conditions_that_always_hold(self):
-        kinds = ("always-met", "odd-mask")
-        for condition, kind in ((("GE", 0), "always-met"), (("LE", TOP_OF), "always-met"), (("GE", 1), None),
-                                (("LE", TOP_OF - 1), None), (("MASKED_EQ", 0, 0), "always-met"),
-                                (("MASKED_EQ", 0, 0x7E020000), "always-met"), (("MASKED_EQ", 0x7E020000, 0), None),
-                                (("MASKED_EQ", 0xF0, 0x0F), "odd-mask"), (("MASKED_EQ", 0xF0, 0x30), None)):
-            found = self.found(profile(entry("clone", args=[(0, *condition)])), kinds=kinds)
-            self.assertEqual([it["kind"] for it in found], [kind] * (kind is not None), condition)
+        self.says(("always-met", "odd-mask"), "kind", *(
+            ([entry("clone", args=[(0, *condition)])], {}, [kind] * (kind is not None)) for condition, kind in (
+                (("GE", 0), "always-met"), (("LE", TOP_OF), "always-met"), (("GE", 1), None),
+                (("LE", TOP_OF - 1), None), (("MASKED_EQ", 0, 0), "always-met"),
+                (("MASKED_EQ", 0, 0x7E020000), "always-met"), (("MASKED_EQ", 0x7E020000, 0), None),
+                (("MASKED_EQ", 0xF0, 0x0F), "odd-mask"), (("MASKED_EQ", 0xF0, 0x30), None))))
         self.assertIn("they may be swapped", self.run_lint(profile(entry("clone", args=[(0, "MASKED_EQ", 0, 1)])))[1])
 
     def test_entries_of_which_each_call_meets_one(self):
-        def of(*args, action=ALLOW, default=ERRNO):
-            given = profile(*(entry("socket", args=one, action=action) for one in args), default=default)
-            return [it["entries"] for it in self.found(given, kinds=("always-met",))]
-        self.assertEqual(of([(0, "NE", 40)], [(0, "NE", 16)]), [[0, 1]])
-        self.assertEqual(of([(0, "NE", 40), (1, "EQ", 1)], [(0, "NE", 16)]), [])
-        self.assertEqual(of([(0, "NE", 40)], [(1, "NE", 16)]), [])
-        self.assertEqual(of([(0, "LT", 40)], [(0, "GE", 40)]), [[0, 1]])
-        self.assertEqual(of([(0, "LT", 40)], [(0, "GT", 40)], [(0, "EQ", 40)]), [[0, 1, 2]])
-        self.assertEqual(of([(0, "LT", 40)], [(0, "GT", 40)], [(1, "EQ", 40)]), [])
-        self.assertEqual(of([(0, "NE", 40)], [(0, "NE", 16)], action=ERRNO, default=ALLOW), [[0, 1]])
-        # an entry without conditions covers the others
-        self.assertEqual(of([(0, "NE", 40)], []), [])
-        mixed = profile(entry("socket", args=[(0, "EQ", 40)]),
-                        entry("socket", args=[(0, "NE", 40)], action="SCMP_ACT_LOG"))
-        self.assertEqual(self.found(mixed, kinds=("always-met",)), [])
+        self.says(("always-met",), "entries", *(
+            ([entry("socket", args=args, action=action) for args in conditions], {"default": default}, expected)
+            for conditions, action, default, expected in (
+                (([(0, "NE", 40)], [(0, "NE", 16)]), ALLOW, ERRNO, [[0, 1]]),
+                (([(0, "NE", 40), (1, "EQ", 1)], [(0, "NE", 16)]), ALLOW, ERRNO, []),
+                (([(0, "NE", 40)], [(1, "NE", 16)]), ALLOW, ERRNO, []),
+                (([(0, "LT", 40)], [(0, "GE", 40)]), ALLOW, ERRNO, [[0, 1]]),
+                (([(0, "LT", 40)], [(0, "GT", 40)], [(0, "EQ", 40)]), ALLOW, ERRNO, [[0, 1, 2]]),
+                (([(0, "LT", 40)], [(0, "GT", 40)], [(1, "EQ", 40)]), ALLOW, ERRNO, []),
+                (([(0, "NE", 40)], [(0, "NE", 16)]), ERRNO, ALLOW, [[0, 1]]),
+                # an entry without conditions covers the others
+                (([(0, "NE", 40)], []), ALLOW, ERRNO, []))),
+            ([entry("socket", args=[(0, "EQ", 40)]), entry("socket", args=[(0, "NE", 40)], action="SCMP_ACT_LOG")],
+             {}, []))
 
     def test_entries_that_would_be_too_many(self):
         """Entries as the default need no instruction, and as many that allow need more than a filter has."""
@@ -738,42 +718,39 @@ class Arguments(Linted):
 class HighHalf(Running):
     """Denials that a bit in the upper half of a register evades."""
 
-    def evaded(self, *entries, **members):
-        return [(it["name"], it["argument"], it["denied"], it["allowed"]) for it in self.found(
-            profile(*entries, **members), kinds=("high-half",)) if "denied" in it]
-
     def test_denials(self):
-        self.assertEqual(self.evaded(entry("ioctl", action=ERRNO, args=[(1, "EQ", 0x5412)]), default=ALLOW),
-                         [("ioctl", 1, "0x5412", "0x100005412")])
-        self.assertEqual(self.evaded(entry("socket", args=[(0, "NE", 40)])), [("socket", 0, "0x28", "0x100000028")])
-        self.assertEqual(self.evaded(entry("socket", args=[(0, "EQ", 40)])), [])
-        self.assertEqual(self.evaded(entry("ioctl", action=ERRNO, args=[(1, "MASKED_EQ", 2**32 - 1, 0x5412)]),
-                                     default=ALLOW), [])
-        # a whole register, and the default that denies all
-        self.assertEqual(self.evaded(entry("prctl", action=ERRNO, args=[(1, "EQ", 4)]), default=ALLOW), [])
-        self.assertEqual(self.evaded(entry("personality", args=[(0, "EQ", 0xFFFFFFFF)])), [])
-        # delegated, which isn't denied
-        self.assertEqual(self.evaded(entry("ioctl", action="SCMP_ACT_TRACE", args=[(1, "EQ", 4)]), default=ALLOW), [])
+        def ioctl(*condition, action=ERRNO):
+            return entry("ioctl", action=action, args=[(1, *condition)])
+
+        allows = {"default": ALLOW}
+        self.says(("high-half",), "name argument denied allowed",
+                  ([ioctl("EQ", 0x5412)], allows, [("ioctl", 1, "0x5412", "0x100005412")]),
+                  ([entry("socket", args=[(0, "NE", 40)])], {}, [("socket", 0, "0x28", "0x100000028")]),
+                  ([entry("socket", args=[(0, "EQ", 40)])], {}, []),
+                  ([ioctl("MASKED_EQ", 2**32 - 1, 0x5412)], allows, []),
+                  # a whole register, the default that denies all, and what is delegated, which isn't denied
+                  ([entry("prctl", action=ERRNO, args=[(1, "EQ", 4)])], allows, []),
+                  ([entry("personality", args=[(0, "EQ", 0xFFFFFFFF)])], {}, []),
+                  ([ioctl("EQ", 4, action="SCMP_ACT_TRACE")], allows, []))
 
     def test_with_other_conditions(self):
         both = entry("socket", action=ERRNO, args=[(0, "EQ", 16), (2, "EQ", 9)])
-        self.assertEqual(self.evaded(both, default=ALLOW), [("socket", 0, "0x10", "0x100000010")])
         (found,) = self.found(profile(both, default=ALLOW), kinds=("high-half",))
-        self.assertEqual((found["others"], found["also"]), ({"2": "0x9"}, [2]))
+        self.assertEqual((found["argument"], found["others"], found["also"]), (0, {"2": "0x9"}, [2]))
         self.assertIn("socket (41) is denied with 0x10 as argument 0, beside 0x9 as argument 2 (ERRNO 1), and allowed "
                       "with 0x100000010 by the default: ", found["text"])
         self.assertTrue(found["text"].endswith("the same syscall for both; the same of argument 2"), found["text"])
 
     def test_values_of_more_than_32_bits(self):
-        found = self.found(profile(entry("openat", args=[(0, "EQ", 2**64 - 100)])), kinds=("high-half",))
-        self.assertEqual([(it["entry"], it["names"]) for it in found], [(0, ["openat"])])
-        self.assertEqual(self.found(profile(entry("mmap", args=[(3, "EQ", 2**64 - 100)])), kinds=("high-half",)), [])
+        self.says(("high-half",), "entry names",
+                  ([entry("openat", args=[(0, "EQ", 2**64 - 100)])], {}, [(0, ["openat"])]),
+                  ([entry("mmap", args=[(3, "EQ", 2**64 - 100)])], {}, []))
 
     def test_a_process(self):
         """personality(0xffffffff) asks for the persona and sets none."""
         given = profile(entry("personality", action=ERRNO, errnoRet=77, args=[(0, "EQ", 0xFFFFFFFF)]), default=ALLOW)
-        self.assertEqual(self.evaded(*given["syscalls"], default=ALLOW),
-                         [("personality", 0, "0xffffffff", "0x1ffffffff")])
+        self.says(("high-half",), "name argument denied allowed", (
+            given["syscalls"], {"default": ALLOW}, [("personality", 0, "0xffffffff", "0x1ffffffff")]))
         number = tables.read_table(TABLE).number_of("personality")
         found = self.results(given, [(number, 0xFFFFFFFF), (number, 0x1FFFFFFFF)])
         self.assertEqual(found[0], (-1, 77))
@@ -783,10 +760,6 @@ class HighHalf(Running):
 class Siblings(Linted):
     """Denials that another syscall makes void."""
 
-    def void(self, *entries, **members):
-        return [(it["entry"], it["name"], it["allowed"]) for it in self.found(
-            profile(*entries, **members), kinds=("sibling-allowed",))]
-
     def test_the_list(self):
         table = tables.read_table(TABLE)
         for name, others in watchlist.SIBLINGS.items():
@@ -794,65 +767,63 @@ class Siblings(Linted):
                 self.assertIsNotNone(table.number_of(one), one)
 
     def test_denials(self):
-        deny = {"action": ERRNO, "errnoRet": 1}
-        self.assertEqual(self.void(entry("mkdir", "open", **deny), default=ALLOW),
-                         [(0, "mkdir", ["mkdirat"]), (0, "open", ["openat", "openat2"])])
-        self.assertEqual(self.void(entry("mkdir", "mkdirat", **deny), entry("open", "openat", **deny), default=ALLOW),
-                         [(1, "open", ["openat2"])])
-        self.assertEqual(self.void(entry("mkdir", action="SCMP_ACT_KILL"), entry("mkdirat")),
-                         [(0, "mkdir", ["mkdirat"])])
-        for one in (entry("mkdir", action=ERRNO, errnoRet=38), entry("mkdir", action="SCMP_ACT_TRACE"),
-                    entry("mkdir", args=[(1, "EQ", 0)], **deny), entry("mkdirat", **deny), entry("close", **deny)):
-            self.assertEqual(self.void(one, default=ALLOW), [], one)
-        # by the default, which wasn't written for it
-        self.assertEqual(self.void(entry("mkdirat")), [])
-        self.assertEqual(self.void(entry("mkdir", action="SCMP_ACT_KILL"), entry("mkdirat", args=[(0, "EQ", 3)])), [])
+        deny, allows = {"action": ERRNO, "errnoRet": 1}, {"default": ALLOW}
+        killed = entry("mkdir", action="SCMP_ACT_KILL")
+        self.says(("sibling-allowed",), "entry name allowed",
+                  ([entry("mkdir", "open", **deny)], allows,
+                   [(0, "mkdir", ["mkdirat"]), (0, "open", ["openat", "openat2"])]),
+                  ([entry("mkdir", "mkdirat", **deny), entry("open", "openat", **deny)], allows,
+                   [(1, "open", ["openat2"])]),
+                  ([killed, entry("mkdirat")], {}, [(0, "mkdir", ["mkdirat"])]),
+                  *(([one], allows, []) for one in (
+                      entry("mkdir", action=ERRNO, errnoRet=38), entry("mkdir", action="SCMP_ACT_TRACE"),
+                      entry("mkdir", args=[(1, "EQ", 0)], **deny), entry("mkdirat", **deny), entry("close", **deny))),
+                  # by the default, which wasn't written for it
+                  ([entry("mkdirat")], {}, []), ([killed, entry("mkdirat", args=[(0, "EQ", 3)])], {}, []))
 
 
 class Effects(Linted):
     def test_as_the_default(self):
-        self.assertEqual(self.effects(entry("read"), entry("write", "close", action=ERRNO)), [(1, True, "default")])
-        self.assertEqual(self.effects(entry("read", action=ERRNO, errnoRet=1)), [(0, True, "default")])
-        self.assertEqual(self.effects(entry("read", action=ERRNO, errnoRet=2)), [])
-        self.assertEqual(self.effects(entry("read", action=ERRNO, errnoRet=2), defaultErrnoRet=2),
-                         [(0, True, "default")])
-        self.assertEqual(self.effects(entry("read", action="SCMP_ACT_KILL_THREAD"), default="SCMP_ACT_KILL"),
-                         [(0, True, "default")])
-        self.assertEqual(self.effects(entry("read", action="SCMP_ACT_KILL_PROCESS"), default="SCMP_ACT_KILL"), [])
+        default = [(0, True, "default")]
+        self.effects(([entry("read"), entry("write", "close", action=ERRNO)], {}, [(1, True, "default")]),
+                     ([entry("read", action=ERRNO, errnoRet=1)], {}, default),
+                     ([entry("read", action=ERRNO, errnoRet=2)], {}, []),
+                     ([entry("read", action=ERRNO, errnoRet=2)], {"defaultErrnoRet": 2}, default),
+                     ([entry("read", action="SCMP_ACT_KILL_THREAD")], {"default": "SCMP_ACT_KILL"}, default),
+                     ([entry("read", action="SCMP_ACT_KILL_PROCESS")], {"default": "SCMP_ACT_KILL"}, []))
 
     def test_covered(self):
-        self.assertEqual(self.effects(entry("read", "write"), entry("read")), [(1, True, 0)])
-        self.assertEqual(self.effects(entry("read"), entry("read", "write")), [(0, True, 1)])
-        self.assertEqual(self.effects(entry("read", "write"), entry("read", "close")), [(1, False, 0)])
-        self.assertEqual(self.effects(entry("read"), entry("read", args=[(0, "EQ", 5)])), [(1, True, 0)])
+        self.effects(([entry("read", "write"), entry("read")], {}, [(1, True, 0)]),
+                     ([entry("read"), entry("read", "write")], {}, [(0, True, 1)]),
+                     ([entry("read", "write"), entry("read", "close")], {}, [(1, False, 0)]),
+                     ([entry("read"), entry("read", args=[(0, "EQ", 5)])], {}, [(1, True, 0)]),
+                     # of two that are alike the later is told, and not both, which can't be left out together
+                     ([entry("read"), entry("write"), entry("read")], {}, [(2, True, 0)]))
         for wide, narrow, is_covered in (((0, "LE", 5), (0, "LT", 6), True), ((0, "LE", 5), (0, "LE", 6), False),
                                          ((0, "NE", 5), (0, "GT", 5), True), ((0, "NE", 5), (0, "GE", 5), False),
                                          ((0, "MASKED_EQ", 4, 4), (0, "EQ", 12), True),
                                          ((0, "MASKED_EQ", 4, 4), (0, "EQ", 8), False),
                                          ((0, "EQ", 5), (1, "EQ", 5), False)):
-            found = self.effects(entry("read", args=[wide]), entry("read", args=[narrow]))
-            self.assertEqual((1, True, 0) in found, is_covered, (wide, narrow))
-
-    def test_two_that_are_alike(self):
-        """The later is told, and not both, which can't be left out together."""
-        self.assertEqual(self.effects(entry("read"), entry("write"), entry("read")), [(2, True, 0)])
+            with self.subTest(wide=wide, narrow=narrow):
+                given = profile(entry("read", args=[wide]), entry("read", args=[narrow]))
+                self.assertEqual([it["by"] for it in self.found(given, kinds=("covered",)) if it["entry"] == 1],
+                                 [0] * is_covered)
 
     def test_together(self):
-        halves = entry("read", args=[(0, "LT", 5)]), entry("read", args=[(0, "GE", 5)])
-        self.assertEqual(self.effects(*halves, entry("read")), [(2, True, "together")])
-        self.assertEqual(self.effects(entry("read"), *halves), [(1, True, 0), (2, True, 0)])
-        gap = entry("read", args=[(0, "LT", 5)]), entry("read", args=[(0, "GT", 5)])
-        self.assertEqual([it for it in self.effects(*gap, entry("read")) if it[0] == 2], [])
+        halves = [entry("read", args=[(0, operator, 5)]) for operator in ("LT", "GE")]
+        gap = [entry("read", args=[(0, operator, 5)]) for operator in ("LT", "GT")]
+        self.effects(([*halves, entry("read")], {}, [(2, True, "together")]),
+                     ([entry("read"), *halves], {}, [(1, True, 0), (2, True, 0)]),
+                     ([*gap, entry("read")], {}, [(0, True, 2), (1, True, 2)]))
 
     def test_no_call_meets_it(self):
-        for condition, is_met in (((0, "LT", 0), False), ((0, "LE", 0), True), ((5, "GT", TOP_OF), False),
-                                  ((5, "GE", TOP_OF), True)):
-            self.assertEqual(self.effects(entry("read"), entry("write", args=[condition])),
-                             [] if is_met else [(1, True, "none")], condition)
+        self.effects(*(([entry("read"), entry("write", args=[condition])], {}, expected) for condition, expected in (
+            ((0, "LT", 0), [(1, True, "none")]), ((0, "LE", 0), []), ((5, "GT", TOP_OF), [(1, True, "none")]),
+            ((5, "GE", TOP_OF), []))))
 
     def test_names_of_other_architectures_have_an_effect_there(self):
-        self.assertEqual(self.effects(entry("read"), entry("read", "waitpid")), [(1, False, 0)])
-        self.assertEqual(self.effects(entry("read"), entry("waitpid", "umont2")), [])
+        self.effects(([entry("read"), entry("read", "waitpid")], {}, [(1, False, 0)]),
+                     ([entry("read"), entry("waitpid", "umont2")], {}, []))
 
     def test_what_is_said_behind_them(self):
         same = "# scf proves the profile the same without all that is covered or without effect\n"
@@ -996,38 +967,28 @@ class Several(Linted):
         self.assertEqual(self.listing([I386], *entries, kinds=("dangerous-call",)),
                          [("ptrace (26) is allowed by entry 1", ["i386"])])
 
-    def test_x32_is_named_where_x86_64_is(self):
-        for architectures, is_found in (([NATIVE], True), ([NATIVE, AARCH64], True), ([AARCH64], False),
-                                        ([I386], False), (ENGINES, False)):
-            found = self.found(profile(default=ALLOW, architectures=architectures), kinds=("x32",))
-            self.assertEqual(len(found), is_found, architectures)
-
     def test_an_entry_that_has_an_effect_on_one_of_them(self):
         """waitpid is i386's alone; no i386 call meets what is said of greater numbers."""
-        later = entry("read"), entry("read", "waitpid")
-        self.assertEqual(self.effects(*later, architectures=[NATIVE]), [(1, False, 0)])
-        self.assertEqual(self.effects(*later, architectures=ENGINES), [(0, True, 1)])
-        twice = entry("waitpid"), entry("waitpid")
-        self.assertEqual(self.effects(*twice, architectures=[NATIVE, X32]), [])
-        self.assertEqual(self.effects(*twice, architectures=ENGINES), [(1, True, 0)])
-        self.assertEqual(self.effects(entry("read"), entry("waitpid"), architectures=ENGINES), [])
-        halves = entry("umask", args=[(0, "LT", WIDE)]), entry("umask")
-        for architectures in ([NATIVE], ENGINES, [AARCH64, ARM]):
-            self.assertEqual(self.effects(*halves, architectures=architectures), [(0, True, 1)])
-        self.assertEqual(self.effects(*halves, architectures=[I386]), [(1, True, 0)])
-        self.assertEqual(self.effects(entry("umask", args=[(0, "GE", WIDE)]), architectures=ENGINES), [])
-        self.assertEqual(self.effects(entry("umask", args=[(0, "GE", WIDE)]), architectures=[I386, X32, ARM]),
-                         [(0, True, "none")])
+        later, twice = [entry("read"), entry("read", "waitpid")], [entry("waitpid"), entry("waitpid")]
+        halves = [entry("umask", args=[(0, "LT", WIDE)]), entry("umask")]
+        wide = [entry("umask", args=[(0, "GE", WIDE)])]
+        self.effects(*((entries, {"architectures": architectures}, expected) for entries, architectures, expected in (
+            (later, [NATIVE], [(1, False, 0)]), (later, ENGINES, [(0, True, 1)]), (twice, [NATIVE, X32], []),
+            (twice, ENGINES, [(1, True, 0)]), ([entry("read"), entry("waitpid")], ENGINES, []),
+            (halves, [NATIVE], [(0, True, 1)]), (halves, ENGINES, [(0, True, 1)]),
+            (halves, [AARCH64, ARM], [(0, True, 1)]), (halves, [I386], [(1, True, 0)]), (wide, ENGINES, []),
+            (wide, [I386, X32, ARM], [(0, True, "none")]))))
 
     def test_entries_that_are_covered_on_all(self):
-        self.assertEqual(self.effects(entry("read", "write"), entry("read"), architectures=ENGINES), [(1, True, 0)])
         halves = entry("read", args=[(0, "LT", 5)]), entry("read", args=[(0, "GE", 5)])
-        self.assertEqual(self.effects(*halves, entry("read"), architectures=ENGINES), [(2, True, "together")])
-        self.assertEqual(self.effects(entry("read", action=ERRNO), architectures=ENGINES), [(0, True, "default")])
         # the last entry has all but 7, and what no other entry has, such as 500
         most = [("EQ", it) for it in range(6, 18)] + [("LE", 5), ("GE", 1000), ("NE", 7)]
-        self.assertEqual(self.effects(*(entry("read", args=[(0, *it)]) for it in most), architectures=ENGINES),
-                         [(at, True, 14) for at in range(14) if most[at] != ("EQ", 7)])
+        self.effects(*((entries, {"architectures": ENGINES}, expected) for entries, expected in (
+            ([entry("read", "write"), entry("read")], [(1, True, 0)]),
+            ([*halves, entry("read")], [(2, True, "together")]),
+            ([entry("read", action=ERRNO)], [(0, True, "default")]),
+            ([entry("read", args=[(0, *it)]) for it in most],
+             [(at, True, 14) for at in range(14) if most[at] != ("EQ", 7)]))))
 
     def test_a_dangerous_call_on_one_of_them(self):
         """By a table without ptrace, and for arguments that no call of 32 bits has."""
@@ -1047,7 +1008,8 @@ class Several(Linted):
 
     def test_a_dangerous_call_always_or_with_some_arguments(self):
         given = profile(entry("ptrace", action=ERRNO, args=[(0, "GE", WIDE)]), default=ALLOW, architectures=ENGINES)
-        found = [it for it in self.found(given, kinds=("dangerous-call",)) if "ptrace" in (it.get("name"), *it.get("names", ()))]
+        found = [it for it in self.found(given, kinds=("dangerous-call",))
+                 if "ptrace" in (it.get("name"), *it.get("names", ()))]
         self.assertEqual([(it["is_always"], it["architectures"]) for it in found],
                          [(False, ["x86-64"]), (True, ["i386", "x32"])])
         self.assertIn("\nwarning dangerous-call: ptrace (101) of x86-64 is allowed with some arguments, ",
@@ -1076,6 +1038,10 @@ class Several(Linted):
         self.assertEqual((found["names"], found["architectures"]), (["rt_sigaction"], ["i386"]))
         self.assertTrue(found["text"].startswith("rt_sigaction is allowed, and sigreturn (119) of i386 is not: "))
         self.assertEqual(self.listing(ENGINES, handlers, entry("sigreturn"), kinds=("no-return",)), [])
+        # the table of powerpc has it for processes of 32 bits
+        for name, count in (("MIPSEL", 1), ("PPC64LE", 0), ("AARCH64", 0)):
+            found = self.found(profile(handlers, architectures=[f"SCMP_ARCH_{name}"]), kinds=("no-return",))
+            self.assertEqual(len(found), count, name)
         for name, number, owners in (("nanosleep", "128", ["aarch64", "arm"]), ("poll", "0) of arm", ["arm"]),
                                      ("futex_time64", "0) of arm", ["arm"])):
             found, = self.found(profile(entry(name), architectures=[AARCH64, ARM]), kinds=("no-restart",))

@@ -14,9 +14,10 @@ import unittest.mock
 
 from support.common import (ALLOW, I386, KILL_PROCESS, KILL_THREAD, LOADER, LOG, PATIENCE, TOP, TRACE, TRAP,
                             USER_NOTIF, X86_64, Case, jeq, module, profile_of, ret)
+from logs import entry, where
 from scftools.model import bpf, tables
 from scftools.logs import audit_records, cores, events
-from scftools.logs.diagnosis import AnsweringStack
+from scftools.logs.causes import AnsweringStack
 
 TABLE = tables.read_table(None)
 SOCKET, AF_NETLINK, NETLINK_AUDIT = 41, 16, 9
@@ -153,7 +154,7 @@ class Records(Causes):
             process, line = self.record(answering(answer), flags=flags)
             name = action.removeprefix("SCMP_ACT_").replace("NOTIFY", "USER_NOTIF")
             name = "KILL_THREAD" if name == "KILL" else name
-            profile = self.profile({"names": ["socket"], "action": action})
+            profile = self.profile(entry("socket", action=action))
             lines = self.why(line, profile, status=0)
             self.assertRegex(lines[0], rf"^# process {process} \(python3[^ ]*\): the syscall is socket \(41\)$")
             self.assertTrue(lines[1].startswith(f"# the action is {name}: "), lines)
@@ -163,7 +164,7 @@ class Records(Causes):
             # another answer isn't the record's
             at = [row[2] for row in self.ANSWERS].index(action)
             for wrong_answer, _, wrong in self.ANSWERS[max(at - 1, 0):at] + self.ANSWERS[at + 1:at + 2]:
-                lines = self.why(line, self.profile({"names": ["socket"], "action": wrong}), status=1)
+                lines = self.why(line, self.profile(entry("socket", action=wrong)), status=1)
                 stricter = wrong_answer ^ 0x80000000 < (answer ^ 0x80000000) & 0xFFFF0000
                 self.assertEqual("# the profile would have answered more strictly: the process isn't under it"
                                  in lines, stricter, (action, wrong))
@@ -180,9 +181,8 @@ class Records(Causes):
 
     def test_a_condition(self):
         """The record doesn't have the arguments: a call is shown that the profile answers so."""
-        denial = {"names": ["socket"], "action": "SCMP_ACT_ERRNO", "errnoRet": 22, "args": [
-            {"index": 0, "op": "SCMP_CMP_EQ", "value": AF_NETLINK},
-            {"index": 2, "op": "SCMP_CMP_EQ", "value": NETLINK_AUDIT}]}
+        denial = entry("socket", action="SCMP_ACT_ERRNO", errnoRet=22,
+                       args=[where(0, "EQ", AF_NETLINK), where(2, "EQ", NETLINK_AUDIT)])
         data = answering(ERRNO | 22, SOCKET, ((0, AF_NETLINK), (2, NETLINK_AUDIT)))
         _, line = self.record(data, flags=WITH_LOG)
         for given, answer in ((self.profile(denial), "ERRNO 22 entry 0"), (self.file("f.bpf", data), "ERRNO 22")):
@@ -319,21 +319,18 @@ class Cores(Causes):
 
     def test_a_change_that_allows_it(self):
         """By the steps that are printed the profile allows this call, and no other."""
-        args = {"args": [{"index": 1, "op": "SCMP_CMP_EQ", "value": 77}]}
+        args = {"args": [where(1, "EQ", 77)]}
         for default, entries in (
-                ("SCMP_ACT_ALLOW", [{"names": ["socket", "mount"], "action": "SCMP_ACT_KILL_PROCESS"}]),
+                ("SCMP_ACT_ALLOW", [entry("socket", "mount", action="SCMP_ACT_KILL_PROCESS")]),
                 # both entries deny the call: to change one of them isn't enough
-                ("SCMP_ACT_ALLOW", [{"names": ["socket"], "action": "SCMP_ACT_KILL_PROCESS"},
-                                    {"names": ["socket"], "action": "SCMP_ACT_KILL_PROCESS", "args": [
-                                        {"index": 1, "op": "SCMP_CMP_EQ", "value": 3}]}]),
-                ("SCMP_ACT_LOG", [{"names": ["mount"], "action": "SCMP_ACT_ERRNO"},
-                                  {"names": ["socket"], "action": "SCMP_ACT_KILL_PROCESS"}]),
-                ("SCMP_ACT_ALLOW", [{"names": ["socket"], "action": "SCMP_ACT_KILL_PROCESS", "args": [
-                    {"index": 1, "op": "SCMP_CMP_GE", "value": 2}]},
-                    {"names": ["socket"], "action": "SCMP_ACT_LOG", "args": [
-                        {"index": 1, "op": "SCMP_CMP_LT", "value": 2}]}]),
-                ("SCMP_ACT_ALLOW", [{"names": ["socket"], "action": "SCMP_ACT_KILL_PROCESS", "args": [
-                    {"index": 0, "op": "SCMP_CMP_EQ", "value": 16}, {"index": 2, "op": "SCMP_CMP_EQ", "value": 9}]}]),
+                ("SCMP_ACT_ALLOW", [entry("socket", action="SCMP_ACT_KILL_PROCESS"),
+                                    entry("socket", action="SCMP_ACT_KILL_PROCESS", args=[where(1, "EQ", 3)])]),
+                ("SCMP_ACT_LOG", [entry("mount", action="SCMP_ACT_ERRNO"),
+                                  entry("socket", action="SCMP_ACT_KILL_PROCESS")]),
+                ("SCMP_ACT_ALLOW", [entry("socket", action="SCMP_ACT_KILL_PROCESS", args=[where(1, "GE", 2)]),
+                    entry("socket", action="SCMP_ACT_LOG", args=[where(1, "LT", 2)])]),
+                ("SCMP_ACT_ALLOW", [entry("socket", action="SCMP_ACT_KILL_PROCESS",
+                                          args=[where(0, "EQ", 16), where(2, "EQ", 9)])]),
                 ("SCMP_ACT_KILL_PROCESS", [{"names": [name for name in TABLE.names() if name != "socket"],
                                             "action": "SCMP_ACT_ALLOW"},
                                            {"names": ["socket"], "action": "SCMP_ACT_ALLOW", **args}])):
@@ -701,7 +698,7 @@ class Lines(Causes):
                                                                                        status=4)[0])
 
 
-def entry(message, **changes):
+def journal(message, **changes):
     """An entry as journalctl prints one of the kernel; members that are None are left out."""
     members = {"PRIORITY": "5", "_TRANSPORT": "kernel", "SYSLOG_FACILITY": "0", "SYSLOG_IDENTIFIER": "kernel",
              "MESSAGE": message, **changes}
@@ -733,18 +730,18 @@ class Journals(Causes):
 
     def test_entries_of_the_kernel_and_of_audit(self):
         suppressed = "audit: kauditd_printk_skb: 12 callbacks suppressed"
-        for text in (entry(WRITTEN), entry([*WRITTEN.encode()]), entry(self.SECCOMP, **self.OF_AUDIT)):
+        for text in (journal(WRITTEN), journal([*WRITTEN.encode()]), journal(self.SECCOMP, **self.OF_AUDIT)):
             self.assertEqual(self.numbers(text), ([(41, 12551, 1)], 0), text)
-        self.assertEqual(self.numbers("\n".join([entry(WRITTEN), entry("usb 1-1: new"), entry(suppressed),
+        self.assertEqual(self.numbers("\n".join([journal(WRITTEN), journal("usb 1-1: new"), journal(suppressed),
                                                  WRITTEN.replace(":2)", ":3)")])), ([(41, 12551, 2)], 12))
 
     # One record as systemd 252 printed it, with the members that matter: of audit and of the kernel's log. As text the
     # first has neither its time nor its serial number.
-    OF_BOTH = [entry(
+    OF_BOTH = [journal(
         "SECCOMP auid=4294967295 uid=0 gid=0 ses=4294967295 pid=30697 comm=\"python3\" exe=\"/usr/bin/python3.11\" "
         "sig=0 arch=c000003e syscall=41 compat=0 ip=0x7fd169d28dc7 code=0x7ffc0000", PRIORITY=None,
         SYSLOG_FACILITY="4", SYSLOG_IDENTIFIER="audit", _TRANSPORT="audit", _AUDIT_TYPE="1326", _AUDIT_ID="2",
-        _AUDIT_TYPE_NAME="SECCOMP", _SOURCE_REALTIME_TIMESTAMP="1795934847207000", _PID="30697"), entry(
+        _AUDIT_TYPE_NAME="SECCOMP", _SOURCE_REALTIME_TIMESTAMP="1795934847207000", _PID="30697"), journal(
         "audit: type=1326 audit(1795934847.207:2): auid=4294967295 uid=0 gid=0 ses=4294967295 pid=30697 "
         "comm=\"python3\" exe=\"/usr/bin/python3.11\" sig=0 arch=c000003e syscall=41 compat=0 ip=0x7fd169d28dc7 "
         "code=0x7ffc0000", _SOURCE_MONOTONIC_TIMESTAMP="954332493")]
@@ -767,16 +764,17 @@ class Journals(Causes):
 
     def test_what_a_program_writes_is_no_record(self):
         """A program's message has another transport, or, in the kernel's log, another facility."""
-        for text in (entry(WRITTEN, _TRANSPORT="syslog"), entry(WRITTEN, _TRANSPORT="stdout", SYSLOG_FACILITY="3"),
-                     entry(WRITTEN, SYSLOG_FACILITY="1", SYSLOG_IDENTIFIER="audit"), entry(WRITTEN, _TRANSPORT=None),
-                     entry(self.SECCOMP, **{**self.OF_AUDIT, "_TRANSPORT": "journal"}), entry(None), entry([1, 999]),
-                     entry(f"process '/tmp/x {WRITTEN}' launched", SYSLOG_FACILITY=None),
-                     entry(f"process '/tmp/x {WRITTEN}' launched '/tmp/x' with NULL argv"),
-                     entry(f"x\n{WRITTEN}"), entry(["kernel", WRITTEN]), entry({"audit": WRITTEN})):
+        for text in (journal(WRITTEN, _TRANSPORT="syslog"), journal(WRITTEN, _TRANSPORT="stdout", SYSLOG_FACILITY="3"),
+                     journal(WRITTEN, SYSLOG_FACILITY="1", SYSLOG_IDENTIFIER="audit"), journal(None),
+                     journal(WRITTEN, _TRANSPORT=None), journal([1, 999]),
+                     journal(self.SECCOMP, **{**self.OF_AUDIT, "_TRANSPORT": "journal"}),
+                     journal(f"process '/tmp/x {WRITTEN}' launched", SYSLOG_FACILITY=None),
+                     journal(f"process '/tmp/x {WRITTEN}' launched '/tmp/x' with NULL argv"),
+                     journal(f"x\n{WRITTEN}"), journal(["kernel", WRITTEN]), journal({"audit": WRITTEN})):
             self.assertEqual(self.numbers(text), ([], 0), text)
 
     def test_what_cannot_be_read(self):
-        for text in (entry(WRITTEN)[:-1], '{"MESSAGE": ' + "[" * 5000, '[{"pid": 1', "[\n{", '{"'):
+        for text in (journal(WRITTEN)[:-1], '{"MESSAGE": ' + "[" * 5000, '[{"pid": 1', "[\n{", '{"'):
             status, out, err = self.run_tool("why", "-", given=text.encode())
             self.assertEqual((status, err), (2, ""), text[:40])
             self.assertIn("# line 1 isn't judged: it isn't a", out)
@@ -838,15 +836,15 @@ class Words(Causes):
 
     def test_a_profile_without_a_filter(self):
         """One that takes more than 4096 instructions is judged, but no change of it is proved."""
-        reads = [{"names": ["read"], "action": "SCMP_ACT_ERRNO", "args": [
-            {"index": at % 6, "op": "SCMP_CMP_MASKED_EQ", "value": 2 * at + 1, "valueTwo": 1}]} for at in range(2000)]
-        profile = self.profile(*reads, {"names": ["socket"], "action": "SCMP_ACT_KILL_PROCESS"})
+        reads = [entry("read", action="SCMP_ACT_ERRNO", args=[where(at % 6, "MASKED_EQ", 2 * at + 1, 1)])
+                 for at in range(2000)]
+        profile = self.profile(*reads, entry("socket", action="SCMP_ACT_KILL_PROCESS"))
         status, out, err = self.run_tool("why", WRITTEN, profile)
         self.assertEqual((status, err), (0, ""))
         self.assertEqual(out.splitlines()[-1], "# so the profile answers it")
 
     def test_json(self):
-        profile = self.profile({"names": ["socket"], "action": "SCMP_ACT_KILL_PROCESS"})
+        profile = self.profile(entry("socket", action="SCMP_ACT_KILL_PROCESS"))
         status, out, err = self.run_tool("why", "--json", WRITTEN, profile, self.file("f.bpf", ret(ALLOW)))
         self.assertEqual((status, err, out.count("\n")), (1, "", 1))
         value = json.loads(out)

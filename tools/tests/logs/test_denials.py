@@ -9,9 +9,11 @@ import unittest
 from unittest import mock
 
 from support.common import LOADER, TOP, Case
+from support.oci import ALLOW, ERRNO
+from logs import entry, rules, where
 from scftools.ask import client, trials
 from scftools.forms import strace
-from scftools.logs import causes, denials, events
+from scftools.logs import cause_report, causes, events
 from scftools.model import tables
 
 # Loads a filter, and makes calls in the order of its words, each as often as it says, in a child where they begin with
@@ -34,10 +36,8 @@ os._exit(status)
 """
 # asm/unistd_64.h
 SOCKET, SETHOSTNAME, CHROOT, UNSHARE = 41, 170, 161, 272
-PROFILE = {"defaultAction": "SCMP_ACT_ALLOW", "syscalls": [
-    {"names": ["sethostname", "chroot"], "action": "SCMP_ACT_ERRNO", "errnoRet": 1},
-    {"names": ["socket"], "action": "SCMP_ACT_ERRNO", "errnoRet": 97,
-     "args": [{"index": 0, "value": 16, "op": "SCMP_CMP_EQ"}]}]}
+PROFILE = rules(entry("sethostname", "chroot", action=ERRNO, errnoRet=1),
+                entry("socket", action=ERRNO, errnoRet=97, args=[where(0, "EQ", 16)]), default=ALLOW)
 LOAD = "seccomp(SECCOMP_SET_MODE_FILTER, 0, {len=3, filter=0x7ffd5c1d}) = 0"
 DENIED = 'chroot("/") = -1 EPERM (Operation not permitted)'
 HEAD = re.compile(r"# (?:process \d+|a process): the syscall is (\w+) \(\d+\)(?:; such failures: (\d+))?")
@@ -69,8 +69,7 @@ class Changes(Denials):
 
     def test_numbers_of_a_run(self):
         """A descriptor or a length isn't a condition, unless an entry tests it; a constant is one."""
-        denying = {"defaultAction": "SCMP_ACT_ERRNO", "syscalls": [
-            {"names": ["kill"], "action": "SCMP_ACT_ALLOW", "args": [{"index": 0, "value": 7, "op": "SCMP_CMP_EQ"}]}]}
+        denying = rules(entry("kill", action="SCMP_ACT_ALLOW", args=[where(0, "EQ", 7)]))
         for line, allowed in (("listen(6, 511) = -1 EPERM", ["every listen"]),
                               ("setsockopt(3, SOL_SOCKET, SO_REUSEADDR, [1], 4) = -1 EPERM",
                                ["setsockopt where argument 1 is 0x1 and argument 2 is 0x2", "every setsockopt"]),
@@ -80,7 +79,7 @@ class Changes(Denials):
 
     def test_an_answer_to_both_values_of_an_argument_is_shown_once(self):
         """Of 0x80045430 the upper half isn't known: strace prints the lower one."""
-        profile = {"defaultAction": "SCMP_ACT_ALLOW", "syscalls": [{"names": ["ioctl"], "action": "SCMP_ACT_ERRNO"}]}
+        profile = rules(entry("ioctl", action="SCMP_ACT_ERRNO"), default="SCMP_ACT_ALLOW")
         _, lines = self.why(f"{LOAD}\nioctl(3, TIOCGPTN, [0]) = -1 EPERM (Operation not permitted)\n", profile=profile)
         self.assertEqual([line for line in lines if line[0] != "#"], ["ERRNO 1 entry 0"])
 
@@ -93,14 +92,12 @@ class Changes(Denials):
         log = events.read_events([f"chroot({at:#x}) = -1 EPERM (Operation not permitted)" for at in range(500)], table)
         given = causes.Inputs(trials.Trial(tables.native_alone(table.data)), json.dumps(PROFILE).encode())
         with mock.patch.object(client, "run_scf", wraps=client.run_scf) as run:
-            self.assertEqual([denial.count for denial in denials.denials_of(log.failures, given).of], [500])
+            self.assertEqual([denial.count for denial in cause_report.denials_of(log.failures, given).of], [500])
         self.assertEqual([call.args[0][0] for call in run.call_args_list], ["answers"])
 
     def test_a_profile_as_a_runtime_reads_it(self):
         """podman's own lists have entries that conflict by their words: crun and runc take the first."""
-        profile = {"defaultAction": "SCMP_ACT_ERRNO", "syscalls": [
-            {"names": ["setns"], "action": "SCMP_ACT_ALLOW"},
-            {"names": ["setns"], "action": "SCMP_ACT_ERRNO", "errnoRet": 22}]}
+        profile = rules(entry("setns", action="SCMP_ACT_ALLOW"), entry("setns", action="SCMP_ACT_ERRNO", errnoRet=22))
         line = 'chroot("/") = -1 EPERM (Operation not permitted)'
         for runtime in ("runc", "podman"):
             self.assertEqual(self.changes(line, "--runtime", runtime, profile=profile), ["every chroot"])
@@ -245,7 +242,7 @@ class Logs(Denials):
         socket = "7  socket(AF_NETLINK, {}, {}) = -1 EAFNOSUPPORT (Address family not supported)"
         lines = self.why("".join(f"{socket.format(*words)}\n" for words in (
             ("SOCK_RAW", 0), ("SOCK_RAW", 9), ("SOCK_DGRAM", 9))), profile={
-                **PROFILE, "syscalls": [{"names": ["socket"], "action": "SCMP_ACT_ERRNO", "errnoRet": 97}]})[1]
+                **PROFILE, "syscalls": [entry("socket", action="SCMP_ACT_ERRNO", errnoRet=97)]})[1]
         self.assertEqual([line for line in lines if HEAD.fullmatch(line)],
                          ["# process 7: the syscall is socket (41); such failures: 3"])
         allows = "# this change of the profile allows socket where argument 0 is 0x10, and no other answer changes:"
@@ -253,8 +250,7 @@ class Logs(Denials):
         # what they have in common is the entry's own condition: the change that allows all of it is the same
         lines = self.why(socket.format("SOCK_RAW", 0) + "\n" + socket.format("SOCK_DGRAM", 9) + "\n")[1]
         self.assertEqual([line for line in lines if "this change" in line], [allows])
-        of_inet = {"names": ["socket"], "action": "SCMP_ACT_ERRNO", "errnoRet": 97,
-                 "args": [{"index": 0, "value": 2, "op": "SCMP_CMP_EQ"}]}
+        of_inet = entry("socket", action="SCMP_ACT_ERRNO", errnoRet=97, args=[where(0, "EQ", 2)])
         text = "".join(f"7  socket({family}, SOCK_RAW, 0) = -1 EAFNOSUPPORT (x)\n"
                        for family in ("AF_NETLINK", "AF_INET"))
         self.assertEqual(self.denied(text, profile={**PROFILE, "syscalls": [*PROFILE["syscalls"], of_inet]}),
@@ -264,7 +260,7 @@ class Logs(Denials):
         names = ("acct", "chroot", "swapoff", "umount2", "mkdir", "rmdir", "unlink")
         log = "".join(f'7  {name}("/x") = -1 EPERM (Operation not permitted)\n' * (at + 1)
                       for at, name in enumerate(names))
-        profile = {**PROFILE, "syscalls": [{"names": names, "action": "SCMP_ACT_ERRNO", "errnoRet": 1}]}
+        profile = {**PROFILE, "syscalls": [entry(*names, action="SCMP_ACT_ERRNO", errnoRet=1)]}
         counted = [(name, at + 1) for at, name in enumerate(names)]
         self.assertEqual(self.denied(log, "--all", profile=profile), (0, counted))
         self.assertEqual(self.denied(log, profile=profile), (0, counted[:5]))

@@ -11,12 +11,13 @@ import unittest
 
 from support.common import CONFINED, LOADER, Case, limited, profile_of, taken, tool
 from support.oci import ALLOW, ERRNO
+from logs import entry, read_log, rules, where
 from scftools.model import tables
 from scftools.model.architectures import AARCH64, ARM, I386, JUDGED, NATIVE, X32
 from scftools.base import program
 from scftools.forms import strace
 from scftools.lint import watchlist
-from scftools.logs import least_profile, requirements, traces
+from scftools.logs import least_profile, requirements
 
 TABLE = tables.read_table(None)
 TABLES = tables.architecture_tables(JUDGED, TABLE).of
@@ -31,14 +32,9 @@ BEGUN = re.compile(r"(?m)^(?:\[pid +\d+\] |\d+ +)? *(?:[\d:.]+ +)?(?:\[[0-9a-f]+
 
 def log_of(text, looked_at=()):
     """The calls of a log: for each name and values how often; and the counts of what wasn't read, or is foreign."""
-    log = traces.Trace(lambda *_: tuple(looked_at), {})
-    for number, line in enumerate(text.split("\n"), 1):
-        log.add(number, line)
-    log.end()
-    calls = {}
-    for (_, name, values), seen in log.calls.items():
-        calls[(name, *values) if looked_at else name] = seen.count
-    return calls, log.unread.count, log.foreign.count
+    log = read_log(text, looked_at)
+    calls = {(name, *values) if looked_at else name: seen.count for (_, name, values), seen in log.calls.items()}
+    return calls, log.unjudged["lines"], log.unjudged["foreign"]
 
 
 class Values(unittest.TestCase):
@@ -187,10 +183,7 @@ class Forms(unittest.TestCase):
 
 def made_in(text, looked_at=(), log_architecture=NATIVE):
     """The calls of a log, each with its architecture, as a set; the values of some arguments come last."""
-    log = traces.Trace(lambda *_: tuple(looked_at), TABLES, log_architecture)
-    for number, line in enumerate(text.split("\n"), 1):
-        log.add(number, line)
-    log.end()
+    log = read_log(text, looked_at, TABLES, log_architecture)
     return {(architecture, name, *values) for architecture, name, values in log.calls}, log
 
 
@@ -205,12 +198,12 @@ class Architectures(unittest.TestCase):
                 f"{x32}7  fork() = 8\n8  read(3) = 1\n{odd}7  read(3) = 1\n")
         calls, log = made_in(text)
         self.assertEqual(calls, {(NATIVE, "read"), (I386, "mmap2"), (NATIVE, "getpid"), (X32, "fork"), (X32, "read")})
-        self.assertEqual((log.foreign.count, log.unread.count), (1, 0))
+        self.assertEqual((log.unjudged["foreign"], log.unjudged["lines"]), (1, 0))
         calls, _ = made_in(f"7  read(3) = 1\n{narrow}7  read(3) = 1", log_architecture=AARCH64)
         self.assertEqual(calls, {(AARCH64, "read"), (ARM, "read")})
         # a line that doesn't end counts by the table of its process's architecture
         calls, log = made_in(f"{narrow}7  mmap2(1\n7  uretprobe(1")
-        self.assertEqual((calls, log.cut.count, log.unread.count), (set(), 1, 1))
+        self.assertEqual((calls, log.unjudged["cut"], log.unjudged["lines"]), (set(), 1, 1))
 
     def test_numbers(self):
         """By -n; getpid, mmap2 and openat2 are 20, 192 and 437 on i386, and getpid and openat2 39 and 437 on x86-64."""
@@ -218,7 +211,7 @@ class Architectures(unittest.TestCase):
                              "7 [192] mmap2(1) = 1\n7 [ 39] getpid() = 7\n7 [999] getuid() = 0\n7 [999] what() = 1\n")
         self.assertEqual(calls, {(NATIVE, "openat2"), (I386, "getpid"), (I386, "openat2"), (I386, "mmap2"),
                                  (NATIVE, "getpid"), (NATIVE, "what")})
-        self.assertEqual(log.foreign.count, 1)
+        self.assertEqual(log.unjudged["foreign"], 1)
         calls, _ = made_in("7 [ 20] getpid( <unfinished ...>\n8 [  0] read(1) = 1\n7 [ 20] <... getpid resumed>) = 7")
         self.assertEqual(calls, {(I386, "getpid"), (NATIVE, "read")})
 
@@ -268,13 +261,10 @@ class Architectures(unittest.TestCase):
 
 
 class Judgement(Case):
-    PROFILE = {"defaultAction": ERRNO, "syscalls": [
-        {"names": ["read", "write", "exit_group"], "action": ALLOW},
-        {"names": ["socket"], "action": ALLOW, "args": [{"index": 0, "op": "SCMP_CMP_NE", "value": 40}]},
-        {"names": ["wait4"], "action": ALLOW, "args": [{"index": 0, "op": "SCMP_CMP_EQ", "value": (1 << 32) - 1}]},
-        {"names": ["socket"], "action": "SCMP_ACT_ERRNO", "errnoRet": 22,
-         "args": [{"index": 0, "op": "SCMP_CMP_EQ", "value": 40}]},
-        {"names": ["bpf"], "action": "SCMP_ACT_TRACE"}, {"names": ["ptrace"], "action": "SCMP_ACT_LOG"}]}
+    PROFILE = rules(entry("read", "write", "exit_group"), entry("socket", args=[where(0, "NE", 40)]),
+                    entry("wait4", args=[where(0, "EQ", (1 << 32) - 1)]),
+                    entry("socket", action=ERRNO, errnoRet=22, args=[where(0, "EQ", 40)]),
+                    entry("bpf", action="SCMP_ACT_TRACE"), entry("ptrace", action="SCMP_ACT_LOG"))
 
     # That PROFILE denies some of ALWAYS, which --widen allows.
     ALWAYS_WIDENED = "".join(f"needs: allowed, though PROFILE denies it: {call} ERRNO 1 default (a process calls it to "
@@ -282,7 +272,7 @@ class Judgement(Case):
 
     def equal(self, name, value):
         """An entry that allows a syscall for one value of its first argument."""
-        return {"names": [name], "action": ALLOW, "args": [{"index": 0, "value": value, "op": "SCMP_CMP_EQ"}]}
+        return entry(name, args=[where(0, "EQ", value)])
 
     def needs(self, log, *words, profile=None, **settings):
         return self.run_tool("needs", *words, self.file("log", log),
@@ -328,9 +318,7 @@ class Needs(Judgement):
 
     def test_a_profile_as_a_runtime_reads_it(self):
         """podman's own lists have entries that conflict by their words: with --runtime the first one counts."""
-        profile = {"defaultAction": ERRNO, "syscalls": [
-            {"names": ["setns", "read"], "action": ALLOW},
-            {"names": ["setns"], "action": "SCMP_ACT_KILL_PROCESS"}]}
+        profile = rules(entry("setns", "read"), entry("setns", action="SCMP_ACT_KILL_PROCESS"))
         log = "1 setns(3) = 0\n1 read(0) = 0\n"
         self.assertEqual(self.needs(log, profile=profile)[1].split("\n")[0],
                          "fault profile Conflict number 308 first 0 second 1")
@@ -364,11 +352,9 @@ class Needs(Judgement):
 
     def test_conditions_that_do_not_matter(self):
         """An argument isn't known, and the call is made with each of its values, or with none."""
-        halves = {"defaultAction": ERRNO, "syscalls": [
-            {"names": ["socket"], "action": ALLOW, "args": [{"index": 0, "op": "SCMP_CMP_LT", "value": 5}]},
-            {"names": ["socket"], "action": "SCMP_ACT_LOG", "args": [{"index": 0, "op": "SCMP_CMP_GE", "value": 5}]},
-            {"names": ["bind"], "action": ALLOW, "args": [{"index": 0, "op": "SCMP_CMP_EQ", "value": 5},
-                                                          {"index": 1, "op": "SCMP_CMP_EQ", "value": 5}]}]}
+        halves = rules(entry("socket", args=[where(0, "LT", 5)]),
+                       entry("socket", action="SCMP_ACT_LOG", args=[where(0, "GE", 5)]),
+                       entry("bind", args=[where(0, "EQ", 5), where(1, "EQ", 5)]))
         self.assertEqual(self.judged("socket(AF_NONE) = 3", 0, halves)[0], {"socket": "allowed"})
         self.assertEqual(self.judged("bind(6, {x}) = 3", 1, halves)[0], {"bind": "not allowed"})
         dispositions, _, out = self.judged("bind(5, {x}) = 3", 4, halves)
@@ -490,11 +476,9 @@ class InArchitectures(Judgement):
 
     BOTH = ["SCMP_ARCH_X86_64", "SCMP_ARCH_X86"]
     MODE = "[ Process PID=7 runs in 32 bit mode. ]\n"
-    PROFILE = {"defaultAction": ERRNO, "architectures": BOTH, "syscalls": [
-        {"names": ["read", "mmap2", "socketcall", "execve"], "action": ALLOW},
-        {"names": ["socket"], "action": ALLOW, "args": [{"index": 0, "op": "SCMP_CMP_NE", "value": 40}]},
-        {"names": ["close"], "action": ALLOW, "args": [{"index": 0, "op": "SCMP_CMP_EQ", "value": 0xFFFFFFFF}]},
-        {"names": ["dup"], "action": ALLOW, "args": [{"index": 0, "op": "SCMP_CMP_EQ", "value": (1 << 32) + 8}]}]}
+    PROFILE = rules(entry("read", "mmap2", "socketcall", "execve"), entry("socket", args=[where(0, "NE", 40)]),
+                    entry("close", args=[where(0, "EQ", 0xFFFFFFFF)]),
+                    entry("dup", args=[where(0, "EQ", (1 << 32) + 8)]), architectures=BOTH)
     CALLS = ("read(3) = 1\nmmap2(1) = 1\nsocket(40, 1) = 3\nsocket(2, 1) = 3\nclose(-1) = 0\nopen(\"x\") = 3\n"
              "dup(8) = 9\n")
 
@@ -567,10 +551,9 @@ class InArchitectures(Judgement):
         status, out, _ = self.needs(log, "--widen")
         made = json.loads(out)
         self.assertEqual(status, 0)
-        self.assertEqual(made, {"defaultAction": ERRNO, "architectures": self.BOTH, "syscalls": [
-            {"names": ["read", "open", "socketcall", *ALWAYS, "sigreturn"], "action": ALLOW},
-            *({"names": [name], "action": ALLOW, "args": [{"index": 0, "value": value, "op": "SCMP_CMP_EQ"}]}
-              for name, value in (("socket", 1), ("socket", 2), ("close", 0xFFFFFFFF)))]})
+        self.assertEqual(made, rules(
+            entry("read", "open", "socketcall", *ALWAYS, "sigreturn"), self.equal("socket", 1), self.equal("socket", 2),
+            self.equal("close", 0xFFFFFFFF), architectures=self.BOTH))
         self.assertEqual(self.needs(log, profile=made)[0], 0)
         self.assertEqual(self.needs(f"{self.MODE}socket(3, 1) = 3\n", profile=made)[0], 1)
 
@@ -597,15 +580,15 @@ class InArchitectures(Judgement):
         self.assertEqual((status, out.split("\n")[0]), (1, "arm 5 open ERRNO 1 default"))
         own_table = self.file("t", b"look 7\n")
         self.assertEqual(self.needs("look(1) = 1", "--arch", "aarch64", "--table", own_table, profile={
-            **arm, "syscalls": [{"names": ["look"], "action": ALLOW}]})[0], 0)
+            **arm, "syscalls": [entry("look")]})[0], 0)
 
     def test_what_is_refused(self):
         status, out, err = self.needs("read(3) = 1", "--arch", "sh")
         self.assertEqual((status, out), (2, ""))
         self.assertIn("no table of the architecture 'sh'", err)
         # entries that conflict on i386 alone are no matter as long as the log has none of its calls
-        odd = {**self.PROFILE, "syscalls": [{"names": ["read"], "action": ALLOW}, *(
-            {"names": ["mmap2"], "action": action} for action in (ALLOW, "SCMP_ACT_LOG"))]}
+        odd = {**self.PROFILE, "syscalls": [entry("read"), *(
+            entry("mmap2", action=action) for action in (ALLOW, "SCMP_ACT_LOG"))]}
         self.assertEqual(self.needs("read(3) = 1", profile=odd)[0], 0)
         status, out, _ = self.needs(f"{self.MODE}read(3) = 1", profile=odd)
         self.assertEqual((status, out.split("\n")[0]), (2, "fault profile Conflict number 192 first 1 second 2"))
@@ -624,8 +607,7 @@ class Least(Judgement):
     def test_no_more_than_the_base(self):
         """What is denied stands on standard error."""
         made, err = self.least(self.LOG, status=1)
-        self.assertEqual(made, {"defaultAction": ERRNO, "syscalls": [
-            {"names": ["read", "exit_group"], "action": ALLOW}, self.equal("socket", 1)]})
+        self.assertEqual(made, rules(entry("read", "exit_group"), self.equal("socket", 1)))
         denied = "needs: needed, and PROFILE denies it: "
         self.assertEqual(err, f"{denied}2 open ERRNO 1 default (once in line 2 of the log)\n"
                               f"{denied}41 socket arg 0 0x28 ERRNO 22 entry 3 (once in line 3 of the log)\n")
@@ -635,16 +617,15 @@ class Least(Judgement):
         widened = "needs: allowed, though PROFILE denies it: "
         self.assertEqual(err, f"{widened}2 open ERRNO 1 default (once in line 2 of the log)\n{widened}41 socket arg 0 "
                               f"0x28 ERRNO 22 entry 3 (once in line 3 of the log)\n{self.ALWAYS_WIDENED}")
-        self.assertEqual(made, {"defaultAction": ERRNO, "syscalls": [
-            {"names": ["read", "open", *ALWAYS], "action": ALLOW}, self.equal("socket", 1), self.equal("socket", 40)]})
+        self.assertEqual(made, rules(entry("read", "open", *ALWAYS), self.equal("socket", 1), self.equal("socket", 40)))
         self.assertEqual(self.needs(self.LOG, profile=made)[0], 0)
         self.assertEqual(self.needs("socket(2, 1, 0) = 3", profile=made)[0], 1)
         # without any of it a call of the log isn't made
-        for place, entry in enumerate(made["syscalls"]):
-            for name in set(entry["names"]) - set(ALWAYS):
+        for place, its in enumerate(made["syscalls"]):
+            for name in set(its["names"]) - set(ALWAYS):
                 entries = [{**whole, "names": [named for named in whole["names"] if (at, named) != (place, name)]}
                            for at, whole in enumerate(made["syscalls"])]
-                less = {**made, "syscalls": [entry for entry in entries if entry["names"]]}
+                less = {**made, "syscalls": [whole for whole in entries if whole["names"]]}
                 self.assertIn(self.needs(self.LOG, profile=less)[0], (1, 4))
 
     def test_its_default(self):
@@ -652,37 +633,36 @@ class Least(Judgement):
                 (ALLOW, None, {"defaultAction": ERRNO}), ("SCMP_ACT_LOG", None, {"defaultAction": ERRNO}),
                 (ERRNO, 38, {"defaultAction": ERRNO, "defaultErrnoRet": 38}),
                 ("SCMP_ACT_KILL_PROCESS", None, {"defaultAction": "SCMP_ACT_KILL_PROCESS"})):
-            given = {"defaultAction": default, "architectures": ["SCMP_ARCH_X86_64"], "syscalls": [
-                {"names": ["close"], "action": "SCMP_ACT_TRAP"}]}
+            given = rules(entry("close", action="SCMP_ACT_TRAP"), default=default, architectures=["SCMP_ARCH_X86_64"])
             if errno:
                 given["defaultErrnoRet"] = errno
             made, _ = self.least("read(1) = 1", profile=given, words=("--widen",))
             self.assertEqual(made, {**expected, "architectures": ["SCMP_ARCH_X86_64"],
-                                    "syscalls": [{"names": ["read", *ALWAYS], "action": ALLOW}]})
+                                    "syscalls": [entry("read", *ALWAYS)]})
 
     def test_what_it_always_allows(self):
         """Where the base allows it."""
         log, every = "exit_group(0) = ?\nread(1) = 1\n", ["read", "exit_group", *ALWAYS[:3]]
         for base, words, names in ((self.PROFILE, "--profile", every[:2]), (self.PROFILE, "--widen", every),
                                    (json.loads(profile_of(*every)), "--profile", every)):
-            self.assertEqual(self.least(log, base, words=(words,))[0]["syscalls"], [{"names": names, "action": ALLOW}])
+            self.assertEqual(self.least(log, base, words=(words,))[0]["syscalls"], [entry(*names)])
         table = self.file("t", "read 0\nexit 60\n")
         status, out, _ = self.needs("read(1) = 1\n", "--widen", "--table", table, profile=json.loads(
             profile_of("read")))
-        self.assertEqual((status, json.loads(out)["syscalls"]), (0, [{"names": ["read", "exit"], "action": ALLOW}]))
+        self.assertEqual((status, json.loads(out)["syscalls"]), (0, [entry("read", "exit")]))
 
     def test_arguments_that_are_not_known(self):
         """PROFILE's conditions stay, also where its default allows; of a value whose upper half isn't known those that
         it allows."""
         log = "socket(AF_NONE, 1, 0) = 3\nsocket(1, 1, 0) = 3\nwait4(-1, NULL, 0, NULL) = 3\n"
         denying = {"defaultAction": ALLOW, "syscalls": [
-            {"names": [name], "action": ERRNO, "args": [{"index": 0, "op": "SCMP_CMP_EQ", "value": value}]}
+            entry(name, action=ERRNO, args=[where(0, "EQ", value)])
             for name, value in (("socket", 40), ("wait4", HIGH - 1))]}
         for base, always in ((self.PROFILE, ["exit_group"]), (denying, ALWAYS)):
             made, err = self.least(log, base, 4)
             self.assertEqual(made["syscalls"], [
-                {"names": always, "action": ALLOW},
-                {"names": ["socket"], "action": ALLOW, "args": [{"index": 0, "value": 40, "op": "SCMP_CMP_NE"}]},
+                entry(*always),
+                entry("socket", args=[where(0, "NE", 40)]),
                 self.equal("wait4", (1 << 32) - 1)])
             self.assertEqual(err, "".join(f"needs: {call} depends on arg 0: no more is allowed than by PROFILE\n"
                                           for call in ("41 socket", "61 wait4")))
@@ -696,23 +676,18 @@ class Least(Judgement):
 
     def test_many_values(self):
         made, _ = self.least("".join(f"socket({number}, 1, 0) = 3\n" for number in range(200)), status=1)
-        self.assertEqual(made["syscalls"], [
-            {"names": ["exit_group"], "action": ALLOW},
-            {"names": ["socket"], "action": ALLOW, "args": [{"index": 0, "value": 40, "op": "SCMP_CMP_NE"}]}])
+        self.assertEqual(made["syscalls"], [entry("exit_group"), entry("socket", args=[where(0, "NE", 40)])])
 
     # As Docker's list has it.
-    CLONES = {"defaultAction": ERRNO, "architectures": ["SCMP_ARCH_X86_64", "SCMP_ARCH_X86"], "syscalls": [
-        {"names": ["read", "faccessat", *ALWAYS], "action": ALLOW},
-        {"names": ["clone"], "action": ALLOW,
-         "args": [{"index": 0, "value": 0x7E020000, "valueTwo": 0, "op": "SCMP_CMP_MASKED_EQ"}]},
-        {"names": ["clone3", "faccessat2", "statx"], "action": ERRNO, "errnoRet": 38},
-        {"names": ["mount"], "action": ERRNO, "errnoRet": 22}]}
+    CLONES = rules(entry("read", "faccessat", *ALWAYS), entry("clone", args=[where(0, "MASKED_EQ", 0x7E020000, 0)]),
+                   entry("clone3", "faccessat2", "statx", action=ERRNO, errnoRet=38),
+                   entry("mount", action=ERRNO, errnoRet=22), architectures=[NATIVE, I386])
     CLONE3 = "7 clone3({flags=CLONE_VM|CLONE_THREAD, exit_signal=0}, 88) = "
 
     def test_fallbacks(self):
         """What a program falls back to after ENOSYS stays as it is, whether the log shows the newer syscall executed,
         failed, or not at all."""
-        clone, clone3 = self.CLONES["syscalls"][1], {"names": ["clone3"], "action": ERRNO, "errnoRet": 38}
+        clone, clone3 = self.CLONES["syscalls"][1], entry("clone3", action=ERRNO, errnoRet=38)
         forked = "7 clone(child_stack=NULL, flags=CLONE_CHILD_SETTID|SIGCHLD, child_tidptr=0x7f) = 9\n"
         exact = self.equal("clone", 0x1000011)
         for log, entries in ((f"{self.CLONE3}8\n", [clone]), (f"{self.CLONE3}8\n{forked}", [clone]),
@@ -720,7 +695,7 @@ class Least(Judgement):
                              (forked, [exact])):
             made, err = self.least(f"{log}7 read(3) = 1\n", self.CLONES)
             self.assertEqual((made["architectures"], err), (["SCMP_ARCH_X86_64"], ""))
-            self.assertEqual(made["syscalls"], [{"names": ["read", *ALWAYS], "action": ALLOW}, *entries, clone3], log)
+            self.assertEqual(made["syscalls"], [entry("read", *ALWAYS), *entries, clone3], log)
         made, err = self.least('faccessat2(AT_FDCWD, "a", R_OK, AT_EACCESS) = 0\n', self.CLONES)
         self.assertEqual(([entry["names"] for entry in made["syscalls"]], err),
                          ([["faccessat", *ALWAYS], ["faccessat2"]], ""))
@@ -733,8 +708,7 @@ class Least(Judgement):
         log = ("7 read(3) = 1\n7 chroot(\"/\") = -1 EPERM (Operation not permitted)\n"
                "7 statx(1) = -1 ENOSYS (Function not implemented)\n")
         made, err = self.least(log, self.CLONES)
-        self.assertEqual(made["syscalls"], [{"names": ["read", *ALWAYS], "action": ALLOW},
-                                            {"names": ["statx"], "action": ERRNO, "errnoRet": 38}])
+        self.assertEqual(made["syscalls"], [entry("read", *ALWAYS), entry("statx", action=ERRNO, errnoRet=38)])
         self.assertEqual(err, "needs: left out, since PROFILE answers as they fail in the log: chroot, statx\n")
         self.assertEqual(self.least(log, self.CLONES, words=("--widen",)), (made, err))
         for result in ("-1 EINVAL (Invalid argument)", "0", "-1 EPERM (Operation not permitted)\n7 chroot(1) = 0"):
@@ -746,7 +720,7 @@ class Least(Judgement):
                          (["read", *ALWAYS], "needs: syscalls before a filter is loaded, or in a process without one, "
                           "which aren't judged: 2"))
         made, err = self.least(before + load + log, self.CLONES, words=("--widen",))
-        self.assertEqual(made["syscalls"], [{"names": ["read", "chroot", "statx", *ALWAYS], "action": ALLOW}])
+        self.assertEqual(made["syscalls"], [entry("read", "chroot", "statx", *ALWAYS)])
         self.assertEqual(err.count("allowed, though PROFILE denies it: "), 2)
 
     def test_it_is_proved(self):
@@ -756,7 +730,7 @@ class Least(Judgement):
         for entries in (self.CLONES["syscalls"][:1], self.CLONES["syscalls"]):
             least_profile.check(json.dumps({**self.CLONES, "syscalls": entries}).encode(), judges, listed)
         for name in ("statx", "clone"):
-            made = {**self.CLONES, "syscalls": [{"names": [name], "action": ALLOW}]}
+            made = {**self.CLONES, "syscalls": [entry(name)]}
             with self.assertRaisesRegex(program.ToolError, "to allow no more than PROFILE: more") as raised:
                 least_profile.check(json.dumps(made).encode(), judges, listed)
             self.assertEqual(raised.exception.status, 1)
@@ -766,7 +740,7 @@ class Least(Judgement):
 
     def test_what_is_not_in_it(self):
         made, err = self.least("read(1) = 1\nno_such_call(1) = 1\n", status=4)
-        self.assertEqual(made["syscalls"], [{"names": ["read", "exit_group"], "action": ALLOW}])
+        self.assertEqual(made["syscalls"], [entry("read", "exit_group")])
         self.assertEqual(err, "needs: not judged, since the table doesn't have it: no_such_call, times: 1\n")
 
 
@@ -826,8 +800,7 @@ class Hostile(Judgement):
         self.assertEqual(status, 1)
         self.assertIn("# syscalls not judged, since there are too many with other arguments: 5000\n", out)
         # six registers of two values each are 64 ways
-        every = {"defaultAction": ERRNO, "syscalls": [{"names": ["wait4"], "action": ALLOW, "args": [
-            {"index": index, "op": "SCMP_CMP_EQ", "value": 1} for index in range(6)]}]}
+        every = rules(entry("wait4", args=[ where(index, "EQ", 1) for index in range(6)]))
         log = "".join(f"wait4({', '.join([str(-number)] * 6)}) = 1\n" for number in range(1, 201))
         status, out, _ = self.needs(log, profile=every, seconds=120)
         self.assertEqual(status, 1)
@@ -992,7 +965,7 @@ class Real(Judgement):
 
     def test_a_program_runs_under_its_least_profile(self):
         conditions = {"defaultAction": ERRNO, "syscalls": [
-            {"names": [name], "action": ALLOW, "args": [{"index": index, "op": "SCMP_CMP_EQ", "value": 0}]}
+            entry(name, args=[where(index, "EQ", 0)])
             for name, index in (("clone", 0), ("socket", 0), ("openat", 2), ("mprotect", 2), ("fcntl", 1))]}
         given = self.file("p.json", json.dumps(conditions))
         for options in ((), ("-X", "verbose", "-yy", "-T"), ("-v", "-tt", "-n")):
@@ -1030,8 +1003,8 @@ int main(int count, char **words)
         """A list as Docker's: without what makes a sandbox useless, and ENOSYS for clone3."""
         names = [name for name in TABLE.names() if name not in watchlist.dangerous()]
         return self.file("list.json", json.dumps({**Least.CLONES, "syscalls": [
-            {"names": names, "action": ALLOW}, *Least.CLONES["syscalls"][1:2],
-            {"names": ["clone3"], "action": ERRNO, "errnoRet": 38}]}))
+            entry(*names), *Least.CLONES["syscalls"][1:2],
+            entry("clone3", action=ERRNO, errnoRet=38)]}))
 
     def test_a_program_that_calls_clone3(self):
         """Under a list that answers ENOSYS no least profile allows it, which a filter can't keep from namespaces."""
@@ -1142,8 +1115,7 @@ void _start(void)
                   ("alarm", 0, "SCMP_CMP_GT", 0xFFFFFFF0), ("socketcall", 0, "SCMP_CMP_EQ", 1)]
         profile = self.file("p.json", json.dumps({
             "defaultAction": ALLOW, "architectures": ["SCMP_ARCH_X86_64", "SCMP_ARCH_X86"], "syscalls": [
-                {"names": [name], "action": ERRNO, "errnoRet": 77,
-                 "args": [{"index": index, "op": op, "value": value}] if op else []}
+                entry(name, action=ERRNO, errnoRet=77, args=[{"index": index, "op": op, "value": value}] if op else [])
                 for name, index, op, value in denied]}))
         calls = {("getpid", 20, 0): True, ("personality", 136, -1): True, ("personality", 136, 0): False,
                  ("dup", 41, 99): False, ("socket", 359, 40): True, ("socket", 359, 99): False,
@@ -1170,8 +1142,7 @@ void _start(void)
     def test_each_call_becomes_what_is_said(self):
         """Registers that strace prints alike have other dispositions: what is said of each holds under the filter."""
         denied = {"defaultAction": ALLOW, "syscalls": [
-            {"names": [name], "action": ERRNO, "errnoRet": 77, "args": [
-                {"index": index, "op": op, "value": value, "valueTwo": value}]}
+            entry(name, action=ERRNO, errnoRet=77, args=[{"index": index, "op": op, "value": value, "valueTwo": value}])
             for name, index, op, value in (
                 ("personality", 0, "SCMP_CMP_EQ", HIGH - 1), ("socket", 0, "SCMP_CMP_EQ", 40),
                 ("unshare", 0, "SCMP_CMP_MASKED_EQ", 0x10000000), ("ioctl", 1, "SCMP_CMP_EQ", 0x5412),

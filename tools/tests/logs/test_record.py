@@ -9,6 +9,7 @@ import sys
 import unittest
 
 from support.common import ALLOW, EPERM, LOADER, X86_64, Case, jeq, load, ret, tool
+from logs import entry, rules, where
 from scftools.model.architectures import NATIVE
 from scftools.forms import c_arrays, filter_loads, strace, texts
 from scftools.logs import traces
@@ -173,6 +174,9 @@ made.load()
                       "1 <... clone resumed>) = 2", "1 +++ superseded by execve in pid 2 +++",
                       "1 +++ exited with 0 +++"]
         self.assertEqual(filter_loads.stacks_in(superseded), {(ret(ALLOW),): ["1"]})
+        # a thread that has no line yet goes on as its process
+        early = ["1 clone(child_stack=0, flags=CLONE_VM|CLONE_THREAD) = 2", superseded[3], f"3 {loads}"]
+        self.assertEqual(filter_loads.stacks_in(early), {(ret(ALLOW),): ["3"]})
 
     def test_usage(self):
         for words in (("out",), ("--log", "x"), ("--log", "x", "1", "out"), ("1", "out", "--", "true"), ()):
@@ -244,9 +248,7 @@ class Recorded(Traced):
         self.assertIn((NATIVE, "syscall_0x3e8", ((1 << 31,), (1 << 63 | 5,), (0,), (2 ** 64 - 1,))), log.calls)
 
     def test_least_profile(self):
-        base = self.file("base.json", json.dumps({"defaultAction": "SCMP_ACT_ERRNO", "syscalls": [
-            {"names": ["personality"], "action": "SCMP_ACT_ALLOW",
-             "args": [{"index": 0, "value": 0xFFFFFFFF, "op": "SCMP_CMP_EQ"}]}]}))
+        base = self.file("base.json", json.dumps(rules(entry("personality", args=[where(0, "EQ", 0xFFFFFFFF)]))))
         script = "libc.personality(ctypes.c_ulong(0xFFFFFFFF)); print('ran')"
         status, out, err = self.run_python("record", script, "--profile", base, "least.json")
         self.assertEqual((status, out), (1, "ran\n"))
@@ -265,7 +267,7 @@ class Recorded(Traced):
         with open(self.path("least.json"), encoding="utf-8") as file:
             least = json.load(file)
         entries = {tuple(entry["names"]): entry.get("args") for entry in least["syscalls"]}
-        self.assertEqual(entries[("personality",)], [{"index": 0, "value": 0xFFFFFFFF, "op": "SCMP_CMP_EQ"}])
+        self.assertEqual(entries[("personality",)], [where(0, "EQ", 0xFFFFFFFF)])
         self.assertEqual(least["defaultAction"], "SCMP_ACT_ERRNO")
         status, out, _ = self.run_python("record", "print('ran')", "--profile", self.file("bad", b"{}"), "least.json")
         self.assertEqual((status, out.split("\n")[0]), (2, "fault profile Missing"))

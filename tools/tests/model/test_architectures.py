@@ -4,7 +4,7 @@ import os
 import re
 import unittest
 
-from support.common import ALLOW, EPERM, I386, TOP, X32, X86_64, Case, jeq, load, ret
+from support.common import ALLOW, EPERM, I386, TOP, X32, X86_64, Case, jeq, load, ret, text_of
 from scftools.base import program
 from scftools.model import architectures
 
@@ -86,8 +86,8 @@ class Sources(unittest.TestCase):
 
     def held(self, pattern, *path):
         """What a pattern has in a file, small letters and digits alone."""
-        with open(os.path.join(TOP, *path), encoding="utf-8") as file:
-            return [re.sub("[^a-z0-9]", "", found.lower()) for found in re.findall(pattern, file.read(), re.M)]
+        text = text_of(os.path.join(TOP, *path))
+        return [re.sub("[^a-z0-9]", "", found.lower()) for found in re.findall(pattern, text, re.M)]
 
     def test_names(self):
         rows = architectures.JUDGED.values()
@@ -120,8 +120,7 @@ class Words(Case):
         self.profile = self.file("p.json", b'{"defaultAction":"SCMP_ACT_ALLOW"}')
 
     def answer(self, *words):
-        status, out, err = self.run_tool("decide", *words)
-        self.assertEqual((status, err), (0, ""), words)
+        out = self.output_of(0, "decide", *words)
         return out.split("\n")[0]
 
     def test_names_and_audits_hexadecimal(self):
@@ -131,9 +130,8 @@ class Words(Case):
         for word in ("aarch64", "c00000b7", "SCMP_ARCH_AARCH64"):
             self.assertEqual(self.answer("--arch", word, "--nr=41", self.aarch64), "ERRNO 1", word)
         self.assertEqual(self.answer("--arch=c000003e", "--nr=socket", self.i386), "ALLOW 0")
-        status, out, err = self.run_tool("decide", "--arch=40000003", "--nr=41", self.i386)
-        self.assertEqual((status, out), (2, ""))
-        self.assertIn("--arch 40000003 is ambiguous: write 0x40000003 for SCMP_ARCH_X86", err)
+        self.is_refused("--arch 40000003 is ambiguous: write 0x40000003 for SCMP_ARCH_X86", "decide", "--arch=40000003",
+                        "--nr=41", self.i386)
         self.assertEqual(self.run_tool("decide", "--nr=0", "--arch", "0x1ffffffff", self.i386)[:2][1].split("\n")[0],
                          "fault number arch")
 
@@ -151,9 +149,8 @@ class Words(Case):
             for words in (("decide", "--nr=socket", self.i386), ("run", "--nr=socket", self.i386),
                           ("list", "--nr=socket", self.i386), ("ask", "--nr=socket", self.profile),
                           ("decide", "--calls-from", calls, self.i386)):
-                status, out, err = self.run_tool(words[0], "--arch", word, *words[1:])
-                self.assertEqual((status, out), (2, ""), words)
-                self.assertIn(f"there is no table of --arch {word}: give the number of 'socket'", err)
+                self.is_refused(f"there is no table of --arch {word}: give the number of 'socket'", words[0], "--arch",
+                                word, *words[1:])
         for word, number in (("i386", 359), ("0x40000003", 359), ("x32", X32 + 41), ("aarch64", 198), ("arm", 281)):
             for words in (("decide", "--nr=socket", self.i386), ("run", "--nr=socket", self.i386),
                           ("ask", "--nr=socket", self.profile), ("decide", "--calls-from", calls, self.i386)):
@@ -169,6 +166,7 @@ class Words(Case):
         status, out, _ = self.run_tool("decide", "--nr", "-1", self.x32)
         self.assertEqual((status, out.split("\n")[:2]), (0, [
             "ALLOW 0", "# the syscall is number -1, which a tracer sets to skip a syscall"]))
-        self.assertIn("# the syscall is number -1, which a tracer", self.run_tool("decide", "--nr=0xffffffff", self.x32)[1])
+        self.assertIn("# the syscall is number -1, which a tracer",
+                      self.run_tool("decide", "--nr=0xffffffff", self.x32)[1])
         self.assertIn("# the syscall is number 4294967294 (0xfffffffe), which no syscall has",
                       self.run_tool("decide", "--nr=0xfffffffe", self.x32)[1])

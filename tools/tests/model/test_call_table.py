@@ -2,10 +2,9 @@
 import ctypes
 import ctypes.util
 import os
-import re
 import unittest
 
-from support.common import I386, TABLE, TOP, Case, limited, part, tool
+from support.common import I386, TABLE, TOP, Case, limited, part, text_of, tool
 from scftools.model import architectures, tables
 
 HEADER = """#ifndef _ASM_UNISTD_64_H
@@ -77,19 +76,15 @@ OF_ARM = """#define __NR_OABI_SYSCALL_BASE\t0x900000
 
 def rows(path):
     """The names and numbers of a table."""
-    with open(path, encoding="ascii") as file:
-        return [line.split() for line in file if line[0] != "#"]
+    return [line.split() for line in text_of(path).splitlines() if line[0] != "#"]
 
 
 class CallTable(Case):
     def test_usage(self):
-        status, out, err = self.run_tool("call-table", "--help")
-        self.assertEqual((status, err), (0, ""))
+        self.output_of(0, "call-table", "--help")
         for words in (("--no-such-option",), ("a", "b"), ("--comment",), ("--comment", "two\nlines"),
                       ("--libseccomp", "a")):
-            status, out, err = self.run_tool("call-table", *words)
-            self.assertEqual((status, out), (2, ""), words)
-            self.assertIn("call-table: ", err)
+            self.is_refused("call-table: ", "call-table", *words)
 
     def test_what_a_header_numbers(self):
         table = "read 0\nwrite 1\nafter 3\nspaced 4\ntabbed 5\n"
@@ -134,7 +129,8 @@ class CallTable(Case):
         self.assertRegex(done[2], r"^call-table: [ -~]*\n$")
 
     def test_a_wrong_table_of_the_source(self):
-        self.refuses(b"0 common read sys_read\n1 i386 exit sys_exit\n", "line 2: the ABI 'i386' isn't common, 64 or x32")
+        self.refuses(b"0 common read sys_read\n1 i386 exit sys_exit\n",
+                     "line 2: the ABI 'i386' isn't common, 64 or x32")
         self.refuses(b"0 common read sys_read\nx common exit sys_exit\n", "line 2 has no number, ABI and name")
         self.refuses(b"0 common read sys_read\n1 common\n", "line 2 has no number, ABI and name: '1 common'")
         self.refuses(b"0 common read sys_read\n1 common a\x1b[2Jb sys\n", r"line 2: 'a\x1b[2Jb' isn't a name")
@@ -163,9 +159,7 @@ class CallTable(Case):
     def test_inputs_without_an_end(self):
         for path in ("/dev/zero", "/dev/urandom"):
             # a tenth of a second is measured; one that reads on is ended, or refused more memory
-            status, out, err = self.run_tool("call-table", path, preexec_fn=limited(20, 2 << 30))
-            self.assertEqual((status, out), (2, ""))
-            self.assertIn(f"more than {LIMIT} bytes", err)
+            self.is_refused(f"more than {LIMIT} bytes", "call-table", path, preexec_fn=limited(20, 2 << 30))
 
     def test_the_longest_input(self):
         """In time that doesn't grow with the square of its length, which would be hours; two seconds are measured."""
@@ -181,9 +175,7 @@ class CallTable(Case):
 
     def test_no_file(self):
         for name in ("none", self.folder):
-            status, out, err = self.run_tool("call-table", name)
-            self.assertEqual((status, out), (2, ""))
-            self.assertIn(name, err)
+            self.is_refused(name, "call-table", name)
 
     def test_output_that_fails(self):
         status, _, err = self.closed_output("call-table", given=HEADER.encode())
@@ -192,12 +184,10 @@ class CallTable(Case):
 
     @unittest.skipUnless(ctypes.util.find_library("seccomp"), "there is no libseccomp here")
     def test_what_libseccomp_knows(self):
-        status, out, err = self.run_tool("call-table", "--libseccomp")
-        self.assertEqual((status, err), (0, ""))
+        out = self.output_of(0, "call-table", "--libseccomp")
         lines = out.splitlines()
         self.assertRegex(lines[0], r"^# The x86-64 syscalls that libseccomp [0-9]+\.[0-9]+\.[0-9]+ knows\.$")
-        with open(TABLE, encoding="ascii") as file:
-            actual = {line.split(" ")[0]: line.rstrip("\n") for line in file}
+        actual = {line.split(" ")[0]: line for line in text_of(TABLE).splitlines()}
         rows = lines[1:]
         self.assertEqual(rows, sorted(rows, key=lambda row: int(row.split(" ")[1])))
         self.assertGreater(len(rows), 300)
@@ -220,8 +210,7 @@ class Table(Case):
         open_tree_attr 467, file_getattr 468, file_setattr 469"""
 
     def lines(self):
-        with open(TABLE, encoding="ascii") as file:
-            return file.read().split("\n")
+        return text_of(TABLE).split("\n")
 
     def test_it_says_what_it_is_of(self):
         self.assertRegex(self.lines()[0], r"^# .*syscall_64\.tbl of Linux 6\.18\.$")
@@ -239,8 +228,7 @@ class Table(Case):
         self.assertEqual((status, out, err), (0, "\n".join(self.lines()), ""))
 
     def test_scf_takes_it(self):
-        with open(TABLE, "rb") as file:
-            given = part("profile", b'{"defaultAction":"SCMP_ACT_ALLOW"}') + part("table", file.read())
+        given = part("profile", b'{"defaultAction":"SCMP_ACT_ALLOW"}') + part("table", text_of(TABLE).encode())
         status, _, _ = self.run_words([os.path.join(TOP, "scf"), "compile"], given, stdout=-3)
         self.assertEqual(status, 0)
 
@@ -311,8 +299,7 @@ class OtherTables(Case):
         known_names = {row[0] for row in rows(TABLE)} | tables.names_elsewhere() | newer
         for path in [item.file for item in architectures.JUDGED.values() if item.oci != architectures.NATIVE]:
             self.assertEqual({row[0] for row in rows(path)} - known_names, set(), path)
-            with open(path, encoding="ascii") as file:
-                self.assertRegex(file.readline(), r"^# The syscalls of \w+, from \S+\.h .*linux-libc-dev 7\.2\.12")
+            self.assertRegex(text_of(path), r"\A# The syscalls of \w+, from \S+\.h .*linux-libc-dev 7\.2\.12")
 
 
 class OtherArchitectures(Case):
@@ -333,8 +320,7 @@ class OtherArchitectures(Case):
         vm86old waitpid"""
 
     def lines(self):
-        with open(os.path.join(TOP, "tables", "other_architectures.names"), encoding="ascii") as file:
-            return file.read().split("\n")
+        return text_of(os.path.join(TOP, "tables", "other_architectures.names")).split("\n")
 
     def test_comments_and_names(self):
         lines = self.lines()
@@ -346,8 +332,7 @@ class OtherArchitectures(Case):
             self.assertRegex(name, r"^[a-z0-9_]+$")
 
     def test_it_has_none_of_x86_64_and_all_that_engines_name(self):
-        with open(TABLE, encoding="ascii") as file:
-            names = {line.split(" ")[0] for line in file if line[0] != "#"}
+        names = {row[0] for row in rows(TABLE)}
         self.assertEqual(names & set(self.lines()), set())
         self.assertEqual(set(self.NAMED.split()) - set(self.lines()), set())
         self.assertEqual({"umont2", "reed", "syscalls", "BASE"} & set(self.lines()), set())

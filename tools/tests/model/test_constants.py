@@ -11,8 +11,8 @@ import socket
 import sys
 import unittest
 
-from support.common import (ALLOW, EPERM, I386, LOADER, TABLE, TOP, X86_64, Case, for_developers, insn, jeq, load,
-                            ret)
+from support.common import (ALLOW, EPERM, I386, LOADER, TABLE, TOP, X86_64, Case, for_developers, insn, jeq, load, ret,
+                            text_of)
 from scftools.model import constants
 from scftools.forms import strace
 
@@ -20,8 +20,7 @@ X32, ALL_ONES = 0x40000000, (1 << 64) - 1
 
 
 def rows(path):
-    with open(path, encoding="ascii") as file:
-        return [line.split() for line in file if line[0] != "#"]
+    return [line.split() for line in text_of(path).splitlines() if line[0] != "#"]
 
 
 @unittest.skipUnless(shutil.which("cc"), "there is no C compiler here")
@@ -67,7 +66,8 @@ class Arguments(Case):
         ("ENOSYS", errno.ENOSYS), ("RLIMIT_NOFILE", resource.RLIMIT_NOFILE), ("PR_SET_SECCOMP", 22),
         ("TIOCSTI", 0x5412), ("TIOCLINUX", 0x541C), ("PR_SET_NO_NEW_PRIVS", 38), ("CAP_SYS_ADMIN", 21),
         ("PTRACE_SEIZE", 0x4206),
-        ("007", 7), ("09", 9), ("-1", ALL_ONES), ("-0x64", ALL_ONES - 99), ("AT_FDCWD", ALL_ONES - 99), ("NULL", 0), ("7", 7), ("0x7", 7),
+        ("007", 7), ("09", 9), ("-1", ALL_ONES), ("-0x64", ALL_ONES - 99), ("AT_FDCWD", ALL_ONES - 99), ("NULL", 0),
+        ("7", 7), ("0x7", 7),
     )
 
     def setUp(self):
@@ -76,8 +76,7 @@ class Arguments(Case):
 
     def call(self, *words):
         number = () if any(word.startswith("--nr") for word in words) else ("--nr=0",)
-        status, out, err = self.run_tool("decide", "--json", *number, *words, self.any)
-        self.assertEqual((status, err), (0, ""), words)
+        out = self.output_of(0, "decide", "--json", *number, *words, self.any)
         return json.loads(out)["calls"][0]["call"]
 
     def test_names_and_numbers(self):
@@ -94,8 +93,7 @@ class Arguments(Case):
              "args": [{"index": 0, "value": int(socket.AF_NETLINK), "op": "SCMP_CMP_EQ"}]}]}))
         for name, given, shown in (("decide", asks, "ERRNO 1"), ("run", asks, "ERRNO 1"), ("list", asks, ">"),
                                    ("ask", profile, "ERRNO 1 entry 0")):
-            status, out, err = self.run_tool(name, "--nr=SYS_socket", "--a0=AF_NETLINK", given)
-            self.assertEqual((status, err), (0, ""), name)
+            out = self.output_of(0, name, "--nr=SYS_socket", "--a0=AF_NETLINK", given)
             self.assertTrue(out.startswith(shown), out)
 
     def test_what_is_no_constant(self):
@@ -122,13 +120,11 @@ class Arguments(Case):
                                    ("i386", "O_DIRECT", os.O_DIRECT), ("aarch64", "O_CREAT", os.O_CREAT)):
             self.assertEqual(self.call("--arch", arch, f"--a0={text}")["arguments"][0], hex(number), (arch, text))
         for arch, text, says in (("aarch64", "O_DIRECT", "O_DIRECT isn't the same on aarch64 as on x86-64"),
-                                 ("sh", "AF_INET", "constants are known for x86-64, i386, x32, aarch64, arm, riscv64 and "
-                                                   "ppc64le: for sh"),
+                                 ("sh", "AF_INET", "constants are known for x86-64, i386, x32, aarch64, arm, riscv64 "
+                                                   "and ppc64le: for sh"),
                                  ("ppc64le", "MCL_FUTURE", "isn't the same on ppc64le as on x86-64"),
                                  ("i386", "-0x80000001", "more than 32 bits")):
-            status, out, err = self.run_tool("decide", "--nr=0", "--arch", arch, f"--a0={text}", self.any)
-            self.assertEqual((status, out), (2, ""))
-            self.assertIn(says, err)
+            self.is_refused(says, "decide", "--nr=0", "--arch", arch, f"--a0={text}", self.any)
 
 
 # Makes the calls of a list, a line of numbers each, under a filter that refuses each call with a mark in its last
@@ -289,9 +285,7 @@ class OtherArchitectures(Case):
                             (("--nr=READ",), "the table has no syscall 'READ'; the nearest name is 'read'"),
                             (("--arch=sh", "--nr=read"), "there is no table of --arch sh: give the number of 'read'"),
                             (("--arch=s390x", "--nr=1"), "SCMP_ARCH_S390X is big-endian")):
-            status, out, err = self.run_tool("decide", *words, asks)
-            self.assertEqual((status, out), (2, ""))
-            self.assertIn(says, err)
+            self.is_refused(says, "decide", *words, asks)
 
     def test_a_listing_names_them(self):
         data = load(4) + jeq(I386, 0, 3) + load(0) + jeq(102, 0, 1) + ret(EPERM) + insn(0x06, ALLOW)

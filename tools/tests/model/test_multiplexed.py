@@ -111,9 +111,8 @@ class Multiplexed(Case):
     def test_too_many(self):
         given = profile(entry(*multiplexed.CALL_NUMBERS["socketcall"],
                               args=[condition(1, "NE", value) for value in range(4000)]))
-        status, out, err = self.run_tool("resolve-profile", "--multiplexed", "-", given=json.dumps(given).encode())
-        self.assertEqual((status, out), (2, ""))
-        self.assertIn("the rules of socketcall and ipc have more than 65536 conditions", err)
+        self.is_refused("the rules of socketcall and ipc have more than 65536 conditions", "resolve-profile",
+                        "--multiplexed", "-", given=json.dumps(given).encode())
 
 
 class Numbers(unittest.TestCase):
@@ -183,7 +182,7 @@ class BesideLibseccomp(unittest.TestCase):
         for seed in range(400):
             source = RandomProfile(random.Random(f"multiplexed {seed}"))
             given = source.profile()
-            # read is without conditions, so that the number is loaded (see test_lost_load)
+            # read is without conditions, so that the number is loaded (see lint/test_libseccomp)
             given["syscalls"].append(entry("read"))
             resolved = with_rules(given)
             calls = [call for _ in range(3) for call in source.calls(resolved)]

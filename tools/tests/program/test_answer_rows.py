@@ -1,7 +1,7 @@
 """What `answers` prints of filters, of profiles and, with `--differences`, of two sides. The lines were worked out by
 hand."""
 from support.on_parts import (ALLOW, ALLOW_ALL, ARCH_GATE, ONE_CALL, READ_TABLE, WITHOUT_WRITE, OnProgram, a_filter,
-                              a_profile, a_table, beside, bundle)
+                              a_profile, a_table, beside)
 
 GATED, DENIES = a_filter(ARCH_GATE), a_filter("ret #0x50001")
 # Loads a word behind the record's end.
@@ -11,6 +11,8 @@ CLONE_FLAGS = a_filter("ld [0]; jeq #56, 0, 3; ld [16]; and #0x7e020000; jeq #0,
 # Tests one bit of the first argument's low half, and that its high half is at most 5.
 BIT = a_filter("""ld [16]; jset #0x10, 0, denied; ld [20]; jgt #5, denied, 0; ret #0x7fc00000
     denied: ret #0x12345678""")
+# Tests an order and then bits.
+NOT_BITS = a_filter("ld [0]; jge #10, 0, 2; jset #6, 1, 0; ret #0x50001; ret #0x7fff0000")
 # Denies each call, call 5 by an instruction of its own.
 DENIES_TWICE = a_filter("ld [0]; jeq #5, 0, 1; ret #0x50001; ret #0x50001")
 # Adds two words, and tests their sum.
@@ -39,6 +41,8 @@ ANSWERS = (
      "ERRNO 1 at 0:5 w0 0x0-0x37,0x39-0xffffffff\nregions 3 steps 8\n", 0),
     ("", [BIT], "UNNAMED 0x12345678 at 0:5 w4 &0x10=0x0\nUNNAMED 0x12345678 at 0:5 w4 &0x10=0x10 w5 0x6-0xffffffff\n"
      "USER_NOTIF 0 at 0:4 w4 &0x10=0x10 w5 0x0-0x5\nregions 3 steps 7\n", 0),
+    ("", [NOT_BITS], "ERRNO 1 at 0:3 w0 0xa-0xffffffff&0x6=0x0\nALLOW 0 at 0:4 w0 0xa-0xffffffff!0x6=0x0\n"
+     "ALLOW 0 at 0:4 w0 0x0-0x9\nregions 3 steps 6\n", 0),
     # What isn't decided, and an answer that isn't known.
     ("", [SUM], "ALLOW 0 at 0:5 open\nERRNO 1 at 0:6 open\nregions 2 steps 7\n", 0),
     ("", [PRODUCT], "unknown at 0:4\nregions 1 steps 5\n", 0),
@@ -123,7 +127,8 @@ DIFFERENCES = (
      "ERRNO 1 default beside ALLOW 0 default w0 0x0-0x2,0x4-0xffffffff w1 0x40000003\nregions 2 steps 5\n", 0),
     # The limit.
     ("--beside --limit 2", [ALLOW, beside(ARCH_GATE)], "unfinished\n", 4),
-    # Other parts, and the faults of either side.
+    # Other parts, and the faults of either side. No filter on either is no input.
+    ("--beside", [], "fault bundle Parts\n", 3), ("--beside", [ALLOW], "regions 0 steps 1\n", 0),
     ("", [ALLOW], "fault bundle Parts\n", 3),
     ("", [PROFILE, TABLE], "fault bundle Parts\n", 3),
     ("--beside", [ALLOW, beside(BAD_LOAD[1])], "fault beside Load at 0\n", 1),
@@ -145,15 +150,10 @@ EXCLUDED = (
 
 class AnswerRows(OnProgram):
     def test_answers(self):
-        self.print_each(ANSWERS)
+        self.print_each(ANSWERS, "answers")
 
     def test_differences(self):
-        self.print_each(DIFFERENCES, "--differences")
-
-    def print_each(self, rows, *words):
-        for options, parts, text, status in rows:
-            with self.subTest(options=options, parts=parts):
-                self.prints(["answers", *words, *options.split()], bundle(parts), text, status)
+        self.print_each(DIFFERENCES, "answers", "--differences")
 
     def test_excluded_flags(self):
         for options, text in EXCLUDED:

@@ -1,64 +1,81 @@
-"""What `run`, `check`, `decide`, `ask`, `dis` and `asm` answer: filters and bundles as their bytes and as texts, and
-each option of a call."""
-from support.common import part
-from support.on_parts import (ALLOW, ALLOW_ALL, ARCH_GATE, CLONE, CLONE_TABLE, READ_WRITE_TABLE, OnProgram, a_filter,
-                              a_profile, a_table, assembled, bundle, long_filter, ran)
-from support.worked import printed
+"""What `run`, `check`, `decide`, `dis` and `asm` answer: what each code computes and tests in how many steps, which
+filters and texts are refused, which instructions run on a call, each option of a call, stacks and bundles."""
+import struct
 
-# The bytes of ARCH_GATE (Linux uapi filter.h: code, jt, jf and k, each from its low byte on).
-GATE = (b"\x20\0\0\0\x04\0\0\0"
-        b"\x15\0\x01\0\x3e\0\0\xc0"
-        b"\x06\0\0\0\0\0\0\x80"
-        b"\x06\0\0\0\0\0\xff\x7f")
-# Words and a filter as its bytes, what is printed, and the status.
-BYTES = (
-    (["run"], GATE, "ALLOW 0 steps 3\n", 0),
-    (["run"], b"\x06\0\0\0\0\0\xff\x7f\x06", "fault filter Truncated offset 8\n", 3),
-)
-# Allow where the low word of argument 0 is 5; divide by 0, which ends the run; load a scratch word that is stored on
-# one of two ways, which is refused, and on both.
-ARGUMENT_IS_5 = "ld [16]; jeq #5, 0, 1; ret #0x7fff0000; ret #0"
+from support.common import I386, X32, X86_64, insn
+from support.on_parts import (ALLOW_ALL, ARCH_GATE, OnProgram, a_filter, a_profile, a_table, assembled, behind_gate,
+                              bundle, ran)
+from support.stand_in import StandIn
+from support.worked import FAILS, KILLS, MADE
+
+# The word of the call at byte 4i is i + 1.
+CALL = ["--nr", "1", "--arch", "2", "--ip", "0x400000003"]
+CALL += [word for at in range(6) for word in (f"--a{at}", hex((2 * at + 6) << 32 | 2 * at + 5))]
 DIVIDED_BY_0 = "ld #7; ldx #0; div x; ret #0x7fff0000"
 STORED_ONE_WAY = "ld [0]; jeq #0, 1, 0; st M[1]; ld M[1]; ret a"
 STORED_BOTH_WAYS = "ld [0]; jeq #0, 1, 0; st M[1]; st M[1]; ld M[1]; ret a"
-# Words and a filter as its text, what is printed, and the status: runs, and options that are refused before a filter is
-# read.
-RUNS = (
-    (["run"], ALLOW_ALL, "ALLOW 0 steps 1\n", 0),
-    (["run"], "ret a", "KILL_THREAD 0 steps 1\n", 0),
-    (["run"], ARCH_GATE, "ALLOW 0 steps 3\n", 0),
-    (["run", "--arch", "0x40000003"], ARCH_GATE, "KILL_PROCESS 0 steps 3\n", 0),
-    (["run"], "ja 1; ret #0; ret #0x7fff0000", "ALLOW 0 steps 2\n", 0),
-    (["run", "--a0", "0x100000005"], ARGUMENT_IS_5, "ALLOW 0 steps 3\n", 0),
-    (["run", "--a0", "6"], ARGUMENT_IS_5, "KILL_THREAD 0 steps 3\n", 0),
-    (["run", "--nr", "4294967296"], ALLOW_ALL, "fault number nr\n", 2),
-    (["run", "--a0", "0x"], ALLOW_ALL, "fault number a0\n", 2),
-    (["run", "--a5=", "--a1=-1"], ALLOW_ALL, "fault number a1\n", 2),
-    (["run", "--ip", "0XffffFFFFffffFFFF", "--nr", "0000000000000000000000007"], "ld [12]; ret a",
-     "UNNAMED 0xffffffff steps 2\n", 0),
-    (["run", "--ip", "18446744073709551616"], ALLOW_ALL, "fault number ip\n", 2),
+# The accumulator and the index register before, code and constant, and the accumulator after.
+COMPUTATIONS = (
+    (9, 9, 0x20, 4, 2), (9, 9, 0x20, 60, 16), (9, 9, 0x80, 0, 64), (9, 9, 0x00, 5, 5), (0xFFFFFFFF, 0, 0x04, 1, 0),
+    (0x80000000, 0x80000000, 0x0C, 0, 0), (0, 0, 0x14, 1, 0xFFFFFFFF), (5, 7, 0x1C, 0, 0xFFFFFFFE),
+    (0xFFFFFFFF, 0, 0x24, 0xFFFFFFFF, 1), (0x10000, 0x10001, 0x2C, 0, 0x10000), (7, 0, 0x34, 2, 3),
+    (0xFFFFFFFF, 0x80000000, 0x3C, 0, 1), (7, 2, 0x3C, 0, 3), (0x8000000F, 0, 0x44, 0xF0, 0x800000FF),
+    (6, 3, 0x4C, 0, 7), (0xFFFFFFFF, 0, 0x54, 0x80000001, 0x80000001), (6, 3, 0x5C, 0, 2),
+    (3, 0, 0x64, 31, 0x80000000), (3, 0, 0x64, 0, 3), (1, 33, 0x6C, 0, 2), (1, 32, 0x6C, 0, 1),
+    (0x80000000, 0, 0x74, 31, 1), (0xFFFFFFFF, 0, 0x74, 0, 0xFFFFFFFF), (0x80000000, 33, 0x7C, 0, 0x40000000),
+    (0x80000000, 32, 0x7C, 0, 0x80000000), (0xFFFFFFFF, 0, 0xA4, 0x80000001, 0x7FFFFFFE), (6, 3, 0xAC, 0, 5),
+    (1, 0, 0x84, 0, 0xFFFFFFFF), (0x80000000, 0, 0x84, 0, 0x80000000), (0, 0, 0x84, 0, 0), (1, 9, 0x87, 0, 9),
 )
-# Faults of the checker, each named action, and ends of runs.
-CHECKS = (
-    (["run"], "", "fault filter Empty\n", 1),
-    (["run"], "ja 4294967295; ret #0x7fff0000", "fault filter Jump at 0\n", 1),
-    (["check"], STORED_ONE_WAY, "fault filter Unset at 3 word 1\n", 1),
-    (["check"], STORED_BOTH_WAYS, "accepted 6\n", 0),
-    (["check"], "ld M[0]; ld #0", "fault filter LastNotReturn\n", 1),
-    (["check"], "div #0; ld [62]", "fault filter Divisor at 0\n", 1),
-    (["check"], "lsh #32; ret a", "fault filter Shift at 0\n", 1),
-    (["check"], "ld M[16]; ret a", "fault filter Scratch at 0\n", 1),
-    (["check"], "ld [62]; ret a", "fault filter Load at 0\n", 1),
-    (["check"], "raw 0x0094, 0, 0, 0", "fault filter Code at 0\n", 1),
-    (["run"], DIVIDED_BY_0, "KILL_THREAD 0 steps 3\n", 0),
-    (["run"], "ld #1; ldx #33; lsh x; ret a", "KILL_THREAD 2 steps 4\n", 0),
-    (["run"], "ld #0; sub #1; ret a", "UNNAMED 0xffffffff steps 3\n", 0),
-    (["run"], "ret #0x30007", "TRAP 7 steps 1\n", 0),
-    (["run"], "ret #0x50026", "ERRNO 38 steps 1\n", 0),
-    (["run"], "ret #0x7fc00000", "USER_NOTIF 0 steps 1\n", 0),
-    (["run"], "ret #0x7ff0ffff", "TRACE 65535 steps 1\n", 0),
-    (["run"], "ret #0x7ffc0000", "LOG 0 steps 1\n", 0),
-    (["run"], "ret #0x1abcd", "UNNAMED 0x0001abcd steps 1\n", 0),
+# Code and constant, and the index register after, behind an accumulator of 9.
+REGISTERS = ((0x81, 0, 64), (0x01, 5, 5), (0x07, 0, 9))
+# The accumulator and the index register, code and constant, and whether the test holds.
+TESTS = (
+    (5, 0, 0x15, 5, True), (5, 0, 0x15, 4, False), (5, 5, 0x1D, 0, True), (5, 4, 0x1D, 5, False),
+    (0x80000000, 0, 0x25, 0x7FFFFFFF, True), (5, 0, 0x25, 5, False), (0xFFFFFFFF, 0, 0x2D, 0, True),
+    (0, 0xFFFFFFFF, 0x2D, 0, False), (5, 0, 0x35, 5, True), (0x7FFFFFFF, 0, 0x35, 0x80000000, False),
+    (0x80000000, 0x80000000, 0x3D, 0, True), (0, 1, 0x3D, 0, False), (6, 0, 0x45, 3, True), (4, 0, 0x45, 3, False),
+    (0x80000000, 0xFFFFFFFF, 0x4D, 0, True), (0xFFFFFFFF, 0, 0x4D, 1, False),
+)
+# Filters, and what they answer to the call in how many steps.
+RUNS = (
+    (DIVIDED_BY_0, 0, 3), ("ld #7; st M[15]; ld #0; ld M[15]; ret a", 7, 5),
+    ("ldx #8; stx M[0]; ldx M[0]; txa; ret a", 8, 5), ("ja 1; ret #0; ret #0x7fff0000", 0x7FFF0000, 2),
+    ("ret a", 0, 1), (STORED_BOTH_WAYS, 1, 6), ("ja 1; ld M[0]; ret a", 0, 2),
+    # each named action with its data, and none
+    *((f"ret #{answer}", answer, 1) for answer in (0x30007, 0x50026, 0x7FC00000, 0x7FF0FFFF, 0x7FFC0000, 0x1ABCD)),
+)
+# A first instruction (code, jt, jf and k) that is refused before a return, and the fault.
+REFUSED_FIRST = (
+    (0x94, 0, 0, 5, "Code at 0"), (0x20, 0, 0, 62, "Load at 0"), (0x20, 0, 0, 64, "Load at 0"),
+    (0x60, 0, 0, 16, "Scratch at 0"), (0x03, 0, 0, 16, "Scratch at 0"), (0x34, 0, 0, 0, "Divisor at 0"),
+    (0x64, 0, 0, 32, "Shift at 0"), (0x74, 0, 0, 32, "Shift at 0"), (0x05, 0, 0, 0xFFFFFFFF, "Jump at 0"),
+    (0x15, 1, 0, 0, "Jump at 0"), (0x4D, 0, 1, 0, "Jump at 0"), (0x61, 0, 0, 3, "Unset at 0 word 3"),
+)
+# Filters that are refused, and the faults. A return counts as going on, so the load of a scratch word behind one can be
+# come to without a store.
+REFUSED = (
+    ("", "Empty"), ("ld #0", "LastNotReturn"), ("ld M[0]; ld #0", "LastNotReturn"),
+    ("div #0; ld [62]", "Divisor at 0"),
+    ("ld [0]; jeq #0, 0, 2; st M[0]; ja 1; ret #0; ld M[0]; ret a", "Unset at 5 word 0"),
+    (STORED_ONE_WAY, "Unset at 3 word 1"),
+)
+# The architecture and the number of a call, and its answer and path in a filter behind the gate that refuses `write`
+# and allows every other native call.
+ALL_BUT_WRITE = behind_gate("jeq #1, 0, 1; ret #0x50001; ret #0x7fff0000")
+GATED = (
+    (X86_64, 0, MADE, "0 1 3 4 6 8"), (X86_64, 1, FAILS, "0 1 3 4 6 7"), (X86_64, X32 - 1, MADE, "0 1 3 4 6 8"),
+    (X86_64, X32, KILLS, "0 1 3 4 5"), (X86_64, 0xFFFFFFFF, KILLS, "0 1 3 4 5"), (I386, 1, KILLS, "0 1 2"),
+)
+# A filter, options of a call, and its answer and path.
+TO_9 = "ja on; ret #1; on: ld [0]; jeq #9, 1, 0; ret #0; ret #0x7ff00003"
+PATHS = (
+    (ALLOW_ALL, "", 0x7FFF0000, "0"), (DIVIDED_BY_0, "", 0, "0 1 2"), (STORED_BOTH_WAYS, "", 0, "0 1 3 4 5"),
+    ("ja 2; ret #0; ret #1; ja 0; ret #5", "", 5, "0 3 4"), ("ld [0]; jeq #0, 0, 0; ret a", "", 0, "0 1 2"),
+    ("ld [0]; jset #1, 2, 1; ret #1; ret #2; ret #3", "", 2, "0 1 3"),
+    ("ld [0]; jgt x, 1, 0; ret #7; ret #8", "", 7, "0 1 2"),
+    (ARCH_GATE, "", 0x7FFF0000, "0 1 3"), (ARCH_GATE, "--arch 3", 0x80000000, "0 1 2"),
+    (TO_9, "--nr 9", 0x7FF00003, "0 2 3 5"), (TO_9, "--nr 8", 0, "0 2 3 4"),
+    ("ret #0x50026", "--nr 7", 0x50026, "0"), ("ld [16]; ret a", "--a0 0x12345678", 0x12345678, "0 1"),
 )
 # The options of a call, and where their words stand in its record (Linux uapi seccomp.h, struct seccomp_data): the low
 # one, and the high one where the option has 64 bits.
@@ -73,16 +90,8 @@ OPTIONS = (
     ("--a4", 48, 52),
     ("--a5", 56, 60),
 )
-# A filter, options of a call, and what is printed with its path.
-PATHS = (
-    (ARCH_GATE, "", "ALLOW 0 steps 3\npath 0 1 3\n"),
-    (ARCH_GATE, "--arch 3", "KILL_PROCESS 0 steps 3\npath 0 1 2\n"),
-    ("ret #0x50026", "--nr 7", "ERRNO 38 steps 1\npath 0\n"),
-    ("ja on; ret #1; on: ld [0]; jeq #9, 1, 0; ret #0; ret #0x7ff00003", "--nr 9", "TRACE 3 steps 4\npath 0 2 3 5\n"),
-    ("ja on; ret #1; on: ld [0]; jeq #9, 1, 0; ret #0; ret #0x7ff00003", "--nr 8",
-     "KILL_THREAD 0 steps 4\npath 0 2 3 4\n"),
-    ("ld [16]; ret a", "--a0 0x12345678", "UNNAMED 0x12345678 steps 2\npath 0 1\n"),
-)
+# Allow where the low word of argument 0 is 5.
+ARGUMENT_IS_5 = "ld [16]; jeq #5, 0, 1; ret #0x7fff0000; ret #0"
 # The first entry has no name that the table has, two entries allow `read`, and one answers `write` by an argument.
 ENTRIES = a_profile('''{"defaultAction":"SCMP_ACT_ERRNO","defaultErrnoRet":1,"syscalls":[
     {"names":["gone"],"action":"SCMP_ACT_LOG"},
@@ -90,106 +99,55 @@ ENTRIES = a_profile('''{"defaultAction":"SCMP_ACT_ERRNO","defaultErrnoRet":1,"sy
     {"names":["read"],"action":"SCMP_ACT_ALLOW"},
     {"names":["write"],"action":"SCMP_ACT_TRACE","errnoRet":7,"args":[{"index":1,"value":40,"op":"SCMP_CMP_GT"}]}]}''')
 TABLE = a_table("read 0\nwrite 1\nclose 3\n")
-# Options of a call, and what is printed.
-REASONS = (
-    ("", "ALLOW 0 entry 1\n"),
-    ("--nr 3", "ALLOW 0 entry 1\n"),
-    ("--nr 1 --a1 41", "TRACE 7 entry 3\n"),
-    ("--nr 1 --a1 40", "ERRNO 1 default\n"),
-    ("--nr 1 --a1 0x100000000", "TRACE 7 entry 3\n"),
-    ("--nr 2", "ERRNO 1 default\n"),
-    ("--nr 0x3fffffff", "ERRNO 1 default\n"),
-    ("--nr 0x40000000", "KILL_PROCESS 0 foreign\n"),
-    ("--nr 0xffffffff", "KILL_PROCESS 0 foreign\n"),
-    ("--arch 0x40000003", "KILL_PROCESS 0 foreign\n"),
-    ("--arch 0 --nr 1 --a1 41", "KILL_PROCESS 0 foreign\n"),
-)
-# Parts, what is printed of them, and the status.
-REFUSED_QUESTIONS = (
-    ([], "fault bundle Parts\n", 3),
-    ([ENTRIES], "fault bundle Parts\n", 3),
-    ([TABLE], "fault bundle Parts\n", 3),
-    ([ENTRIES, TABLE, TABLE], "fault bundle Parts\n", 3),
-    ([ENTRIES, ENTRIES, TABLE], "fault bundle Parts\n", 3),
-    ([ALLOW, ENTRIES, TABLE], "fault bundle Parts\n", 3),
-    ([a_profile("{"), a_table("read")], "fault table Form line 1\n", 1),
-    ([a_profile("{"), TABLE], "fault profile Json\n", 1),
-    ([a_profile('{"defaultAction":"SCMP_ACT_NO"}'), TABLE], "fault profile Action\n", 1),
-)
-# Conditions that hold of no argument of `read`, and of each of `write`: no number is below 0, and each is at most the
-# greatest.
-EXTREMES = '''{"defaultAction":"SCMP_ACT_ERRNO","syscalls":[
-    {"names":["read"],"action":"SCMP_ACT_ALLOW","args":[{"index":0,"value":0,"op":"SCMP_CMP_LT"}]},
-    {"names":["write"],"action":"SCMP_ACT_ALLOW",
-    "args":[{"index":0,"value":18446744073709551615,"op":"SCMP_CMP_LE"}]}]}'''
-# A profile and its table, and options of a call with what its filter answers.
-WORKED = (
-    (a_profile(EXTREMES), a_table(READ_WRITE_TABLE),
-     [("--nr 0", "ERRNO 1\n"), ("--nr 0 --a0 7", "ERRNO 1\n"), ("--nr 1", "ALLOW 0\n"),
-      ("--nr 1 --a0 0xffffffffffffffff", "ALLOW 0\n"), ("--nr 2", "ERRNO 1\n"),
-      ("--nr 1 --arch 0x40000003", "KILL_PROCESS 0\n"), ("--nr 0x40000001", "KILL_PROCESS 0\n")]),
-    # None of the bits 0x7e020000 is set in the flags.
-    (CLONE, CLONE_TABLE,
-     [("--nr 56", "ALLOW 0\n"), ("--nr 56 --a0 0x81fdffff", "ALLOW 0\n"), ("--nr 56 --a0 0x00020000", "ERRNO 1\n"),
-      ("--nr 56 --a0 0x40000000", "ERRNO 1\n"), ("--nr 56 --a0 0xffffffff81fdffff", "ALLOW 0\n")]),
-    # Six conditions, which all hold or not.
-    (a_profile('''{"defaultAction":"SCMP_ACT_ERRNO","defaultErrnoRet":38,"syscalls":[
-            {"names":["six"],"action":"SCMP_ACT_ALLOW","args":[
-            {"index":0,"value":1,"op":"SCMP_CMP_EQ"},{"index":1,"value":2,"op":"SCMP_CMP_NE"},
-            {"index":2,"value":3,"op":"SCMP_CMP_GT"},{"index":3,"value":4,"op":"SCMP_CMP_GE"},
-            {"index":4,"value":5,"op":"SCMP_CMP_LT"},{"index":5,"value":6,"op":"SCMP_CMP_LE"}]}]}'''),
-     a_table("six 6\n"),
-     [("--nr 6 --a0 1 --a2 4 --a3 4 --a4 4 --a5 6", "ALLOW 0\n"),
-      ("--nr 6 --a0 1 --a2 3 --a3 4 --a4 4 --a5 6", "ERRNO 38\n"),
-      ("--nr 6 --a0 1 --a2 4 --a3 4 --a4 4 --a5 7", "ERRNO 38\n"),
-      ("--nr 6 --a0 0x100000001 --a2 4 --a3 4", "ERRNO 38\n")]),
-)
-# Allows number 39 alone, with labels and a comment, and the bytes of that filter.
-LABELLED = "ld [0] // number\njeq #39, yes, no\nno: ret #0x50001\nyes: ret #0x7fff0000\n"
-SPELLED = (b"\x20\0\0\0\0\0\0\0"
-           b"\x15\0\x01\0\x27\0\0\0"
-           b"\x06\0\0\0\x01\0\x05\0"
-           b"\x06\0\0\0\0\0\xff\x7f")
-# Words and an input, what is printed, and the status.
-TEXTS = (
-    (["dis"], GATE, "ld [4]\njeq #0xc000003e, 1, 0\nret #0x80000000\nret #0x7fff0000\n", 0),
-    (["dis"], b"\x94\0\0\0\x05\0\0\0", "raw 0x0094, 0, 0, 0x5\n", 0),
-    (["dis"], b"", "", 0),
-    (["asm"], b"", "", 0),
-    (["asm"], b"back: ja back", "fault text JumpTooFar line 1\n", 1),
-    (["asm"], b"jeq #1, 256, 0", "fault text NumberRange line 1\n", 1),
-    (["asm"], b"ld [0", "fault text Operand line 1\n", 1),
-    (["asm"], b"mod #3", "fault text Mnemonic line 1\n", 1),
-    (["asm"], b"p: ret a\np: ret a", "fault text Label line 2\n", 1),
-    (["asm"], b"jeq #1, q, 0", "fault text Label line 1\n", 1),
-    (["asm"], b"bad\n// \xc3", "fault text NotAscii line 2\n", 1),
-)
 # Two filters, of which the first answers KILL_THREAD and the second ALLOW.
 TWO_FILTERS = (b"filter 8\n\x06\0\0\0\0\0\0\0"
                b"filter 8\n\x06\0\0\0\0\0\xff\x7f")
-# Words and a bundle as its bytes, what is printed, and the status. The filters in them are `ret #0` and
-# `ret #0x7fff0000`, of eight bytes each.
-BUNDLES = (
-    (["decide"], TWO_FILTERS, "KILL_THREAD 0\n", 0),
-    (["decide"], b"filter 8\n\x06\0\0\0\0\0\0\0filter 8\n\x06\0\0\0\0\0\xff", "fault bundle Short offset 17\n", 3),
-    (["decide"], b"", "ALLOW 0\n", 0),
-    (["decide"], b"table 0\n", "fault bundle Parts\n", 3),
-    (["decide"], b"filter 123456789\n", "fault bundle Header offset 0\n", 3),
-    (["decide"], b"filter 8\n\x06\0\0\0\0\0\xff\x7fx", "fault bundle Header offset 17\n", 3),
-    (["decide"], b"filter 0\n", "fault filter Empty\n", 1),
-    (["decide"], b"filter 7\n\x06\0\0\0\0\0\xff", "fault filter Truncated offset 0\n", 3),
-    (["decide"], b"filter 00000008\n\x06\0\0\0\0\0\xff\x7f", "ALLOW 0\n", 0),
-    (["decide"], b"filter  8\n\x06\0\0\0\0\0\xff\x7f", "fault bundle Header offset 0\n", 3),
-    (["decide"], b"filter 8 \x06\0\0\0\0\0\xff\x7f", "fault bundle Header offset 0\n", 3),
-    (["decide", "--nr", "x"], b"filter", "fault number nr\n", 2),
-    (["decide", "--at"], TWO_FILTERS, "KILL_THREAD 0 at 0:0\n", 0),
-    (["decide", "--at"], 2 * TWO_FILTERS, "KILL_THREAD 0 at 2:0\n", 0),
-    (["decide", "--at"], b"", "ALLOW 0\n", 0),
-    (["decide", "--at"], b"table 0\n", "fault bundle Parts\n", 3),
-    (["decide", "--at"], b"filter 0\n", "fault filter Empty\n", 1),
-    (["decide", "--at", "--nr", "x"], b"filter", "fault number nr\n", 2),
-    (["decide", "--path"], b"", "ALLOW 0\n", 0),
-    (["decide", "--path"], b"filter 0\n", "fault filter Empty\n", 1),
+# Words, a filter's text, or a bundle as its parts or its bytes, what is printed, and the status. The filters in bundles
+# of bytes are `ret #0` and `ret #0x7fff0000`, of eight bytes each.
+ROWS = (
+    ("run --a0 0x100000005", ARGUMENT_IS_5, "ALLOW 0 steps 3\n", 0),
+    ("run --a0 6", ARGUMENT_IS_5, "KILL_THREAD 0 steps 3\n", 0),
+    ("run --ip 0XffffFFFFffffFFFF --nr 0000000000000000000000007", "ld [12]; ret a", "UNNAMED 0xffffffff steps 2\n", 0),
+    ("run", "", "fault filter Empty\n", 1),
+    ("run --path", "ld [0]", "fault filter LastNotReturn\n", 1),
+    ("run --path", b"cut", "fault filter Truncated offset 0\n", 3),
+    ("dis", b"", "", 0),
+    # What a profile answers: its parts in either order, no more and no fewer, and the table before the profile.
+    ("ask --nr 1 --a1 41", [ENTRIES, TABLE], "TRACE 7 entry 3\n", 0),
+    ("ask --nr 0", [TABLE, ENTRIES], "ALLOW 0 entry 1\n", 0),
+    ("ask", [], "fault bundle Parts\n", 3),
+    ("ask", [ENTRIES], "fault bundle Parts\n", 3),
+    ("ask", [TABLE], "fault bundle Parts\n", 3),
+    ("ask", [ENTRIES, TABLE, TABLE], "fault bundle Parts\n", 3),
+    ("ask", [ENTRIES, ENTRIES, TABLE], "fault bundle Parts\n", 3),
+    ("ask", [a_filter(ALLOW_ALL), ENTRIES, TABLE], "fault bundle Parts\n", 3),
+    ("ask", [a_profile("{"), a_table("read")], "fault table Form line 1\n", 1),
+    ("ask", [a_profile("{"), TABLE], "fault profile Json\n", 1),
+    ("ask", b"profile 9\nshort", "fault bundle Short offset 0\n", 3),
+    ("decide", TWO_FILTERS, "KILL_THREAD 0\n", 0),
+    ("decide", b"filter 8\n\x06\0\0\0\0\0\0\0filter 8\n\x06\0\0\0\0\0\xff", "fault bundle Short offset 17\n", 3),
+    ("decide", b"", "ALLOW 0\n", 0),
+    ("decide", b"table 0\n", "fault bundle Parts\n", 3),
+    ("decide", b"filter 123456789\n", "fault bundle Header offset 0\n", 3),
+    ("decide", b"filter 8\n\x06\0\0\0\0\0\xff\x7fx", "fault bundle Header offset 17\n", 3),
+    ("decide", b"filter 0\n", "fault filter Empty\n", 1),
+    ("decide", b"filter 7\n\x06\0\0\0\0\0\xff", "fault filter Truncated offset 0\n", 3),
+    ("decide", b"filter 00000008\n\x06\0\0\0\0\0\xff\x7f", "ALLOW 0\n", 0),
+    ("decide", b"filter  8\n\x06\0\0\0\0\0\xff\x7f", "fault bundle Header offset 0\n", 3),
+    ("decide", b"filter 8 \x06\0\0\0\0\0\xff\x7f", "fault bundle Header offset 0\n", 3),
+    ("decide --at", TWO_FILTERS, "KILL_THREAD 0 at 0:0\n", 0),
+    ("decide --at", 2 * TWO_FILTERS, "KILL_THREAD 0 at 2:0\n", 0),
+    ("decide --at", b"", "ALLOW 0\n", 0),
+    ("decide --at", b"table 0\n", "fault bundle Parts\n", 3),
+    ("decide --at", b"filter 0\n", "fault filter Empty\n", 1),
+    ("decide --path", b"", "ALLOW 0\n", 0),
+    ("decide --path", b"filter 0\n", "fault filter Empty\n", 1),
+)
+# Words that are refused before any input is read.
+REFUSED_WORDS = (
+    ("run --nr 4294967296", "nr"), ("run --a0 0x", "a0"), ("run --a5= --a1=-1", "a1"),
+    ("run --ip 18446744073709551616", "ip"), ("run --path --ip -", "ip"), ("decide --nr x", "nr"),
+    ("decide --at --nr x", "nr"), ("ask --a5 0x", "a5"),
 )
 # Stacks of filters as texts, oldest first, the options of a call, which instruction of which filter gives the answer
 # (of the filters whose action takes precedence the newest, seccomp(2)), and how each filter runs.
@@ -218,16 +176,143 @@ DECISIONS = (
     ((0x80000000, 0x00050001, 0x00000000), 0x80000000),
     ((0x7FFC0000, 0x7FFF0000, 0x00050001, 0x7FF00000, 0x00050002, 0x7FC00000, 0x7FFF0000), 0x00050002),
 )
+# An instruction of each of the 41 codes (code, jt, jf and k), and its line.
+CODES = (
+    (0x20, 0, 0, 60, "ld [60]"), (0x80, 0, 0, 0, "ld len"), (0x81, 0, 0, 0, "ldx len"), (0x00, 0, 0, 0, "ld #0x0"),
+    (0x01, 0, 0, 0xFFFFFFFF, "ldx #0xffffffff"), (0x60, 0, 0, 15, "ld M[15]"), (0x61, 0, 0, 0, "ldx M[0]"),
+    (0x02, 0, 0, 16, "st M[16]"), (0x03, 0, 0, 7, "stx M[7]"), (0x04, 0, 0, 10, "add #0xa"), (0x0C, 0, 0, 0, "add x"),
+    (0x14, 0, 0, 16, "sub #0x10"), (0x1C, 0, 0, 0, "sub x"), (0x24, 0, 0, 1, "mul #0x1"), (0x2C, 0, 0, 0, "mul x"),
+    (0x34, 0, 0, 0, "div #0x0"), (0x3C, 0, 0, 0, "div x"), (0x44, 0, 0, 0xABC, "or #0xabc"), (0x4C, 0, 0, 0, "or x"),
+    (0x54, 0, 0, 0x7E020000, "and #0x7e020000"), (0x5C, 0, 0, 0, "and x"), (0x64, 0, 0, 31, "lsh #0x1f"),
+    (0x6C, 0, 0, 0, "lsh x"), (0x74, 0, 0, 32, "rsh #0x20"), (0x7C, 0, 0, 0, "rsh x"),
+    (0xA4, 0, 0, 0x80000000, "xor #0x80000000"), (0xAC, 0, 0, 0, "xor x"), (0x84, 0, 0, 0, "neg"),
+    (0x05, 0, 0, 4294967295, "ja 4294967295"), (0x15, 1, 0, 0xC000003E, "jeq #0xc000003e, 1, 0"),
+    (0x1D, 0, 255, 0, "jeq x, 0, 255"), (0x25, 10, 9, 2, "jgt #0x2, 10, 9"), (0x2D, 1, 2, 0, "jgt x, 1, 2"),
+    (0x35, 0, 1, 0x40000000, "jge #0x40000000, 0, 1"), (0x3D, 3, 4, 0, "jge x, 3, 4"),
+    (0x45, 5, 6, 0xFF, "jset #0xff, 5, 6"), (0x4D, 7, 8, 0, "jset x, 7, 8"),
+    (0x06, 0, 0, 0x7FFF0000, "ret #0x7fff0000"), (0x16, 0, 0, 0, "ret a"), (0x07, 0, 0, 0, "tax"),
+    (0x87, 0, 0, 0, "txa"),
+)
+# A code that is not known, and fields that the code doesn't use.
+RAW = (
+    (0x94, 0, 0, 5, "raw 0x0094, 0, 0, 0x5"), (0xFFFF, 255, 255, 0xFFFFFFFF, "raw 0xffff, 255, 255, 0xffffffff"),
+    (0x87, 0, 0, 1, "raw 0x0087, 0, 0, 0x1"), (0x06, 1, 0, 0, "raw 0x0006, 1, 0, 0x0"),
+    (0x20, 0, 1, 4, "raw 0x0020, 0, 1, 0x4"), (0x1D, 1, 1, 1, "raw 0x001d, 1, 1, 0x1"),
+)
+# Texts, and what they spell: code, k, jt and jf.
+SPELLED = (
+    (b"", ()),
+    (b"ja end; end:", ((0x05, 0),)),
+    (b"ld [0] // number\njeq #39, yes, no\nno: ret #0x50001\nyes: ret #0x7fff0000\n",
+     ((0x20, 0), (0x15, 0x27, 1, 0), (0x06, 0x50001), (0x06, 0x7FFF0000))),
+    # Other spellings of registers, numbers and blanks, a comment with `;`, and a statement without instruction.
+    (b";;\tret A;jeq X , 0X1,00000000000000000000000000000000000000\r\n// x; y\nldx#0xaF//z",
+     ((0x16, 0), (0x1D, 0, 1, 0), (0x01, 0xAF))),
+    # Names of registers and mnemonics as labels, and two labels of one place.
+    (b"jset #1, len, ret; ret: ja a\na:\nlen: add x", ((0x45, 1, 1, 0), (0x05, 0), (0x0C, 0))),
+)
+# Texts that spell nothing, and their faults.
+FAULTS = (
+    ("bad\n// \u00e9", "NotAscii line 2"),
+    ("ret a\nmod #3\nld [0", "Mnemonic line 2"),
+    ("ret a; LD [0]", "Mnemonic line 1"),
+    ("ret a\r\nbad\r\n", "Mnemonic line 2"),
+    ("\na: b: ret a", "Mnemonic line 2"),
+    ("\n12: ret a", "Mnemonic line 2"),
+    ("ret a;; ret a\nld [0\nmod #3", "Operand line 2"),
+    ("ret a\rbad", "Operand line 1"),
+    ("ld #12ab; ld #4294967296", "Operand line 1"),
+    ("\nld #0x", "Operand line 2"),
+    ("ret a $", "Operand line 1"),
+    ("jeq #1, 1", "Operand line 1"),
+    ("raw 6, up, 0, 0; up:", "Operand line 1"),
+    ("ret a\nld #4294967296; bad", "NumberRange line 2"),
+    ("jeq #1, 256, lost", "NumberRange line 1"),
+    ("raw 0x10000, 0, 0, 0", "NumberRange line 1"),
+    ("\nld #1" + "0" * 60, "NumberRange line 2"),
+    ("p: ret a\np: ret a", "Label line 2"),
+    ("p: ret a\nq:\np: bad", "Label line 3"),
+    ("ret a\njeq #1, q, 0", "Label line 2"),
+    ("back: ret a\njeq #1, lost, back", "Label line 2"),
+    ("back: ret a\njeq #1, back, lost", "JumpTooFar line 2"),
+    ("ret a\nback: ja back\nja lost", "JumpTooFar line 2"),
+)
 
 
-class Filters(OnProgram):
-    def test_bytes(self):
-        for words, given, text, status in BYTES:
-            self.prints(words, given, text, status)
+class Runs(OnProgram):
+    def answers(self, filter_, answer, steps):
+        """That a filter answers the call so, in so many steps."""
+        self.prints(["run", *CALL], filter_, f"{StandIn().printed(answer)} steps {steps}\n")
+
+    def test_computations(self):
+        for a, x, code, k, after in COMPUTATIONS:
+            self.answers(insn(0x00, a) + insn(0x01, x) + insn(code, k) + insn(0x16, 0), after, 4)
+
+    def test_the_index_register(self):
+        for code, k, after in REGISTERS:
+            self.answers(insn(0x00, 9) + insn(code, k) + insn(0x87, 0) + insn(0x16, 0), after, 4)
+
+    def test_tests(self):
+        for a, x, code, k, holds in TESTS:
+            filter_ = insn(0x00, a) + insn(0x01, x) + insn(code, k, 1, 0) + insn(0x06, 0) + insn(0x06, 1)
+            self.answers(filter_, int(holds), 4)
 
     def test_texts(self):
-        for words, spelled, text, status in RUNS + CHECKS:
-            self.prints(words, assembled(spelled), text, status)
+        for text, answer, steps in RUNS:
+            self.answers(assembled(text), answer, steps)
+
+
+class Checks(OnProgram):
+    def test_first_instructions(self):
+        for code, jt, jf, k, fault in REFUSED_FIRST:
+            self.prints(["check"], insn(code, k, jt, jf) + insn(0x16, 0), f"fault filter {fault}\n", 1)
+
+    def test_texts(self):
+        for text, fault in REFUSED:
+            self.prints(["check"], assembled(text), f"fault filter {fault}\n", 1)
+        for text, _, _ in RUNS:
+            self.prints(["check"], assembled(text), f"accepted {len(assembled(text)) // 8}\n")
+
+
+class Paths(OnProgram):
+    def takes(self, filter_, words, answer, path):
+        """That a run answers so at the end of this path, also where the path isn't asked for."""
+        first = f"{answer} steps {len(path.split())}\n"
+        self.prints(["run", "--path", *words], filter_, f"{first}path {path}\n")
+        self.prints(["run", *words], filter_, first)
+
+    def test_behind_a_gate(self):
+        for arch, number, answer, path in GATED:
+            words = ["--arch", hex(arch), "--nr", str(number)]
+            self.takes(assembled(ALL_BUT_WRITE[1]), words, answer, path)
+
+    def test_jumps_and_ends(self):
+        for text, options, answer, path in PATHS:
+            self.takes(assembled(text), options.split(), StandIn().printed(answer), path)
+
+    def test_the_longest_filter(self):
+        """Loads and jumps to the next place by turns: each place."""
+        filter_ = (insn(0x00, 9) + insn(0x05, 0)) * 2047 + insn(0x00, 9) + insn(0x06, 0x7FFF0000)
+        self.takes(filter_, [], MADE, " ".join(map(str, range(4096))))
+
+    def test_over_each_second_place(self):
+        """Tests jump over one place each; from 4094 on each place is come to."""
+        filter_ = (insn(0x15, 0, 1, 1) + insn(0x06, 0)) * 2047 + insn(0x00, 9) + insn(0x06, 0x00050001)
+        self.takes(filter_, [], FAILS, " ".join(map(str, [*range(0, 4095, 2), 4095])))
+
+    def test_stacks(self):
+        for filters, options, first, runs in STACKS:
+            given = bundle([a_filter(spelled) for spelled in filters])
+            self.prints(["decide", *options.split(), "--at"], given, first + "\n")
+            for words in (["--path"], ["--path", "--at"]):
+                self.prints(["decide", *options.split(), *words], given, "\n".join([first, *runs]) + "\n")
+            # without a flag the answer stands alone
+            self.prints(["decide", *options.split()], given, first.split(" at ")[0] + "\n")
+
+    def test_decisions(self):
+        for answers, decides in DECISIONS:
+            given = bundle([a_filter(f"ret #{answer}") for answer in answers])
+            self.prints(["decide"], given, f"{StandIn().printed(decides)}\n")
 
 
 class Options(OnProgram):
@@ -258,76 +343,13 @@ class Options(OnProgram):
                     self.refuses([command, option, value], f"fault number {option[2:]}\n")
 
 
-class Paths(OnProgram):
-    def test_paths(self):
-        for spelled, options, text in PATHS:
-            self.prints(["run", "--path", *options.split()], assembled(spelled), text)
-            # without the flag the first line stands alone
-            self.prints(["run", *options.split()], assembled(spelled), text.split("\n")[0] + "\n")
+class Printed(OnProgram):
+    def test_each(self):
+        self.print_each(ROWS)
 
-    def test_longest_path(self):
-        """The longest filter, whose places all stand on the way."""
-        places = " ".join(str(place) for place in range(4096))
-        self.prints(["run", "--path"], long_filter(4095), f"ALLOW 0 steps 4096\npath {places}\n")
-
-    def test_refused_paths(self):
-        """What is refused is refused with the flag, too."""
-        self.prints(["run", "--path"], assembled("ld [0]"), "fault filter LastNotReturn\n", 1)
-        self.prints(["run", "--path"], b"cut", "fault filter Truncated offset 0\n", 3)
-        self.prints(["run", "--path", "--ip", "-"], b"", "fault number ip\n", 2)
-
-    def test_stacks(self):
-        for filters, options, first, runs in STACKS:
-            given = bundle([a_filter(spelled) for spelled in filters])
-            self.prints(["decide", *options.split(), "--at"], given, first + "\n")
-            for words in (["--path"], ["--path", "--at"]):
-                self.prints(["decide", *options.split(), *words], given, "\n".join([first, *runs]) + "\n")
-            # without a flag the answer stands alone
-            self.prints(["decide", *options.split()], given, first.split(" at ")[0] + "\n")
-
-    def test_decisions(self):
-        for answers, decides in DECISIONS:
-            given = bundle([a_filter(f"ret #{answer}") for answer in answers])
-            self.prints(["decide"], given, f"{printed(decides)}\n")
-
-
-class Questions(OnProgram):
-    def test_reasons(self):
-        for parts in ([ENTRIES, TABLE], [TABLE, ENTRIES]):
-            for options, text in REASONS:
-                self.prints(["ask", *options.split()], bundle(parts), text)
-
-    def test_refused(self):
-        for parts, text, status in REFUSED_QUESTIONS:
-            self.prints(["ask"], bundle(parts), text, status)
-        self.prints(["ask"], b"profile 9\nshort", "fault bundle Short offset 0\n", 3)
-        self.prints(["ask", "--a5", "0x"], b"", "fault number a5\n", 2)
-
-    def test_compiled_profiles(self):
-        """Worked profiles, compiled and then asked about calls."""
-        for profile, table, calls in WORKED:
-            compiled, status = ran(["compile"], bundle([profile, table]))
-            self.assertEqual(status, 0, profile)
-            for options, text in calls:
-                self.prints(["decide", *options.split()], part("filter", compiled), text)
-
-
-class Texts(OnProgram):
-    def test_texts(self):
-        for words, given, text, status in TEXTS:
-            self.prints(words, given, text, status)
-
-    def test_back_and_forth(self):
-        """A text gives its filter, and the filter's listing gives the filter back."""
-        self.prints(["asm"], LABELLED.encode(), SPELLED)
-        listing, _ = ran(["dis"], SPELLED)
-        self.prints(["asm"], listing, SPELLED)
-
-
-class Bundles(OnProgram):
-    def test_bundles(self):
-        for words, given, text, status in BUNDLES:
-            self.prints(words, given, text, status)
+    def test_refused_words(self):
+        for words, name in REFUSED_WORDS:
+            self.refuses(words.split(), f"fault number {name}\n")
 
     def test_cut_bundles(self):
         """A bundle that is cut is refused where the cut falls, or is the bundle of the parts before it."""
@@ -339,3 +361,53 @@ class Bundles(OnProgram):
                 kind = "Header" if behind < 9 else "Short"
                 text, status = f"fault bundle {kind} offset {start}\n", 3
             self.prints(["decide"], TWO_FILTERS[:count], text, status)
+
+
+def numbers():
+    """A fixed row of numbers of 32 bits, without an end."""
+    state = 20
+    while True:
+        state = (state * 6364136223846793005 + 1442695040888963407) % 2**64
+        yield state >> 32
+
+
+def any_insn(row):
+    """An instruction of that row: mostly of a known code, and often with fields of 0."""
+    choice = next(row)
+    code = CODES[choice % 64][0] if choice % 64 < len(CODES) else choice >> 16
+    chance, jt, jf, _ = next(row).to_bytes(4, "little")
+    jt, jf = (jt, jf) if chance % 4 == 0 else (0, 0)
+    k = next(row) if next(row) % 2 == 0 else 0
+    return struct.pack("<HBBI", code, jt, jf, k)
+
+
+class Texts(OnProgram):
+    def test_lines_of_instructions(self):
+        self.assertEqual(len({row[0] for row in CODES}), 41)
+        for code, jt, jf, k, line in CODES + RAW:
+            self.prints(["dis"], insn(code, k, jt, jf), f"{line}\n")
+            self.prints(["asm"], f"{line}\n".encode(), insn(code, k, jt, jf))
+
+    def test_texts_that_spell(self):
+        for text, program in SPELLED:
+            self.prints(["asm"], text, b"".join(insn(*each) for each in program))
+
+    def test_faults(self):
+        for text, fault in FAULTS:
+            self.prints(["asm"], text.encode(), f"fault text {fault}\n", 1)
+
+    def test_limits(self):
+        """A label that a jump just reaches, and one place more; the most instructions, and one more."""
+        jump, load, last = b"jeq #1, far, 0\n", b"ld #0\n", b"far: ret a"
+        reached = insn(0x15, 1, 255, 0) + insn(0x00, 0) * 255 + insn(0x16, 0)
+        self.prints(["asm"], jump + load * 255 + last, reached)
+        self.prints(["asm"], jump + load * 256 + last, "fault text JumpTooFar line 1\n", 1)
+        self.prints(["asm"], b"ret a\n" * 4096 + b"end:", insn(0x16, 0) * 4096)
+        self.prints(["asm"], b"ret a\n" * 4097 + b"end:", "fault text TooLong line 4097\n", 1)
+
+    def test_a_listing_of_4096_instructions_is_read_back(self):
+        row = numbers()
+        program = b"".join(any_insn(row) for _ in range(4096))
+        listing, status = ran(["dis"], program)
+        self.assertEqual((listing.count(b"\n"), status), (4096, 0))
+        self.prints(["asm"], listing, program)

@@ -1,122 +1,15 @@
-"""Two stacks of filters beside each other, by scf and by its tools: verdicts on drawn stacks held against another
-machine's answers, the lines that explain a difference, and a process beside filters that were saved."""
-import itertools
+"""Two stacks of filters beside each other, by the tools: the lines that explain a difference, and a process beside
+filters that were saved. The verdicts on drawn stacks are test_comparisons'."""
 import json
 import os
-import random
 
-from support.common import (ALLOW, ENOSYS, EPERM, KILL_PROCESS, LOG, PROGRAM, TRACE, USER_NOTIF, X32, X86_64, Case,
-                            filter_of, insn, jeq, jge, load, part, profile_of, ret)
+from support.common import (ALLOW, ENOSYS, EPERM, KILL_PROCESS, LOG, X32, X86_64, Case, filter_of, insn, jeq, jge, load,
+                            profile_of, ret)
 from support.confined import NEWEST, OLDEST, Confined, here
-from support.stand_in import StandIn, unpacked
-from scftools.model import calls
 
-MACHINE = StandIn()
 READ, WRITE, SOCKET, CLONE = 0, 1, 41, 56
-NUMBERS, ARCHITECTURES = (0, 1, 2, 41, 42, 43, X32 - 1, X32, 0xFFFFFFFF), (X86_64, 0x40000003, 0)
-ARGUMENTS = (0, 1, 2, 3, 6, 40, 41, 42, 1 << 32, (1 << 32) + 41, (1 << 64) - 1)
-CORNERS = [calls.Call(number, architecture, 0, (first, second, 0, 0, 0, 0)) for architecture, number, first, second
-           in itertools.product(ARCHITECTURES, NUMBERS, ARGUMENTS, (0, 41))]
-# The options of each relation, what is printed if it holds and if not, and whether it does of two answers.
-RELATIONS = {
-    "": ("same", "differs", lambda first, second: first == second),
-    "--no-more": ("no more", "more", lambda first, second: degree(first) <= degree(second)),
-    "--no-less": ("no less", "less", lambda first, second: degree(first) >= degree(second)),
-    "--disposition": ("same disposition", "differs", lambda first, second: degree(first) == degree(second)),
-}
-# Sets of syscalls, by options.
-SCOPES = {
-    "": lambda call: True, "--native": lambda call: call.is_native,
-    "--nr-from=2": lambda call: call.is_native and call.number >= 2,
-    "--nr-to=41": lambda call: call.is_native and call.number <= 41,
-    "--nr-from=41 --nr-to=42": lambda call: call.is_native and 41 <= call.number <= 42,
-}
-
-
-def degree(answer):
-    """How permissive an answer is, by __seccomp_filter of kernel/seccomp.c: 0 denied, 1 delegated, 2 allowed."""
-    return {USER_NOTIF: 1, TRACE: 1, LOG: 2, ALLOW: 2}.get(answer & 0xFFFF0000, 0)
-
-
-def decided(filters, call):
-    """The answer of a stack; of an empty one ALLOW, as in the kernel."""
-    return MACHINE.decision(filters, call) if filters else ALLOW
-
-
-def drawn(dice):
-    """A filter of loads, tests and computations, which ends in returns."""
-    made, count = [], dice.randrange(1, 9)
-    while len(made) < count:
-        near = [dice.randrange(3), dice.randrange(3)]
-        value = dice.choice((0, 1, 2, 41, 42, X86_64, X32))
-        made.append(dice.choice((
-            load(dice.choice((0, 0, 4, 16, 20, 24))), jeq(value, *near), jge(value, *near), insn(0x25, value, *near),
-            insn(0x45, dice.choice((1, 2, 6)), *near), insn(0x54, dice.choice((2, 6, 0xFF))),
-            # what only splits decide: products of the accumulator with itself, and sums of it with an argument
-            dice.choice((insn(0x54, 0xFF), insn(0x07, 0) + insn(0x2C, 0))), insn(0x07, 0) + load(24) + insn(0x0C, 0))))
-    ends = [dice.choice((ALLOW, ALLOW, EPERM, EPERM, ENOSYS, LOG, TRACE, KILL_PROCESS)) for _ in range(4)]
-    return b"".join(made) + b"".join(map(ret, ends))
-
-
-def mutated(dice, data):
-    """A filter with one instruction's operand or branches changed, if that is accepted."""
-    at = dice.randrange(len(data) // 8) * 8
-    code, k = int.from_bytes(data[at:at + 2], "little"), int.from_bytes(data[at + 4:at + 8], "little")
-    new = {6: dice.choice((ALLOW, EPERM, ENOSYS, LOG)), 0x20: k}.get(code, dice.choice((k, k ^ 1, 41, 42)))
-    first, second = data[at + 2], data[at + 3]
-    return data[:at] + insn(code, new, *dice.choice(((first, second), (second, first)))) + data[at + 8:]
-
-
-class Drawn(Case):
-    """A thousand pairs of stacks, each over a set of syscalls and by a relation."""
-
-    COUNT = 1000
-
-    def judge(self, left, right, scope, relation):
-        """scf's verdicts without splits, and with those of the default, once the other machine agrees with both."""
-        related = RELATIONS[relation][2]
-        at_corners = [all(related(*(decided(side, call) for side in (left, right)))
-                          for call in CORNERS if SCOPES[scope](call))]
-        without, status = (self.verdict(left, right, scope, relation, at_corners, words) for words in (
-            ["--splits", "0"], []))
-        # no verdict changes, but that an undecided pair may be decided
-        self.assertIn(without, ("undecided", status))
-        return without, status
-
-    def verdict(self, left, right, scope, relation, at_corners, words):
-        """The word of a verdict that agrees with the other machine."""
-        holds, fails, related = RELATIONS[relation]
-        data = b"".join([*(part("filter", data) for data in left), *(part("beside", data) for data in right)])
-        status, out, err = self.run_words([PROGRAM, "compare", "--beside", *f"{scope} {relation}".split(), *words], data)
-        lines, both = out.split("\n"), [left, right]
-        self.assertEqual(err, "")
-        if status == 0:
-            self.assertEqual((lines, at_corners), ([holds, ""], [True]))
-        elif status == 1:
-            call = calls.Call.read(lines[1])
-            self.assertTrue(SCOPES[scope](call), lines)
-            shown = [decided(side, call) for side in both]
-            printed = [MACHINE.printed(word) for word in shown]
-            self.assertEqual(lines[2:4], [f"filter {printed[0]}", f"beside {printed[1]}"])
-            self.assertEqual((lines[0], related(*shown)), (fails, False))
-        else:
-            self.assertEqual(status, 4)
-            self.assertRegex(lines[0], r"\Aundecided at [0-9]+\Z")
-        return lines[0].split(" at ")[0]
-
-    def test_each(self):
-        dice, status = random.Random(54), []
-        while len(status) < self.COUNT:
-            actual = [drawn(dice) for _ in range(dice.choice((0, 1, 1, 2)))]
-            right = [mutated(dice, data) for data in actual] if dice.randrange(2) else [drawn(dice)]
-            if not actual + right or any(MACHINE.fault(unpacked(data)) for data in actual + right):
-                continue
-            status.append(self.judge(actual, right, dice.choice(list(SCOPES)), dice.choice(list(RELATIONS))))
-        without, by_splits = zip(*status)
-        for word in ("same", "differs", "no more", "more", "no less", "less", "same disposition", "undecided"):
-            self.assertGreater(without.count(word), 5, word)
-        # those of the default decide most of these
-        self.assertLess(2 * by_splits.count("undecided"), without.count("undecided"))
+# The options of each relation, and what is printed if it holds.
+RELATIONS = {"": "same", "--no-more": "no more", "--no-less": "no less", "--disposition": "same disposition"}
 
 
 def clone_of(flags, answer=EPERM, otherwise=ALLOW):
@@ -127,14 +20,6 @@ def clone_of(flags, answer=EPERM, otherwise=ALLOW):
 
 class Tools(Case):
     """compare --beside and diff."""
-
-    def test_no_input_is_not_two_empty_stacks(self):
-        """So a pipe from a tool that failed says nothing. One side may have no filter, which allows every call."""
-        for words in (["compare", "--beside"], ["compare", "--beside", "--native"],
-                      ["answers", "--differences", "--beside"]):
-            self.assertEqual(self.run_words([PROGRAM, *words], b""), (3, "fault bundle Parts\n", ""), words)
-            for kind in ("filter", "beside"):
-                self.assertEqual(self.run_words([PROGRAM, *words], part(kind, ret(ALLOW)))[0], 0, words)
 
     def test_equal_stacks_are_the_same_without_a_step(self):
         """Whatever the filters are, and each relation holds; what isn't a filter is still refused."""
@@ -205,17 +90,11 @@ class Tools(Case):
                 self.assertEqual(self.said("compare-profiles", word, profiles[first], profiles[second])[0],
                                  self.said("diff", word, first, second)[0])
 
-    def test_stacks(self):
-        first, second, both = (self.file(f"{at}.bpf", filter_of(item)) for at, item in
-                               enumerate(([READ, WRITE], [READ, SOCKET], [READ])))
-        self.assertEqual(self.said("compare", first, second, "--beside", both), (0, ["same"]))
-        self.assertEqual(self.said("compare", both, "--beside", second, first), (0, ["same"]))
-
     def test_filters_beside_themselves(self):
         """Splits don't decide whether two free words are equal, but a stack answers as itself."""
         equal = load(16) + insn(0x07, 0) + load(24) + insn(0x1D, 0, 0, 1) + ret(ALLOW) + ret(EPERM)
         paths = [self.file(f"{at}.bpf", item) for at, item in enumerate((equal, filter_of([READ, WRITE]), equal))]
-        for option, (holds, _, _) in RELATIONS.items():
+        for option, holds in RELATIONS.items():
             self.assertEqual(self.said("diff", *option.split(), "--splits=0", paths[0], paths[2]), (0, [holds]))
         self.assertEqual(self.said("compare", *paths[:2], "--beside", paths[2], paths[1]), (0, ["same"]))
 

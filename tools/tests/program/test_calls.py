@@ -1,6 +1,5 @@
 """`compare --calls`: each call that a table names, compared by itself."""
 import itertools
-import re
 
 from support.common import TABLE, X32, X86_64, part, taken
 from support.on_parts import (ALL, ALLOW, NATIVE, NO_TABLE, ONE_CALL, READ_WRITE_TABLE, OnProgram, a_filter, a_profile,
@@ -39,26 +38,26 @@ MIXED = a_filter("""ld [0]; jeq #1, slow, 0; jeq #2, even, 0; jeq #3, other, 0
     tax; tax; tax; tax; tax; tax; tax; tax; tax; tax; tax; tax; tax; tax; tax; tax
     tax; tax; tax; tax; tax; tax; tax; tax; tax; tax; tax; tax; tax; tax; tax; tax
     allow: ret #0x7fff0000""")
-# Options and parts, what is printed without the arguments of the calls, and the status.
+# Options and parts, what is printed, and the status.
 ROWS = (
     ("", [OWN, ERRNOS, THREE], "same\n", 0),
-    ("", [OTHER_CLOSE, ERRNOS, THREE], "differs\n3 close differs args filter ERRNO 4 profile ERRNO 3\n", 1),
+    ("", [OTHER_CLOSE, ERRNOS, THREE], "differs\n3 close differs args 0x.. filter ERRNO 4 profile ERRNO 3\n", 1),
     ("", [THREE, ERRNOS, OTHER_ENDS],
      "differs\n"
-     "0 read differs args filter ERRNO 9 profile ERRNO 1\n"
-     "3 close differs args filter KILL_THREAD 0 profile ERRNO 3\n", 1),
+     "0 read differs args 0x.. filter ERRNO 9 profile ERRNO 1\n"
+     "3 close differs args 0x.. filter KILL_THREAD 0 profile ERRNO 3\n", 1),
     ("", [ALLOW, ERRNOS, THREE],
      "differs\n"
-     "0 read differs args filter ALLOW 0 profile ERRNO 1\n"
-     "1 write differs args filter ALLOW 0 profile ERRNO 2\n"
-     "3 close differs args filter ALLOW 0 profile ERRNO 3\n", 1),
+     "0 read differs args 0x.. filter ALLOW 0 profile ERRNO 1\n"
+     "1 write differs args 0x.. filter ALLOW 0 profile ERRNO 2\n"
+     "3 close differs args 0x.. filter ALLOW 0 profile ERRNO 3\n", 1),
     # Names of one number, in both orders, and in that of their bytes.
     ("", [WITHOUT_231, ALL, a_table("read 0\nleave 231\nleave_too 231\n")],
-     "differs\n231 leave,leave_too differs args filter ERRNO 1 profile ALLOW 0\n", 1),
+     "differs\n231 leave,leave_too differs args 0x.. filter ERRNO 1 profile ALLOW 0\n", 1),
     ("", [WITHOUT_231, ALL, a_table("leave_too 231\nleave 231\nread 0\n")],
-     "differs\n231 leave,leave_too differs args filter ERRNO 1 profile ALLOW 0\n", 1),
+     "differs\n231 leave,leave_too differs args 0x.. filter ERRNO 1 profile ALLOW 0\n", 1),
     ("", [WITHOUT_231, ALL, a_table("exit 231\n_exit 231\nEXIT 231")],
-     "differs\n231 EXIT,_exit,exit differs args filter ERRNO 1 profile ALLOW 0\n", 1),
+     "differs\n231 EXIT,_exit,exit differs args 0x.. filter ERRNO 1 profile ALLOW 0\n", 1),
     # Numbers by their order, and not by that of their digits or lines.
     ("--limit 0", [OWN, ALL, a_table("d 100\nc 10\nb 9\na 0")],
      "unfinished\n0 a unfinished\n9 b unfinished\n10 c unfinished\n100 d unfinished\n", 4),
@@ -70,13 +69,13 @@ ROWS = (
                 "SCMP_ARCH_X32"],"syscalls":[{"names":["gone","write"],"action":"SCMP_ACT_ALLOW"}]}'''),
       a_table(READ_WRITE_TABLE)],
      "differs\n"
-     "0 read differs args filter ALLOW 0 profile ERRNO 1\n"
+     "0 read differs args 0x.. filter ALLOW 0 profile ERRNO 1\n"
      "skipped gone\n"
      "other SCMP_ARCH_X86\n"
      "other SCMP_ARCH_X32\n", 1),
     # A stack: the strictest of its answers counts, and that of the newest filter among equal actions.
     ("", [ALLOW, OWN, ALLOW, ERRNOS, THREE], "same\n", 0),
-    ("", [OWN, OTHER_CLOSE, ERRNOS, THREE], "differs\n3 close differs args filter ERRNO 4 profile ERRNO 3\n", 1),
+    ("", [OWN, OTHER_CLOSE, ERRNOS, THREE], "differs\n3 close differs args 0x.. filter ERRNO 4 profile ERRNO 3\n", 1),
     ("", [OTHER_CLOSE, OWN, ERRNOS, THREE], "same\n", 0),
     # The verdict that speaks for all: a difference goes first, and then the least number.
     ("--limit 64", [MIXED, ALL, a_table("a 0\nd 4")], "same\n", 0),
@@ -86,28 +85,27 @@ ROWS = (
      "undecided at 12\n6 b undecided at 12\n7 a unfinished\n", 4),
     ("--splits=0", [MIXED, ALL, a_table("b 6\na 7")], "undecided at 12\n6 b undecided at 12\n", 4),
     ("--limit 64 --splits 0", [MIXED, ALL, a_table("a 1\nb 2\nc 3")],
-     "differs\n1 a unfinished\n2 b undecided at 12\n3 c differs args filter ERRNO 1 profile ALLOW 0\n", 1),
+     "differs\n1 a unfinished\n2 b undecided at 12\n3 c differs args 0x.. filter ERRNO 1 profile ALLOW 0\n", 1),
     ("--splits 0 --limit 64", [MIXED, ALL, a_table("c 5\nb 6\na 7")],
-     "differs\n5 c differs args filter ERRNO 1 profile ALLOW 0\n6 b undecided at 12\n7 a unfinished\n", 1),
+     "differs\n5 c differs args 0x.. filter ERRNO 1 profile ALLOW 0\n6 b undecided at 12\n7 a unfinished\n", 1),
     # With splits: each call has as many, and one that is undecided without them is decided.
     ("--limit=64", [MIXED, ALL, a_table("b 2\na 1\nd 4")], "unfinished\n1 a unfinished\n", 4),
     ("--limit 64", [MIXED, ALL, a_table("n 0\nb 6\na 7")], "unfinished\n7 a unfinished\n", 4),
     ("--splits 1", [MIXED, ALL, a_table("b 2\nc 6\na 7")], "same\n", 0),
     ("", [MIXED, ALL, a_table("b 6\na 7")], "same\n", 0),
     ("--limit 64", [MIXED, ALL, a_table("a 1\nb 2\nc 3")],
-     "differs\n1 a unfinished\n3 c differs args filter ERRNO 1 profile ALLOW 0\n", 1),
+     "differs\n1 a unfinished\n3 c differs args 0x.. filter ERRNO 1 profile ALLOW 0\n", 1),
     ("--limit 64", [MIXED, ALL, a_table("c 5\nb 6\na 7")],
-     "differs\n5 c differs args filter ERRNO 1 profile ALLOW 0\n7 a unfinished\n", 1),
+     "differs\n5 c differs args 0x.. filter ERRNO 1 profile ALLOW 0\n7 a unfinished\n", 1),
     # Each call has the whole limit, which is the effort of the stack.
     ("--limit 56",
      [NATIVE, ALL, a_table("a 0\nb 1\nc 2\nd 3\ne 4\nf 5\ng 6\nh 7\ni 8\nj 9\nk 10\nl 11\nm 12\nn 13\no 14\np 15")],
      "same\n", 0),
-)
-# Differences that one record of a call shows, so that all that is printed is known.
-RECORDS = (
-    ([ONE_RECORD, ALL, a_table("socket 41\nread 0")],
+    # What one record alone shows.
+    ("", [ONE_RECORD, ALL, a_table("socket 41\nread 0")],
      "differs\n"
-     "41 socket differs args 0x2 0x80000 0x0 0xffffffffffffffff 0xabc 0x100000010 filter ERRNO 38 profile ALLOW 0\n"),
+     "41 socket differs args 0x2 0x80000 0x0 0xffffffffffffffff 0xabc 0x100000010 filter ERRNO 38 profile ALLOW 0\n",
+     1),
 )
 # Answers ERRNO 38 to each number above the newest that is known.
 STUB = a_filter("ld [4]; jeq #0xc000003e, 0, 3; ld [0]; jge #451, 0, 1; ret #0x50026; ret #0x7fff0000")
@@ -128,31 +126,9 @@ REFUSED = (
 # Tables that name no call; and parts of which none is looked at where the table is one of these.
 WITHOUT_CALLS = tuple(map(a_table, ("", "\n", "# read 0\n", " \t\n\n  # read 0")))
 UNREAD = ([ALLOW, ALL], [a_filter(""), ALL], [ALLOW, a_profile("{}")], [a_filter(""), a_profile("")])
-# Words that are refused, and what is printed of them.
-WRONG = (
-    (["--calls", "--native"], "fault command Flags\n"),
-    (["--native", "--calls"], "fault command Flags\n"),
-    (["--native", "--limit", "5", "--calls"], "fault command Flags\n"),
-    (["--calls", "--native", "--limit", "x"], "fault number limit\n"),
-    (["--calls", "--limit", ""], "fault number limit\n"),
-    (["--calls", "--total-limit=-0"], "fault number total-limit\n"),
-    (["--total-limit", "18446744073709551616"], "fault number total-limit\n"),
-    (["--splits", "18446744073709551616"], "fault number splits\n"),
-    (["--splits", "2^64-1", "--nr-from", "x"], "fault number splits\n"),
-    (["--splits", "", "--total-limit", "y"], "fault number total-limit\n"),
-    (["--total-limit", "x", "--limit", "y"], "fault number limit\n"),
-    (["--calls", "--native", "--total-limit", ""], "fault number total-limit\n"),
-)
-
-
 # 48 bits of arguments are tested one after another: 2^48 ways lead to the one answer.
 SLOW = a_filter("".join(f"ld [{16 + at // 32 * 4}]; jset #{1 << at % 32:#x}, 0, 1; tax; " for at in range(48))
                 + "ret #0x7fff0000")
-
-
-def without_arguments(printed):
-    """What was printed, without the six arguments of the calls."""
-    return re.sub(r" args(?: 0x[0-9a-f]+){6} filter ", " args filter ", printed)
 
 
 class Calls(OnProgram):
@@ -160,14 +136,7 @@ class Calls(OnProgram):
         return ran(["compare", "--calls", *options.split()], given)
 
     def test_each_call_by_itself(self):
-        for options, parts, text, status in ROWS:
-            with self.subTest(options=options, parts=parts):
-                out, ended = self.compared(options, bundle(parts))
-                self.assertEqual((without_arguments(out.decode()), ended), (text, status))
-
-    def test_one_record(self):
-        for parts, text in RECORDS:
-            self.prints(["compare", "--calls"], bundle(parts), text, 1)
+        self.print_each(ROWS, "compare", "--calls")
 
     def test_a_stub_differs_only_on_calls_that_the_table_lacks(self):
         output, status = ran(["compile"], bundle([READ, KNOWN]))
@@ -234,7 +203,3 @@ class Calls(OnProgram):
         self.assertGreater(len(lines), 300)
         self.assertTrue(all(line.endswith(" unfinished") for line in lines[1:]))
         self.assertLess(taken() - before, MOST_SECONDS)
-
-    def test_wrong_words(self):
-        for words, text in WRONG:
-            self.refuses(["compare", *words], text)

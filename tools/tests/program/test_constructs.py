@@ -1,22 +1,19 @@
 """What a filter may do with a word before it tests it: the pairs of support/constructs.py."""
 import random
-import unittest
 
 from support import constructs
-from support.common import ALLOW, CORE, EPERM, Case, insn, load, part, ret
+from support.common import ALLOW, EPERM, insn, load, ret
 from support.constructs import (
     ADD, AND, JEQ, JGE, LD_K, LD_M, LSH, MUL, NEG, ST, SUB, TAX, WORD, X, FilterPair, ProfilePair)
+from support.judged import Judged, Pair, Stack
+from support.on_parts import OnProgram
 
 # Of each kind of pair: its constructs, how many pairs of each are drawn, the seed, and the construct of a plain test.
-KINDS = {ProfilePair: (constructs.CONSTRUCTS, 16, 30, constructs.by_mask),
+KINDS = {ProfilePair: (constructs.CONSTRUCTS, 16, 30, constructs.CONSTRUCTS["mask"]),
          FilterPair: (constructs.REWRITES, 12, 60, constructs.mask_split)}
 
 
-class Constructs(unittest.TestCase):
-    @classmethod
-    def setUpClass(cls):
-        constructs.build_program()
-
+class Constructs(OnProgram):
     def test_all_are_decided(self):
         """No pair is left undecided, no verdict is wrong, and none takes more than a second or 64 megabytes."""
         for kind, (makers, pairs, seed, _) in KINDS.items():
@@ -51,12 +48,11 @@ class Constructs(unittest.TestCase):
             self.assertGreater(differing, 0)
 
 
-class OneWord(Case):
+class OneWord(Judged):
     """Filters of one word, which differ for some of its values, or for none."""
 
     def verdict(self, first, second, *more):
-        out = self.run_words([*CORE, "compare", "--beside", *more], part("filter", first) + part("beside", second))[1]
-        return out.split("\n", maxsplit=1)[0]
+        return self.judge(Pair(Stack([first]), Stack([second], "beside"), ()), "", "", "--beside", *more)
 
     def test_terms_that_are_equal(self):
         """Each pair computes the same number of a word, or the same bits under a mask. Those of the first list need no

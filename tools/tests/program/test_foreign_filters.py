@@ -1,22 +1,17 @@
-"""Filters that libseccomp makes for other machines' architectures: compared with their profile, and asked beside what
-scf compiles and what the profile says."""
+"""Filters that libseccomp makes for other machines' architectures, and those of scf, compared with their profile."""
 import json
-import subprocess
 
 from support import seccomp_library
-from support.common import CORE, Case, part
+from support.common import Case, part
 from support.oci import condition
+from support.on_parts import ran
 from support.seccomp_library import NEEDED, Library
 from scftools.model import architectures
 
 NATIVE = "SCMP_ARCH_X86_64"
 # (libseccomp 2.5.4 knows no loongarch64)
 NAMES = [name for name in seccomp_library.TOKENS if name not in (NATIVE, "SCMP_ARCH_X86", "SCMP_ARCH_X32")]
-HIGH, CLONE_NEWUSER = 1 << 32, 0x10000000
-# Syscalls and arguments on both sides of each condition; the upper half counts where arguments have 64 bits.
-CALLS = ("read", "socket", "personality 8", "personality 9", f"personality {HIGH + 8}", "clone 17",
-         f"clone {CLONE_NEWUSER}", f"clone {HIGH}", "ioctl 0 21522", "ioctl 0 21521", f"ioctl 0 {HIGH + 21522}",
-         "lseek 0 0 7", "lseek 0 0 8", f"lseek 0 0 {HIGH}", "exit_group", "prctl 1", "4095", "0xffffffff")
+CLONE_NEWUSER = 0x10000000
 
 
 def profile_for(name):
@@ -41,14 +36,11 @@ class Filters(Case):
 
     def compiled(self, name):
         """What scf itself makes of the profile."""
-        tables = [architectures.JUDGED[each] for each in (NATIVE, name)]
         parts = [part("profile", json.dumps(profile_for(name)).encode())]
-        for architecture in tables:
+        for architecture in (architectures.JUDGED[each] for each in (NATIVE, name)):
             with open(architecture.file, "rb") as file:
                 parts.append(part(architecture.kind, file.read()))
-        done = subprocess.run([*CORE, "compile", "--architectures"], input=b"".join(parts), stdout=subprocess.PIPE,
-                              check=True)
-        return self.file(f"{name}.compiled.bpf", done.stdout)
+        return self.file(f"{name}.compiled.bpf", ran(["compile", "--architectures"], b"".join(parts))[0])
 
     @NEEDED
     def test_they_answer_as_the_profile_says(self):
@@ -66,22 +58,6 @@ class Filters(Case):
             status, out, _ = self.run_tool("compare", "--json", made, profile)
             self.assertEqual((status, [(call.get("architecture"), call["names"]) for call in json.loads(out)["calls"]]),
                              (1, [(None, ["getpid"]), (architecture.name, ["getpid"])]))
-
-    @NEEDED
-    def test_each_call(self):
-        """What ask says is what the filters of libseccomp and of scf answer."""
-        calls = self.file("calls", "".join(f"{call}\n" for call in CALLS))
-        for architecture, profile, made in self.each():
-            words = ("--json", f"--arch={architecture.name}", "--calls-from", calls)
-            answers = [[call["answer"] for call in json.loads(self.run_tool(*command)[1])["calls"]]
-                       for command in (("ask", *words, profile), ("decide", *words, made),
-                                       ("decide", *words, self.compiled(architecture.oci)))]
-            self.assertEqual(answers[0], answers[1], architecture.name)
-            self.assertEqual(answers[0], answers[2], architecture.name)
-            self.assertGreater(len({json.dumps(answer) for answer in answers[0]}), 3)
-            # the upper half of an argument counts where it has 64 bits
-            of_call = dict(zip(CALLS, answers[0]))
-            self.assertEqual(of_call["personality 8"] == of_call[f"personality {HIGH + 8}"], architecture.bits == 32)
 
     @NEEDED
     def test_multiplexed_syscalls(self):

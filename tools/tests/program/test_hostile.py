@@ -55,15 +55,7 @@ class Hostile(MeasuredCase):
             with self.subTest(count):
                 self.faults(["check"], gate[:count], f"fault filter {fault}", status)
 
-    def test_cut_profiles(self):
-        for count in range(len(ALLOWS)):
-            with self.subTest(count):
-                self.faults(["compile"], with_table(ALLOWS[:count]), "fault profile Json", 1)
-        self.faults(["compile"], with_table(ALLOWS[:-2] + b"\xff" + ALLOWS[-2:]), "fault profile Json", 1)
-
     def test_nested_json(self):
-        self.ends(["compile"], with_table(beside(b"[" * 100 + b"]" * 100)), (0, ALLOWS_COMPILED))
-        self.faults(["compile"], with_table(beside(b"[" * 1000 + b"]" * 1000)), "fault profile Json", 1)
         for opening in (b"[", b'{"a":'):
             text = (opening * (LIMIT_OF_TEXT // len(opening) + 1))[:LIMIT_OF_TEXT]
             self.faults(["compile"], with_table(text), "fault profile Json", 1)
@@ -169,16 +161,6 @@ class Hostile(MeasuredCase):
         self.faults(["asm"], text + names[0] + b":ld\nld", f"fault text Label {first}", 1, most)
         self.faults(["asm"], text + b"ld\n" + names[0] + b":", f"fault text Operand {first}", 1, most)
 
-    def test_one_byte_too_long(self):
-        self.faults(["check"], ret(ALLOW) * (LIMIT_OF_FILTER // 8) + b"\0", "fault filter TooLong", 3)
-        self.faults(["asm"], b"\n" * (LIMIT_OF_INPUT + 1), "fault input TooLong", 3)
-        long_profile = ALLOWS + b" " * (LIMIT_OF_TEXT + 1 - len(ALLOWS))
-        long_table = b"\n" * (LIMIT_OF_TEXT + 1)
-        self.faults(["compile"], with_table(long_profile), "fault profile TooMany", 1)
-        self.faults(["compare"], part("filter", ret(ALLOW)) + with_table(long_profile), "fault profile TooLong", 3)
-        self.faults(["compare"], part("filter", ret(ALLOW)) + with_table(ALLOWS, long_table), "fault table TooLong", 3)
-        self.ends(["compile"], with_table(long_profile[:-1]), (0, ALLOWS_COMPILED))
-
     def compares(self, code, *verdicts):
         self.ends(["compare"], part("filter", GATE + code) + with_table(ALLOWS), *verdicts)
 
@@ -224,10 +206,3 @@ class Hostile(MeasuredCase):
                 self.ends(["compare", "--limit", "200000"],
                           part("filter", GATE + tests + ret(ALLOW)) + with_table(profile, table),
                           (0, b"same\n"), (4, b"unfinished\n"), within=SECONDS / 5)
-
-    def test_a_test_behind_the_other(self):
-        both = jset(1, 0, 2) + jset(1, 1, 0) + ret(0) + ret(ALLOW)
-        wide = jset(3, 2, 0) + jset(1, 0, 1) + ret(0) + ret(ALLOW)
-        for code in (both, wide):
-            bundle = part("filter", GATE + load(16) + code) + with_table(ALLOWS)
-            self.ends(["compare", "--limit", "96"], bundle, (0, b"same\n"))

@@ -4,10 +4,9 @@ So a body that gives up where it is large fails: a listing past 64 KiB, a call o
 thousands of filters, a text of a million tokens.
 """
 import re
-import struct
-import subprocess
 
-from support.common import ALLOW, CORE, EPERM, GATE, TRAP, Case, insn, jge, load, part, ret
+from support.common import ALLOW, EPERM, GATE, TRAP, insn, jge, load, part, ret
+from support.on_parts import OnProgram, ran
 
 MOST = 4096
 # MAX_INSNS_PER_PATH (kernel/seccomp.c), and what each older filter of a stack costs more.
@@ -45,19 +44,9 @@ def differs(number, filter_answer, profile_answer):
             f"profile {profile_answer}\n").encode()
 
 
-class Largest(Case):
-    @classmethod
-    def setUpClass(cls):
-        subprocess.run([*CORE, "--version"], stdin=subprocess.DEVNULL, stdout=subprocess.DEVNULL, check=True)
-
+class Largest(OnProgram):
     def ends(self, words, data, status, out):
-        """It prints this and nothing else; where it doesn't, the first line that is another one is shown."""
-        done = subprocess.run([*CORE, *words], input=data, stdout=subprocess.PIPE, check=False)
-        if done.stdout != out:
-            pairs = zip(done.stdout.split(b"\n"), out.split(b"\n"))
-            self.fail(next((f"line {at}: {actual!r}, not {wanted!r}" for at, (actual, wanted) in enumerate(pairs)
-                            if actual != wanted), f"{len(done.stdout)} bytes, not {len(out)}"))
-        self.assertEqual(done.returncode, status)
+        self.prints(words, data, out, status)
 
     def test_a_listing_of_4096_instructions(self):
         codes = [*LISTED, 0x94, 0x28, 0xFFFF]
@@ -173,9 +162,8 @@ class Largest(Case):
         self.ends(["compare"], part("filter", wanted) + profile + table, 0, b"same\n")
         wrong = GATE + jge(MOST - 1, 1, 0) + ret(ALLOW) + ret(EPERM)
         self.ends(["compare"], part("filter", wrong) + profile + table, 1, differs(MOST - 1, "ERRNO 1", "ALLOW 0"))
-        done = subprocess.run([*CORE, "compile"], input=profile + table, stdout=subprocess.PIPE, check=True)
+        compiled, _ = ran(["compile"], profile + table)
         for number, answer in ((0, b"ALLOW 0"), (MOST - 1, b"ALLOW 0"), (MOST, b"ERRNO 1"), (0x3FFFFFFF, b"ERRNO 1"),
                                (0x40000000, b"KILL_PROCESS 0")):
-            ran = subprocess.run([*CORE, "run", f"--nr={number}"], input=done.stdout, stdout=subprocess.PIPE, check=True)
-            self.assertEqual(ran.stdout.split(b" steps ")[0], answer, number)
-        self.assertLessEqual(len(list(struct.iter_unpack("<HBBI", done.stdout))), MOST)
+            self.assertEqual(ran(["run", f"--nr={number}"], compiled)[0].split(b" steps ")[0], answer, number)
+        self.assertLessEqual(len(compiled) // 8, MOST)

@@ -1,18 +1,11 @@
 """Inputs at their limits, and one byte, one instruction or one rule past them; and profiles, numbers and names made to
 hurt."""
 from support.common import part
-from support.on_parts import (ALL, DEFAULT_ALLOW, NO_TABLE, ONE_CALL, READ_TABLE, READ_WRITE_TABLE, OnProgram, a_profile,
-                              a_table, assembled, behind_gate, bundle, long_filter, ran)
+from support.on_parts import (ALL, DEFAULT_ALLOW, NO_TABLE, ONE_CALL, READ_TABLE, READ_WRITE_TABLE, OnProgram,
+                              a_profile, a_table, assembled, bundle, long_filter, ran)
 from support.worked import FAILS, MADE, refusing
 
 INPUT, TEXT = 16777216, 4194304
-# Two tests of masks that overlap, of which the second is decided by the first.
-OVERLAPPING = (
-    behind_gate("ld [16]; jset #1, 0, 2; jset #1, 1, 0; ret #0; ret #0x7fff0000"),
-    behind_gate("ld [16]; jset #3, 2, 0; jset #1, 0, 1; ret #0; ret #0x7fff0000"),
-)
-
-
 def compiled_of(profile, table):
     """The bundle of a profile and a table, for `compile`."""
     return bundle([a_profile(profile), a_table(table)])
@@ -28,26 +21,19 @@ def distinct_calls(count):
 
 class Longest(OnProgram):
     def test_filter(self):
-        """The longest filter, and one of 32776 bytes."""
-        longest, longer = long_filter(4095), long_filter(4096)
-        self.prints(["check"], longest, "accepted 4096\n")
-        self.prints(["run"], longest, "ALLOW 0 steps 4096\n")
-        self.assertEqual(len(longer), 32776)
-        for command in ("check", "run", "dis"):
-            self.prints([command], longer, "fault filter TooLong\n", 3)
-        self.prints(["decide"], part("filter", longer), "fault filter TooLong\n", 3)
-        self.prints(["compare"], part("filter", longer) + bundle([ALL, NO_TABLE]), "fault filter TooLong\n", 3)
+        """One instruction and one byte more than the longest filter has."""
+        longest = long_filter(4095)
+        for longer in (long_filter(4096), longest + b"\0"):
+            for words, given in ((["check"], longer), (["run"], longer), (["dis"], longer),
+                                 (["decide"], part("filter", longer)),
+                                 (["compare"], part("filter", longer) + bundle([ALL, NO_TABLE]))):
+                self.prints(words, given, "fault filter TooLong\n", 3)
 
     def test_filter_beside_a_profile(self):
         """The longest filter, compared with a profile at its effort."""
         given = part("filter", long_filter(4095)) + bundle([ALL, NO_TABLE])
         *_, ours, theirs = self.shown(["compare", "--limit", "32768"], given)
         self.assertEqual((ours, theirs), ("ALLOW 0", "KILL_PROCESS 0"))
-
-    def test_text(self):
-        """The longest text of instructions, and one more."""
-        self.prints(["asm"], b"ld #0\n" * 4096, bytes(32768))
-        self.prints(["asm"], b"ld #0\n" * 4097, "fault text TooLong line 4097\n", 1)
 
     def test_input(self):
         """The longest input that isn't one filter, and one byte more."""
@@ -68,14 +54,6 @@ class Longest(OnProgram):
         self.assertEqual(ran(["compile"], compiled_of(DEFAULT_ALLOW, " " * (TEXT + 1)))[1], 0)
         self.prints(["compile"], compiled_of(" " * (TEXT + 1), ""), "fault profile TooMany\n", 1)
 
-    def test_rules(self):
-        """A profile of one rule too many, and one whose filter can't have so few instructions: 4000 answers need a
-        return each."""
-        names = ",".join(['"c"'] * 4097)
-        profile = '{"defaultAction":"SCMP_ACT_ALLOW","syscalls":[{"action":"SCMP_ACT_LOG","names":[%s]}]}' % names
-        self.prints(["compile"], compiled_of(profile, "c 1"), "fault profile TooMany\n", 1)
-        self.prints(["compile"], compiled_of(*distinct_calls(4000)), "fault compile TooLarge\n", 1)
-
     def test_compiled(self):
         """The largest filter, and one instruction more: the tests in front take 5, those of the two numbers 2 and 1,
         each test for another value 5 with its answer, each for a greater one 6, and the default answers 3."""
@@ -87,8 +65,8 @@ class Longest(OnProgram):
         self.assertEqual(5 + 2 + 1 + 5 * (810 + 1) + 6 * (4 + 1) + 3, 4096)
         compiled, status = ran(["compile"], given(810, 4))
         self.assertEqual((len(compiled), status), (32768, 0))
-        for number, first, text in ((0, 1, MADE), (0, 8, MADE), (0, 5, FAILS), (1, 1, MADE), (1, 8, MADE), (1, 5, FAILS),
-                                    (2, 1, FAILS)):
+        for number, first, text in ((0, 1, MADE), (0, 8, MADE), (0, 5, FAILS), (1, 1, MADE), (1, 8, MADE),
+                                    (1, 5, FAILS), (2, 1, FAILS)):
             words = ["--nr", str(number), "--a0", str(first)]
             self.prints(["decide", *words], part("filter", compiled), f"{text}\n")
         self.prints(["compile"], given(809, 5), "fault compile TooLarge\n", 1)
@@ -152,7 +130,3 @@ class Hurtful(OnProgram):
         for order, number in ((lasts, 76), (lasts[::-1], 48)):
             table = "".join(f"{name}{last} {2 * at}\n" for at, last in enumerate(order))
             self.is_number(profile, table, number)
-
-    def test_overlapping_masks(self):
-        for masks in OVERLAPPING:
-            self.prints(["compare", "--limit", "96"], bundle([masks, ALL, NO_TABLE]), "same\n")

@@ -3,10 +3,10 @@ What is wanted follows from the runtimes' sources, as crates/scf_profile/specs/R
 seccomp(2)."""
 import json
 import random
-import subprocess
 import unittest
 
-from support.common import CORE, part
+from support.common import part
+from support.on_parts import OnProgram, ran
 
 TABLE = part("table", b"read 0\nwrite 1\nclose 3\n")
 X86_TABLE = part("table-x86", b"read 3\nwrite 4\n")
@@ -28,8 +28,7 @@ def condition(value, index=0, operator="EQ", **more):
 
 def core(*words, given):
     """What the program prints of a bundle, and its status."""
-    done = subprocess.run([*CORE, *words], input=given, stdout=subprocess.PIPE, check=False)
-    return done.stdout, done.returncode
+    return ran(words, given)
 
 
 ALLOWED = profile(entry("SCMP_ACT_ALLOW"))
@@ -209,37 +208,32 @@ class TestTrapData(unittest.TestCase):
                 self.assertEqual(core("compare", "--reading=sandbox", given=compare)[1], 1)
 
 
-class TestStubs(unittest.TestCase):
+PARTS = "fault bundle Parts\n"
+
+
+class TestStubs(OnProgram):
     def test_answers_of_the_stub(self):
         """runc answers ENOSYS, 38, from the stub's first number on, whatever an entry says; of this architecture."""
-        for first, line in ((0, b"ERRNO 38 stub\n"), (1, b"ALLOW 0 entry 0\n")):
-            with self.subTest(first=first):
-                given = ALLOWED + TABLE + part("stub-table", b"%d" % first)
-                self.assertEqual(core("ask", "--nr=0", given=given), (line, 0))
-                self.assertEqual(core("ask", "--nr=0x40000000", given=given), (b"KILL_PROCESS 0 foreign\n", 0))
+        of_0, of_1 = (ALLOWED + TABLE + part("stub-table", first) for first in (b"0", b"1"))
         both = ALLOWED + TABLE + X86_TABLE + part("stub-table-x86", b"3")
-        self.assertEqual(core("ask", EACH, "--nr=3", "--arch=0x40000003", given=both), (b"ERRNO 38 stub\n", 0))
-        self.assertEqual(core("ask", EACH, "--nr=2", "--arch=0x40000003", given=both), (b"ERRNO 1 default\n", 0))
-        self.assertEqual(core("ask", EACH, "--nr=3", given=both), (b"ERRNO 1 default\n", 0))
+        self.print_each([
+            ("--nr=0", of_0, "ERRNO 38 stub\n", 0), ("--nr=0", of_1, "ALLOW 0 entry 0\n", 0),
+            *(("--nr=0x40000000", given, "KILL_PROCESS 0 foreign\n", 0) for given in (of_0, of_1)),
+            (f"{EACH} --nr=3 --arch=0x40000003", both, "ERRNO 38 stub\n", 0),
+            (f"{EACH} --nr=2 --arch=0x40000003", both, "ERRNO 1 default\n", 0),
+            (f"{EACH} --nr=3", both, "ERRNO 1 default\n", 0),
+            # the greatest number, and a long one
+            *(("--nr=3", ALLOWED + TABLE + part("stub-table", text), "ERRNO 1 default\n", 0)
+              for text in (b"4294967295", b"000000000000000000000000000004"))], "ask")
 
     def test_refused_stubs(self):
-        parts = b"fault bundle Parts\n"
-        stub = part("stub-table", b"4")
-        for text in (b"", b"4\n", b" 4", b"-1", b"0x4", b"4294967296", b"18446744073709551616"):
-            with self.subTest(text=text):
-                self.assertEqual(core("ask", given=ALLOWED + TABLE + part("stub-table", text)), (parts, 3))
-        for given in (ALLOWED + TABLE + stub + stub, ALLOWED + stub, stub):
-            self.assertEqual(core("ask", given=given), (parts, 3))
-            self.assertEqual(core("ask", EACH, given=given), (parts, 3))
-            self.assertEqual(core("answers", given=given), (parts, 3))
-        # the stub of an architecture whose table isn't there
-        self.assertEqual(core("ask", EACH, given=ALLOWED + TABLE + part("stub-table-x86", b"4")), (parts, 3))
-        # without the flag it is no kind of a part
+        texts = (b"", b"4\n", b" 4", b"-1", b"0x4", b"4294967296", b"18446744073709551616")
         given = ALLOWED + TABLE
-        line = b"fault bundle Header offset %d\n" % len(given)
-        self.assertEqual(core("ask", given=given + part("stub-table-x86", b"4")), (line, 3))
-
-    def test_greatest_numbers(self):
-        for text in (b"4294967295", b"000000000000000000000000000004"):
-            given = ALLOWED + TABLE + part("stub-table", text)
-            self.assertEqual(core("ask", "--nr=3", given=given), (b"ERRNO 1 default\n", 0))
+        stub, of_x86 = part("stub-table", b"4"), part("stub-table-x86", b"4")
+        self.print_each([
+            *(("ask", given + part("stub-table", text), PARTS, 3) for text in texts),
+            *((words, parts, PARTS, 3) for parts in (given + stub + stub, ALLOWED + stub, stub)
+              for words in ("ask", f"ask {EACH}", "answers")),
+            # the stub of an architecture whose table isn't there; without the flag it is no kind of a part
+            (f"ask {EACH}", given + of_x86, PARTS, 3),
+            ("ask", given + of_x86, f"fault bundle Header offset {len(given)}\n", 3)])

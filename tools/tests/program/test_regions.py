@@ -2,19 +2,19 @@
 record lies in exactly one region, or only in open ones, and gets the answer that stands there."""
 import random
 import re
-import subprocess
 import unittest
 
-from support.common import ALLOW, CORE, EPERM, UNKNOWN_ZERO, X86_64, filter_of, insn, jeq, jge, load, part, ret
+from support.common import part
 
 import kernel_programs
 from support import several
+from support.judged import printed_record, record_of
+from support.on_parts import ran
 from support.stand_in import StandIn, unpacked
 
 WORD = (1 << 32) - 1
 LINE = re.compile(r"(unknown|[A-Z_]+ (?:0x[0-9a-f]{8}|[0-9]+)) (?:at ([0-9]+):([0-9]+)|(entry [0-9]+|default|foreign))"
                   r"( open)?((?: w[0-9]+ [^ ]+)*)")
-CALL = re.compile(r"call nr ([0-9]+) arch (0x[0-9a-f]+) ip (0x[0-9a-f]+) args((?: 0x[0-9a-f]+){6})")
 SET = re.compile(r"((?:0x[0-9a-f]+(?:-0x[0-9a-f]+)?,?)*)(?:&(0x[0-9a-f]+)=(0x[0-9a-f]+))?"
                  r"((?:!0x[0-9a-f]+=0x[0-9a-f]+)*)")
 # The most steps of a drawn stack: random jumps have very many paths.
@@ -49,20 +49,13 @@ class Region:
                    for at, (intervals, mask, bits, refuted) in self.words.items())
 
 
-def record_of(line):
-    """The sixteen words of a record that is printed."""
-    number, arch, pointer, arguments = CALL.fullmatch(line).groups()
-    whole = [int(text, 16) for text in (pointer, *arguments.split())]
-    return [int(number), int(arch, 16), *(half for argument in whole for half in (argument & WORD, argument >> 32))]
-
-
 def regions_of(text):
     """The regions of an output with examples, each with its record; of an open one there may be none."""
     *lines, last = text.splitlines()
     regions = []
     for line in lines:
-        if CALL.fullmatch(line):
-            regions[-1] = regions[-1][0], record_of(line)
+        if line.startswith("call "):
+            regions[-1] = regions[-1][0], printed_record(line)
         else:
             regions.append((Region(line), None))
     assert all(record or region.is_open for region, record in regions), text
@@ -87,13 +80,12 @@ class Regions(unittest.TestCase):
 
     def printed(self, bundle, **words):
         flags = [f"--{name}" if value is True else f"--{name}={value}" for name, value in words.items()]
-        done = subprocess.run([*CORE, "answers", "--examples", f"--limit={10 * STEPS}", *flags], input=bundle,
-                              stdout=subprocess.PIPE, check=False)
-        if done.returncode == 4:
-            self.assertEqual(done.stdout, b"unfinished\n")
+        out, status = ran(["answers", "--examples", f"--limit={10 * STEPS}", *flags], bundle)
+        if status == 4:
+            self.assertEqual(out, b"unfinished\n")
             return None
-        self.assertEqual(done.returncode, 0, done.stdout[:99])
-        return done.stdout.decode()
+        self.assertEqual(status, 0, out[:99])
+        return out.decode()
 
     def lies(self, regions, record, answer):
         """The region of a record with this answer."""
@@ -157,55 +149,10 @@ class Regions(unittest.TestCase):
             reading = several.draw(dice)
             if reading.fault() is not None:
                 continue
-            records = [[number, arch, 0, 0,
-                        *(half for argument in arguments for half in (argument & WORD, argument >> 32))]
+            records = [record_of(number, arch, 0, arguments)
                        for name in reading.rules for arch, number, arguments in reading.records(name, dice, 2)]
-            records = dice.sample(records, min(len(records), 40)) + [[0, 0x28] + [0] * 14]
+            records = dice.sample(records, min(len(records), 40)) + [record_of(0, 0x28, 0, [0] * 6)]
             count += self.of_profile(reading, records)
-            self.of_stack([several.compile_filter(reading)[0]], records[:10])
-
-    def test_computed(self):
-        """What isn't followed leaves regions open, or an answer unknown."""
-        self.of_stack([UNKNOWN_ZERO + jeq(0, 0, 1) + ret(ALLOW) + ret(EPERM)],
-                      list(drawn_records(random.Random(1), [], 9)))
-        for code in (load(16) + insn(0x54, 0x3) + insn(0x44, 0x50000), load(16)):
-            regions = regions_of(self.printed(part("filter", code + insn(0x16, 0))))
-            self.assertEqual({region.answer for region, _ in regions}, {"unknown"})
-
-    def test_scopes(self):
-        """The records of x86-64, and of some of its numbers."""
-        data = part("filter", filter_of([3, 5]))
-        for words, numbers in (({"native": True}, (0, 0x3FFFFFFF)), ({"nr-from": 4, "nr-to": 5}, (4, 5))):
-            regions = regions_of(self.printed(data, **words))
-            for arch, number in ((X86_64, drawn_number) for drawn_number in {*numbers, 5}):
-                record = [number, arch] + [0] * 14
-                self.lies(regions, record, "ALLOW 0" if number == 5 else "ERRNO 1")
-            for record in ([numbers[1] + 1, X86_64] + [0] * 14, [5, 0x40000003] + [0] * 14):
-                self.assertFalse(any(region.has(record) for region, _ in regions))
-
-    def test_by_hand(self):
-        """Flags of clone, a bit and an order, a sum and a product, and which filter answers."""
-        flags = load(0) + jeq(56, 0, 3) + load(16) + insn(0x54, 0x7E020000) + jeq(0, 1, 0) + ret(EPERM) + ret(ALLOW)
-        bit = load(16) + insn(0x45, 0x10, 0, 3) + load(20) + insn(0x25, 5, 1, 0) + ret(0x7FC00000) + ret(0x12345678)
-        total = load(16) + insn(0x07, 0) + load(24) + insn(0x0C, 0) + jeq(9, 0, 1) + ret(ALLOW) + ret(EPERM)
-        product = load(16) + insn(0x07, 0) + load(24) + insn(0x2C, 0) + insn(0x16, 0)
-        for filters, words, expected in (
-                ([], {}, ["ALLOW 0 at 0:0"]),
-                ([flags], {}, ["ALLOW 0 at 0:6 w0 0x38 w4 &0x7e020000=0x0",
-                               "ERRNO 1 at 0:5 w0 0x0-0x37,0x39-0xffffffff",
-                               "ERRNO 1 at 0:5 w0 0x38 w4 !0x7e020000=0x0"]),
-                ([flags], {"nr-from": 57, "nr-to": 58}, ["ERRNO 1 at 0:5 w0 0x39-0x3a w1 0xc000003e"]),
-                ([bit], {}, ["UNNAMED 0x12345678 at 0:5 w4 &0x10=0x0",
-                             "UNNAMED 0x12345678 at 0:5 w4 &0x10=0x10 w5 0x6-0xffffffff",
-                             "USER_NOTIF 0 at 0:4 w4 &0x10=0x10 w5 0x0-0x5"]),
-                ([total], {}, ["ALLOW 0 at 0:5 open", "ERRNO 1 at 0:6 open"]), ([product], {}, ["unknown at 0:4"]),
-                ([ret(ALLOW), ret(EPERM)], {}, ["ERRNO 1 at 1:0"]), ([ret(EPERM), ret(ALLOW)], {}, ["ERRNO 1 at 0:0"])):
-            text = self.printed(b"".join(part("filter", data) for data in filters), **words)
-            self.assertEqual(sorted(text.splitlines()[:-1:2]), expected)
-
-    def test_intervals(self):
-        """The words are printed as they are known."""
-        text = self.printed(part("filter", load(0) + jge(10, 0, 2) + insn(0x45, 6, 1, 0) + ret(EPERM) + ret(ALLOW)))
-        self.assertEqual(sorted(line for line in text.splitlines() if line.startswith(("ALLOW", "ERRNO"))), [
-            "ALLOW 0 at 0:4 w0 0x0-0x9", "ALLOW 0 at 0:4 w0 0xa-0xffffffff!0x6=0x0",
-            "ERRNO 1 at 0:3 w0 0xa-0xffffffff&0x6=0x0"])
+            parts = [("profile", several.text(reading.profile)), *several.tables_of(reading.given)]
+            compiled, _ = ran(["compile", "--architectures"], b"".join(part(*each) for each in parts))
+            self.of_stack([compiled], records[:10])

@@ -1,58 +1,30 @@
-"""--no-more and --no-less, by scf and by its tools: verdicts over small filters and profiles, held against another
-machine's answers to each call at which something can change; and foreign calls."""
+"""--no-more and --no-less of the tools, beside the verdicts of test_comparisons: what is said of a difference, and
+foreign calls, held against another machine's answers to each call at which something can change."""
 import itertools
 import json
 import re
 from unittest import mock
 
-from support.common import (ALLOW, CORE, ENOSYS, EPERM, I386, KILL_PROCESS, KILL_THREAD, LOG, TRACE, TRAP, USER_NOTIF,
-                            X32, X86_64, Case, filter_of, gate, insn, jeq, jge, load, needs, part, ret)
+from program.test_comparisons import ALLOWS, ALLOWS_READ, ANSWERS, PAIRS, SOCKET, WRITE, READ, profile
+from support.common import (ALLOW, EPERM, I386, KILL_PROCESS, LOG, TRACE, USER_NOTIF, X32, X86_64, Case, filter_of,
+                            gate, insn, jeq, jge, load, ret)
 from support.confined import Confined, here
+from support.several import disposition
 from support.stand_in import StandIn
-import kernel_profiles
 from scftools.model import answers, architectures, calls, tables
-from scftools.ask import client, other_abis, regions, verdicts
+from scftools.ask import client, other_abis, regions
 from scftools.forms.filters import Filter
 from scftools.report import compare
 
-READ, WRITE, SOCKET, GETPID, EXIT_GROUP = 0, 1, 41, 39, 231
 # Numbers on both sides of all that the filters and profiles here test, of x86-64 and of other architectures.
 NUMBERS = (0, 1, 2, 39, 40, 41, 42, 43, 231, 449, 450, X32 - 1, X32, X32 + 1, 0xFFFFFFFF)
 ARCHITECTURES = (X86_64, I386, 0xC00000B7, 0)
 ARGUMENTS = (0, 1, 39, 40, 41, (1 << 32) + 40, (1 << 64) - 1)
-RELATIONS = {"same": [], "no more": ["--no-more"], "no less": ["--no-less"]}
-FAILS = {"same": "differs", "no more": "more", "no less": "less"}
-SCOPES = {"all": [], "native": ["--native"], "calls": ["--calls"]}
-# The names that the profiles have, which kernel_profiles reads by a table of its own.
-NAMES = {"read": READ, "write": WRITE, "socket": SOCKET, "getpid": GETPID, "exit_group": EXIT_GROUP}
-
-
-# linux/seccomp.h, and what __seccomp_filter of kernel/seccomp.c does by each action: 0 it denies the syscall, 1 it
-# delegates it, 2 it allows it. Its default case, for all other actions, kills the process.
-DEGREES = {KILL_PROCESS: 0, KILL_THREAD: 0, TRAP: 0, 0x00050000: 0, USER_NOTIF: 1, TRACE: 1, LOG: 2, ALLOW: 2}
-
-
-def degree(answer):
-    """How permissive an answer is, by its action alone."""
-    return DEGREES.get(answer & 0xFFFF0000, 0)
-
-
-def related(relation, first, second):
-    return {"same": first == second, "no more": degree(first) <= degree(second),
-            "no less": degree(first) >= degree(second)}[relation]
 
 
 # Calls on both sides of each test of a filter or a profile here.
 CORNERS = [calls.Call(number, architecture, 0, (argument, 0, 0, 0, 0, 0))
            for architecture, number, argument in itertools.product(ARCHITECTURES, NUMBERS, ARGUMENTS)]
-
-
-def is_in(scope, call):
-    return scope == "all" or call.is_native and (scope == "native" or call.number in NAMES.values())
-
-
-def word(printed):
-    return answers.Answer.read(printed).word
 
 
 def allows_alone(kind):
@@ -70,145 +42,12 @@ def one_number(number, answer, default):
     return gate(jeq(number, 0, 1) + ret(answer) + ret(default))
 
 
-def profile(*entries, default="SCMP_ACT_ERRNO"):
-    return json.dumps({"defaultAction": default, "syscalls": [
-        {"names": [name], "action": f"SCMP_ACT_{action}", **more} for name, action, more in entries]}).encode()
-
-
-NOT_40 = {"args": [{"index": 0, "value": 40, "op": "SCMP_CMP_NE"}]}
-ALLOWS_READ = profile(("read", "ALLOW", {}))
-ALLOWS = profile(default="SCMP_ACT_ALLOW")
-RULES = profile(("read", "ALLOW", {}), ("socket", "ALLOW", NOT_40))
-# socket with another first argument than 40, of all 64 bits
-SOCKETS = (load(16) + jeq(40, 0, 2) + load(20) + jeq(0, 1, 0) + ret(ALLOW) + ret(EPERM))
-RULED = gate(jeq(READ, 8, 0) + jeq(SOCKET, 0, 6) + SOCKETS + ret(EPERM) + ret(ALLOW))
-# Filters and profiles: for each a name, the filters from the oldest on, the profile, and the verdict of each relation
-# over all calls, as people expect it; the rest is worked out.
-PAIRS = {
-    "what the profile says": ([filter_of([READ])], ALLOWS_READ, ("same", "no more", "no less")),
-    "a thread is ended for foreign calls": ([filter_of([READ], foreign=KILL_THREAD)], ALLOWS_READ,
-                                            ("differs", "no more", "no less")),
-    "an ENOSYS stub": ([load(0) + jge(450, 0, 1) + ret(ENOSYS) + filter_of([READ])], ALLOWS_READ,
-                       ("differs", "no more", "no less")),
-    "a rule is dropped": ([gate(jeq(READ, 0, 1) + ret(ALLOW) + ret(EPERM))], RULES, ("differs", "no more", "less")),
-    "a condition is kept": ([RULED], RULES, ("same", "no more", "no less")),
-    "a condition is dropped": ([filter_of([READ, SOCKET])], RULES, ("differs", "more", "no less")),
-    "a condition of 32 bits": ([gate(jeq(READ, 5, 0) + jeq(SOCKET, 0, 3) + load(16) + jeq(40, 1, 0) + ret(ALLOW)
-                                     + ret(EPERM) + ret(ALLOW))], RULES, ("differs", "no more", "less")),
-    "one more and one less": ([filter_of([WRITE])], ALLOWS_READ, ("differs", "more", "less")),
-    "one lets more through": ([filter_of([READ, WRITE])], ALLOWS_READ, ("differs", "more", "no less")),
-    "only both together": ([filter_of([READ, WRITE]), filter_of([READ, SOCKET])], ALLOWS_READ,
-                           ("same", "no more", "no less")),
-    "both together too little": ([filter_of([READ]), filter_of([WRITE])], ALLOWS_READ, ("differs", "no more", "less")),
-    "foreign calls are made": ([filter_of([READ], foreign=ALLOW)], ALLOWS_READ, ("differs", "more", "no less")),
-    "foreign calls are delegated": ([filter_of([READ], foreign=TRACE)], ALLOWS_READ, ("differs", "more", "no less")),
-    "an action without a name kills": ([gate(ret(0x7FFE0000))], ALLOWS, ("differs", "no more", "less")),
-    "no more than one that is killed": ([gate(ret(0x7FFE0000))], profile(default="SCMP_ACT_KILL_PROCESS"),
-                                        ("differs", "no more", "no less")),
-    "one without a name loses to TRACE": ([gate(ret(0x7FFE0000)), ret(TRACE)], profile(default="SCMP_ACT_ERRNO"),
-                                          ("differs", "more", "no less")),
-    "all is refused": ([ret(KILL_PROCESS)], ALLOWS, ("differs", "no more", "less")),
-    "no native call is refused": ([gate(ret(ALLOW))], profile(("read", "LOG", {}), default="SCMP_ACT_ALLOW"),
-                                  ("differs", "no more", "no less")),
-}
-# Answers on both sides of each border, and what the profile's answers are: ERRNO, USER_NOTIF, TRACE, LOG and ALLOW.
-EACH = (KILL_PROCESS, 0x80000001, 0xFFFF0000, KILL_THREAD, 0x00020000, TRAP, 0x00040007, EPERM, ENOSYS, 0x00060000,
-        0x7FBF0000, USER_NOTIF, 0x7FEF0000, TRACE, 0x7FF10000, 0x7FFB0000, LOG, 0x7FFD0000, 0x7FFE0000, ALLOW)
-PROFILES = {"ERRNO": EPERM, "KILL_PROCESS": KILL_PROCESS, "TRAP": TRAP, "NOTIFY": USER_NOTIF, "TRACE": TRACE | 1,
-            "LOG": LOG, "ALLOW": ALLOW}
-
-
-class Relations(Case):
-    """scf's verdicts beside those of a second machine and a second reading of profiles."""
-
-    def setUp(self):
-        super().setUp()
-        self.table = b"".join(f"{name} {number}\n".encode() for name, number in NAMES.items())
-        self.known = {}
-        held, kernel_profiles.TABLE = kernel_profiles.TABLE, NAMES
-        self.addCleanup(setattr, kernel_profiles, "TABLE", held)
-
-    def says(self, filters, given, *options):
-        """The status and the lines of scf."""
-        bundle = b"".join(part("filter", data) for data in filters) + part("profile", given) + part("table", self.table)
-        status, out, err = self.run_words([*CORE, "compare", *options], bundle)
-        self.assertEqual(err, "")
-        return status, out.split("\n")[:-1]
-
-    def both(self, filters, given, call):
-        """The answers to a call, of filters and of a profile, as numbers."""
-        return word(StandIn().decide(filters, call)), kernel_profiles.answer_of(given, call).word
-
-    def at_corners(self, filters, given):
-        """Each corner with both answers, which are worked out once."""
-        key = (tuple(filters), given)
-        if key not in self.known:
-            self.known[key] = [(call, self.both(filters, given, call)) for call in CORNERS]
-        return self.known[key]
-
-    def expected(self, filters, given, relation, scope):
-        """The verdict, by the answers at the corners."""
-        holds = all(related(relation, *both) for call, both in self.at_corners(filters, given) if is_in(scope, call))
-        return relation if holds else FAILS[relation]
-
-    def judged(self, filters, given, relation, scope):
-        """Holds scf's verdict against the one that is worked out, and the call that it shows against both answers."""
-        expected = self.expected(filters, given, relation, scope)
-        status, lines = self.says(filters, given, *SCOPES[scope], *RELATIONS[relation])
-        self.assertEqual((status, lines[0]), (int(expected != relation), expected))
-        if expected == relation:
-            self.assertEqual(len(lines), 1)
-        elif scope != "calls":
-            call = calls.Call.read(lines[1])
-            self.assertTrue(scope == "all" or call.is_native)
-            shown = [word(line.partition(" ")[2]) for line in lines[2:4]]
-            self.assertEqual(shown, list(self.both(filters, given, call)))
-            self.assertFalse(related(relation, *shown))
-        else:
-            failing = {call.number for call, both in self.at_corners(filters, given)
-                       if is_in(scope, call) and not related(relation, *both)}
-            self.assertEqual([line.split()[0] for line in lines[1:]], [str(number) for number in sorted(failing)])
-            self.assertEqual({line.split()[2] for line in lines[1:]}, {expected})
-        return expected
-
-    @needs("--no-more")
-    def test_pairs(self):
-        """Each pair over each scope, and as its row says over all calls."""
-        for name, (filters, given, row) in PAIRS.items():
-            for scope in SCOPES:
-                with self.subTest(name=name, scope=scope):
-                    verdicts = tuple(self.judged(filters, given, relation, scope) for relation in RELATIONS)
-                    if scope == "all":
-                        self.assertEqual(verdicts, row)
-
-    def test_each_answer(self):
-        """Every kind of answer, unnamed ones beside each named one, against each action of a profile."""
-        for (action, default), answer in itertools.product(PROFILES.items(), EACH):
-            given = profile(default=f"SCMP_ACT_{action}")
-            self.assertEqual(kernel_profiles.answer_of(given, calls.Call(0)).word, default)
-            for relation in ("no more", "no less"):
-                with self.subTest(action=action, answer=hex(answer), relation=relation):
-                    self.judged([gate(ret(answer))], given, relation, "all")
-
-    def test_one_alone_lets_more_through(self):
-        """Of the stack that holds only together, neither filter does by itself."""
-        for number in PAIRS["only both together"][0]:
-            self.assertEqual(self.judged([number], ALLOWS_READ, "no more", "all"), "more")
-
-    def test_a_limit(self):
-        for relation in RELATIONS.values():
-            self.assertEqual(self.says([filter_of([READ])], ALLOWS_READ, *relation, "--limit", "0"),
-                             (4, ["unfinished"]))
-
-
 class Dispositions(Case):
     def test_each_answer(self):
         """What becomes of a call, as the tools say it."""
-        for answer in EACH:
+        for answer in ANSWERS:
             printed = answers.Answer.read(StandIn().printed(answer))
-            self.assertEqual(printed.disposition,
-                             ("denied", "delegated", "allowed")[degree(answer)],
-                             hex(answer))
+            self.assertEqual(printed.disposition, ("denied", "delegated", "allowed")[disposition(answer)], hex(answer))
         self.assertEqual([answers.Answer.read(answer).disposition
                           for answer in ("ERRNO 65535", "USER_NOTIF 0", "TRACE 9", "LOG 0")],
                          ["denied", *["delegated"] * 2, "allowed"])
@@ -263,7 +102,7 @@ class Compare(Case):
                                                         "profile"),
                            ("a thread is ended for foreign calls", f"it {lets}"), ("an ENOSYS stub", f"it {lets}"),
                            ("all is refused", f"it {refuses}"), ("no native call is refused", f"it {lets}")):
-            filters, given, _ = PAIRS[name]
+            filters, given, *_ = PAIRS[name]
             for scope in ([], ["--native"], ["--calls"]):
                 status, lines = self.compare(filters, given, *scope)
                 if status == 0:
@@ -272,7 +111,7 @@ class Compare(Case):
                 prefix = "over the syscalls in the table: " if scope == ["--calls"] else ""
                 self.assertEqual(first, f"# {prefix}{message}", (name, scope))
         for name in ("one more and one less", "one lets more through", "foreign calls are made"):
-            filters, given, _ = PAIRS[name]
+            filters, given, *_ = PAIRS[name]
             lines = self.compare(filters, given)[1]
             self.assertFalse([line for line in lines if re.search("no more|neither more|stricter|never more", line)],
                              name)
@@ -280,7 +119,7 @@ class Compare(Case):
                       self.compare([one_number(WRITE, USER_NOTIF, ALLOW)], ALLOWS)[1])
 
     def test_json(self):
-        filters, given, _ = PAIRS["a rule is dropped"]
+        filters, given, *_ = PAIRS["a rule is dropped"]
         names = [self.file(f"{at}.bpf", data) for at, data in enumerate(filters)]
 
         def report_of(*words):
@@ -309,17 +148,17 @@ class Foreign(Case):
 
     def test_each_kind(self):
         """The filters of the pairs and some more: a call of the kind is shown exactly where one isn't refused."""
-        given = [filters for filters, _, _ in PAIRS.values()]
+        given = [row[0] for row in PAIRS.values() if all(isinstance(data, bytes) for data in row[0])]
         for kind in other_abis.ABIS:
             alone = allows_alone(kind)
             given.append([alone])
             given.append([load(0) + jeq(43, 0, 1) + ret(LOG) + ret(EPERM), alone])
-        given += [[filter_of([READ], foreign=answer)] for answer in EACH]
+        given += [[filter_of([READ], foreign=answer)] for answer in ANSWERS]
         for filters in given:
             for kind, access in zip(other_abis.ABIS, known_of(filters)):
                 self.assertTrue(access.is_decided)
                 through = [call for call in CORNERS if self.is_of(kind, call)
-                           and degree(word(StandIn().decide(filters, call)))]
+                           and disposition(StandIn().decision(filters, call))]
                 self.assertEqual(access.are_denied, not through, (kind.name, filters))
                 if through:
                     call, answer = access.not_denied
@@ -385,7 +224,7 @@ class VerifyProcess(Confined):
     @here
     def test_no_more_and_foreign_calls(self):
         refuses_more = gate(jeq(165, 2, 0) + jeq(166, 1, 0) + ret(ALLOW) + ret(EPERM))
-        given = self.file("p.json", profile(("mount", "ERRNO", {}), default="SCMP_ACT_ALLOW"))
+        given = self.file("p.json", profile(("mount", "ERRNO", {}), default="ALLOW"))
         child = self.child([refuses_more])
         status, out, _ = self.run_tool("verify-process", str(child.pid), given)
         self.assertEqual((status, out.split("\n")[0], out.split("\n")[4]),

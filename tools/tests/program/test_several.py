@@ -4,17 +4,16 @@ import collections
 import functools
 import itertools
 import json
-import operator
 import os
 import random
 import re
-import struct
 import subprocess
 import unittest
 from unittest import mock
 
-from support import several
-from support.common import PROGRAM, TOP, Case, insn, jeq, jge, load, ret
+from support import judged, several
+from support.common import TOP, Case, insn, jeq, jge, load, ret
+from support.on_parts import ran
 from support.seccomp_library import NEEDED, Conflict, Library
 from support.stand_in import StandIn, unpacked
 from repository.test_library import OUT, RELATIONS, python_module
@@ -26,24 +25,14 @@ from scftools.forms import runtimes
 from scftools.forms.filters import Filter
 from scfhost import verify
 
-# How many profiles are drawn to be held against libscf, against the program, and to be counted by kinds; and how many
-# records are tried of a syscall that has conditions.
-PROFILES, BY_PROGRAM, DRAWS, RECORDS = int(os.environ.get("SCF_SEVERAL_PROFILES", "1000")), 60, 4000, 12
+# How many profiles are drawn to be held against libscf, and against the program; and how many records are tried of a
+# syscall that has conditions.
+PROFILES, BY_PROGRAM, RECORDS = int(os.environ.get("SCF_SEVERAL_PROFILES", "1000")), 60, 12
 IN_PROCESS = unittest.skipUnless(os.path.exists(os.path.join(OUT, "libscf.so.0")), "libscf isn't built: library/build")
 ALLOW = 0x7FFF0000
 X86_64, I386, X32 = 0xC000003E, 0x40000003, 0x40000000
 NAMED = ["SCMP_ARCH_X86_64", "SCMP_ARCH_X86", "SCMP_ARCH_X32"]
 MACHINE = StandIn()
-
-
-def words_of(arch, number, arguments):
-    return struct.unpack("<16I", struct.pack("<IIQ6Q", number, arch, 0, *arguments))
-
-
-def scf(words, parts):
-    """What scf prints of a bundle."""
-    done = subprocess.run([PROGRAM, *words], input=bundles.bundle(parts), stdout=subprocess.PIPE, check=False)
-    return done.stdout.decode()
 
 
 def numbers_of(line):
@@ -53,7 +42,7 @@ def numbers_of(line):
 
 
 def answer_of(program, arch, number, arguments):
-    return MACHINE.answer(program, words_of(arch, number, arguments))
+    return MACHINE.answer(program, judged.record_of(number, arch, 0, arguments))
 
 
 class ByProgram:
@@ -64,8 +53,7 @@ class ByProgram:
         self.parts = [("profile", several.text(reading.profile)), *several.tables_of(reading.given)]
 
     def printed(self, command, *words, parts=()):
-        return subprocess.run([PROGRAM, command, "--architectures", *words], stdout=subprocess.PIPE, check=False,
-                              input=bundles.bundle([*parts, *self.parts])).stdout
+        return ran([command, "--architectures", *words], bundles.bundle([*parts, *self.parts]))[0]
 
     def compile(self):
         return self.printed("compile")
@@ -122,49 +110,7 @@ def draw(seed):
     return several.draw(random_of), random_of
 
 
-def kinds_of(reading):
-    """What the draws are counted by, of one of them."""
-    conflicts = [name for name in reading.rules if reading.conflicts(name)]
-    fault = reading.fault()
-    if fault is not None:
-        yield " ".join(fault.split()[:3]) if fault.startswith("NotListed") else "Conflict"
-        if fault.startswith("Conflict") and len(conflicts) == 1 < len(reading.given):
-            yield "conflict in", conflicts[0]
-        return
-    yield "tables", len(reading.rules)
-    yield from (("table", name) for name in reading.rules)
-    yield "architectures", str(reading.profile.get("architectures", "absent"))[:2], reading.listed[0]
-    yield from {line.split()[0] for line in reading.notes()}
-    named = {name for entry in reading.profile["syscalls"] for name in entry["names"]}
-    for name, rules in reading.rules.items():
-        _, _, _, bits, _, table = several.ARCHITECTURES[name]
-        yield from (("lacks", name) for name_listed in named if name_listed not in table and any(
-            name_listed in several.ARCHITECTURES[architecture][5] for architecture in reading.rules))
-        if bits == 32 and reading.conflicts(name, 64):
-            yield "a conflict by 64 bits alone", name
-        for condition in (condition for rule_list in rules.values() for _, conditions, _ in rule_list
-                          for condition in conditions):
-            yield bits, condition["op"][9:], "wide" if condition.get("valueTwo", condition["value"]) >> 32 else "narrow"
-            if condition["op"] == "SCMP_CMP_MASKED_EQ":
-                yield "mask", condition["value"]
-
-
-class Draws(unittest.TestCase):
-    """Each kind of profile is drawn often enough to be held. Nothing here asks scf."""
-
-    def test_kinds(self):
-        counts = collections.Counter(kind for seed in range(DRAWS) for kind in set(kinds_of(draw(seed)[0])))
-        names = list(several.ARCHITECTURES)
-        narrow = [name for name in names if several.ARCHITECTURES[name][3] == 32]
-        wanted = {"Conflict", "skipped", "other", *(f"NotListed table {at}" for at in range(3)),
-                  *(("tables", count) for count in range(1, 6)), *(("table", name) for name in names),
-                  *(("conflict in", name) for name in names),
-                  *(("lacks", name) for name in names), *(("a conflict by 64 bits alone", name) for name in narrow),
-                  *(("architectures", how, names[at]) for how in ("ab", "[]") for at in (0, 3)),
-                  *((bits, op, how) for bits in (32, 64) for op in several.OPERATORS for how in ("wide", "narrow")),
-                  *(("mask", mask) for mask in several.MASKS)}
-        self.assertEqual({kind: counts[kind] for kind in wanted if counts[kind] < DRAWS // 800}, {})
-
+class SecondReadingAlone(unittest.TestCase):
     def test_is_possible(self):
         """By all numbers of few bits."""
         for conditions in itertools.product(((op, value, two) for op in several.OPERATORS for value in (0, 1, 5, 9)
@@ -174,14 +120,8 @@ class Draws(unittest.TestCase):
             self.assertEqual(several.is_possible(conditions, 3), by_trial, conditions)
 
 
-def by_disposition(test):
-    return lambda ours, theirs: test(several.disposition(ours), several.disposition(theirs))
-
-
 # By scf's relation: what it prints where it holds and where it fails, and whether two answers have it.
-VERDICTS = (("same", "differs", operator.eq), ("no more", "more", by_disposition(operator.le)),
-             ("no less", "less", by_disposition(operator.ge)),
-             ("same disposition", "differs", by_disposition(operator.eq)))
+VERDICTS = tuple(judged.RELATIONS.values())
 # The instructions of a filter that computes nothing. scf decides each question of one without masks.
 PLAIN = {0x20, 0x05, 0x15, 0x25, 0x35, 0x06}
 # Records of no architecture.
@@ -266,40 +206,38 @@ class SecondReading(unittest.TestCase):
             scf, fault, self.about = way(reading), reading.fault(), (seed, reading.given, reading.profile)
             self.counts["accepted" if fault is None else fault.split()[0]] += 1
             if fault is None:
-                data, owners = several.compile_filter(reading)
+                data = scf.compile()
                 self.hold_answers(scf, data)
-                self.hold_comparisons(scf, way, data, owners)
+                self.hold_comparisons(scf, way, data)
             else:
                 for printed in (scf.compile(), scf.ask(*FOREIGN[0]), scf.compare(ret(ALLOW))):
                     self.assertEqual(printed, f"fault profile {fault}\n".encode(), self.about)
         return self.counts
 
     def hold_answers(self, scf, data):
-        """The answers of the profile, of the filter that scf compiles and of the second reading's; also to records of
-        architectures without a table."""
+        """The answers of the profile, and of the filter that scf compiles; also to records of architectures without a
+        table."""
         records = [record for name in scf.reading.rules
                    for record in scf.reading.records(name, self.random_of, RECORDS)]
         records += [*FOREIGN, *((arch, number, [0] * 6) for arch, first, last, *_ in several.ARCHITECTURES.values()
                                 for number in (first, last))]
-        compiled = scf.compile()
-        self.assertFalse(compiled.startswith(b"fault"), (self.about, compiled))
-        for program in (unpacked(compiled), unpacked(data)):
-            for record in records:
-                self.assertEqual(answer_of(program, *record), scf.reading.answer(*record)[0], (self.about, record))
+        self.assertFalse(data.startswith(b"fault"), (self.about, data))
+        for record in records:
+            self.assertEqual(answer_of(unpacked(data), *record), scf.reading.answer(*record)[0], (self.about, record))
         for record in self.random_of.sample(records, 6):
             answer, why = scf.reading.answer(*record)
             self.assertEqual(scf.ask(*record).decode(), f"{MACHINE.printed(answer)} {why}\n", (self.about, record))
 
-    def hold_comparisons(self, scf, way, data, owners):
-        """scf's own filter and the second reading's are as the profile. Of two with an instruction changed, one may
-        differ in one architecture alone, which alone runs the instruction."""
+    def hold_comparisons(self, scf, way, data):
+        """scf's own filter is as the profile. Of two with an instruction changed, one may differ in one architecture
+        alone, which alone runs the instruction."""
         reading, random_of = scf.reading, self.random_of
+        owners = several.owners_of(unpacked(data), reading.rules)
         self.assertTrue(self.holds(scf, data, random_of.randrange(4), ()))
-        self.assertTrue(self.holds(scf, scf.compile(), 0, ()))
         wrong = several.change_filter(random_of, data, range(len(owners)))
         self.counts["any", self.holds(scf, wrong, 0, reading.rules)] += 1
         name = random_of.choice(reading.given)
-        places = [at for at, owner in enumerate(owners) if owner == name]
+        places = [at for at, names in enumerate(owners) if names == {name}]
         if places:
             wrong, relation = several.change_filter(random_of, data, places), random_of.choice((0, 0, 1, 2, 3))
             holds = self.holds(scf, wrong, relation, (name,))
@@ -351,7 +289,8 @@ class SecondReading(unittest.TestCase):
         self.assertGreater(counts["accepted"], PROFILES // 2)
         self.assertGreater(min(counts["Conflict"], counts["NotListed"]), PROFILES // 40)
         for name in several.ARCHITECTURES:
-            self.assertGreater(min(counts[name, is_alone, "alone"] for is_alone in (True, False)), PROFILES // 120, name)
+            least = min(counts[name, is_alone, "alone"] for is_alone in (True, False))
+            self.assertGreater(least, PROFILES // 120, name)
         for words in VERDICTS:
             self.assertGreater(min(counts[words[0], is_met] for is_met in (True, False)), PROFILES // 50, words)
         self.assertGreater(min(counts["any", is_met] for is_met in (True, False)), PROFILES // 10)
@@ -540,6 +479,7 @@ class BesideLibseccomp(unittest.TestCase):
             text = runtimes.applied(profile, "crun").data
             judged = tables.tables_of_profile(text, tables.read_table(None))
             parts = [("filter", data), ("profile", text), *judged.parts]
-            self.assertEqual(scf(["compare", "--architectures"], parts).split("\n")[0], "same", (seed, profile))
+            out, _ = ran(["compare", "--architectures"], bundles.bundle(parts))
+            self.assertEqual(out.split(b"\n")[0], b"same", (seed, profile))
             count += 1
         self.assertGreater(count, 8)

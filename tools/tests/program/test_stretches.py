@@ -1,21 +1,15 @@
 """Profiles whose numbers stand in stretches, one behind the other or apart: a second machine finds that the compiled
 filter answers each number as the rules say, within the search bound, and scf that filter and profile are the same."""
 import json
-import struct
 
-from support.common import ALLOW, CORE, EPERM, I386, KILL_PROCESS, X32, X86_64, Case, part
-from support.stand_in import StandIn
+from support.common import ALLOW, EPERM, I386, KILL_PROCESS, X32, X86_64
+from support.judged import MACHINE, Judged, Pair, Profile, Stack, record_of
+from support.on_parts import a_profile, a_table, bundle, ran
 
 LOG, ERRNO_5, ERRNO_22 = 0x7FFC0000, 0x00050005, 0x00050016
 # The last number that a rule may have; past each low half; the greatest argument.
 LAST, BIT_32, MOST = X32 - 1, 1 << 32, (1 << 64) - 1
 ACTIONS = {ALLOW: "ALLOW", LOG: "LOG", KILL_PROCESS: "KILL_PROCESS"}
-# How an argument compares with a value, and the second value of a mask (OCI runtime specification, `op`).
-OPERATORS = {
-    "NE": lambda a, v, w: a != v, "LT": lambda a, v, w: a < v, "LE": lambda a, v, w: a <= v,
-    "EQ": lambda a, v, w: a == v, "GE": lambda a, v, w: a >= v, "GT": lambda a, v, w: a > v,
-    "MASKED_EQ": lambda a, v, w: a & v == w & v,
-}
 
 
 def rule(answer, *conditions):
@@ -126,16 +120,7 @@ def profile_of(default, stretches):
         {"index": index, "op": f"SCMP_CMP_{op}", "value": value, "valueTwo": second}
         for index, op, value, second in conditions]}
         for numbers, rules in stretches for answer, conditions in rules]
-    return json.dumps({**action(default, "defaultAction", "defaultErrnoRet"), "syscalls": entries}).encode()
-
-
-def answer_of(default, rules_of, architecture, number, arguments):
-    """The first rule of the number whose conditions hold, or the default."""
-    if architecture != X86_64 or number >= X32:
-        return KILL_PROCESS
-    return next((answer for answer, conditions in rules_of.get(number, ())
-                 if all(OPERATORS[op](arguments[index], value, second) for index, op, value, second in conditions)),
-                default)
+    return json.dumps({**action(default, "defaultAction", "defaultErrnoRet"), "syscalls": entries})
 
 
 def search_bound(rules_of):
@@ -145,37 +130,25 @@ def search_bound(rules_of):
     return 8 + 2 * len(rules_of).bit_length() + max(sums, default=0)
 
 
-def words_of(architecture, number, arguments):
-    """The words of a call record (Linux uapi seccomp.h), the low half of an argument first."""
-    return struct.unpack("<16I", struct.pack("<IIQ6Q", number, architecture, 0, *arguments))
-
-
-class Stretches(Case):
-    def calls(self, stretches, arguments):
+class Stretches(Judged):
+    def records(self, stretches, arguments):
         """Each number of the stretches, their neighbours and the ends, with each of the arguments."""
         numbers = {number for first, _ in stretches for number in range(max(first.start - 1, 0), first.stop + 1)}
-        asked = [(X86_64, number) for number in sorted(numbers | {0, LAST, X32, 0xFFFFFFFF})]
-        return [(*of, given) for of in [*asked, (I386, 0), (I386, LAST)] for given in arguments]
+        asked = [(number, X86_64) for number in sorted(numbers | {0, LAST, X32, 0xFFFFFFFF})]
+        return [record_of(*of, 0, given) for of in [*asked, (0, I386), (LAST, I386)] for given in arguments]
 
     def is_compiled(self, default, patterns, arguments):
         stretches = stretches_of(patterns)
         rules_of = {number: rules for numbers, rules in stretches for number in numbers}
-        table = "".join(f"c{number} {number}\n" for number in rules_of).encode()
-        given = part("profile", profile_of(default, stretches)) + part("table", table)
-        path = self.file("filter", b"")
-        with open(path, "wb") as file:
-            self.assertEqual(self.run_words([*CORE, "compile"], given, stdout=file)[0], 0)
-        with open(path, "rb") as file:
-            filter_ = file.read()
-        program = list(struct.iter_unpack("<HBBI", filter_))
-        bound = search_bound(rules_of)
-        for architecture, number, of in self.calls(stretches, arguments):
-            ran = []
-            answer = StandIn().answer(program, words_of(architecture, number, of), ran)
-            self.assertEqual(answer, answer_of(default, rules_of, architecture, number, of), (number, of))
-            self.assertLessEqual(len(ran), bound, (number, of))
-        compared = self.run_words([*CORE, "compare"], part("filter", filter_) + given)
-        self.assertEqual(compared, (0, "same\n", ""))
+        text, table = profile_of(default, stretches), "".join(f"c{number} {number}\n" for number in rules_of)
+        compiled, status = ran(["compile"], bundle([a_profile(text), a_table(table)]))
+        self.assertEqual(status, 0)
+        pair, bound = Pair(Stack([compiled]), Profile(text, table), ()), search_bound(rules_of)
+        for record in self.records(stretches, arguments):
+            path = []
+            self.assertEqual(MACHINE.answer(pair.left.programs[0], record, path), pair.right.answer(record), record)
+            self.assertLessEqual(len(path), bound, record)
+        self.assertEqual(self.judge(pair), "same")
 
     def are_compiled(self, subjects, arguments):
         for default, patterns in subjects:

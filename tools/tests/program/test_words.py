@@ -69,62 +69,33 @@ WORDS = (
      "--native or --beside\n"
      "  -h, --help                  Print help\n", 0),
     (["--version"], "scf 0.1.0\n", 0),
-    ([],
-     "error: 'scf' requires a subcommand but one was not provided\n"
-     "  [subcommands: check, run, decide, dis, asm, compile, compare, ask, answers, help]\n"
-     "\n"
-     "Usage: scf <COMMAND>\n"
-     "\n"
-     "For more information, try '--help'.\n", 2),
-    (["frobnicate"],
-     "error: unrecognized subcommand 'frobnicate'\n\nUsage: scf <COMMAND>\n\nFor more information, try '--help'.\n",
-     2),
-    (["run", b"\xff"], "error: invalid UTF-8 was detected in one or more arguments\n", 2),
-    (["run", "--nr", "-1"],
-     "error: unexpected argument '-1' found\n\nUsage: scf run [OPTIONS]\n\nFor more information, try '--help'.\n", 2),
-    (["check", "--nr", "1"],
-     "error: unexpected argument '--nr' found\n\nUsage: scf check\n\nFor more information, try '--help'.\n", 2),
-    (["run", "--nr"],
-     "error: a value is required for '--nr <NUMBER>' but none was supplied\n\nFor more information, try '--help'.\n",
-     2),
-    (["run", "--nr", "1", "--nr", "2"],
-     "error: the argument '--nr <NUMBER>' cannot be used multiple times\n"
-     "\n"
-     "Usage: scf run [OPTIONS]\n"
-     "\n"
-     "For more information, try '--help'.\n", 2),
-    # A flag given twice, and with a text.
-    (["compare", "--native", "--native"],
-     "error: the argument '--native' cannot be used multiple times\n"
-     "\n"
-     "Usage: scf compare [OPTIONS]\n"
-     "\n"
-     "For more information, try '--help'.\n", 2),
-    (["compare", "--native=1"],
-     "error: unexpected value '1' for '--native' found; no more were expected\n"
-     "\n"
-     "Usage: scf compare --native\n"
-     "\n"
-     "For more information, try '--help'.\n", 2),
-    (["compare", "--calls", "--calls"],
-     "error: the argument '--calls' cannot be used multiple times\n"
-     "\n"
-     "Usage: scf compare [OPTIONS]\n"
-     "\n"
-     "For more information, try '--help'.\n", 2),
-    (["compare", "--calls=1"],
-     "error: unexpected value '1' for '--calls' found; no more were expected\n"
-     "\n"
-     "Usage: scf compare --calls\n"
-     "\n"
-     "For more information, try '--help'.\n", 2),
 )
+# Words that are refused, and what is said of them; the usage, if it is shown; and how all of these end.
+REFUSED = (
+    ([], "'scf' requires a subcommand but one was not provided\n"
+     "  [subcommands: check, run, decide, dis, asm, compile, compare, ask, answers, help]", "scf <COMMAND>"),
+    (["frobnicate"], "unrecognized subcommand 'frobnicate'", "scf <COMMAND>"),
+    (["run", "--nr", "-1"], "unexpected argument '-1' found", "scf run [OPTIONS]"),
+    (["check", "--nr", "1"], "unexpected argument '--nr' found", "scf check"),
+    (["run", "--nr"], "a value is required for '--nr <NUMBER>' but none was supplied", None),
+    (["run", "--nr", "1", "--nr", "2"], "the argument '--nr <NUMBER>' cannot be used multiple times",
+     "scf run [OPTIONS]"),
+    # A flag given twice, and with a text.
+    *((["compare", flag, flag], f"the argument '{flag}' cannot be used multiple times", "scf compare [OPTIONS]")
+      for flag in ("--native", "--calls")),
+    *((["compare", f"{flag}=1"], f"unexpected value '1' for '{flag}' found; no more were expected",
+       f"scf compare {flag}") for flag in ("--native", "--calls")),
+)
+MORE = "\n\nFor more information, try '--help'.\n"
 
 
 class Words(OnProgram):
     def test_words(self):
         for words, text, status in WORDS:
             self.prints(words, b"", text, status)
+        for words, text, usage in REFUSED:
+            self.prints(words, b"", f"error: {text}" + (f"\n\nUsage: {usage}" if usage else "") + MORE, 2)
+        self.prints(["run", b"\xff"], b"", "error: invalid UTF-8 was detected in one or more arguments\n", 2)
 
     def test_other_options(self):
         """Each command that takes no option refuses one, and `compare` those of a call."""

@@ -3,8 +3,8 @@ import json
 import os
 import re
 
-from support.common import (ALLOW, CORE, EPERM, I386, KILL_PROCESS, KILL_THREAD, TABLE, TOP, UNKNOWN_ZERO, X86_64,
-                            Case, filter_of, insn, jeq, jge, load, needs, part, profile_of, ret)
+from support.common import (ALLOW, CORE, EPERM, I386, KILL_PROCESS, KILL_THREAD, TABLE, TOP, UNKNOWN_ZERO, X86_64, Case,
+                            filter_of, insn, jeq, jge, load, part, profile_of, ret, text_of)
 from scftools.model import bundles, profiles, tables
 from scftools.ask import client
 from scftools.report import compare
@@ -26,8 +26,7 @@ class Compare(Case):
         return self.run_words([*CORE, "compare", *words], given)
 
     def bundle(self, *filters, profile=None):
-        with open(TABLE, "rb") as file:
-            table = file.read()
+        table = text_of(TABLE).encode()
         return b"".join(part("filter", data) for data in filters) + part("profile",
             profile or profile_of("read", "write")) + part("table", table)
 
@@ -61,8 +60,7 @@ class Compare(Case):
     def test_a_table_of_ones_own(self):
         table = self.file("own.table", b"# mine\nread 0\nwrite 1\nleave 231\nleave_too 231\n")
         for name, given in ((table, b""), ("-", b"read 0\nwrite 1\nleave 231\nleave_too 231\n")):
-            status, out, _ = self.run_tool("compare", "--table", name, self.wrong, self.profile, given=given)
-            self.assertEqual(status, 1)
+            out = self.output_of(1, "compare", "--table", name, self.wrong, self.profile, given=given)
             self.assertIn("# the syscall is leave or leave_too (231)\n", out)
         with open(table, "rb") as given:
             out = self.run_tool("compare", "--table", "-", self.wrong, self.profile, given=given)[1]
@@ -75,8 +73,7 @@ class Compare(Case):
                       self.run_tool("compare", "--table", few, self.wrong, self.profile)[1])
 
     def test_foreign_calls_are_said_to_be_left_out_by_native(self):
-        status, out, _ = self.run_tool("compare", "--all", self.lax, self.profile)
-        self.assertEqual(status, 1)
+        out = self.output_of(1, "compare", "--all", self.lax, self.profile)
         self.assertIn("# --native leaves out ", out)
         self.assertEqual(self.run_tool("compare", self.lax, self.profile), (0, "same\n", ""))
 
@@ -94,9 +91,7 @@ class Compare(Case):
                                      "# --native leaves out numbers from 0x40000000 on\n"),
                 (X86_64, 0xFFFFFFFF, "number -1, which a tracer sets to skip a syscall\n"
                                      "# --native leaves out numbers from 0x40000000 on\n")):
-            status, out, _ = self.run_tool("compare", "--all", self.file("one.bpf", on_one_call(arch, number)),
-                                           self.profile)
-            self.assertEqual(status, 1)
+            out = self.output_of(1, "compare", "--all", self.file("one.bpf", on_one_call(arch, number)), self.profile)
             self.assertIn(f"call nr {number} arch {arch:#x} ", out)
             self.assertIn(f"# the syscall is {says}", out)
 
@@ -116,34 +111,28 @@ class Compare(Case):
                 self.assertEqual(members["call"]["pointer"], pointer, (words, report))
 
     def test_faults_have_their_sentence(self):
-        status, out, _ = self.run_tool("compare", self.file("jump.bpf", jeq(0, 9, 0) + ret(ALLOW)), self.profile)
-        self.assertEqual(status, 2)
+        out = self.output_of(2, "compare", self.file("jump.bpf", jeq(0, 9, 0) + ret(ALLOW)), self.profile)
         self.assertTrue(out.startswith("fault filter Jump at 0\n# This jump leaves the filter"), out)
-        status, out, _ = self.run_tool("compare", self.file("cut.bpf", b"\6\0\0"), self.profile)
-        self.assertEqual(status, 2)
+        out = self.output_of(2, "compare", self.file("cut.bpf", b"\6\0\0"), self.profile)
         self.assertTrue(out.startswith("fault filter Truncated offset 0\n# The input ends inside the instruction"),
                         out)
-        status, out, _ = self.run_tool("compare", self.same, self.file("p",
+        out = self.output_of(2, "compare", self.same, self.file("p",
             b'{"defaultAction":"SCMP_ACT_ALLOW","syscalls":[{"action":"SCMP_ACT_LOG"}]}'))
-        self.assertEqual(status, 2)
         self.assertTrue(out.startswith("fault profile Missing entry 0\n# A member is missing"), out)
         entries = b'{"names":["socket"],"action":"SCMP_ACT_LOG"},{"names":["socket"],"action":"SCMP_ACT_ERRNO"}'
         conflict = b'{"defaultAction":"SCMP_ACT_ALLOW","syscalls":[%s]}' % entries
-        status, out, _ = self.run_tool("compare", self.same, self.file("c", conflict))
-        self.assertEqual(status, 2)
+        out = self.output_of(2, "compare", self.same, self.file("c", conflict))
         self.assertTrue(out.startswith("fault profile Conflict number 41 first 0 second 1\n# Two entries"), out)
         columns = [match.start() + 1 for match in re.finditer(rb'\{"names"', conflict)]
         self.assertTrue(out.endswith("# the syscall is socket (41)\n# the entries begin at line 1, column "
                                      f"{columns[0]} and at line 1, column {columns[1]}\n"), out)
 
     def test_unfinished_and_limit(self):
-        status, out, _ = self.run_tool("compare", "--limit", "0", self.same, self.profile)
-        self.assertEqual(status, 4)
+        out = self.output_of(4, "compare", "--limit", "0", self.same, self.profile)
         self.assertTrue(out.startswith("unfinished\n# The comparison, or the walk of `answers`, took as many"), out)
         status, out, err = self.run_tool("compare", "--limit", "-1", self.same, self.profile)
         self.assertEqual((status, out.split("\n")[0], err), (2, "fault number limit", ""))
-        status, out, _ = self.run_tool("compare", "--limit", "x", self.same, self.profile)
-        self.assertEqual(status, 2)
+        out = self.output_of(2, "compare", "--limit", "x", self.same, self.profile)
         self.assertTrue(out.startswith("fault number limit\n# The option's text isn't a number"), out)
 
     def of_each(self, data):
@@ -205,7 +194,7 @@ class Compare(Case):
                 for is_native in (True, False):
                     judged = tables.tables_of_profile(data, tables.read_table(None), is_native)
                     flags = [] if is_native else ["--architectures"]
-                    done = client.run_scf(["compare", *flags, *judged.reading_words],
+                    done = client.run_scf(["compare", *flags, *[f"--reading={reading}"] * (reading != "strict")],
                                       bundles.comparison_bundle([ret(ALLOW)], data, judged))
                     report = compare.left_out(data, judged)
                     text = "".join([f"skipped {name}\n" for name in report.skipped]
@@ -228,20 +217,16 @@ class Compare(Case):
                 self.assertEqual(self.run_tool("compare", scope, self.same, profile), (0, f"same\n{added}", ""))
             self.assertEqual(self.run_tool("compare", "--verbose", "--calls", self.wrong, profile),
                              (1, f"differs\n{call}\nskipped {shown}\n{added}", ""))
-            status, out, _ = self.run_tool("compare", "--native", self.wrong, profile)
-            self.assertEqual(status, 1)
+            out = self.output_of(1, "compare", "--native", self.wrong, profile)
             self.assertTrue(out.endswith(f"{added}# syscalls in the table that differ: 1\n# {call}\n"), out)
 
-    @needs("--native")
     def test_native(self):
         self.assertEqual(self.run_tool("compare", "--native", self.lax, self.profile), (0, "same\n", ""))
-        status, out, err = self.run_tool("compare", "--native", self.wrong, self.profile)
-        self.assertEqual((status, err), (1, ""))
+        out = self.output_of(1, "compare", "--native", self.wrong, self.profile)
         self.assertTrue(out.startswith("differs\n"))
         self.assertIn("# the syscall is exit_group (231)\n", out)
         self.assertNotIn("--native", out)
 
-    @needs("--calls")
     def test_calls(self):
         self.assertEqual(self.run_tool("compare", "--calls", self.lax, self.profile), (0, "same\n", ""))
         answers = "args 0x0 0x0 0x0 0x0 0x0 0x0 filter ALLOW 0 profile ERRNO 1\n"
@@ -253,7 +238,6 @@ class Compare(Case):
         status, out, _ = self.run_tool("compare", "--calls", "--limit", "0", self.same, self.profile)
         self.assertEqual((status, out.split("\n")[:2]), (4, ["unfinished", "0 read unfinished"]))
 
-    @needs("--calls")
     def test_native_calls_that_differ_are_told_by_name(self):
         line = "231 exit_group differs args 0x0 0x0 0x0 0x0 0x0 0x0 filter ALLOW 0 profile ERRNO 1"
         heading = "syscalls in the table that differ"
@@ -261,17 +245,14 @@ class Compare(Case):
             f"# {heading}: 1\n# {line}\n"))
         # as runc puts in front of a filter: numbers that it doesn't know fail with ENOSYS
         stub = load(0) + jge(500, 0, 1) + ret(0x00050026)
-        status, out, _ = self.run_tool("compare", "--native",
-                                       self.file("stub.bpf", stub + filter_of([READ, WRITE])), self.profile)
-        self.assertEqual(status, 1)
+        out = self.output_of(1, "compare", "--native",
+                             self.file("stub.bpf", stub + filter_of([READ, WRITE])), self.profile)
         self.assertTrue(out.endswith("# each syscall in the table gets the same answer from both sides\n"), out)
         self.assertIn(f"# {heading}: 1\n# {line}\n", self.run_tool("compare", "--all", self.wrong, self.profile)[1])
 
-    @needs("--native")
     def test_several_filters(self):
         stricter = self.file("stricter.bpf", load(0) + jeq(WRITE, 0, 1) + ret(0x00050002) + ret(ALLOW))
-        status, out, _ = self.run_tool("compare", "--native", self.lax, stricter, self.profile)
-        self.assertEqual(status, 1)
+        out = self.output_of(1, "compare", "--native", self.lax, stricter, self.profile)
         self.assertIn("# the syscall is write (1)\n# the filters answer ERRNO 2: the syscall fails with "
                       "ENOENT\n", out)
         allow = self.file("allow.bpf", ret(ALLOW))
@@ -502,8 +483,7 @@ class WithAnotherScf(Case):
                          + part("table", b"getpid 39\n"))
         self.assertEqual(words, "compare --native --limit=7\n")
         self.assertIn("without a verdict: 1\n# 39 getpid unfinished\n", done[1])
-        with open(os.path.join(self.folder, "kept.calls"), encoding="ascii") as handed:
-            self.assertEqual(handed.read(), "compare --calls --limit=7\n")
+        self.assertEqual(text_of(os.path.join(self.folder, "kept.calls")), "compare --calls --limit=7\n")
         with open(os.path.join(self.folder, "kept.relations"), encoding="ascii") as handed:
             self.assertEqual(handed.read().split("\n"), [f"compare --native --no-{word} --limit=7"
                                                          for word in ("more", "less")]
@@ -525,15 +505,13 @@ class Decide(Case):
                              (0, "ERRNO 1\n# the syscall is write (1)\n# ERRNO 1: the syscall fails with "
                                  "EPERM\n# the path in the filter: 0 1 3 4 6 7\n", ""))
         self.assertEqual(self.run_tool("decide", "--nr=0", self.filter)[1],
-                         "ALLOW 0\n# the syscall is read (0)\n# ALLOW: the syscall is executed\n# the path in the filter: 0 1 3 "
-                         "4 6 8\n")
+                         "ALLOW 0\n# the syscall is read (0)\n# ALLOW: the syscall is executed\n# the path in the "
+                         "filter: 0 1 3 4 6 8\n")
         self.file("-t", b"own 1\n")
         for words, given in (("--table=-t", b""), ("--table=-", b"own 1\n")):
             out = self.run_tool("decide", words, "--nr", "own", self.filter, given=given)[1]
             self.assertTrue(out.startswith("ERRNO 1\n# the syscall is own (1)\n"), out)
-        status, out, err = self.run_tool("decide", "--nr", "no_such_call", self.filter)
-        self.assertEqual((status, out), (2, ""))
-        self.assertIn("the table has no syscall 'no_such_call'", err)
+        self.is_refused("the table has no syscall 'no_such_call'", "decide", "--nr", "no_such_call", self.filter)
 
     def test_each_option_is_handed_on(self):
         for at in range(6):
@@ -558,8 +536,7 @@ class Decide(Case):
         self.assertEqual(done, (0, "ERRNO 1\n# the syscall is socket (41)\n# ERRNO 1: the syscall fails with EPERM\n"
                                    f"# the filters that answer so are {files[0]} and {files[1]}\n"
                                    f"# the path in {files[1]}: 0 2\n", ""))
-        with open(kept, encoding="ascii") as handed:
-            self.assertEqual(handed.read(), "decide --nr=41 --path\n")
+        self.assertEqual(text_of(kept), "decide --nr=41 --path\n")
 
     def test_filters_stand_oldest_first(self):
         first, two = self.file("one.bpf", ret(0x00050001)), self.file("two.bpf", ret(0x00050002))
@@ -569,11 +546,9 @@ class Decide(Case):
         self.assertTrue(out.startswith("KILL_PROCESS 0\n"))
 
     def test_faults_and_wrong_words(self):
-        status, out, _ = self.run_tool("decide", "--nr=0", self.file("e.bpf", b""))
-        self.assertEqual(status, 2)
+        out = self.output_of(2, "decide", "--nr=0", self.file("e.bpf", b""))
         self.assertTrue(out.startswith("fault filter Empty\n# The filter has no instruction"), out)
-        status, out, _ = self.run_tool("decide", "--nr", "4294967296", self.filter)
-        self.assertEqual(status, 2)
+        out = self.output_of(2, "decide", "--nr", "4294967296", self.filter)
         self.assertTrue(out.startswith("fault number nr\n# The option's text isn't a number below 2^32"), out)
         for words in (("none.bpf",), (self.folder,), ("--table", "none", self.filter), ("-", "-"),
                       ("--table", "-", "-")):
@@ -586,13 +561,11 @@ class Explain(Case):
     """What a pasted line means."""
 
     def explained(self, *words, **settings):
-        status, out, err = self.run_tool("explain", *words, **settings)
-        self.assertEqual((status, err), (0, ""), words)
+        out = self.output_of(0, "explain", *words, **settings)
         return out.split("\n")[:-1]
 
     def test_usage(self):
-        status, out, err = self.run_tool("explain", "--help")
-        self.assertEqual((status, err), (0, ""))
+        out = self.output_of(0, "explain", "--help")
         self.assertIn("usage: explain ", out)
         for words, status in ((["no", "such", "line"], 2), (["a page fault in kernel mode"], 2), (["fault x Y"], 2),
                               (["299"], 2), (["--no-such"], 2)):
@@ -629,11 +602,11 @@ class Explain(Case):
             for line in printed.split("\n")[:-1]:
                 self.assertEqual(out[out.index(line) + 1][:2], "# ", line)
         self.assertEqual(self.run_tool("explain", given=b"hello\n"), (2, "hello\n", ""))
+        self.assertEqual(self.run_tool("explain", "fault profile Conflict first 0")[0], 0)
 
     def test_each_word_of_the_objects(self):
         """Each verdict, disposition, reason and action that docs/scf.schema.json has is a word that tools print."""
-        with open(os.path.join(TOP, "docs", "scf.schema.json"), encoding="utf-8") as file:
-            kinds = json.load(file)["$defs"]
+        kinds = json.loads(text_of(os.path.join(TOP, "docs", "scf.schema.json")))["$defs"]
         words = {word for kind in ("verdict", "disposition", "reason", "action", "audit-verdict")
                  for word in kinds[kind]["enum"]}
         words.update(kinds["stack-verdict"]["anyOf"][0]["enum"],

@@ -7,7 +7,7 @@ from support.common import ALLOW, EPERM, I386, KILL_PROCESS, X86_64, filter_of, 
 from support.stand_in import StandIn
 from ask.test_starts import Counting
 from scftools.model.calls import Call
-from scftools.report import expectations
+from scftools.report import decisions
 
 # socket of AF_NETLINK is denied, another architecture's syscalls kill.
 DATA = (load(4) + jeq(X86_64, 1, 0) + ret(KILL_PROCESS) + load(0) + jeq(41, 0, 2) + load(16) + jeq(16, 1, 0)
@@ -68,7 +68,7 @@ class Expectations(Counting):
         self.assertEqual(self.starts("decide", "--expect", rows, self.file("f.bpf", DATA)), 1)
 
     def test_more_rows_than_a_file_may_have(self):
-        with mock.patch.object(expectations, "MOST_ROWS", 2):
+        with mock.patch.object(decisions, "MOST_ROWS", 2):
             self.assertEqual(self.decided("read = ALLOW\n# other\nread = ALLOW\n")[0], 0)
             self.assertEqual(self.decided("read = ALLOW\n" * 3)[::2],
                              (2, "decide: the file has more than 2 rows\n"))

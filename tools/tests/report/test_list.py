@@ -25,8 +25,7 @@ EVERY_CODE = (0x20, 0x80, 0x81, 0x00, 0x01, 0x60, 0x61, 0x02, 0x03, 0x04, 0x0C, 
 
 class List(Case):
     def listed(self, data):
-        status, out, err = self.run_tool("list", self.file("f.bpf", data))
-        self.assertEqual((status, err), (0, ""))
+        out = self.output_of(0, "list", self.file("f.bpf", data))
         return out.split("\n")[:-1]
 
     def meanings(self, data):
@@ -185,14 +184,12 @@ class List(Case):
 
     def test_pipes_and_a_table_of_ones_own(self):
         table = self.file("t", b"look 231\n")
-        status, out, err = self.run_tool("list", "--table", table, "-", given=GATE)
-        self.assertEqual((status, err), (0, ""))
+        out = self.output_of(0, "list", "--table", table, "-", given=GATE)
         self.assertIn("// look: to 7, else 8\n", out)
         self.assertEqual(self.run_tool("list", "-"), (0, "", ""))
 
     def test_wrong_files(self):
-        status, out, _ = self.run_tool("list", "-", given=b"\6\0\0\0")
-        self.assertEqual(status, 2)
+        out = self.output_of(2, "list", "-", given=b"\6\0\0\0")
         self.assertTrue(out.startswith("fault filter Truncated offset 0\n# "), out)
         for words in (("none",), (self.folder,), ("--table", "none", "-")):
             status, out, err = self.run_tool("list", *words)
@@ -209,8 +206,7 @@ class Graph(Case):
     """--dot: the control flow as a graph."""
 
     def graph_of(self, data, *words):
-        status, out, err = self.run_tool("list", "--dot", *words, self.file("f.bpf", data))
-        self.assertEqual((status, err), (0, ""))
+        out = self.output_of(0, "list", "--dot", *words, self.file("f.bpf", data))
         return out
 
     def test_a_graph(self):

@@ -103,8 +103,8 @@ class Newer(Case):
 
     def test_calls_by_name(self):
         _, added = self.added(stub(450) + filter_of(self.rules), scope="--calls")
-        newer = [f"{SAID} set_mempolicy_home_node (450); both sides deny them, the filter with ERRNO 38 (ENOSYS) and the "
-                 "profile with ERRNO 1 (EPERM)", f"syscalls in the table among these: {COUNT_FROM_450}"]
+        newer = [f"{SAID} set_mempolicy_home_node (450); both sides deny them, the filter with ERRNO 38 (ENOSYS) and "
+                 "the profile with ERRNO 1 (EPERM)", f"syscalls in the table among these: {COUNT_FROM_450}"]
         self.assertEqual(added, [f"over the syscalls in the table: {ONLY_ANSWERS}", f"only {newer[0]}", newer[1]])
         _, added = self.added(stub(450) + filter_of([*self.rules, 41, 42]), scope="--calls")
         self.assertEqual(added, newer)

@@ -7,11 +7,12 @@ from unittest import mock
 
 from support import several
 from support.common import (ALLOW, EPERM, KILL_PROCESS, KILL_THREAD, LOG, TOP, TRACE, TRAP, USER_NOTIF, X32, X86_64,
-                            Case, gate, insn, jeq, jge, jgt, jset, load, ret, tool)
+                            Case, gate, insn, jeq, jge, jgt, jset, load, ret, text_of, tool)
 from support.seccomp_library import NEEDED, Library
 from support.stand_in import StandIn, unpacked
-from scftools.model import answers
+from scftools.model import bundles
 from scftools.model.calls import Call
+from scftools.ask import client
 from scftools.report.profile_of import TRAP_DATA_TEXT
 
 MOST = (1 << 64) - 1
@@ -93,6 +94,12 @@ def where(index, op, value, two, left, right):
         return load(low + 4) + masks[0] + jeq(high, 0, len(behind) // 8 + size) + behind + left + right
     behind = load(low) + {"SCMP_CMP_GT": jgt, "SCMP_CMP_GE": jge}[op](value, 0, size)
     return load(low + 4) + jgt(high, 3, 0) + jeq(high, 0, 2 + size) + behind + left + right
+
+
+def compiled(reading):
+    """scf's filter of a drawn profile."""
+    parts = [("profile", several.text(reading.profile)), *several.tables_of(reading.given)]
+    return client.run_scf(["compile", "--architectures"], bundles.bundle(parts)).out
 
 
 class Drawn:
@@ -463,8 +470,8 @@ EACH = ("the profile covers x86-64, i386, x32, aarch64, arm, riscv64, ppc64le, m
 
 def table_of(name):
     """The names of a table that comes with scf."""
-    with open(os.path.join(TOP, "tables", f"{FILES[name]}.table"), encoding="ascii") as file:
-        return {syscall: int(number) for syscall, number in (line.split() for line in file if line[0] != "#")}
+    lines = text_of(os.path.join(TOP, "tables", f"{FILES[name]}.table")).splitlines()
+    return {syscall: int(number) for syscall, number in (line.split() for line in lines if line[0] != "#")}
 
 
 # The second reading of profiles, with these tables.
@@ -581,7 +588,7 @@ class OtherArchitectures(Case):
             reading = several.draw(source)
             if reading.fault():
                 continue
-            data, _ = several.compile_filter(reading)
+            data = compiled(reading)
             for name in reading.rules:
                 status, profile, _ = self.printed(data, "--arch", FILES[name], "--table", tables[name])
                 self.assertEqual(status, 0, (seed, name))
@@ -687,7 +694,7 @@ class OtherArchitectures(Case):
             judged = list(reading.rules)
             if NATIVE not in judged or reading.default in (several.KILLS, several.ACTIONS["KILL"]) or reading.fault():
                 continue
-            data, _ = several.compile_filter(reading)
+            data = compiled(reading)
             status, profile, _ = self.printed(data)
             self.assertEqual((status, profile["architectures"]), (0, judged), seed)
             for name in judged:
@@ -714,9 +721,7 @@ class OtherArchitectures(Case):
         for words, says in ((["--arch", "i386", "--runtime", "runc"], "give either --arch or --runtime"),
                             (["--arch", "sh"], "no table of the architecture 'sh'"),
                             (["--arch", "mips"], "SCMP_ARCH_MIPS is big-endian")):
-            status, out, err = self.run_tool("profile-of", *words, path)
-            self.assertEqual((status, out), (2, ""))
-            self.assertIn(says, err)
+            self.is_refused(says, "profile-of", *words, path)
         # a table is the architecture's
         own_table = self.file("own.table", "mine 7\n")
         data = of_records({X86: tests_of({7: ret(ALLOW)}, EPERM)})

@@ -5,8 +5,8 @@ import random
 import re
 import unittest
 
-from support.common import (ALLOW, ENOSYS, EPERM, I386, LOG, TABLE, TRACE, UNKNOWN_ZERO, X86_64, Case, filter_of, insn,
-                            jeq, jge, load, part, ret)
+from support.common import (ALLOW, ENOSYS, EPERM, I386, LOG, TRACE, UNKNOWN_ZERO, X86_64, Case, filter_of, insn, jeq,
+                            jge, load, part, ret)
 from support.stand_in import StandIn
 from report.test_surface import gate, of_number
 from scftools.base.program import ToolError
@@ -59,8 +59,7 @@ class Lines(Case):
         return self.run_tool("answers", *words, *names)
 
     def test_usage(self):
-        status, out, err = self.run_tool("answers", "--help")
-        self.assertEqual((status, err), (0, ""))
+        out = self.output_of(0, "answers", "--help")
         self.assertIn("usage: ", out)
         self.assertEqual(self.run_tool("answers", "--no-such-option")[:2], (2, ""))
 
@@ -68,8 +67,7 @@ class Lines(Case):
         """A filter alone is a file; of a bundle the program's own lines are printed."""
         data = filter_of([0])
         self.assertEqual(self.run_tool("answers", given=data), self.said([data]))
-        status, out, err = self.run_tool("answers", given=part("filter", data))
-        self.assertEqual((status, err), (0, ""))
+        out = self.output_of(0, "answers", given=part("filter", data))
         self.assertRegex(out, r"\nregions [0-9]+ steps [0-9]+\n\Z")
 
     def test_lines(self):
@@ -129,8 +127,7 @@ class Lines(Case):
             "syscalls": [{"number": 0, "names": ["read"]}], "unnamed": 0, "where": []})
         self.assertEqual(entry["example"]["number"], 0)
         named = sum(len(region["syscalls"]) for region in report["regions"])
-        with open(TABLE, "rb") as file:
-            self.assertEqual(named, len(tables.Table(file.read()).numbers()))
+        self.assertEqual(named, len(tables.read_table(None).numbers()))
         self.assertEqual(sum(region["unnamed"] for region in report["regions"]), 0x40000000 - named)
 
     def test_statuses(self):

@@ -8,11 +8,11 @@ import re
 from support import several
 from support.common import ALLOW, EPERM, KILL_PROCESS, Case, jeq, jge, load, ret
 from support.stand_in import StandIn
-from report.test_profile_of import (AARCH64, ARM, FILES, HOLDS, NATIVE, OWN, TRAP, X32_NAME, X86, Drawn, jset,
+from report.test_profile_of import (AARCH64, ARM, FILES, HOLDS, NATIVE, OWN, TRAP, X32_NAME, X86, Drawn, compiled, jset,
                                     of_numbers, of_records, rank_of, tests_of, where)
 from scftools.model import answers, constants, tables
 from scftools.model.calls import Call
-from scftools.report import row_conditions
+from scftools.report import condition_texts
 
 EINVAL = 0x00050000 | 22
 AUDIT = where(0, "SCMP_CMP_EQ", 16, 0, where(2, "SCMP_CMP_EQ", 9, 0, ret(EINVAL), ret(ALLOW)), ret(ALLOW))
@@ -130,8 +130,8 @@ class Lines(Case):
                      "type == SOCK_DGRAM, else denied (TRAP 9)")
 
     def test_many_alternatives(self):
-        """Those of dispositions, if they are fewer: as chromium answers an upper half that isn't the extended lower one.
-        """
+        """Those of dispositions, if they are fewer: as chromium answers an upper half that isn't the extended lower
+        one."""
         of_low = load(16) + jeq(1, 0, 1) + ret(ALLOW) + ret(TRAP | 1)
         code = load(20) + jeq(0, 4, 0) + jeq(0xFFFFFFFF, 0, 2) + load(16) + jset(1 << 31, 1, 0) + ret(TRAP | 2) + of_low
         self.is_said(code, "socket allowed where domain == AF_UNIX, else denied")
@@ -206,7 +206,7 @@ class Lines(Case):
             reading = several.draw(source)
             if reading.fault():
                 continue
-            data, _ = several.compile_filter(reading)
+            data = compiled(reading)
             for name in reading.rules:
                 arch, first, _, bits, _, table = several.ARCHITECTURES[name]
                 own_table = "".join(f"{syscall} {number}\n" for syscall, number in table.items())
@@ -238,6 +238,6 @@ class Names(Case):
     def test_each_line(self):
         """Syscalls of the table, and no more arguments than they have."""
         table, kinds = tables.read_table(None), constants.kinds()
-        for syscall, names in row_conditions.argument_names().items():
+        for syscall, names in condition_texts.argument_names().items():
             self.assertIsNotNone(table.number_of(syscall), syscall)
             self.assertLessEqual(len(names), len(kinds[syscall]), syscall)

@@ -15,8 +15,9 @@ import termios
 import unittest
 from unittest import mock
 
-from support.common import (ALLOW, EPERM, I386, KILL_PROCESS, KILL_THREAD, LOG, TABLE, TOP, TRACE, TRAP, UNKNOWN_ZERO,
-                            USER_NOTIF, X32, X86_64, Case, filter_of, gate, insn, jeq, jge, jgt, load, ret, tool)
+from support.common import (ALLOW, EPERM, I386, KILL_PROCESS, KILL_THREAD, LOG, TOP, TRACE, TRAP, UNKNOWN_ZERO,
+                            USER_NOTIF, X32, X86_64, Case, filter_of, gate, insn, jeq, jge, jgt, load, ret, text_of,
+                            tool)
 from support.confined import NEWEST, OLDEST, Confined, here
 from support.stand_in import StandIn
 from report.test_why import random_filter
@@ -25,7 +26,7 @@ from scftools.model import answers, architectures, tables
 from scftools.model.calls import Call
 from scftools.ask import client, questions
 from scftools.forms import stacks
-from scftools.report import blocks, surface_output, surface_pairs, surfaces
+from scftools.report import blocks, stack_surfaces, surface_output, surfaces
 
 READ, WRITE, GETPID, SOCKET, EXIT_GROUP = 0, 1, 39, 41, 231
 NAMES = {"read": READ, "write": WRITE, "getpid": GETPID, "socket": SOCKET, "exit_group": EXIT_GROUP, "too": READ}
@@ -323,9 +324,7 @@ class Program(Case):
         self.says_usage("surface")
         for words in (("--pid", "x"), ("--pid", "0"), ("--pid", "1", "f"), ("--beside", "f"), ("--table=-", "-"),
                       ("-", "--beside", "-")):
-            status, out, err = self.run_tool("surface", *words)
-            self.assertEqual((status, out), (2, ""), words)
-            self.assertIn("surface: ", err)
+            self.is_refused("surface: ", "surface", *words)
 
     def test_lines(self):
         filters = KNOWN["by an argument"][0]
@@ -380,8 +379,7 @@ class Program(Case):
             self.assertEqual(json.loads(self.said([data], "--json")[1][0]).get("is_for"),
                              None if name in ("i386", "x86-64") else [name])
         self.assertEqual(self.said([of_arch["aarch64"], of_arch["arm"]])[1][0], "allowed 0, depends 0, denied 5")
-        status, out, err = self.run_tool("surface", "--machine", "arm64", self.file("f.bpf", of_arch["aarch64"]))
-        self.assertEqual((status, err), (0, ""))
+        out = self.output_of(0, "surface", "--machine", "arm64", self.file("f.bpf", of_arch["aarch64"]))
         self.assertRegex(out, r"\Aaarch64: allowed 1, depends 0, denied \d+\n"
                               r"other ABIs: every arm syscall is denied; the kernel has no others\n")
         out = self.run_tool("surface", "--machine", "arm64", self.file("f.bpf", of_arch["x86-64"]))[1]
@@ -621,7 +619,7 @@ class Beside(Case):
     """Two surfaces beside each other."""
 
     def pairs(self, name, name_beside):
-        beside = surface_pairs.compared_surfaces(surface_of(name), surface_of(name_beside))
+        beside = stack_surfaces.compared_surfaces(surface_of(name), surface_of(name_beside))
         return beside.status, [(pair.number, *(row.said for row in pair.rows)) for pair in beside.pairs], beside
 
     def test_each_two(self):
@@ -643,7 +641,7 @@ class Beside(Case):
                 ("a condition", by_argument(41, EPERM, ALLOW), ("ERRNO 1", "ALLOW")),
                 ("an errno", by_argument(40, 0x50026, ALLOW), ("ERRNO 1", "ERRNO 38")),
                 ("a logged syscall", by_argument(40, EPERM, LOG), ("ALLOW", "LOG"))):
-            beside = surface_pairs.compared_surfaces(of(plain), of([of_number(SOCKET, default, ALLOW)]))
+            beside = stack_surfaces.compared_surfaces(of(plain), of([of_number(SOCKET, default, ALLOW)]))
             (pair,) = beside.pairs
             self.assertEqual((beside.status, pair.number, *(row.said for row in pair.rows)), (1, SOCKET, D, D), name)
             verdict = pair.line.verdict
@@ -652,38 +650,38 @@ class Beside(Case):
 
     def test_syscalls_that_depend_and_are_the_same(self):
         filters = [gate(jeq(SOCKET, 0, 6) + by_argument(40, EPERM, ALLOW) + ret(EPERM))]
-        beside = surface_pairs.compared_surfaces(surface_of("by an argument"), of(filters))
+        beside = stack_surfaces.compared_surfaces(surface_of("by an argument"), of(filters))
         self.assertEqual((beside.status, beside.pairs), (0, ()))
 
     def test_the_same_filters(self):
         for name in ("by an argument", "a stack"):
             self.assertEqual(self.pairs(name, name)[:2], (0, []))
-        beside = surface_pairs.compared_surfaces(*(of([UNKNOWN], table=FEW) for _ in range(2)))
+        beside = stack_surfaces.compared_surfaces(*(of([UNKNOWN], table=FEW) for _ in range(2)))
         self.assertEqual((beside.status, beside.pairs), (0, ()))
         # one more filter, which allows all, changes no answer, but the filters aren't the same
         both = (of(filters, table=FEW) for filters in ([UNKNOWN], [UNKNOWN, ret(ALLOW)]))
-        beside = surface_pairs.compared_surfaces(*both)
+        beside = stack_surfaces.compared_surfaces(*both)
         self.assertEqual((beside.status, [pair.number for pair in beside.pairs]), (4, [0, 1, 2]))
-        self.assertEqual(surface_pairs.compared_surfaces(of([SQUARE]), of([SQUARE])).pairs, ())
-        beside = surface_pairs.compared_surfaces(of([BY_SQUARE]), of([BY_SQUARE]))
+        self.assertEqual(stack_surfaces.compared_surfaces(of([SQUARE]), of([SQUARE])).pairs, ())
+        beside = stack_surfaces.compared_surfaces(of([BY_SQUARE]), of([BY_SQUARE]))
         self.assertEqual((beside.status, beside.pairs), (0, ()))
 
     def test_what_could_not_be_told(self):
-        beside = surface_pairs.compared_surfaces(of([BY_UNKNOWN]), of([ret(ALLOW)]))
+        beside = stack_surfaces.compared_surfaces(of([BY_UNKNOWN]), of([ret(ALLOW)]))
         self.assertEqual([(pair.number, *(row.said for row in pair.rows)) for pair in beside.pairs],
                          [(SOCKET, "undecided", M)])
-        beside = surface_pairs.compared_surfaces(of([BY_SQUARE]), of([ret(ALLOW)]))
+        beside = stack_surfaces.compared_surfaces(of([BY_SQUARE]), of([ret(ALLOW)]))
         self.assertEqual([(pair.number, *(row.said for row in pair.rows)) for pair in beside.pairs], [(SOCKET, D, M)])
         with mock.patch.dict(client.limits, {"limit": "0"}):
-            beside = surface_pairs.compared_surfaces(of([gate(ret(ALLOW))]), of([gate(ret(EPERM))]))
+            beside = stack_surfaces.compared_surfaces(of([gate(ret(ALLOW))]), of([gate(ret(EPERM))]))
         self.assertEqual((beside.status, [pair.number for pair in beside.pairs]), (4, NUMBERS))
 
     def test_foreign_calls_and_numbers_without_a_name(self):
         inner = jeq(READ, 0, 1) + ret(ALLOW) + ret(EPERM)
-        beside = surface_pairs.compared_surfaces(of([gate(inner)]), of([gate(inner, ALLOW)]))
+        beside = stack_surfaces.compared_surfaces(of([gate(inner)]), of([gate(inner, ALLOW)]))
         self.assertEqual((beside.status, beside.pairs, beside.foreign_differ, beside.unnamed_differ),
                          (1, (), True, False))
-        beside = surface_pairs.compared_surfaces(of([filter_of([READ])]), of([filter_of([READ, 400])]))
+        beside = stack_surfaces.compared_surfaces(of([filter_of([READ])]), of([filter_of([READ, 400])]))
         self.assertEqual((beside.status, beside.pairs, beside.foreign_differ, beside.unnamed_differ),
                          (1, (), False, True))
 
@@ -781,19 +779,17 @@ class Process(Confined):
         self.assertEqual((status, out.count("fault table Form line 1\n"), out.count("# process")), (2, 1, 0))
 
     def test_no_process(self):
-        status, out, err = self.run_tool("surface", "--pid", str(2**31 - 1))
-        self.assertEqual((status, out), (2, ""))
-        self.assertIn("surface: ", err)
+        self.is_refused("surface: ", "surface", "--pid", str(2**31 - 1))
 
 
 class Groups(unittest.TestCase):
     """tables/calls.groups."""
 
     def test_each_name_of_the_table_once_and_no_other(self):
-        with open(os.path.join(TOP, "tables", "calls.groups"), encoding="ascii") as file:
-            lines = [line.split() for line in file if line.strip() and not line.startswith("#")]
+        text = text_of(os.path.join(TOP, "tables", "calls.groups"))
+        lines = [line.split() for line in text.splitlines() if line and not line.startswith("#")]
         names = [name for line in lines for name in line[1:]]
-        self.assertEqual(sorted(names), sorted(tables.Table(contents(TABLE)).names()))
+        self.assertEqual(sorted(names), sorted(tables.read_table(None).names()))
         self.assertEqual(len(set(names)), len(names))
         self.assertEqual(surface_output.Groups().order, [*dict.fromkeys(line[0] for line in lines), "other"])
         self.assertTrue(all(len(" ".join(line)) <= 120 for line in lines))
@@ -806,16 +802,10 @@ class Groups(unittest.TestCase):
         sets = {name: set(names.split()) for name, names in re.findall(r"(?m)^(@\S+)\n((?:    .*\n)*)", printed)}
         self.assertGreater(len(sets), 20)
         now, looked_at = None, 0
-        with open(os.path.join(TOP, "tables", "calls.groups"), encoding="ascii") as file:
-            for line in file:
-                if line.startswith("#"):
-                    now = line.split()[-1] if line.startswith("# @") else None
-                elif now:
-                    self.assertLessEqual(set(line.split()[1:]), sets[now], now)
-                    looked_at += 1
+        for line in text_of(os.path.join(TOP, "tables", "calls.groups")).splitlines():
+            if line.startswith("#"):
+                now = line.split()[-1] if line.startswith("# @") else None
+            elif now:
+                self.assertLessEqual(set(line.split()[1:]), sets[now], now)
+                looked_at += 1
         self.assertGreater(looked_at, 20)
-
-
-def contents(name):
-    with open(name, "rb") as file:
-        return file.read()

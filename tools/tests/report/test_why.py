@@ -8,8 +8,8 @@ import shutil
 import subprocess
 import unittest
 
-from support.common import (ALLOW, CORE, EPERM, I386, KILL_PROCESS, X86_64, Case, comes, filter_of, insn, jeq,
-                            load, profile_of, ret)
+from support.common import (ALLOW, CORE, EPERM, I386, KILL_PROCESS, X86_64, Case, comes, filter_of, insn, jeq, load,
+                            profile_of, ret, text_of)
 from support.stand_in import StandIn
 import kernel_profiles
 from scftools.model import tables
@@ -25,8 +25,7 @@ CONSTANTS = (0, 1, 2, 41, 0x3FFFFFFF, X32, 0x7FFFFFFF, 0x80000000, WORD, X86_64,
 def innermost(pid):
     """The last child of the last child of a process, and so on."""
     try:
-        with open(f"/proc/{pid}/task/{pid}/children", encoding="ascii") as file:
-            children = file.read().split()
+        children = text_of(f"/proc/{pid}/task/{pid}/children").split()
     except OSError:
         return pid
     return innermost(int(children[-1])) if children else pid
@@ -34,8 +33,7 @@ def innermost(pid):
 
 def is_program(pid, name):
     try:
-        with open(f"/proc/{pid}/comm", encoding="utf-8") as file:
-            return file.read() == f"{name}\n"
+        return text_of(f"/proc/{pid}/comm") == f"{name}\n"
     except OSError:
         return False
 
@@ -222,7 +220,8 @@ class Ask(Case):
         found = json.loads("".join(lines))
         self.assertEqual((status, found["status"]), (0, 0))
         self.assertEqual([call["reason"] for call in found["calls"]], ["default", "entry", "entry", "foreign"])
-        self.assertEqual([call.get("definition") for call in found["calls"]], [None, self.ENTRIES[2], self.ENTRIES[0], None])
+        self.assertEqual([call.get("definition") for call in found["calls"]],
+                         [None, self.ENTRIES[2], self.ENTRIES[0], None])
         self.assertEqual(found["calls"][1]["entry"], 2)
         self.assertEqual(len(found["calls"][1]["conditions_met"]), 2)
         self.assertEqual(found["calls"][1]["answer"], {"action": "ALLOW", "data": 0, "does": "the syscall is executed"})
@@ -233,9 +232,7 @@ class Ask(Case):
         self.assertEqual(expected[1][0], "ALLOW 0 entry 2")
         self.assertEqual(self.asked("--nr=socket", "--a1=1", profile=self.file("config.json", config)), expected)
         self.assertEqual(self.asked("--nr=socket", "--a1=1", profile="-", given=config.encode()), expected)
-        status, out, err = self.run_tool("ask", "--table=-", "-")
-        self.assertEqual((status, out), (2, ""))
-        self.assertIn("only one input can be '-'", err)
+        self.is_refused("only one input can be '-'", "ask", "--table=-", "-")
 
     def test_a_table_of_ones_own(self):
         table = self.file("t", b"look 7\n")
@@ -282,7 +279,8 @@ class Ask(Case):
 
     def test_numbers_of_any_length(self):
         """What scf doesn't read of an entry may be any number; none takes long, and all are shown."""
-        text = b'{"defaultAction":"SCMP_ACT_ERRNO","syscalls":[{"names":["read"],"action":"SCMP_ACT_LOG","comment":%s}]}'
+        text = (b'{"defaultAction":"SCMP_ACT_ERRNO","syscalls":'
+                b'[{"names":["read"],"action":"SCMP_ACT_LOG","comment":%s}]}')
         for number in (b"1" * 300, b"1.5e300"):
             status, lines = self.asked("--nr=read", profile=self.file("n.json", text % number))
             self.assertEqual((status, lines[0]), (0, "LOG 0 entry 0"))
@@ -436,8 +434,7 @@ class Behind(Case):
         done = self.run_words([os.path.join(tree, "tools", "compare"), "--all", self.file("f.bpf", filter_of([0])),
                                self.file("p.json", profile_of("read"))], env={**os.environ, "KEPT": kept})
         self.assertEqual(done, (0, "same\n", ""))
-        with open(kept, encoding="ascii") as file:
-            self.assertEqual(file.read(), "--version\ncompare\n")
+        self.assertEqual(text_of(kept), "--version\ncompare\n")
 
     def test_run_with_its_path(self):
         name = self.file("f.bpf", filter_of([0]))

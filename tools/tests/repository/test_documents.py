@@ -3,6 +3,7 @@ README.md, docs/TUTORIAL.md and docs/RECIPES.md, the manual pages, statuses, and
 docs/ARCHITECTURE.md name is there."""
 import glob
 import itertools
+import json
 import os
 import re
 import shutil
@@ -11,7 +12,8 @@ import unittest
 
 from support.common import (ALLOW, CORE, PATIENCE, PROGRAM, SCF, TABLE, TOOLS, TOP, Case, filter_of, for_developers,
                             insn, jeq, load, module, part, profile_of, ret)
-from program.test_texts import CODES
+from program import test_answers, test_profiles
+from support.on_parts import assembled
 
 # Of a row of faults: a source or a kind with its number in scf.h, and a kind between its status and its numbers.
 NAME, KIND = r'\(codes "(\w+)", (\d+)\)', r'\(\s*(\w+),\s+\(codes "(\w+)", (\d+)\),\s+([^=]*?),?\s*\)'
@@ -86,76 +88,40 @@ class Faults(Case):
         with open(TABLE, "rb") as file:
             table = part("table", file.read())
 
-        def one(member):
-            return part("profile",
-                        b'{"defaultAction":"SCMP_ACT_ALLOW","syscalls":[{"names":["read"],"action":"SCMP_ACT_ERRNO",'
-                        b'%s}]}' % member) + table
+        def with_table(profile):
+            return part("profile", profile.encode() if isinstance(profile, str) else profile) + table
 
-        def top(text):
-            return part("profile", text) + table
-
-        def entries(text):
-            return top(b'{"defaultAction":"SCMP_ACT_ALLOW","syscalls":[%s]}' % text)
-
-        argument = b'"args":[{"index":%s,"value":1,"op":"%s"}]'
+        filters = [(insn(code, k, jt, jf) + ret(0), fault) for code, jt, jf, k, fault in test_answers.REFUSED_FIRST]
+        filters += [(assembled(text), fault) for text, fault in test_answers.REFUSED]
+        profiles = [*test_profiles.PROFILES,
+                    *((test_profiles.with_entries(entries), fault) for entries, fault in test_profiles.ENTRIES),
+                    *((test_profiles.with_args(args), fault) for args, fault in test_profiles.ARGS)]
+        # 8000 conditions, each of a wide value of its own
+        many = [{"names": ["read"], "action": "SCMP_ACT_LOG", "args": [
+            {"index": at, "value": number, "op": "SCMP_CMP_GT"} for at in range(2)]}
+            for number in range(2**40, 2**40 + 4000)]
         cases = [
+            *((["check"], data, f"fault filter {fault}") for data, fault in filters),
+            *((["asm"], text.encode(), f"fault text {fault}") for text, fault in test_answers.FAULTS),
+            *((["compile"], part("profile", b"{}") + part("table", text.encode()), f"fault table {fault}")
+              for text, fault in test_profiles.TABLES if fault),
+            *((["compile"], part("profile", profile if isinstance(profile, bytes) else profile.encode())
+               + part("table", b"a 1\nb 2\nc 3\nd 5\ne 5\n"), f"fault profile {fault}") for profile, fault in profiles),
             (["decide"], b"filter x\n", "fault bundle Header offset 0"),
             (["decide"], b"filter 9\nx", "fault bundle Short offset 0"),
             (["decide"], part("table", b""), "fault bundle Parts"),
             (["run"], b"12345678123", "fault filter Truncated offset 8"),
             (["check"], bytes(32769), "fault filter TooLong"),
-            (["check"], b"", "fault filter Empty"),
-            (["check"], insn(0x94, 1) + ret(0), "fault filter Code at 0"),
-            (["check"], load(0) + load(64) + ret(0), "fault filter Load at 1"),
-            (["check"], insn(0x02, 16) + ret(0), "fault filter Scratch at 0"),
-            (["check"], insn(0x34, 0) + ret(0), "fault filter Divisor at 0"),
-            (["check"], insn(0x64, 32) + ret(0), "fault filter Shift at 0"),
-            (["check"], jeq(0, 1, 0) + ret(0), "fault filter Jump at 0"),
-            (["check"], load(0), "fault filter LastNotReturn"),
-            (["check"], insn(0x60, 15) + ret(0), "fault filter Unset at 0 word 15"),
-            (["asm"], b"\n\xff", "fault text NotAscii line 2"),
-            (["asm"], b"LD [0]", "fault text Mnemonic line 1"),
-            (["asm"], b"ld 4", "fault text Operand line 1"),
-            (["asm"], b"ret #4294967296", "fault text NumberRange line 1"),
-            (["asm"], b"ja away", "fault text Label line 1"),
-            (["asm"], b"back: ret a\nja back", "fault text JumpTooFar line 2"),
             (["asm"], b"ret a\n" * 4097, "fault text TooLong line 4097"),
-            (["compile"], part("profile", b"{}") + part("table", b"read\n"), "fault table Form line 1"),
-            (["compile"], part("profile", b"{}") + part("table", b"1 read\n"), "fault table Name line 1"),
-            (["compile"], part("profile", b"{}") + part("table", b"read -1\n"), "fault table Number line 1"),
-            (["compile"], part("profile", b"{}") + part("table", b"read 0\n\nread 0\n"),
-             "fault table Repeated line 3"),
             (["compare"], part("filter", ret(0)) + part("profile", b"{}") + part("table", b" " * 4194305),
              "fault table TooLong"),
-            (["compare"], part("filter", ret(0)) + part("profile", b" " * 4194305) + table, "fault profile TooLong"),
-            (["compile"], top(b"{"), "fault profile Json"),
-            (["compile"], top(b"{}"), "fault profile Missing"),
-            (["compile"], top(b'{"defaultAction":"SCMP_ACT_ALLOW","syscalls":[{"name":"read",'
-                              b'"action":"SCMP_ACT_LOG"}]}'), "fault profile Missing entry 0"),
-            (["compile"], top(b'{"defaultAction":1}'), "fault profile Kind"),
-            (["compile"], one(b'"args":1'), "fault profile Kind entry 0"),
-            (["compile"], top(b'{"defaultAction":"ALLOW"}'), "fault profile Action"),
-            (["compile"], one(argument % (b"0", b"EQ")), "fault profile Operator entry 0"),
-            (["compile"], entries(b'{"names":[],"action":"SCMP_ACT_LOG"}'), "fault profile EmptyNames entry 0"),
-            (["compile"], one(argument % (b"6", b"SCMP_CMP_EQ")), "fault profile Index entry 0"),
-            (["compile"], one(b'"args":[{"index":1,"value":1,"op":"SCMP_CMP_NE"},{"index":1,"value":2,'
-                              b'"op":"SCMP_CMP_NE"}]'), "fault profile RepeatedIndex entry 0"),
-            (["compile"], top(b'{"defaultAction":"SCMP_ACT_ALLOW","defaultErrnoRet":1}'), "fault profile Errno"),
-            (["compile"], one(b'"errnoRet":65536'), "fault profile ErrnoRange entry 0"),
-            (["compile"], top(b'{"defaultAction":"SCMP_ACT_ALLOW","architectures":["SCMP_ARCH_ARM"]}'),
-             "fault profile NoX8664"),
-            (["compile", "--architectures"], top(b'{"defaultAction":"SCMP_ACT_ALLOW"}') + part("table-arm", b""),
+            (["compare"], part("filter", ret(0)) + with_table(b" " * 4194305), "fault profile TooLong"),
+            (["compile", "--architectures"],
+             with_table('{"defaultAction":"SCMP_ACT_ALLOW"}') + part("table-arm", b""),
              "fault profile NotListed table 1"),
-            (["compile"], one(b'"includes":{"caps":[]}'), "fault profile EngineForm entry 0"),
-            (["compile"], entries(b'{"names":[%s],"action":"SCMP_ACT_LOG"}' % b",".join([b'"read"'] * 4097)),
-             "fault profile TooMany"),
-            (["compile"], top(b'{"defaultAction":"SCMP_ACT_ALLOW","syscalls":[{"names":["read"],'
-                              b'"action":"SCMP_ACT_LOG"},{"names":["read"],"action":"SCMP_ACT_TRAP"}]}'),
-             "fault profile Conflict number 0 first 0 second 1"),
-            (["compile"], top(b'{"defaultAction":"SCMP_ACT_ALLOW","syscalls":[%s]}' % b",".join(
-                [b'{"names":["read"],"action":"SCMP_ACT_LOG","args":[{"index":0,"value":%d,"op":"SCMP_CMP_GT"},'
-                 b'{"index":1,"value":%d,"op":"SCMP_CMP_GT"}]}' % (number, number)
-                 for number in range(2**40, 2**40 + 4000)])), "fault compile TooLarge"),
+            (["compile"], with_table(profile_of(*["read"] * 4097)), "fault profile TooMany"),
+            (["compile"], with_table(json.dumps({"defaultAction": "SCMP_ACT_ALLOW", "syscalls": many})),
+             "fault compile TooLarge"),
             (["decide"], part("filter", ret(0) * 4096) * 8, "fault stack TooMany total 32796"),
             (["run", "--nr", "x"], b"", "fault number nr"),
             (["decide", "--arch", "4294967296"], b"", "fault number arch"),
@@ -172,44 +138,17 @@ class Faults(Case):
         cases.append((["compare", "--beside"], part("beside", ret(0) * 4096) * 8, "fault beside TooMany total 32796"))
         seen = set()
         for words, given, line in cases:
+            key = tuple(line.split()[1:3])
+            if key in seen and key[0] != "number":
+                continue
             with self.subTest(line=line):
                 status, out, _ = self.run_words([*CORE, *words], given)
-                key = tuple(line.split()[1:3])
                 seen.add(key)
                 self.assertEqual(out.split("\n")[0], line)
                 self.assertEqual(status, status_of(*key))
                 self.assertEqual(self.run_tool("explain", line)[1].split("\n")[:2], rows()[key][1])
         unseen = {key for key in rows() if key not in seen and key[1] not in ("Memory", "Read") and key[0] != "number"}
         self.assertEqual(unseen, {("input", "TooLong")})
-
-
-class Statuses(Case):
-    """Each status of the built program, by the launcher."""
-
-    def test_each(self):
-        with open(TABLE, "rb") as file:
-            remaining = part("profile", profile_of("read")) + part("table", file.read())
-        for words, given, status, out in (
-                (["check"], ret(ALLOW), 0, "accepted 1\n"), (["compare"], part("filter", filter_of([0])) + remaining, 0,
-                    "same\n"),
-                (["compare"], part("filter", filter_of([1])) + remaining, 1, None),
-                (["check"], b"", 1, "fault filter Empty\n"), (["no-such"], b"", 2, None),
-                (["run", "--nr", "0x"], ret(ALLOW), 2, "fault number nr\n"),
-                (["run"], b"x", 3, "fault filter Truncated offset 0\n"),
-                (["compare", "--limit", "0"], part("filter", filter_of([0])) + remaining, 4, "unfinished\n")):
-            actual, printed, _ = self.run_words([*CORE, *words], given)
-            self.assertEqual(actual, status, words)
-            if out is not None:
-                self.assertEqual(printed, out)
-        with open("/dev/full", "wb") as full:
-            self.assertEqual(self.run_words([*CORE, "check"], ret(ALLOW), stdout=full)[0], 3)
-
-    def test_no_kit_and_no_program(self):
-        shutil.copy2(SCF, self.folder)
-        shutil.copy2(os.path.join(TOP, "build"), self.folder)
-        os.makedirs(f"{self.folder}/crates/scf")
-        self.assertEqual(self.run_words([f"{self.folder}/scf", "check"], ret(ALLOW),
-                                        env={"PATH": "/usr/bin:/bin"})[0], 125)
 
 
 # How a line of scf's output begins that stands as a comment behind a command.
@@ -302,16 +241,6 @@ class Blocks(Page):
 
     def test_tutorial(self):
         self.assertGreaterEqual(self.check_blocks("docs", "TUTORIAL.md"), 8)
-
-    def test_the_reading_of_blocks(self):
-        text = "\n".join(["```sh", "a   # same", "```", "", "```", "out", "```", "", "```console", "$ no", "```", "",
-                          "```sh", "cat >x <<'END'", "b", "END", "c \\", " d", "```", "", "prose", "", "```", "other",
-                          "```", ""])
-        blocks = list(blocks_of(text))
-        self.assertEqual(blocks, [("a   # same\n", "out\n"), ("cat >x <<'END'\nb\nEND\nc \\\n d\n", None)])
-        self.assertEqual(list(commands_of(blocks[1][0])), ["cat >x <<'END'\nb\nEND\n", "c \\\n d\n"])
-        ran, _ = self.run_block("printf 'x'\nfalse\nprintf 'same\\n'  # same\n")
-        self.assertEqual([(printed, status) for _, printed, status in ran], [("x", 0), ("", 1), ("same\n", 0)])
 
 
 def text_of(*path):
@@ -462,31 +391,6 @@ class Consoles(Page):
         for name in ("RECIPES", "OPERATIONS", "TUTORIAL"):
             self.assertNotRegex(text_of("docs", f"{name}.md"), r"\s[0-9]{2,}[<>]")
 
-    def test_the_reading_of_consoles(self):
-        page = self.file("page.md", "```console\n$ scf a\n# the syscall\n...\n# scf b --c\n```\n")
-        self.assertEqual(console_of(page), [(False, "scf a", ["# the syscall", "..."]), (True, "scf b --c", [])])
-
-
-class LibraryPages(Case):
-    """The shell blocks of library/*/README.md, in a copy of it, where libscf is built and the language is here."""
-
-    PROGRAMS = {"python": "python3", "go": "go", "rust": "cargo"}
-
-    def test_each_block(self):
-        blocks = [(name, block) for name in self.PROGRAMS
-                  for block, _ in blocks_of(text_of("library", name, "README.md"))]
-        if not blocks or not os.path.isdir(os.path.join(TOP, "library", "out")):
-            self.skipTest("no page has a block, or libscf isn't built")
-        copy = shutil.copytree(os.path.join(TOP, "library"), os.path.join(self.folder, "library"),
-                               ignore=shutil.ignore_patterns("out", "target", "__pycache__"))
-        for name in ("library/out", "tables"):
-            os.symlink(os.path.join(TOP, name), os.path.join(self.folder, name))
-        for name, block in blocks:
-            if shutil.which(self.PROGRAMS[name]):
-                with self.subTest(name):
-                    status, out, err = self.run_words(["sh", "-e", "-c", block], cwd=os.path.join(copy, name))
-                    self.assertEqual(status, 0, out + err)
-
 
 class Manual(Case):
     """docs/scf.1."""
@@ -597,7 +501,7 @@ class ManualOfTools(Case):
 
     def test_the_page_of_the_assembler_has_each_of_its_mnemonics(self):
         page = self.page("asm")
-        for _, _, _, _, line in CODES:
+        for _, _, _, _, line in test_answers.CODES:
             self.assertRegex(page, rf"\b{line.split()[0]}\b")
 
     @unittest.skipUnless(shutil.which("groff"), "there is no groff here")

@@ -130,7 +130,8 @@ class Gate(Case):
 
     def test_a_crate_that_is_not_proved_ends_the_build_beside_it(self):
         self.script("tree/library/build", "#!/bin/sh\ntouch begun\nsleep 3600\n")
-        self.script("bin/rt", "#!/bin/sh\nuntil [ -e \"$BEGUN\" ]; do sleep 0.1; done\necho '4 passed, 1 failed'\nexit 1\n")
+        self.script("bin/rt", "#!/bin/sh\nuntil [ -e \"$BEGUN\" ]; do sleep 0.1; done\n"
+                    "echo '4 passed, 1 failed'\nexit 1\n")
         begun = os.path.join(self.tree, "begun")
         self.assertEqual(self.gate(BEGUN=begun)[1][-1], "4 passed, 1 failed")
 

@@ -7,8 +7,8 @@ import subprocess
 
 from support.common import PATIENCE, TOP, Case, comes
 
-# Notes where and how it was asked, and prints what it is told. A program that it builds, and runs, prints the source and
-# its words.
+# Notes where and how it was asked, and prints what it is told. A program that it builds, and runs, prints the source
+# and its words.
 RT = """#!/bin/sh
 echo "${PWD##*/} $*" >>"$ASKED"
 case ${PWD##*/} in ${PROVES-}) printf '%s' "${PRINTS-}" ;; esac
@@ -29,7 +29,8 @@ class Launcher(Case):
         self.file("tree/crates/scf/src/main.rt", "one")
         for name in ("low", "middle", "aside"):
             os.makedirs(os.path.join(self.tree, "crates", name))
-        self.file("tree/crates.txt", "# NAME: what it stands on\nlow: thiserror\naside: low\nmiddle: low json\nscf: middle\n")
+        self.file("tree/crates.txt",
+                  "# NAME: what it stands on\nlow: thiserror\naside: low\nmiddle: low json\nscf: middle\n")
         os.chmod(self.file("kit/rt", RT), 0o755)
         self.room = os.path.join(self.folder, "room")
         os.mkdir(self.room)
@@ -58,18 +59,18 @@ class Launcher(Case):
             "build: low: proved: crate 1 of 1 (N s)"])
         self.assertEqual(self.asked(), ["low lib"])
 
-    def test_crates_side_by_side(self):
-        """Two that stand on one library: each ends only when the other one has begun."""
+    def test_one_crate_after_another(self):
+        """Each behind its libraries, by as many processes as the kit or RT_JOBS says."""
         self.file("tree/crates.txt", "low: thiserror\naside: low\nmiddle: low json\nscf: middle aside\n")
-        waits = ('case ${PWD##*/} in aside | middle) until [ "$(grep -c "aside\\|middle" "$ASKED")" = 2 ]; do sleep 0.1; '
-                 "done ;; esac\n")
-        os.chmod(self.file("kit/rt", RT.replace("case", waits + "case", 1)), 0o755)
-        os.chmod(self.file("kit/nproc", "#!/bin/sh\necho 4\n"), 0o755)
-        status, _, err = self.run_here("build", PROVES="*", PRINTS=self.PRINTED)
-        self.assertEqual(status, 0)
-        self.assertEqual(sorted(self.asked()), ["aside lib --jobs 2", "low lib", "middle lib --jobs 2", "scf run -- --help"])
-        self.assertRegex(err, r"\n(build: (aside|middle): proved: crate [23] of 4 \([0-9]+ s\)(; at work: (aside|middle))?\n){2}"
-                              r"build: scf: proved: crate 4 of 4 \([0-9]+ s\)\n\Z")
+        for jobs, words in (({}, "lib"), ({"RT_JOBS": "3"}, "lib --jobs 3")):
+            status, _, err = self.run_here("build", PROVES="*", PRINTS=self.PRINTED, **jobs)
+            self.assertEqual(status, 0)
+            asked = self.asked()
+            self.assertEqual((asked[0], sorted(asked[1:3]), asked[3]),
+                             (f"low {words}", [f"aside {words}", f"middle {words}"], "scf run -- --help"))
+            self.assertRegex(err, r"\n(build: (aside|middle): proved: crate [23] of 4 \([0-9]+ s\)\n){2}"
+                                  r"build: scf: proved: crate 4 of 4 \([0-9]+ s\)\n\Z")
+            os.unlink(self.env["ASKED"])
 
     def test_an_interrupt_leaves_nothing(self):
         """The kit would work for an hour."""

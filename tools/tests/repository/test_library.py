@@ -17,7 +17,8 @@ from unittest import mock
 
 from support.common import (ALLOW, EPERM, I386, KILL_PROCESS, PATIENCE, TOP, X32, X86_64, Case, filter_of, gate, insn,
                             jeq, jge, load, part, profile_of, ret)
-from support.seccomp_library import NEEDED, Library
+from support.on_parts import CLONE_BY_AND, assembled
+from support.stand_in import StandIn
 
 LIBRARY = os.path.join(TOP, "library")
 OUT = os.path.join(LIBRARY, "out")
@@ -328,8 +329,8 @@ class Interface(Built):
         more = "by 0x7fff0000, and the profile by 0x80000000\n"
         for names, data, says in (
                 (["X86_64"], own, ""),
-                (["X86_64"], foreign + load(0) + jge(X32, 0, 2) + jeq((1 << 32) - 1, 1, 0) + ret(KILL_PROCESS) + ret(ALLOW),
-                 ""),
+                (["X86_64"], foreign + load(0) + jge(X32, 0, 2) + jeq((1 << 32) - 1, 1, 0) + ret(KILL_PROCESS)
+                 + ret(ALLOW), ""),
                 (["X86_64"], load(4) + jeq(I386, 0, 1) + ret(ALLOW) + own, f" of i386 {more}"),
                 (["X86_64"], foreign + ret(ALLOW), f" of x32 {more}"),
                 (["X86_64", "S390X"], own, "an architecture that is listed has no table\n"),
@@ -504,43 +505,9 @@ class Memory(Built):
                 self.assertRegex(self.runs(program, *self.parties()), r"^\d{4,} checks\n$")
 
 
-class Architectures(Case):
-    """Filters that libseccomp makes for three architectures, each compared in one call."""
-
-    TABLES = {"X86_64": "x86_64", "X86": "i386", "X32": "x32"}
-
-    @staticmethod
-    def profile(*names):
-        return {"defaultAction": "SCMP_ACT_ERRNO", "architectures": [f"SCMP_ARCH_{it}" for it in Architectures.TABLES],
-                "syscalls": [{"names": ["read", "write", "exit_group", *names], "action": "SCMP_ACT_ALLOW"},
-                             {"names": ["personality"], "action": "SCMP_ACT_ALLOW", "args": [
-                                 {"index": 0, "value": 8, "op": "SCMP_CMP_EQ"}]}]}
-
-    @NEEDED
-    def test_filters_of_libseccomp(self):
-        scf, library = python_module(), Library()
-        tables = [scf.Table(scf.Architecture[name], read(TOP, "tables", f"{file}.table").encode())
-                  for name, file in self.TABLES.items()]
-        # x86-64 and x32 have no waitpid
-        profile = scf.Profile(json.dumps(self.profile("waitpid")).encode())
-        compared = scf.compare(scf.Filters([library.filter_of(self.profile("waitpid"))]), profile, tables,
-                               scf.EACH_ARCHITECTURE)
-        self.assertEqual(compared.finding.verdict, scf.Verdict.HOLDS)
-        without = scf.Filters([library.filter_of(self.profile())])
-        finding = scf.compare(without, profile, tables, scf.EACH_ARCHITECTURE).finding
-        self.assertEqual((finding.verdict, finding.call.arch, finding.call.nr, finding.left, finding.right),
-                         (scf.Verdict.FAILS, I386, 7, EPERM, ALLOW))
-        finding = scf.compare(without, profile, tables, scf.Scope.numbers(0, 0x3FFFFFFF)).finding
-        self.assertEqual(finding.verdict, scf.Verdict.HOLDS)
-
-
 # ---- the library beside the program
 
-ACTIONS = {0x80000000: "KILL_PROCESS", 0: "KILL_THREAD", 0x00030000: "TRAP", 0x00050000: "ERRNO",
-           0x7FC00000: "USER_NOTIF", 0x7FF00000: "TRACE", 0x7FFC0000: "LOG", 0x7FFF0000: "ALLOW"}
 RELATIONS = [[], ["--no-more"], ["--no-less"], ["--disposition"]]
-CLONE = (load(4) + jeq(0xC000003E, 1, 0) + ret(0x80000000) + load(0) + insn(0x35, 0x40000000, 0, 1) + ret(0x80000000)
-         + jeq(56, 0, 3) + load(16) + insn(0x54, 0x7E020000) + jeq(0, 1, 0) + ret(EPERM) + ret(ALLOW))
 SCRATCH = (load(0) + insn(2, 3) + insn(0x61, 3) + insn(0x0C, 0) + insn(0x64, 2) + insn(0x45, 4, 0, 1) + ret(ALLOW)
            + insn(0x16, 0))
 SPELLED = b"ld [0]\njeq #41, no, yes\nyes: ret #0x7fff0000\nno: ret #0x50001\n"
@@ -553,11 +520,6 @@ CONDITIONS = json.dumps({
                      {"index": 0, "value": 2114060288, "valueTwo": 0, "op": "SCMP_CMP_MASKED_EQ"}]}]}).encode()
 SEVERAL = CONDITIONS.replace(b'"SCMP_ARCH_X32"', b'"SCMP_ARCH_X32", "SCMP_ARCH_X86"')
 NAMES = b"read 0\nwrite 1\nsocket 41\nclone 56\nexit_group 231\n"
-
-
-def answer_text(answer):
-    action = ACTIONS.get(answer & 0xFFFF0000)
-    return f"UNNAMED 0x{answer:08x}" if action is None else f"{action} {answer & 0xFFFF}"
 
 
 def region_line(scf, region, is_of_profile):
@@ -573,7 +535,7 @@ def region_line(scf, region, is_of_profile):
             sets.setdefault(fact.word, [[], ""])[0].append(text)
         else:
             sets.setdefault(fact.word, [[], ""])[1] += f"{'&' if fact.kind == 2 else '!'}{fact.low:#x}={fact.high:#x}"
-    answer = "unknown" if region.answer is None else answer_text(region.answer)
+    answer = "unknown" if region.answer is None else StandIn().printed(region.answer)
     words = [f"w{word} {','.join(intervals)}{bits}" for word, (intervals, bits) in sets.items()]
     return " ".join([answer, place, *([] if region.is_exact else ["open"]), *words])
 
@@ -603,7 +565,8 @@ class Alike(Case):
         return bytes(data)
 
     def filters(self, most=2):
-        made = (filter_of([0, 1, 231]), CLONE, SCRATCH, ret(ALLOW), ret(EPERM), filter_of([0], foreign=EPERM))
+        made = (filter_of([0, 1, 231]), assembled(CLONE_BY_AND[1]), SCRATCH, ret(ALLOW), ret(EPERM),
+                filter_of([0], foreign=EPERM))
         return [self.changed(self.random.choice(made)) for _ in range(self.random.randrange(1, most + 1))]
 
     def profile(self):
@@ -632,7 +595,7 @@ class Alike(Case):
 
         def made(scf):
             answer, steps = scf.run(filter, scf.Call(**call))
-            return f"{answer_text(answer)} steps {steps}\n", 0
+            return f"{StandIn().printed(answer)} steps {steps}\n", 0
         return ["run", *words], filter, made
 
     def case_path(self, call, words):
@@ -640,7 +603,7 @@ class Alike(Case):
 
         def made(scf):
             answer, path = scf.trace(filter, scf.Call(**call))
-            return f"{answer_text(answer)} steps {len(path)}\npath {' '.join(map(str, path))}\n", 0
+            return f"{StandIn().printed(answer)} steps {len(path)}\npath {' '.join(map(str, path))}\n", 0
         return ["run", "--path", *words], filter, made
 
     def case_dis(self, _call, _words):
@@ -659,7 +622,7 @@ class Alike(Case):
             answers = [scf.trace(own, scf.Call(**call)) for own in filters]
             self.assertEqual((answers[filter].answer, answers[filter].path[-1]), (answer, index))
             self.assertNotIn(answer, [own.answer for own in answers[filter + 1:]])
-            return f"{answer_text(answer)}\n", 0
+            return f"{StandIn().printed(answer)}\n", 0
         return ["decide", *words], b"".join(part("filter", it) for it in filters), made
 
     def several(self):
@@ -682,7 +645,7 @@ class Alike(Case):
 
         def made(scf):
             answer, reason, entry, _ = scf.ask(*profile(scf), scf.Call(**call, arch=arch))
-            return f"{answer_text(answer)} {reason.name.lower()}{'' if entry is None else f' {entry}'}\n", 0
+            return f"{StandIn().printed(answer)} {reason.name.lower()}{'' if entry is None else f' {entry}'}\n", 0
         return ["ask", "--architectures", *words, "--arch", str(arch)], given, made
 
     def compared(self, words, given, sides, scope):
@@ -706,8 +669,10 @@ class Alike(Case):
     def case_beside(self, _call, _words):
         filters, others = self.filters(), self.filters()
         given = b"".join(part("filter", data) for data in filters) + b"".join(part("beside", data) for data in others)
-        return self.compared(["--beside"], given, lambda scf: (scf.Filters(filters), scf.Filters(others), ()),
-                             lambda scf: scf.ALL)
+        words, scope = self.random.choice((
+            ([], lambda scf: scf.ALL), (["--nr-to=41"], lambda scf: scf.Scope.numbers(0, 41))))
+        return self.compared(["--beside", *words], given,
+                             lambda scf: (scf.Filters(filters), scf.Filters(others), ()), scope)
 
     def case_calls(self, _call, _words):
         """Of these the first word of the program's output, and of each line of a syscall, is what is compared."""

@@ -7,27 +7,32 @@ import importlib.util
 import os
 import pickle
 import re
+import subprocess
+import sys
 import unittest
+from unittest import mock
 
 from support.common import TOP
 from scftools.base import values
 from scftools.ask import client
 
 TOOLS = os.path.join(TOP, "tools")
-# What is dear to import and rarely needed, and those of our modules that only some runs of a tool need: each is imported
-# where it is needed.
+# What is dear to import and rarely needed, and those of our modules that only some runs of a tool need: each is
+# imported where it is needed.
 # (what takes long is never imported at the start of a tool: Python's dataclasses import inspect)
 DEAR = {"dataclasses", "inspect", "typing"}
 LATE = {"ast", "ctypes", "difflib", "glob", "hashlib", "importlib", "json", "pickle", "resource", "shlex", "signal",
         "subprocess", "syslog", "tempfile", "threading",
-        "scfhost.audit_page", "scfhost.processes", "scfhost.ptrace", "scfhost.unit_profiles", "scftools.forms.lists.sandboxes",
-        "scftools.forms.filter_loads", "scftools.lint.sarif", "scftools.logs.cores", "scftools.report.pages",
-        "scftools.report.region_output", "scftools.report.row_conditions"}
+        "scfhost.audit_page", "scfhost.processes", "scfhost.ptrace", "scfhost.unit_profiles",
+        "scftools.ask.questions", "scftools.ask.regions", "scftools.forms.filter_loads",
+        "scftools.forms.lists.sandboxes", "scftools.forms.refusals", "scftools.forms.runtimes", "scftools.lint.sarif",
+        "scftools.logs.cores", "scftools.report.pages", "scftools.report.region_output",
+        "scftools.report.row_conditions", "scftools.report.stack_surfaces", "scftools.report.surface_output"}
 
 # The packages of scftools in their order, and what looks at a process or a unit.
 ROOMS = "base model ask cli forms report lint logs commands".split()
-ASKING_HOST = ("scftools.commands.profile_of", "scftools.commands.surface", "scftools.commands.why", "scftools.forms.operands",
-               "scftools.forms.profile_inputs")
+ASKING_HOST = ("scftools.commands.profile_of", "scftools.commands.surface", "scftools.commands.why",
+               "scftools.forms.operands", "scftools.forms.profile_inputs")
 
 
 @functools.cache
@@ -166,6 +171,24 @@ class Values(unittest.TestCase):
         wrong = values.Pattern("(")
         with self.assertRaises(re.error):
             wrong.match("x")
+
+    def test_a_late_module_is_imported_when_it_is_used(self):
+        with mock.patch.dict(sys.modules):
+            sys.modules.pop("colorsys", None)
+            late = sys.modules["colorsys"] = values.LateModule("colorsys")
+            import colorsys  # pylint: disable=import-outside-toplevel
+            self.assertIs(colorsys, late)
+            self.assertNotIn("rgb_to_hsv", vars(late))
+            self.assertEqual(late.rgb_to_hsv(1, 1, 1), (0, 0, 1))
+            self.assertIs(late.hls_to_rgb, sys.modules["colorsys"].hls_to_rgb)
+            self.assertRaises(AttributeError, lambda: late.other)
+
+    def test_a_start_imports_no_json(self):
+        """Which takes as long as all modules of a small command."""
+        code = (f"import sys; sys.path.append({TOOLS!r}); import scftools.launch, scftools.commands.check; "
+                "print('loads' in vars(sys.modules['json']), sys.modules['json'].loads('[1]'))")
+        words = [sys.executable, "-IS", "-c", code]
+        self.assertEqual(subprocess.run(words, capture_output=True, text=True, check=True).stdout, "False [1]\n")
 
     def test_they_are_pickled(self):
         fault = client.Fault.read("fault profile Conflict number 41 first 0 second 1")

@@ -29,7 +29,8 @@ class Package(Case):
 
     def debian_packages(self):
         """Those of this tree, which are made once."""
-        return sorted(glob.glob(f"{self.once}/*.deb"), key=lambda path: "/scf_" not in path) or self.made("deb", self.once)
+        made = sorted(glob.glob(f"{self.once}/*.deb"), key=lambda path: "/scf_" not in path)
+        return made or self.made("deb", self.once)
 
     def made(self, what, folder="made", top=TOP):
         """The files that dev/package writes."""
@@ -157,8 +158,8 @@ class Package(Case):
         for file in (".containerignore", "contrib/Containerfile"):
             shutil.copy(os.path.join(TOP, file), self.folder)
         image = f"localhost/scf-test-{os.getpid()}"
-        build = ["podman", "build", "--quiet", "--layers=false", "--target", "program", "--build-arg", f"VERSION={VERSION}",
-                 "--tag", image, "--file", "Containerfile", "."]
+        build = ["podman", "build", "--quiet", "--layers=false", "--target", "program", "--build-arg",
+                 f"VERSION={VERSION}", "--tag", image, "--file", "Containerfile", "."]
         status, out, err = self.run_words(build)
         self.assertEqual(status, 0, (out, err))
         self.addCleanup(self.run_words, ["podman", "rmi", "--force", image])

@@ -1,5 +1,4 @@
 """What the tests share: running a tool, made filters, profiles and tables, and which options this scf has."""
-import functools
 import importlib
 import json
 import os
@@ -135,8 +134,9 @@ def stub(number, answer=ENOSYS):
     return load(0) + jge(number, 0, 1) + ret(answer)
 
 
-# What a script of Python's begins with that puts its thread under filters: load has the kernel take the bytes of one, by
-# seccomp(2) with flags (317, SECCOMP_SET_MODE_FILTER), behind PR_SET_NO_NEW_PRIVS; its result is below 0 if it doesn't.
+# What a script of Python's begins with that puts its thread under filters: load has the kernel take the bytes of one,
+# by seccomp(2) with flags (317, SECCOMP_SET_MODE_FILTER), behind PR_SET_NO_NEW_PRIVS; it returns less than 0 if it
+# isn't taken.
 LOADER = """
 import ctypes, json, os, resource, sys, threading, time
 library = ctypes.CDLL(None, use_errno=True)
@@ -146,12 +146,18 @@ def load(data, flags=0):
     library.prctl(38, 1, 0, 0, 0)
     return library.syscall(317, 1, flags, ctypes.byref(Program(len(data) // 8, data)))
 """
-# Puts itself under the filter in a file, and becomes the program of its other words; status 99: no filter is taken here.
+# Puts itself under the filter in a file, and becomes the program of its other words; status 99: none is taken here.
 CONFINED = LOADER + """
 if load(open(sys.argv[1], "rb").read()) < 0:
     os._exit(99)
 os.execv(sys.argv[2], sys.argv[2:])
 """
+
+
+def text_of(path):
+    """The text of a file."""
+    with open(path, encoding="utf-8", errors="replace") as file:
+        return file.read()
 
 
 def comes(holds):
@@ -189,29 +195,24 @@ def part(kind, data):
     return b"%s %d\n" % (kind.encode(), len(data)) + data
 
 
-@functools.lru_cache(None)
-def has_option(option, command="compare"):
-    done = subprocess.run([*CORE, command, "--help"], stdin=subprocess.DEVNULL, stdout=subprocess.PIPE, check=False)
-    return option.encode() in done.stdout
-
-
-def needs(option):
-    """Fails a test where scf's compare doesn't have an option."""
-    def with_option(test):
-        @functools.wraps(test)
-        def run(self):
-            self.assertTrue(has_option(option), f"scf compare has no {option}")
-            test(self)
-        return run
-    return with_option
-
-
 class Case(unittest.TestCase):
     """A test in a folder of its own."""
 
     def setUp(self):
         self.folder = tempfile.mkdtemp()
         self.addCleanup(shutil.rmtree, self.folder, ignore_errors=True)
+
+    def needs(self, *programs):
+        """Skips the test where one of these programs isn't there."""
+        for name in programs:
+            if not shutil.which(name):
+                self.skipTest(f"there is no {name} here")
+
+    def text_of_error(self, error, call, *words, **settings):
+        """The text of an error that a call raises."""
+        with self.assertRaises(error) as caught:
+            call(*words, **settings)
+        return str(caught.exception)
 
     def file(self, name, data):
         path = os.path.join(self.folder, name)
@@ -246,6 +247,18 @@ class Case(unittest.TestCase):
 
     def run_tool(self, name, *words, given=b"", **settings):
         return self.run_words([tool(name), *words], given, **settings)
+
+    def output_of(self, status, *words, **settings):
+        """What a tool prints that ends with a status and says nothing else."""
+        done = self.run_tool(*words, **settings)
+        self.assertEqual((done[0], done[2]), (status, ""), words)
+        return done[1]
+
+    def is_refused(self, says, *words, **settings):
+        """A tool refuses its words, and says so on standard error alone."""
+        status, out, err = self.run_tool(*words, **settings)
+        self.assertEqual((status, out), (2, ""), words)
+        self.assertIn(says, err)
 
     def closed_output(self, name, *words, given=b""):
         """A tool whose output is full."""

@@ -11,7 +11,7 @@ import sys
 import time
 import unittest
 
-from .common import ALLOW, EPERM, LOADER, PATIENCE, USER_NOTIF, Case, comes, jeq, load, ret
+from .common import ALLOW, EPERM, LOADER, PATIENCE, USER_NOTIF, Case, comes, jeq, load, ret, text_of
 from kernel_child import SECCOMP_IOCTL_NOTIF_RECV, SECCOMP_IOCTL_NOTIF_SEND
 from scftools.model import calls
 from scfhost import processes, ptrace
@@ -101,8 +101,12 @@ here = unittest.skipIf(WHY_NOT, WHY_NOT or "")
 
 
 def status_of(thread):
-    with open(f"/proc/{thread}/status", encoding="utf-8") as file:
-        return dict(line.rstrip("\n").split(":\t", 1) for line in file if ":\t" in line)
+    return dict(line.split(":\t", 1) for line in text_of(f"/proc/{thread}/status").split("\n") if ":\t" in line)
+
+
+def children_of(process):
+    """The processes that a process's main thread has started, and that it hasn't waited for."""
+    return [int(number) for number in text_of(f"/proc/{process}/task/{process}/children").split()]
 
 
 class Confined(Case):
@@ -157,14 +161,18 @@ class Confined(Case):
         self.assertTrue(comes(lambda: status_of(child.pid)["Seccomp"] == "1"))
         return child
 
+    def let_go(self, child):
+        """Nothing traces any thread of the child, but for a moment an audit of the machine that another test runs."""
+        threads = f"/proc/{child.pid}/task"
+        self.assertTrue(comes(lambda: {status_of(thread)["TracerPid"] for thread in os.listdir(threads)} == {"0"}))
+
     def runs_on(self, child):
         """Nothing traces any thread of the child, and all of them run on."""
         self.assertIsNone(child.poll())
+        self.let_go(child)
         for name in os.listdir(f"/proc/{child.pid}/task"):
-            status = status_of(name)
-            self.assertEqual(status["TracerPid"], "0")
             # D where it waits for a page of memory
-            self.assertIn(status["State"][0], "SRD")
+            self.assertTrue(comes(lambda thread=name: status_of(thread)["State"][0] in "SRD"))
         self.do(child, "print('here', flush=True)")
         self.assertEqual(child.stdout.readline(), "here\n")
 

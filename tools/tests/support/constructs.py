@@ -12,21 +12,19 @@ that a pair takes, and the most memory (some 20 MB are those of Python before it
 it with status 1.
 """
 import argparse
+import functools
 import json
 import os
 import random
-import re
 import subprocess
 import sys
 import tempfile
-from dataclasses import dataclass, field, replace
+from dataclasses import dataclass, field
 
-from .common import ALLOW, CORE, EPERM, KILL_PROCESS, PROGRAM, X32, X86_64, insn, part
-from .stand_in import StandIn
+from .common import ALLOW, EPERM, KILL_PROCESS, PROGRAM, X32, X86_64, insn
+from .judged import LONG, MACHINE, WORD, Profile, Stack, printed_record, record_of
+from .on_parts import OnProgram
 
-# The program itself, which is asked many times; `build_program` has the launcher build it where there is none.
-LONG, WORD = (1 << 64) - 1, (1 << 32) - 1
-MACHINE = StandIn()
 LD, LDX, TAX, TXA, NEG, ST, RET, RET_A = 0x20, 0x01, 0x07, 0x87, 0x84, 0x02, 0x06, 0x16
 # Loads of a constant, and of scratch words to A and to X.
 LD_K, LD_M, LDX_M = 0x00, 0x60, 0x61
@@ -49,23 +47,12 @@ class Condition:
     code: list = field(default_factory=list)
 
     def entry(self, index):
-        two = {"valueTwo": self.two} if self.op == "SCMP_CMP_MASKED_EQ" else {}
-        return {"index": index, "value": self.value, "op": self.op, **two}
-
-    def holds(self, argument):
-        """The condition, of the whole argument (the OCI runtime specification, seccomp)."""
-        return {"SCMP_CMP_EQ": argument == self.value, "SCMP_CMP_GE": argument >= self.value,
-                "SCMP_CMP_LE": argument <= self.value,
-                "SCMP_CMP_MASKED_EQ": argument & self.value == self.two & self.value}[self.op]
-
-
-def load_low(low):
-    return [(LD, low)]
+        return {"index": index, "value": self.value, "op": self.op, "valueTwo": self.two}
 
 
 def masked(mask, value, low, *code):
     """The low word under a mask."""
-    return Condition("SCMP_CMP_MASKED_EQ", mask, value, load_low(low) + list(code))
+    return Condition("SCMP_CMP_MASKED_EQ", mask, value, [(LD, low), *code])
 
 
 def equal(value, low, *code):
@@ -95,6 +82,12 @@ def value_in(dice, mask):
     return dice.getrandbits(32) & mask
 
 
+def mask_and_value(dice):
+    """A mask, and a value that has no other bit."""
+    mask = some_mask(dice)
+    return mask, value_in(dice, mask)
+
+
 def of_any_length(dice):
     """A number from 1 on, of any count of bits."""
     return dice.randrange(1, 1 << dice.randrange(1, 33))
@@ -109,54 +102,61 @@ def is_zero(dice):
     return dice.choice((is_equal(0), (JSET, WORD, "no", "yes"), (JGT, 0, "no", "yes"), (JGE, 1, "no", "yes")))
 
 
-# Plain tests and copies
+# Constructs of a word by one drawn number or two: each gives the codes of which one is drawn. Of a mask and a value
+# that has no other bit, and any number:
+OF_MASK = {
+    "mask": lambda mask, value, _: [[(AND, mask), is_equal(value)]],
+    "mask in x": lambda mask, value, _: [[(LDX, mask), (AND | X, 0), is_equal(value)]],
+    "word in x": lambda mask, value, _: [[(TAX, 0), (LD_K, mask), (AND | X, 0), is_equal(value)]],
+    "or": lambda mask, value, _: [[(OR, ~mask & WORD), is_equal(value | ~mask)]],
+    "xor and mask": lambda mask, value, _: [[(XOR, value), *test] for test in (
+        [(AND, mask), is_equal(0)], [(JSET, mask, "no", "yes")], [(OR, ~mask & WORD), is_equal(~mask)])],
+    "offset under mask": lambda mask, value, by: [[(AND, mask), *test] for test in (
+        [(ADD, by), is_equal(value + by)], [(SUB, by), is_equal(value - by)], [(NEG, 0), is_equal(-value)],
+        [(XOR, WORD), (ADD, by), is_equal(~value + by)])],
+}
+# Of a value, and any number.
+OF_VALUE = {
+    "copies": lambda value, _: [[(ST, 3), (LD_K, 7), (LD_M, 3), (TAX, 0), (LD_K, 0), (TXA, 0), is_equal(value)]],
+    "identity": lambda value, _: [[*code, is_equal(value)] for code in (
+        [(ADD, 0)], [(SUB, 0)], [(OR, 0)], [(XOR, 0)], [(RSH, 0)], [(LSH, 0)], [(MUL, 1)], [(DIV, 1)],
+        [(LDX, 1), (DIV | X, 0)], [(LDX, 1), (MUL | X, 0)], [(LDX, 0), (ADD | X, 0)], [(LDX, 0), (RSH | X, 0)])],
+    "xor": lambda value, by: [[(XOR, by), is_equal(value ^ by)]],
+    "offset": lambda value, by: [[(ADD, by), is_equal(value + by)], [(SUB, by), is_equal(value - by)]],
+    "negation": lambda value, _: [[(NEG, 0), is_equal(-value)]],
+    "difference": lambda value, by: [[(TAX, 0), (LD_K, by), (SUB | X, 0), is_equal(by - value)]],
+}
+# Of the least value, from 1 on.
+OF_LEAST = {
+    "order in x": lambda value: [[(LDX, value), (JGE | X, 0, "yes", "no")]],
+    "order of offset": lambda value: [[(SUB, value), (JGT, WORD - value, "no", "yes")]],
+    "order of negation": lambda value: [[(NEG, 0), (JEQ, 0, "no", "then"), "then",
+                                         (JGT, (1 << 32) - value, "no", "yes")]],
+    "order of complement": lambda value: [[(XOR, WORD), (JGT, value ^ WORD, "no", "yes")]],
+    "order of difference": lambda value: [[(TAX, 0), (LD_K, value - 1), (SUB | X, 0), (JGE, value, "yes", "no")]],
+}
 
-def by_mask(dice, low):
-    mask = some_mask(dice)
-    value = value_in(dice, mask)
-    return masked(mask, value, low, (AND, mask), is_equal(value))
+
+def of_mask(codes, dice, low):
+    mask, value = mask_and_value(dice)
+    return masked(mask, value, low, *dice.choice(codes(mask, value, dice.getrandbits(32))))
 
 
-def by_mask_in_x(dice, low):
-    mask = some_mask(dice)
-    value = value_in(dice, mask)
-    return masked(mask, value, low, (LDX, mask), (AND | X, 0), is_equal(value))
+def of_value(codes, dice, low):
+    value = dice.getrandbits(32)
+    return equal(value, low, *dice.choice(codes(value, dice.getrandbits(32))))
 
 
-def by_word_in_x(dice, low):
-    mask = some_mask(dice)
-    value = value_in(dice, mask)
-    return masked(mask, value, low, (TAX, 0), (LD_K, mask), (AND | X, 0), is_equal(value))
+def of_least(codes, dice, low):
+    value = dice.randrange(1, 1 << 32)
+    return least(value, low, *dice.choice(codes(value)))
 
+
+# Parts of a word
 
 def by_bits(dice, low):
     mask = some_mask(dice)
     return masked(mask, 0, low, (JSET, mask, "no", "yes"))
-
-
-def by_copies(dice, low):
-    value = dice.getrandbits(32)
-    return equal(value, low, (ST, 3), (LD_K, 7), (LD_M, 3), (TAX, 0), (LD_K, 0), (TXA, 0), is_equal(value))
-
-
-def by_order_in_x(dice, low):
-    value = dice.getrandbits(32)
-    return least(value, low, (LDX, value), (JGE | X, 0, "yes", "no"))
-
-
-# Images of a word
-
-def by_or(dice, low):
-    mask = some_mask(dice)
-    value = value_in(dice, mask)
-    return masked(mask, value, low, (OR, ~mask & WORD), is_equal(value | ~mask))
-
-
-def by_xor_and_mask(dice, low):
-    mask = some_mask(dice)
-    value = value_in(dice, mask)
-    return masked(mask, value, low, (XOR, value), *dice.choice((
-        [(AND, mask), is_equal(0)], [(JSET, mask, "no", "yes")], [(OR, ~mask & WORD), is_equal(~mask)])))
 
 
 def by_right_shift(dice, low):
@@ -195,12 +195,6 @@ def by_product(dice, low):
     return masked(mask, value, low, (MUL, 1 << by), is_equal(value << by))
 
 
-def by_halves(dice, low):
-    value = dice.getrandbits(32)
-    return equal(value, low, (RSH, 16), (JEQ, value >> 16, "then", "no"), "then", (LD, low), (AND, 0xFFFF),
-                 is_equal(value & 0xFFFF))
-
-
 def by_order_of_high_bits(dice, low):
     by = dice.randrange(1, 31)
     value = dice.getrandbits(32) >> by << by
@@ -217,56 +211,6 @@ def by_high_bits(dice, low):
         [(JSET, mask, "no", "yes")], [(RSH, by), is_equal(0)], [(AND, mask), is_equal(0)])))
 
 
-def by_identity(dice, low):
-    value = dice.getrandbits(32)
-    return equal(value, low, *dice.choice((
-        [(ADD, 0)], [(SUB, 0)], [(OR, 0)], [(XOR, 0)], [(RSH, 0)], [(LSH, 0)], [(MUL, 1)], [(DIV, 1)],
-        [(LDX, 1), (DIV | X, 0)], [(LDX, 1), (MUL | X, 0)], [(LDX, 0), (ADD | X, 0)], [(LDX, 0), (RSH | X, 0)])),
-        is_equal(value))
-
-
-# Offsets of a word
-
-def by_xor(dice, low):
-    value, by = dice.getrandbits(32), dice.getrandbits(32)
-    return equal(value, low, (XOR, by), is_equal(value ^ by))
-
-
-def by_offset(dice, low):
-    value, by = dice.getrandbits(32), dice.getrandbits(32)
-    return equal(value, low, *dice.choice(([(ADD, by), is_equal(value + by)], [(SUB, by), is_equal(value - by)])))
-
-
-def by_negation(dice, low):
-    value = dice.getrandbits(32)
-    return equal(value, low, (NEG, 0), is_equal(-value))
-
-
-def by_order_of_offset(dice, low):
-    value = dice.randrange(1, 1 << 32)
-    return least(value, low, (SUB, value), (JGT, WORD - value, "no", "yes"))
-
-
-def by_order_of_negation(dice, low):
-    value = dice.randrange(1, 1 << 32)
-    return least(value, low, (NEG, 0), (JEQ, 0, "no", "then"), "then", (JGT, (1 << 32) - value, "no", "yes"))
-
-
-def by_order_of_complement(dice, low):
-    value = dice.getrandbits(32)
-    return least(value, low, (XOR, WORD), (JGT, value ^ WORD, "no", "yes"))
-
-
-def by_difference(dice, low):
-    value, by = dice.getrandbits(32), dice.getrandbits(32)
-    return equal(value, low, (TAX, 0), (LD_K, by), (SUB | X, 0), is_equal(by - value))
-
-
-def by_order_of_difference(dice, low):
-    value = dice.randrange(1, 1 << 32)
-    return least(value, low, (TAX, 0), (LD_K, value - 1), (SUB | X, 0), (JGE, value, "yes", "no"))
-
-
 def by_order_of_high_complement(dice, low):
     by = dice.randrange(1, 31)
     mask = WORD >> by << by
@@ -275,15 +219,19 @@ def by_order_of_high_complement(dice, low):
                  (JGT, mask - value, "no", "yes"))
 
 
-def by_offset_under_mask(dice, low):
-    mask, by = some_mask(dice), dice.getrandbits(32)
-    value = value_in(dice, mask)
-    return masked(mask, value, low, (AND, mask), *dice.choice((
-        [(ADD, by), is_equal(value + by)], [(SUB, by), is_equal(value - by)], [(NEG, 0), is_equal(-value)],
-        [(XOR, WORD), (ADD, by), is_equal(~value + by)])))
-
-
 # Parts of a word joined
+
+def by_halves(dice, low):
+    value = dice.getrandbits(32)
+    return equal(value, low, (RSH, 16), (JEQ, value >> 16, "then", "no"), "then", (LD, low), (AND, 0xFFFF),
+                 is_equal(value & 0xFFFF))
+
+
+def by_joined_halves(dice, low):
+    value = dice.getrandbits(32)
+    return equal(value, low, (RSH, 16), (XOR, value >> 16), (TAX, 0), (LD, low), (AND, 0xFFFF),
+                 (XOR, value & 0xFFFF), (OR | X, 0), is_zero(dice))
+
 
 def by_joined_masks(dice, low):
     first, second = some_mask(dice), some_mask(dice)
@@ -295,13 +243,6 @@ def by_joined_masks(dice, low):
         [(OR, ~first & WORD), (TAX, 0), (LD, low), (OR, ~(second & ~first) & WORD), (AND | X, 0),
          is_equal(value | ~(first | second))],
         [(AND, first), (TAX, 0), (LD, low), (AND, second & ~first), (XOR, by), (XOR | X, 0), is_equal(value ^ by)])))
-
-
-def by_joined_halves(dice, low):
-    value = dice.getrandbits(32)
-    return equal(value, low, (RSH, 16), (XOR, value >> 16), (TAX, 0), (LD, low), (AND, 0xFFFF),
-                 (XOR, value & 0xFFFF), (OR | X, 0), *dice.choice((
-                     [is_equal(0)], [(JSET, WORD, "no", "yes")], [(JGT, 0, "no", "yes")], [(JGE, 1, "no", "yes")])))
 
 
 # Both words of an argument joined
@@ -322,8 +263,7 @@ def by_joined_words_under_masks(dice, low):
     high, value = value_in(dice, high_mask), value_in(dice, low_mask)
     return Condition("SCMP_CMP_MASKED_EQ", high_mask << 32 | low_mask, high << 32 | value,
                      [(LD, low + 4), (AND, high_mask), (XOR, high), (TAX, 0), (LD, low), (AND, low_mask), (XOR, value),
-                      (OR | X, 0), *dice.choice(([is_equal(0)], [(JSET, WORD, "no", "yes")], [(JGT, 0, "no", "yes")],
-                                                 [(JGE, 1, "no", "yes")]))])
+                      (OR | X, 0), is_zero(dice)])
 
 
 # Orders of a word under any mask
@@ -630,40 +570,11 @@ def by_returned_equality(dice, low):
     return equal(value, low, (XOR, value), (TAX, 0), (NEG, 0), (OR | X, 0), (RSH, 31), (XOR, 1), *answer_of_bit(dice))
 
 
-# What stands for each construct.
+# The constructs by their names.
 CONSTRUCTS = {
-    "a mask": by_mask, "a mask in X": by_mask_in_x, "the word in X": by_word_in_x, "some bit of a mask": by_bits,
-    "copies through M[] and X": by_copies, "an order against X": by_order_in_x, "or": by_or,
-    "xor under a mask": by_xor_and_mask, "xor": by_xor, "a right shift": by_right_shift,
-    "a division by a power of two": by_division, "a left shift": by_left_shift,
-    "a product by a power of two": by_product, "two halves": by_halves, "no high bits": by_high_bits,
-    "an identity": by_identity, "an order of high bits": by_order_of_high_bits, "an offset": by_offset,
-    "a negation": by_negation, "a difference": by_difference, "an offset under a mask": by_offset_under_mask,
-    "an order of an offset": by_order_of_offset, "an order of a negation": by_order_of_negation,
-    "an order of a difference": by_order_of_difference, "an order of a complement": by_order_of_complement,
-    "an order of a high complement": by_order_of_high_complement, "masks joined": by_joined_masks,
-    "two halves joined": by_joined_halves, "both words joined": by_joined_words,
-    "no bit of both words": by_no_bit_of_both, "both words joined under masks": by_joined_words_under_masks,
-    "an order under a mask": by_order_under_mask, "an order below under a mask": by_order_below_under_mask,
-    "two orders under a mask": by_orders_under_mask, "an order behind high bits": by_order_behind_high_bits,
-    "an order of low bits": by_order_of_low_bits, "a product by an odd number": by_odd_product,
-    "an odd product under a mask": by_odd_product_under_mask, "a product by any number": by_any_product,
-    "an order of a product": by_order_of_product, "an order of a quotient": by_order_of_quotient,
-    "the first or last quotient": by_least_or_greatest_quotient, "quotient and remainder": by_quotient_and_remainder,
-    "an order of a square": by_square, "a product of words": by_product_of_words,
-    "a quotient of words": by_quotient_of_words, "a shift by a word": by_shift_by_word,
-    "a sum of words": by_sum_of_words, "an order of a sum of words": by_order_of_sum_of_words,
-    "a sum of parts": by_sum_of_parts, "a sum of a word with itself": by_sum_with_itself,
-    "a word less a part of it": by_word_less_part, "three parts joined": by_three_parts_joined,
-    "and of words under masks": by_and_of_words, "words side by side": by_words_side_by_side,
-    "words shifted and joined": by_shifted_words_joined, "some bit of both words": by_some_bit_of_both,
-    "a bit cleared on one way": by_cleared_bit, "bits flipped on one way": by_changed_way,
-    "a bound on one way": by_saturation, "flags of both ways": by_flags, "a bit returned": by_returned_bit,
-    "a quotient returned": by_returned_quotient, "a scratch word returned": by_returned_scratch_word,
-    "an equality returned": by_returned_equality,
-}
-
-
+    **{name: functools.partial(draws, codes) for draws, rows in (
+        (of_mask, OF_MASK), (of_value, OF_VALUE), (of_least, OF_LEAST)) for name, codes in rows.items()},
+    **{name[3:].replace("_", " "): made for name, made in list(globals().items()) if name.startswith("by_")}}
 ENDS = ["no", (RET, EPERM), "yes", (RET, ALLOW)]
 
 
@@ -856,16 +767,36 @@ def with_changed_constant(dice, program, first=0):
             return changed
 
 
-@dataclass
-class ProfilePair:
-    """A filter as instructions, calls of which the first has a condition, and the index of its argument."""
+class Sides:
+    """Two sides of a comparison, as `judged` has them, and programs as instructions."""
 
-    program: list
-    numbers: list
-    condition: Condition
-    index: int
+    def difference(self, dice):
+        """A record that is answered differently, or None."""
+        return next((record for record in self.records(dice) if self.differs_at(record)), None)
+
+    def differs_at(self, record):
+        return self.left.answer(record) != self.right.answer(record)
+
+    def is_shown(self, lines):
+        """Whether both sides answer the record that scf shows as it says, and not alike."""
+        record = printed_record(lines[1])
+        printed = [MACHINE.printed(side.answer(record)) for side in (self.left, self.right)]
+        return self.differs_at(record) and [line.partition(" ")[2] for line in lines[2:4]] == printed
+
+
+class ProfilePair(Sides):
+    """A filter as instructions, beside a profile that allows some numbers, the first by a condition on an argument with
+    this index."""
 
     OPTION = "--native"
+
+    def __init__(self, program, numbers, condition, index):
+        self.programs, self.numbers, self.condition, self.index = [program], numbers, condition, index
+        entries = [{"names": [f"c{number}"], "action": "SCMP_ACT_ALLOW", "args": [] if at else [condition.entry(index)]}
+                   for at, number in enumerate(numbers)]
+        table = "".join(f"c{number} {number}\n" for number in numbers)
+        self.left = Stack([packed(program)])
+        self.right = Profile(json.dumps({"defaultAction": "SCMP_ACT_ERRNO", "syscalls": entries}), table)
 
     @classmethod
     def drawn(cls, dice, construct):
@@ -882,43 +813,23 @@ class ProfilePair:
 
     def changed(self, dice):
         """The pair with a constant of the filter's part behind the tests of the number changed."""
-        return replace(self, program=with_changed_constant(dice, self.program, 4 + len(self.numbers)))
+        program = with_changed_constant(dice, self.programs[0], 4 + len(self.numbers))
+        return ProfilePair(program, self.numbers, self.condition, self.index)
 
-    def profile(self):
-        entries = [{"names": ["c0"], "action": "SCMP_ACT_ALLOW", "args": [self.condition.entry(self.index)]}]
-        entries += [{"names": [f"c{at}"], "action": "SCMP_ACT_ALLOW"} for at in range(1, len(self.numbers))]
-        return json.dumps({"defaultAction": "SCMP_ACT_ERRNO", "syscalls": entries}).encode()
-
-    def bundle(self):
-        table = "".join(f"c{at} {number}\n" for at, number in enumerate(self.numbers)).encode()
-        return part("filter", packed(self.program)) + part("profile", self.profile()) + part("table", table)
-
-    def profile_answer(self, number, argument):
-        if number >= X32:
-            return KILL_PROCESS
-        if number not in self.numbers or number == self.numbers[0] and not self.condition.holds(argument):
-            return EPERM
-        return ALLOW
-
-    def differs_at(self, number, argument):
-        words = [number, X86_64, 0, 0] + 12 * [0]
-        words[4 + 2 * self.index:6 + 2 * self.index] = argument & WORD, argument >> 32
-        return MACHINE.answer(self.program, words) != self.profile_answer(number, argument)
-
-    def difference(self, dice):
-        """A call that is answered differently, or None."""
+    def records(self, dice):
         numbers = {number + by for number in self.numbers for by in (-1, 0, 1)} | {0, X32 - 1, X32, 1 << 31, WORD}
         for number in sorted(numbers - {-1}):
             for argument in (self.corners(dice) if number == self.numbers[0] else (0, LONG)):
-                if self.differs_at(number, argument):
-                    return number, argument
-        return None
+                arguments = [0] * 6
+                arguments[self.index] = argument
+                yield record_of(number, X86_64, 0, arguments)
 
     def corners(self, dice):
         """Arguments by the constants of the condition and of the filter: shifted, turned and their neighbours."""
         value, two = self.condition.value, self.condition.two
-        constants = {k for code, _, _, k in self.program if code not in (LD, RET)} | {value & WORD, two}
-        shifts = {k for code, _, _, k in self.program if code in (LSH, RSH, LDX) and k < 32} | {16}
+        program, = self.programs
+        constants = {k for code, _, _, k in program if code not in (LD, RET)} | {value & WORD, two}
+        shifts = {k for code, _, _, k in program if code in (LSH, RSH, LDX) and k < 32} | {16}
         shifts |= {k.bit_length() - 1 for k in constants if k & (k - 1) == 0 and k}
         shifted = {number for k in constants for by in shifts for number in (k << by & WORD, k >> by)}
         lows = {(k + by) & WORD for k in constants | shifted for by in (-1, 0, 1)}
@@ -932,20 +843,15 @@ class ProfilePair:
             highs |= {two >> 32} | {two >> 32 ^ 1 << bit for bit in range(32)}
         return [h << 32 | low for low in sorted(lows) for h in sorted(highs)]
 
-    def is_shown(self, lines):
-        """Whether the sides differ at the call that scf shows."""
-        call = re.fullmatch(r"call nr (\d+) arch 0xc000003e ip \S+ args ((?:\S+ ?){6})", lines[1])
-        return self.differs_at(int(call[1]), int(call[2].split()[self.index], 16))
 
-
-@dataclass
-class FilterPair:
-    """Two filters, and the indices of the words that they load."""
-
-    programs: list
-    words: list
+class FilterPair(Sides):
+    """Two filters beside each other, and the indices of the words that they load."""
 
     OPTION = "--beside"
+
+    def __init__(self, programs, words):
+        self.programs, self.words = programs, words
+        self.left, self.right = Stack([packed(programs[0])]), Stack([packed(programs[1])], "beside")
 
     @classmethod
     def drawn(cls, dice, rewrite):
@@ -959,21 +865,12 @@ class FilterPair:
         programs[side] = with_changed_constant(dice, programs[side])
         return FilterPair(programs, self.words)
 
-    def bundle(self):
-        return part("filter", packed(self.programs[0])) + part("beside", packed(self.programs[1]))
-
-    def answers(self, record):
-        return [MACHINE.answer(program, record) for program in self.programs]
-
-    def difference(self, dice):
-        """A record that is answered differently, or None."""
+    def records(self, dice):
         for values in self.corners(dice):
             record = [0] * 16
             for word, value in zip(self.words, values):
                 record[word] = value
-            if len(set(self.answers(record))) > 1:
-                return record
-        return None
+            yield record
 
     def corners(self, dice, count=400):
         """Values of the two words, by the constants of both filters and drawn."""
@@ -988,20 +885,6 @@ class FilterPair:
         yield from ((dice.choice(near), dice.choice(near)) for _ in range(count))
         yield from ((dice.getrandbits(32), dice.getrandbits(32)) for _ in range(count))
 
-    def is_shown(self, lines):
-        """Whether both sides answer the record that scf shows as it says, and not alike."""
-        shown = re.fullmatch(r"call nr (\d+) arch (\S+) ip (\S+) args ((?:\S+ ?){6})", lines[1])
-        record = [int(shown[1]), int(shown[2], 16)]
-        for number in (shown[3], *shown[4].split()):
-            record += [int(number, 16) & WORD, int(number, 16) >> 32]
-        answers = self.answers(record)
-        printed = [f"{side} {MACHINE.printed(answer)}" for side, answer in zip(("filter", "beside"), answers)]
-        return answers[0] != answers[1] and lines[2:4] == printed
-
-
-def build_program():
-    subprocess.run([*CORE, "--version"], stdin=subprocess.DEVNULL, stdout=subprocess.DEVNULL, check=True)
-
 
 class Wrong(Exception):
     """scf said what isn't so."""
@@ -1010,7 +893,7 @@ class Wrong(Exception):
 def compared(pair):
     """What scf prints of a pair, the seconds of a processor that it takes, and its most memory in megabytes."""
     with tempfile.TemporaryFile() as bundle:
-        bundle.write(pair.bundle())
+        bundle.write(pair.left.parts + pair.right.parts)
         bundle.seek(0)
         with subprocess.Popen([PROGRAM, "compare", pair.OPTION], stdin=bundle, stdout=subprocess.PIPE) as child:
             out = child.stdout.read().decode()
@@ -1024,9 +907,9 @@ def verdict(pair, difference, printed):
     lines = printed.split("\n")
     word = lines[0].split()[0]
     if word == "same" and difference:
-        raise Wrong(f"same, but {difference} is answered differently: {pair}")
+        raise Wrong(f"same, but {difference} is answered differently: {vars(pair)}")
     if word == "differs" and not pair.is_shown(lines):
-        raise Wrong(f"differs, but not so at {lines[1:4]}: {pair}")
+        raise Wrong(f"differs, but not so at {lines[1:4]}: {vars(pair)}")
     return word
 
 
@@ -1062,7 +945,7 @@ def measured(kind, construct, dice, pairs):
             pair = pair.changed(dice)
         difference = pair.difference(dice)
         if difference and not is_changed:
-            raise Wrong(f"the pair isn't what it is made for: {pair}")
+            raise Wrong(f"the pair isn't what it is made for: {vars(pair)}")
         printed, seconds, memory = compared(pair)
         measurement.count(difference, verdict(pair, difference, printed), seconds, memory)
     return measurement
@@ -1073,7 +956,7 @@ def main():
     parser.add_argument("--pairs", type=int, default=100, help="for each construct and rewrite (100)")
     parser.add_argument("--seed", type=int, default=1)
     words = parser.parse_args()
-    build_program()
+    OnProgram.setUpClass()
     for kind, constructs in ((ProfilePair, CONSTRUCTS), (FilterPair, REWRITES)):
         for name, construct in constructs.items():
             try:

@@ -11,8 +11,6 @@ import unittest
 
 from .common import CORE, PATIENCE, PROGRAM, part
 
-# The program itself, which is run many times; the launcher builds it where it isn't current.
-
 
 def a_filter(text):
     return "filter", text
@@ -112,6 +110,20 @@ class OnProgram(unittest.TestCase):
         about = words, given if len(given) < 1000 else len(given)
         self.assertEqual((out[:2000], len(out), ended), (wanted[:2000], len(wanted), status), about)
         self.assertTrue(out == wanted, about)
+
+    def print_each(self, rows, *before):
+        """What the program prints of each row: words; an input, as parts, bytes or a filter's text; a text, in which
+        `..` stands for anything; and the status."""
+        for words, given, text, status in rows:
+            with self.subTest(words=words, given=given):
+                data = bundle(given) if isinstance(given, (list, tuple)) else \
+                    assembled(given) if isinstance(given, str) else given
+                out, ended = ran([*before, *(words.split() if isinstance(words, str) else words)], data)
+                if ".." in text:
+                    self.assertRegex(out.decode(), rf"(?s)\A{'.*'.join(map(re.escape, text.split('..')))}\Z")
+                else:
+                    self.assertEqual(out, text if isinstance(text, bytes) else text.encode())
+                self.assertEqual(ended, status)
 
     def refuses(self, words, text):
         """What the program prints of words that it refuses, with status 2; it doesn't wait for an input then."""

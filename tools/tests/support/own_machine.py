@@ -1,5 +1,5 @@
-"""A machine of its own for tests: PID, mount and UTS namespaces with a /run of their own, in which containers and other
-processes are started. When its first process ends, the kernel ends all others, and nothing of them stays."""
+"""A machine of its own for tests: PID, mount and UTS namespaces with a /run of their own, in which containers, units
+and other processes are started. When its first process ends, the kernel ends all others, and nothing of them stays."""
 import contextlib
 import glob
 import json
@@ -12,25 +12,11 @@ import time
 import unittest
 
 from . import json_schema
-from .common import LOADER, PATIENCE, Case, comes
-from .confined import here
+from .common import LOADER, PATIENCE, Case, comes, text_of
+from .confined import children_of, here
 
 BUSYBOX = shutil.which("busybox")
 ROOT = unittest.skipIf(os.getuid(), "only root makes namespaces")
-# The first process: runs what it reads, a line of JSON with words, environment and input each, and prints how it ended.
-FIRST = r"""
-import base64, json, os, signal, subprocess, sys, tempfile
-os.system("mount -t tmpfs tmpfs /run && mkdir -p /run/user; "
-          "umount /sys/fs/cgroup/unified 2>/dev/null; hostname audited")
-print("ready", flush=True)
-for line in sys.stdin:
-    words, env, given = json.loads(line)
-    with tempfile.TemporaryFile() as out, tempfile.TemporaryFile() as err:
-        done = subprocess.run(words, input=base64.b64decode(given), stdout=out, stderr=err, env={**os.environ, **env})
-        out.seek(0), err.seek(0)
-        print(json.dumps([done.returncode, base64.b64encode(out.read()).decode(),
-                          base64.b64encode(err.read()).decode()]), flush=True)
-"""
 # Starts processes: its words are a JSON list of a name, the names of filters' files, the number of processes and the
 # number of threads of each. Each process waits in read(2), which its filters must allow. It prints their numbers, and
 # ends.
@@ -95,6 +81,23 @@ def podman_settings(case, run_root):
             for name, text in (("CONF", PODMAN_CONF), ("STORAGE_CONF", PODMAN_STORAGE_CONF))}
 
 
+def make_rootfs(where):
+    """Makes the root file system of a bundle in a folder, with busybox."""
+    for folder in ("bin", "proc", "dev", "sys", "tmp", "etc", "run"):
+        os.makedirs(f"{where}/rootfs/{folder}")
+    shutil.copy2(BUSYBOX, f"{where}/rootfs/bin/busybox")
+    for link in ("sh", "sleep", "true"):
+        os.symlink("busybox", f"{where}/rootfs/bin/{link}")
+
+
+def spec_of(where, args):
+    """The configuration that a runtime makes for a bundle in a folder, which runs these words."""
+    subprocess.run([shutil.which("runc") or shutil.which("crun"), "spec"], cwd=where, check=True)
+    config = json.loads(text_of(f"{where}/config.json"))
+    config["process"].update(terminal=False, args=list(args), rlimits=[])
+    return config
+
+
 def remove_groups(top):
     """Removes a control group and those below; whether it is still there."""
     for path, _, _ in os.walk(top, topdown=False):
@@ -104,11 +107,41 @@ def remove_groups(top):
 
 
 class Machine(Case):
-    """Tests on a machine on which `on` runs a command."""
+    """Tests on a machine, which `boot` starts: a process whose only child is the first one there."""
+
+    # The namespaces that a command enters.
+    NAMESPACES = "-p -m -u"
+
+    def first(self):
+        """The number of the first process, 0 where there is none."""
+        return (children_of(self.boot.pid) or [0])[0]
 
     def on(self, *words, given=b"", **env):
         """Runs a command on the machine: its status, and what it printed."""
-        raise NotImplementedError
+        first = self.first()
+        if not first:
+            return 1, "", ""
+        # (what a command starts and leaves behind would keep a pipe open)
+        enter = ["nsenter", "-t", str(first), *self.NAMESPACES.split()]
+        with tempfile.TemporaryFile() as out, tempfile.TemporaryFile() as err:
+            done = subprocess.run([*enter, *words], input=given, stdout=out, stderr=err, env={**os.environ, **env},
+                                  check=False, timeout=PATIENCE)
+            out, err = (self.text_of(item) for item in (out, err))
+        self.assertEqual(list(json_schema.faults_of_output(words, out, done.returncode)), [], words)
+        return done.returncode, out, err
+
+    @staticmethod
+    def text_of(file):
+        file.seek(0)
+        return file.read().decode("utf-8", "replace")
+
+    def end(self):
+        """Ends all of its processes."""
+        first = self.first()
+        if first:
+            os.kill(first, signal.SIGKILL)
+        self.boot.kill()
+        self.boot.wait()
 
     @property
     def group(self):
@@ -125,22 +158,14 @@ class Machine(Case):
 
     def runtime(self, name):
         """A runtime's command; skips the test where it isn't there."""
-        if not shutil.which(name) or not BUSYBOX:
-            self.skipTest(f"there is no {name if BUSYBOX else 'busybox'} here")
+        self.needs("busybox", name)
         return [name]
 
     def bundle(self, name, seccomp, change=lambda config: None, args=("sleep", "1000")):
         """A bundle whose configuration has this profile, or none."""
         where = os.path.join(self.folder, "bundles", name)
-        for folder in ("bin", "proc", "dev", "sys", "tmp", "etc", "run"):
-            os.makedirs(f"{where}/rootfs/{folder}")
-        shutil.copy2(BUSYBOX, f"{where}/rootfs/bin/busybox")
-        for link in ("sh", "sleep"):
-            os.symlink("busybox", f"{where}/rootfs/bin/{link}")
-        subprocess.run([shutil.which("runc") or shutil.which("crun"), "spec"], cwd=where, check=True)
-        with open(f"{where}/config.json", encoding="utf-8") as file:
-            config = json.load(file)
-        config["process"].update(terminal=False, args=list(args), rlimits=[])
+        make_rootfs(where)
+        config = spec_of(where, args)
         config["linux"]["cgroupsPath"] = f"/{self.group}/{name}"
         config["linux"].pop("seccomp", None)
         if seccomp is not None:
@@ -163,32 +188,25 @@ class Machine(Case):
 class OwnMachine(Machine):
     """Tests on a machine of its own."""
 
+    BOOT = ("mount -t tmpfs tmpfs /run && mkdir -p /run/user; umount /sys/fs/cgroup/unified 2>/dev/null; "
+            "hostname audited; echo ready; exec sleep infinity")
+
     def setUp(self):
         super().setUp()
-        if not shutil.which("unshare"):
-            self.skipTest("there is no unshare here")
-        self.first = subprocess.Popen(
-            ["unshare", "--pid", "--mount", "--uts", "--fork", "--mount-proc", "--kill-child", "/usr/bin/python3", "-c",
-             FIRST], stdin=subprocess.PIPE, stdout=subprocess.PIPE, stderr=subprocess.PIPE, text=True)
+        self.needs("unshare")
+        self.boot = subprocess.Popen(
+            ["unshare", "--pid", "--mount", "--uts", "--fork", "--mount-proc", "--kill-child", "sh", "-c", self.BOOT],
+            stdin=subprocess.DEVNULL, stdout=subprocess.PIPE, stderr=subprocess.PIPE, text=True)
         self.addCleanup(self.end)
-        if self.first.stdout.readline() != "ready\n":
-            self.skipTest(f"no namespaces can be made here: {self.first.stderr.read()}")
+        if self.boot.stdout.readline() != "ready\n":
+            self.skipTest(f"no namespaces can be made here: {self.boot.stderr.read()}")
 
     def end(self):
-        """Ends all of its processes, and removes the control groups that they were in, once they have left them."""
-        self.first.kill()
-        self.first.communicate()
+        """Also removes the control groups that they were in, once they have left them."""
+        super().end()
+        self.boot.communicate()
         comes(lambda: not any(map(remove_groups, [f"/sys/fs/cgroup/{self.group}",
                                                   *glob.glob(f"/sys/fs/cgroup/*/{self.group}")])))
-
-    def on(self, *words, given=b"", **env):
-        import base64
-        self.first.stdin.write(json.dumps([words, env, base64.b64encode(given).decode()]) + "\n")
-        self.first.stdin.flush()
-        status, out, err = json.loads(self.first.stdout.readline())
-        out, err = (base64.b64decode(item).decode("utf-8", "replace") for item in (out, err))
-        self.assertEqual(list(json_schema.faults_of_output(words, out, status)), [], words)
-        return status, out, err
 
 
 SYSTEMD = "/lib/systemd/systemd"
@@ -204,6 +222,7 @@ echo $$ >"$1/cgroup.procs" && exec unshare --kill-child -p --fork -m -u -i -n --
 class Systemd(Machine):
     """Tests in namespaces of which a real systemd is the first process."""
 
+    NAMESPACES = "-m -u -i -n -p -C"
     # its unit files
     UNITS = {}
 
@@ -231,56 +250,12 @@ class Systemd(Machine):
         return False
 
     def made_cgroup(self):
-        with open("/proc/mounts", encoding="utf-8") as file:
-            mounts = [line.split()[1] for line in file if line.split()[2] == "cgroup2"]
+        mounts = [line.split()[1] for line in text_of("/proc/mounts").splitlines() if line.split()[2] == "cgroup2"]
         if not mounts:
             self.skipTest("there are no cgroups of version 2 here")
         try:
             path = tempfile.mkdtemp(prefix="scf-systemd-", dir=mounts[0])
         except OSError as error:
             self.skipTest(f"no cgroup can be made here: {error.strerror}")
-        self.addCleanup(self.remove, path)
+        self.addCleanup(comes, lambda: not remove_groups(path))
         return path
-
-    def remove(self, path):
-        """Removes a cgroup with all below it, once their processes have ended."""
-        for folder, _, _ in os.walk(path, topdown=False):
-            comes(lambda folder=folder: not self.is_there(folder))
-
-    @staticmethod
-    def is_there(folder):
-        try:
-            os.rmdir(folder)
-        except FileNotFoundError:
-            return False
-        except OSError:
-            pass
-        return os.path.exists(folder)
-
-    def end(self):
-        """Ends systemd, by which all that it has started ends."""
-        first = self.first()
-        if first:
-            os.kill(first, signal.SIGKILL)
-        self.boot.kill()
-        self.boot.wait()
-
-    def first(self):
-        with open(f"/proc/{self.boot.pid}/task/{self.boot.pid}/children", encoding="ascii") as file:
-            return int((file.read().split() or ["0"])[0])
-
-    def on(self, *words, given=b"", **env):
-        first = self.first()
-        if not first:
-            return 1, "", ""
-        words = ["nsenter", "-t", str(first), "-m", "-u", "-i", "-n", "-p", "-C", *words]
-        # (what a command starts and leaves behind would keep a pipe open)
-        with tempfile.TemporaryFile() as out, tempfile.TemporaryFile() as err:
-            done = subprocess.run(words, input=given, stdout=out, stderr=err, env={**os.environ, **env}, check=False,
-                                  timeout=PATIENCE)
-            return (done.returncode, *(self.text_of(item) for item in (out, err)))
-
-    @staticmethod
-    def text_of(file):
-        file.seek(0)
-        return file.read().decode("utf-8", "replace")

@@ -1,9 +1,11 @@
 """Profiles for several architectures read a second way, from seccomp.h, linux/audit.h, seccomp(2) and the OCI
-specification: what one states and answers, drawn profiles, and filters that a small compiler makes of them."""
+specification: what one states and answers, drawn profiles, and filters that are changed."""
 import functools
 import itertools
 import json
 import struct
+
+from .stand_in import TESTS
 
 # By the OCI name: the architecture of a record, the first and the last number, the bits of an argument, the kind of the
 # table in a bundle, and a table. Each table gives two names one number, and lacks a name that another has.
@@ -99,18 +101,20 @@ def overlap(first, second, bits):
 
 
 class Reading:
-    """What a profile states with the tables of the architectures `given`, which a bundle has in this order."""
+    """What a profile states with the tables of the architectures `given`, which a bundle has in this order; by default
+    with those of ARCHITECTURES."""
 
-    def __init__(self, profile, given):
-        self.profile, self.given = profile, given
+    def __init__(self, profile, given, tables=None):
+        self.profile, self.given = {"syscalls": [], **profile}, given
+        self.tables = tables or {name: row[5] for name, row in ARCHITECTURES.items() if name in given}
         self.listed = profile.get("architectures") or [
             "SCMP_ARCH_X86_64" if "SCMP_ARCH_X86_64" in given else "SCMP_ARCH_AARCH64"]
         self.default = word_of(profile["defaultAction"], profile.get("defaultErrnoRet"))
         # By the architecture and the number: the index of the entry, the conditions and the answer of each rule.
         self.rules = {name: {} for name in ARCHITECTURES if name in given}
         for name, rules in self.rules.items():
-            _, first, _, _, _, table = ARCHITECTURES[name]
-            for index, entry in enumerate(profile["syscalls"]):
+            first, table = ARCHITECTURES[name][1], self.tables[name]
+            for index, entry in enumerate(self.profile["syscalls"]):
                 for number in sorted({first + table[name] for name in entry["names"] if name in table}):
                     rule = index, entry.get("args", ()), word_of(entry["action"], entry.get("errnoRet"))
                     rules.setdefault(number, []).append(rule)
@@ -133,7 +137,7 @@ class Reading:
 
     def notes(self):
         """The lines that `scf compare` prints after its verdict."""
-        known_names = {name for architecture in self.rules for name in ARCHITECTURES[architecture][5]}
+        known_names = {name for table in self.tables.values() for name in table}
         return [*(f"skipped {name}" for entry in self.profile["syscalls"]
                   for name in entry["names"] if name not in known_names),
                 *(f"other {name}" for name in self.listed if name not in self.given)]
@@ -156,7 +160,7 @@ class Reading:
         """Records of an architecture in which a filter and the profile may differ: by number all that its table has,
         those beside them, and numbers that no syscall has; so many of each number whose rules have conditions. An
         argument that no condition is on has one of these words in both halves, or any bits."""
-        arch, first, last, bits, _, table = ARCHITECTURES[name]
+        (arch, first, last, bits, *_), table = ARCHITECTURES[name], self.tables[name]
         numbers = {first + number + step for number in table.values()
                    for step in (-1, 0, 1)} | {first, last, first + 1000}
         for number in sorted(number for number in numbers.union(words) if first <= number <= last):
@@ -234,100 +238,29 @@ def draw(random_of):
 
 # Filters
 
-class Code:
-    """A filter that is put together from its end, each piece with the places that it goes on to."""
-
-    def __init__(self):
-        self.insns = []
-        # The architecture that alone runs each instruction, None if several do, and that of those put from now on.
-        self.owners, self.owner = [], None
-
-    def put(self, code, k, *targets):
-        """Puts an instruction before all others; its place, counted from the end."""
-        at = len(self.insns) + 1
-        self.insns.append((code, *([at - target - 1 for target in targets] or [0, 0]), k))
-        self.owners.append(self.owner)
-        return at
-
-    def put_jump(self, target):
-        at = len(self.insns) + 1
-        self.insns.append((5, 0, 0, at - target - 1))
-        self.owners.append(self.owner)
-        return at
-
-    def data(self):
-        return b"".join(struct.pack("<HBBI", *insn) for insn in reversed(self.insns))
-
-
-def _near(code, *targets):
-    """Places that a test can go to, with jumps to those that are too far."""
-    return [code.put_jump(target) if len(code.insns) + 4 - target > 255 else target for target in targets]
-
-
-def put_test(code, test, k, holds, fails):
-    holds, fails = _near(code, holds, fails)
-    return code.put(test, k, holds, fails)
-
-
-def put_condition(code, condition, bits, holds, fails):
-    """Tests a condition on an argument."""
-    op, value, two, index = condition["op"][9:], condition["value"], condition.get("valueTwo", 0), condition["index"]
-    low, high = 16 + 8 * index, 20 + 8 * index
-    if op == "MASKED_EQ":
-        wanted = value & two
-        if bits == 32 and wanted >> 32:
-            return code.put_jump(fails)
-        then = put_test(code, 0x15, wanted & 0xFFFFFFFF, holds, fails)
-        code.put(0x54, value & 0xFFFFFFFF)
-        then = code.put(0x20, low)
-        if bits == 32:
-            return then
-        then = put_test(code, 0x15, wanted >> 32, then, fails)
-        code.put(0x54, value >> 32)
-        return code.put(0x20, high)
-    if op in ("NE", "LT", "LE"):
-        opposite = {"NE": "EQ", "LT": "GE", "LE": "GT"}[op]
-        return put_condition(code, {**condition, "op": f"SCMP_CMP_{opposite}"}, bits, fails, holds)
-    test = {"EQ": 0x15, "GE": 0x35, "GT": 0x25}[op]
-    if bits == 32 and value >> 32:
-        return code.put_jump(fails)
-    put_test(code, test, value & 0xFFFFFFFF, holds, fails)
-    then = code.put(0x20, low)
-    if bits == 32:
-        return then
-    if op == "EQ":
-        put_test(code, 0x15, value >> 32, then, fails)
-    else:
-        equal = put_test(code, 0x15, value >> 32, then, fails)
-        put_test(code, 0x25, value >> 32, holds, equal)
-    return code.put(0x20, high)
-
-
-def compile_filter(reading):
-    """A filter that answers as a profile without conflicts, entry by entry, and the owners of its instructions."""
-    code = Code()
-    default = code.put(6, reading.default)
-    starts = {}
-    for name, rules in reading.rules.items():
-        code.owner, then = name, default
-        for number in sorted(rules):
-            for _, conditions, answer in reversed(rules[number]):
-                holds = code.put(6, answer)
-                for condition in conditions:
-                    holds = put_condition(code, condition, ARCHITECTURES[name][3], holds, then)
-                put_test(code, 0x15, number, holds, then)
-                then = code.put(0x20, 0)
-        starts[name] = then
-    code.owner = None
-    kills = code.put(6, KILLS)
-    native, x32 = (starts.get(f"SCMP_ARCH_{name}", kills) for name in ("X86_64", "X32"))
-    put_test(code, 0x35, X32_BIT, *[code.put_jump(label) for label in (x32, native)])
-    then, fallback = code.put(0x20, 0), kills
-    for arch, start in [(0xC000003E, then), *((ARCHITECTURES[name][0], starts[name]) for name in reading.rules
-                                              if ARCHITECTURES[name][0] != 0xC000003E)]:
-        fallback = put_test(code, 0x15, arch, code.put_jump(start), fallback)
-    code.put(0x20, 4)
-    return code.data(), code.owners[::-1]
+def owners_of(program, names):
+    """Of each instruction the architectures whose records may run it, and None if those of another may."""
+    owners = [set() for _ in program]
+    for name in (*names, None):
+        number = ARCHITECTURES[name][0] if name else 0
+        pending = {(0, False)}
+        done = set()
+        while pending:
+            at, has_architecture = here = pending.pop()
+            done.add(here)
+            owners[at].add(name)
+            code, jt, jf, k = program[at]
+            if code == 0x20:
+                has_architecture = k == 4
+            elif code & 7 == 4:
+                has_architecture = False
+            steps = [0]
+            if code & 7 == 5:
+                steps = [k] if code == 5 else [jt, jf]
+                if has_architecture and code != 5:
+                    steps = [jt if TESTS[code & 0xF0](number, k) else jf]
+            pending.update({(at + 1 + step, has_architecture) for step in steps if code & 7 != 6}.difference(done))
+    return owners
 
 
 def change_filter(random_of, data, places):

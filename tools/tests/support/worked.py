@@ -1,10 +1,10 @@
-"""Worked filters, profiles and tables beside those of on_parts, the text of an answer, and the effort of a comparison,
-which is worked out by its formula and not by scf."""
+"""Worked filters, profiles and tables beside those of on_parts, and the effort of a comparison, which is worked out by
+its formula and not by scf."""
 import json
 import math
 
 from .on_parts import a_filter
-from .stand_in import StandIn, unpacked
+from .stand_in import unpacked
 
 MOST = (1 << 64) - 1
 # Answers, as they are printed.
@@ -44,11 +44,6 @@ def allowing(numbers):
     """A profile that allows these numbers alone, and its table."""
     return (refusing(([f"c{number}" for number in numbers], [])),
             "".join(f"c{number} {number}\n" for number in numbers))
-
-
-def printed(answer):
-    """An answer as scf prints it."""
-    return StandIn().printed(answer)
 
 
 def size_of_paths(data):

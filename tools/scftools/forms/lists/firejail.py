@@ -14,9 +14,9 @@ import struct
 from collections.abc import Callable, Iterator
 
 from ...base.values import Pattern, dataclass, field
-from ...model import constants, tables
+from ...model import constants
 from ...model.answers import ALLOW, ENOSYS, Answer
-from ...model.architectures import I386, NATIVE
+from ...model.architectures import I386
 from ...model.entries import Condition
 from . import sandbox_rules
 from .sandbox_rules import KILL, LOG, LOWER_HALF, ListError, Policy, Rule, UnknownRules, error_at
@@ -27,7 +27,8 @@ ENOTSUP = Answer("ERRNO", 95)
 SETTINGS = ("seccomp", "seccomp.drop", "seccomp.keep", "seccomp.block-secondary", "seccomp-error-action", "protocol",
             "memory-deny-write-execute", "restrict-namespaces")
 SIGN = Pattern(rb"(?m)^(?:--)?(?:seccomp(?:\.(?:32\.)?(?:drop|keep)|\.32|\.block-secondary)?|protocol|"
-               rb"memory-deny-write-execute|restrict-namespaces)(?:[ =][^\n]*)?$|^include [^\n /]+\.(?:inc|local|profile)$")
+               rb"memory-deny-write-execute|restrict-namespaces)(?:[ =][^\n]*)?$|"
+               rb"^include [^\n /]+\.(?:inc|local|profile)$")
 # Where firejail keeps the files that profiles include and its configuration, and its compiler of filters.
 PROFILES, CONFIGURATION = "/etc/firejail", "firejail.config"
 COMPILERS = tuple(f"/usr/{folder}/firejail/fseccomp" for folder in (
@@ -174,13 +175,8 @@ class GroupReader:
             return [word] if self.known is None or word in self.known else []
         if word[0] == "@" and word not in self.groups:
             self.groups[word] = self.ask(word)
-        table = tables.architecture_table(NATIVE) or tables.Table(b"")
-        names = []
-        for number in self.groups[word] if word[0] == "@" else [int(word[1:])]:
-            if not table.names_of(number):
-                raise error_at(at, f"no name is known of the syscall {number}, and a profile has names alone")
-            names.append(table.names_of(number)[0])
-        return names
+        numbers = self.groups[word] if word[0] == "@" else [int(word[1:])]
+        return [sandbox_rules.name_of(number, at) for number in numbers]
 
     def answers_in(self, text: str, at: int, plain: Answer, negated: Answer,
                    settings: StatedSettings) -> dict[str, Answer]:

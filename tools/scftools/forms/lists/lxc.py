@@ -104,15 +104,11 @@ def _rules(lines: list[tuple[int, str]], default: Answer, policy: Policy) -> Ite
 
 def _numbers(lines: list[tuple[int, str]], policy: Policy) -> None:
     """The rules of version 1: a number of x86-64 in each line."""
-    table = tables.architecture_table(NATIVE) or tables.Table(b"")
     for at, line in lines:
         match = re.match(r"\s*\+?([0-9]{1,9})", line)
         if match is None:
             raise error_at(at, "it isn't a syscall number")
-        names = table.names_of(int(match[1]))
-        if not names:
-            raise error_at(at, f"no name is known of the syscall {match[1]}, and a profile has names alone")
-        policy.add(Rule(names[0], ALLOW, (), at))
+        policy.add(Rule(sandbox_rules.name_of(match[1], at), ALLOW, (), at))
 
 
 def _add(policy: Policy, rules: list[tuple[Rule, str]]) -> None:

@@ -146,6 +146,14 @@ def lines_of(data: bytes) -> Iterator[tuple[int, str]]:
         yield number, line
 
 
+def name_of(number: int | str, at: int) -> str:
+    """The name of an x86-64 syscall, whose number a line has. Raises ListError."""
+    names = (tables.architecture_table(NATIVE) or tables.Table(b"")).names_of(int(number))
+    if not names:
+        raise error_at(at, f"no name is known of the syscall {number}, and a profile has names alone")
+    return names[0]
+
+
 def _number_in_tables(name: str, architecture: str) -> int:
     table = tables.architecture_table(architecture)
     number = None if table is None else table.number_of(name)

@@ -1,11 +1,19 @@
-"""Call tables and profiles as `ask` reads them: what is refused and by which fault, what a profile answers to calls and
-by which entry, and the calls that a table names."""
+"""Call tables and profiles: what is refused and by which fault, which rules conflict, what a profile answers to calls,
+as its filter does, and by which entry, the calls that a table names, and how filters are compiled."""
+import functools
+import json
+import struct
+
 from support.common import I386, X32, X86_64, part
-from support.on_parts import (ALL, ALLOW, DEFAULT_ALLOW, ONE_CALL, READ_TABLE, OnProgram, a_profile, a_table,
-                              behind_gate, bundle, ran)
-from support.worked import FAILS, KILLS, MADE, MOST, WHOLE_CONFIG
+from support.on_parts import (ALL, ALLOW, CLONE, CLONE_TABLE, DEFAULT_ALLOW, ONE_CALL, READ_TABLE, READ_WRITE_TABLE,
+                              OnProgram, a_profile, a_table, behind_gate, bundle, ran)
+from support.worked import (FAILS, KILLS, MADE, MOST, SOCKET_RULES, SOCKET_TABLE, WHOLE_CONFIG, allowing, effort,
+                            refusing)
+from scftools.ask import verdicts
 
 BIT_32, LAST = 1 << 32, X32 - 1
+# The most instructions that a conditional jump passes.
+FARTHEST = 255
 # Texts of tables, and their faults.
 TABLES = (
     ("", None),
@@ -137,6 +145,20 @@ REASONS = '''{"defaultAction":"SCMP_ACT_ERRNO","syscalls":[
     {"names":["last"],"action":"SCMP_ACT_ERRNO","errnoRet":7},
     {"names":["last","read"],"action":"SCMP_ACT_ERRNO","errnoRet":7,
         "args":[{"index":0,"value":0,"op":"SCMP_CMP_EQ"}]}]}'''
+# Names by the escapes of JSON, of which one is no call's.
+ESCAPED = (r'{"defaultAction":"SCMP_ACT_ERRNO","syscalls":[{"names":["\u00e9","r\u0065ad"],'
+           '"action":"SCMP_ACT_ALLOW"}]}')
+# The rules that a container engine's default has for one call.
+ENGINE_RULES = '''{"defaultAction":"SCMP_ACT_ERRNO","defaultErrnoRet":38,"syscalls":[
+    {"names":["socket"],"action":"SCMP_ACT_ERRNO","errnoRet":22,"args":[
+    {"index":0,"value":16,"valueTwo":0,"op":"SCMP_CMP_EQ"},
+    {"index":2,"value":9,"valueTwo":0,"op":"SCMP_CMP_EQ"}]},
+    {"names":["socket"],"action":"SCMP_ACT_ALLOW",
+    "args":[{"index":2,"value":9,"valueTwo":0,"op":"SCMP_CMP_NE"}]},
+    {"names":["socket"],"action":"SCMP_ACT_ALLOW",
+    "args":[{"index":0,"value":16,"valueTwo":0,"op":"SCMP_CMP_NE"}]},
+    {"names":["socket"],"action":"SCMP_ACT_ALLOW",
+    "args":[{"index":2,"value":9,"valueTwo":0,"op":"SCMP_CMP_NE"}]}]}'''
 # A table and a profile, the architecture and the number of a call, its first arguments, and its answer with the
 # reason.
 ANSWERS = [(READ_TABLE, ONE_CALL, *row) for row in (
@@ -184,6 +206,20 @@ ANSWERS = [(READ_TABLE, ONE_CALL, *row) for row in (
     (X86_64, LAST, (), f"{MADE} default"),
     (X86_64, X32, (), f"{KILLS} foreign"),
     (I386, 0, (), f"{KILLS} foreign"),
+)] + [(CLONE_TABLE[1], CLONE[1], X86_64, 56, (first,), text) for first, text in (
+    (0, f"{MADE} entry 0"), (BIT_32, f"{MADE} entry 0"), (0x02000000, f"{FAILS} default"),
+)] + [(READ_TABLE, ESCAPED, X86_64, number, (), text) for number, text in (
+    (0, f"{MADE} entry 0"), (1, f"{FAILS} default"),
+)] + [(SOCKET_TABLE, profile, X86_64, 41, arguments, text) for profile, arguments, text in (
+    # rules that answer differently and don't conflict
+    (SOCKET_RULES, (16, 0, 9), "ERRNO 22 entry 0"),
+    (SOCKET_RULES, (16, 0, 1), f"{MADE} entry 1"),
+    (SOCKET_RULES, (2, 0, 9), "ERRNO 1 default"),
+    (ENGINE_RULES, (16, 3, 9), "ERRNO 22 entry 0"),
+    (ENGINE_RULES, (16, 3, 0), f"{MADE} entry 1"),
+    (ENGINE_RULES, (2, 1, 9), f"{MADE} entry 2"),
+    (ENGINE_RULES, (2, 1, 6), f"{MADE} entry 1"),
+    (ENGINE_RULES, (BIT_32 | 16, 3, 9), f"{MADE} entry 2"),
 )]
 # An operator with its value and second value, arguments of which it holds, and others.
 OPERATORS = (
@@ -208,6 +244,43 @@ OPERATORS = (
     ("MASKED_EQ", (BIT_32 | 1, 0), (0, 2, 2 * BIT_32), (1, BIT_32, MOST)),
     ("MASKED_EQ", (255, 511), (255, 511, BIT_32 | 255, MOST), (510, 0)),
 )
+# How the first of two rules asks an argument (OCI runtime specification, `op`; a value, and the second one of a mask),
+# how the second does, None where it doesn't, and whether some number meets both.
+PAIRS = (
+    (("LT", 10), ("GE", 10), False),
+    (("LE", 10), ("GE", 10), True),
+    (("MASKED_EQ", 1, 1), ("MASKED_EQ", 1, 0), False),
+    (("MASKED_EQ", 255, 16), ("LT", 16), False),
+    (("MASKED_EQ", 255, 16), ("LT", 17), True),
+    (("MASKED_EQ", 18446744073709551600, 32), ("GT", 47), False),
+    (("MASKED_EQ", 18446744073709551600, 32), ("GT", 46), True),
+    (("NE", 5), ("EQ", 5), False),
+    (("NE", 5), ("NE", 6), True),
+    (("NE", 5), ("EQ", 6), True),
+    (("MASKED_EQ", 0, 0), ("EQ", 3), True),
+    (("MASKED_EQ", 0, 9), ("EQ", 3), True),
+    (("MASKED_EQ", 6, 2), ("MASKED_EQ", 3, 3), True),
+    (("MASKED_EQ", 6, 4), ("MASKED_EQ", 3, 3), False),
+    (("LT", 0), None, False),
+    (("LT", 1), None, True),
+    (("GT", MOST), None, False),
+    (("GE", MOST), None, True),
+    (None, None, True),
+    (("EQ", 3), ("EQ", BIT_32 | 3), False),
+    (("NE", 3), ("EQ", BIT_32 | 3), True),
+    (("GE", BIT_32), ("LE", BIT_32 - 1), False),
+)
+# Entries, with how they ask an argument, and the conflict that is named: the least second entry, then the least first
+# one, then the least number.
+LEAST = (
+    ((("a", "ALLOW", 0, ("LT", 10)), ("a", "LOG", 0, ("GE", 10)), ("a", "TRAP", 0, ("EQ", 10)),
+      ("a", "NOTIFY", 0, None)), "number 7 first 1 second 2"),
+    ((("ab", "ALLOW", 1, ("NE", 9)), ("ab", "LOG", 1, ("NE", 8))), "number 3 first 0 second 1"),
+    ((("b", "LOG", 1, ("EQ", 4)), ("ab", "ALLOW", 1, ("EQ", 9)), ("ba", "ALLOW", 1, ("EQ", 9)),
+      ("a", "ALLOW", 0, None)), None),
+)
+# Calls of a profile whose rules test an argument for 1, or for more than 7: number, first argument and answer.
+TESTED = ((0, 1, MADE), (0, 8, MADE), (0, 7, FAILS), (1, 1, MADE), (1, 8, MADE), (1, 0, FAILS), (2, 1, FAILS))
 
 
 def with_entries(entries):
@@ -220,6 +293,31 @@ def with_args(args):
     return with_entries('{"names":["a"],"action":"SCMP_ACT_ALLOW","args":[%s]}' % args)
 
 
+def entry(names, action, index, asked):
+    """An entry for calls of one letter each, with a condition on an argument where there is one."""
+    actual = {"names": list(names), "action": f"SCMP_ACT_{action}"}
+    if asked:
+        operator, value, second = (*asked, 0)[:3]
+        actual["args"] = [{"index": index, "op": f"SCMP_CMP_{operator}", "value": value, "valueTwo": second}]
+    return actual
+
+
+@functools.lru_cache(None)
+def compiled(profile, table):
+    """The bytes of the filter of a profile."""
+    out, status = ran(["compile"], bundle([a_profile(profile), a_table(table)]))
+    if status:
+        raise AssertionError((profile[:200], out))
+    return out
+
+
+def tested(equal, greater):
+    """As many rules of `write` that test an argument for a value, and as many that test it for a greater one; and one
+    of each for `read`."""
+    return refusing((["write"] * equal + ["read"], [{"index": 0, "value": 1, "op": "SCMP_CMP_EQ"}]),
+                    (["write"] * greater + ["read"], [{"index": 0, "value": 7, "op": "SCMP_CMP_GT"}]))
+
+
 class OnProfiles(OnProgram):
     def loads(self, profile, table, fault):
         """That a profile and its table are taken, or refused by this fault."""
@@ -229,10 +327,23 @@ class OnProfiles(OnProgram):
         self.assertEqual((out.decode(), status), wanted, (profile[:200], table[:200]))
 
     def asks(self, table, profile, arch, number, arguments, text):
+        """That a profile answers a call so, and why; and so does the filter that is compiled of it."""
         words = ["--arch", hex(arch), "--nr", str(number)]
         for at, argument in enumerate(arguments):
             words += [f"--a{at}", str(argument)]
         self.prints(["ask", *words], bundle([a_profile(profile), a_table(table)]), f"{text}\n")
+        self.answers(compiled(profile, table), " ".join(text.split()[:2]), number, arch, arguments)
+
+    def answers(self, filter_, answer, number, arch=X86_64, arguments=(0,), most=None):
+        """That a filter answers a call so, in at most so many steps."""
+        words = ["--nr", str(number), "--arch", hex(arch)]
+        for at, argument in enumerate(arguments):
+            words += [f"--a{at}", str(argument)]
+        out, status = ran(["run", *words], filter_)
+        actual, _, steps = out.decode().rstrip("\n").partition(" steps ")
+        self.assertEqual((actual, status), (answer, 0), words)
+        if most is not None:
+            self.assertLessEqual(int(steps), most, words)
 
 
 class Tables(OnProfiles):
@@ -291,3 +402,126 @@ class Answers(OnProfiles):
             for arguments, text in ((holds, f"{MADE} entry 0"), (fails, "LOG 0 default")):
                 for argument in arguments:
                     self.asks("a 1", with_args(args), X86_64, 1, (argument,), text)
+
+
+class Conflicts(OnProfiles):
+    def conflicts(self, entries, conflict):
+        """That a profile of these entries is refused for this conflict, or loaded where there is none."""
+        profile = json.dumps({"defaultAction": "SCMP_ACT_KILL", "syscalls": [entry(*each) for each in entries]})
+        self.loads(profile, "a 7\nb 3", conflict and f"profile Conflict {conflict}")
+
+    def test_two_rules(self):
+        """Of call 7, ALLOW and then ERRNO, with the one condition first and with the other."""
+        for first, second, is_both in PAIRS:
+            for index in (0, 5):
+                for item, another in ((first, second), (second, first)):
+                    self.conflicts([("a", "ALLOW", index, item), ("a", "ERRNO", index, another)],
+                                   is_both and "number 7 first 0 second 1")
+
+    def test_other_arguments(self):
+        for first, second in ((0, 1), (1, 0), (0, 5), (5, 0)):
+            for asked, conflict in ((("EQ", 1), "number 7 first 0 second 1"), (("LT", 0), None)):
+                self.conflicts([("a", "ALLOW", first, ("EQ", 1)), ("a", "ERRNO", second, asked)], conflict)
+
+    def test_least_entries(self):
+        for entries, conflict in LEAST:
+            self.conflicts(entries, conflict)
+
+    def test_many_rules_of_one_call(self):
+        """4096, whose answers alternate and whose conditions exclude each other: each is met by its own value."""
+        entries = [entry("a", "LOG" if value % 2 else "ALLOW", 0, ("EQ", value)) for value in range(4096)]
+        profile = json.dumps({"defaultAction": "SCMP_ACT_KILL", "syscalls": entries})
+        given = bundle([a_profile(profile), a_table("a 7")])
+        for value in (0, 1, 2047, 4094, 4095):
+            answer = "LOG 0" if value % 2 else MADE
+            self.prints(["ask", "--nr", "7", "--a0", str(value)], given, f"{answer} entry {value}\n")
+        self.prints(["ask", "--nr", "7", "--a0", "4096"], given, "KILL_THREAD 0 default\n")
+
+
+class Compiled(OnProfiles):
+    def test_many_numbers(self):
+        """Where the size bound is just below the greatest size and just above it."""
+        for count in (681, 682):
+            profile, table = allowing(range(count))
+            filter_ = compiled(profile, table)
+            self.prints(["compile"], bundle([a_profile(profile), a_table(table)]), filter_)
+            for number, answer in ((0, MADE), (340, MADE), (count - 1, MADE), (count, FAILS)):
+                self.answers(filter_, answer, number)
+
+    def test_many_rules_of_a_number(self):
+        """600 of them: the size bound is 8, 4 and 2 for each."""
+        self.assertLessEqual(len(compiled(refusing((["read"] * 600, [])), READ_TABLE)), 8 * 1212)
+
+    def test_long_jumps(self):
+        """Smaller numbers pass the rules of the larger one, more than 255 instructions by a jump of one more."""
+        for count in range(47, 53):
+            filter_ = compiled(tested(count, 1), READ_WRITE_TABLE)
+            for number, first, answer in TESTED:
+                self.answers(filter_, answer, number, arguments=(first,))
+
+
+class LeftOut(OnProgram):
+    """With --left-out: the lines of `compare`, and one with the length of each name, since a name may have line ends in
+    it, and even look like that line."""
+
+    NAMES = ((), ("gone",), ("gone", "x\nskipped y", "other z\n", "left-out skipped 4 other\n", "\u00e9", "", "gone"))
+    ARCHITECTURES = ((), ("SCMP_ARCH_X86",), ("SCMP_ARCH_PPC", "a\nleft-out skipped 1 other 2\n", "SCMP_ARCH_PPC"))
+
+    @staticmethod
+    def front(names, architectures):
+        """What is printed before the filter."""
+        skipped, others = ([text.encode() for text in texts] for texts in (names, architectures))
+        lines = [b"skipped %b\n" % name for name in skipped] + [b"other %b\n" % name for name in others]
+        lengths = ["".join(f" {len(name)}" for name in texts).encode() for texts in (skipped, others)]
+        return b"".join(lines) + b"left-out skipped%b other%b\n" % tuple(lengths)
+
+    def test_lines_before_the_filter(self):
+        for names in self.NAMES:
+            for architectures in self.ARCHITECTURES:
+                profile = json.dumps({
+                    "defaultAction": "SCMP_ACT_ERRNO", "architectures": ["SCMP_ARCH_X86_64", *architectures],
+                    "syscalls": [{"names": ["read", *names], "action": "SCMP_ACT_ALLOW"}]})
+                given, front = bundle([a_profile(profile), a_table(READ_TABLE)]), self.front(names, architectures)
+                for words in (["compile"], ["compile", "--architectures"]):
+                    filter_, status = ran(words, given)
+                    self.assertEqual((status, len(filter_) % 8), (0, 0))
+                    self.prints([*words, "--left-out"], given, front + filter_)
+                    report, code = verdicts.behind_left_out(front + filter_)
+                    self.assertEqual((report.skipped, report.architectures, code), (names, architectures, filter_))
+
+    def test_faults_stay(self):
+        given = bundle([a_profile("{"), a_table(READ_TABLE)])
+        self.assertEqual(ran(["compile", "--left-out"], given), ran(["compile"], given))
+
+
+class Steps(OnProfiles):
+    """8, and 2 for each binary digit of the count of the numbers, and the greatest sum of 2 and 8 for each condition
+    over the rules of a number."""
+
+    def test_a_default(self):
+        self.answers(compiled(DEFAULT_ALLOW, ""), MADE, 0, most=8)
+
+    def test_a_condition(self):
+        for first, answer in ((0, MADE), (0x02000000, FAILS), (BIT_32, MADE)):
+            self.answers(compiled(CLONE[1], CLONE_TABLE[1]), answer, 56, arguments=(first,), most=20)
+
+    def test_many_numbers(self):
+        for number, answer in ((0, MADE), (340, MADE), (680, MADE), (681, FAILS)):
+            self.answers(compiled(*allowing(range(681))), answer, number, most=30)
+
+    def test_rules_that_no_call_meets_both(self):
+        filter_ = compiled(SOCKET_RULES, SOCKET_TABLE)
+        for arguments, answer in (((16, 0, 9), "ERRNO 22"), ((16, 0, 1), MADE), ((2, 0, 9), FAILS)):
+            self.answers(filter_, answer, 41, arguments=arguments, most=38)
+        given = part("filter", filter_) + bundle([a_profile(SOCKET_RULES), a_table(SOCKET_TABLE)])
+        self.prints(["compare", "--limit", str(effort([filter_], SOCKET_RULES, SOCKET_TABLE))], given, "same\n")
+
+
+class Searches(OnProfiles):
+    def test_shared_answers(self):
+        """An answer isn't put again where one stands within a jump's reach: every second number from 1 on."""
+        for count in (1, 2, 3, 4, 5, 7, 8, 9, 100, 255, 256, 340, 681):
+            program = list(struct.iter_unpack("<HBBI", compiled(*allowing(range(1, 2 * count, 2)))))
+            for place, first in enumerate(program):
+                if first[0] == 0x06:
+                    self.assertNotIn(first, program[place + 1:place + 1 + FARTHEST], (count, place))
