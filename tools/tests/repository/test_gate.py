@@ -1,4 +1,5 @@
 """./test, in a made tree with a kit that stands in for rt; and a run that takes too much of a processor fails."""
+import ctypes
 import os
 import shutil
 import signal
@@ -151,14 +152,15 @@ class Gate(Case):
             self.assertEqual(os.listdir(room), [])
 
     def test_output_comes_as_it_is_printed_and_an_interrupt_leaves_nothing(self):
-        """The kit prints a line, then works for an hour."""
+        """The kit prints a line, then works for an hour; the kernel may give a signal to any thread."""
         self.script("bin/rt", "#!/bin/sh\necho early\ntouch \"$TMPDIR/begun\"\nsleep 3600\n")
-        for number in (signal.SIGINT, signal.SIGTERM):
+        for number, thread in ((signal.SIGINT, 0), (signal.SIGTERM, 0), (signal.SIGTERM, 1)):
             with subprocess.Popen([os.path.join(self.tree, "test")], env=self.environment(), stdout=subprocess.PIPE,
                                   stderr=subprocess.DEVNULL) as gate:
                 self.assertIn(b"step 1 of 3", gate.stdout.readline())
                 self.assertIn(b"early\n", iter(gate.stdout.readline, b""))  # (beside it bugs are planted)
-                gate.send_signal(number)
+                threads = sorted(map(int, os.listdir(f"/proc/{gate.pid}/task")))
+                self.assertEqual(ctypes.CDLL(None).tgkill(gate.pid, threads[thread], number), 0)
                 self.assertEqual(gate.wait(PATIENCE), 128 + number)
             self.assertEqual(os.listdir(self.room), [])
 
