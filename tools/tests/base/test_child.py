@@ -7,7 +7,7 @@ import time
 import unittest
 from unittest import mock
 
-from support.common import Case, comes
+from support.common import Case, bytes_of, comes
 from scftools.base import child, program
 
 
@@ -97,8 +97,7 @@ class Child(Case):
             os.close(end)
 
     def status_of(self, process):
-        with open(f"/proc/{process}/status", "rb") as file:
-            return file.read()
+        return bytes_of(f"/proc/{process}/status")
 
     def answers(self, work, seconds=600):
         """What a child answers, and why there is no more."""
@@ -263,5 +262,4 @@ class Ignored(Case):
     def test_a_tool_that_inherits_ignored_signals(self):
         """How its children end is told to it all the same."""
         for words in (("verify-process", "--version"), ("check", self.file("f", bytes.fromhex("06000000 0000ff7f")))):
-            status, out, err = self.run_tool(*words, preexec_fn=lambda: signal.signal(signal.SIGCHLD, signal.SIG_IGN))
-            self.assertEqual((status, err), (0, ""), out)
+            out = self.output_of(0, *words, preexec_fn=lambda: signal.signal(signal.SIGCHLD, signal.SIG_IGN))

@@ -9,7 +9,7 @@ import resource
 import struct
 import subprocess
 
-from support.common import ALLOW, CORE, TOP, profile_of, ret, tool
+from support.common import ALLOW, CORE, TOP, profile_of, ret, text_of, tool
 from support.measured import MeasuredCase
 
 PROGRAM = "crates/scf/out/scf"
@@ -225,8 +225,7 @@ class Texts(MeasuredCase):
         text = PROFILES["objects"]
         bundle = self.file("bundle", b"profile %d\n%btable 7\nread 0\n" % (len(text), text))
         self.assertEqual(self.ends("objects", *CORE, "compile", given=bundle), 3)
-        with open(os.path.join(TOP, "docs", "FAULTS.md"), encoding="utf-8") as file:
-            self.assertIn(f" or {PROGRAM} on a bundle.", file.read())
+        self.assertIn(f" or {PROGRAM} on a bundle.", text_of(TOP, "docs", "FAULTS.md"))
         with open(bundle, "rb") as file:
             done = subprocess.run([os.path.join(TOP, PROGRAM), "compile"], stdin=file, stdout=subprocess.PIPE,
                                   check=False)

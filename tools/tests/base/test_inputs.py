@@ -8,7 +8,7 @@ import shutil
 import subprocess
 import unittest
 
-from support.common import ALLOW, EPERM, TABLE, Case, filter_of, jeq, profile_of, ret, tool
+from support.common import ALLOW, EPERM, TABLE, Case, bytes_of, filter_of, jeq, profile_of, ret, tool
 from support.measured import MeasuredCase
 
 # Of a tool that reads an endless input: seconds of a processor, and megabytes. A third of a second is measured on a
@@ -97,8 +97,7 @@ class Limits(Measured):
         profile = profile_of("read")
         self.assertEqual(self.run_tool("compare", self.filter, self.file("whole.json",
             profile + b" " * (TEXT - len(profile))))[:2], (0, "same\n"))
-        with open(TABLE, "rb") as file:
-            table = file.read()
+        table = bytes_of(TABLE)
         longer = self.file("whole.table", table + b"\n" * (TEXT - len(table)))
         self.assertEqual(self.run_tool("compare", "--table", longer, self.filter, self.profile)[:2], (0, "same\n"))
 
@@ -168,8 +167,7 @@ class Words(Case):
         self.filter, self.profile = self.file("f.bpf", filter_of([0])), self.file("p.json", profile_of("read"))
 
     def test_one_input_may_be_standard_input(self):
-        with open(TABLE, "rb") as file:
-            table = file.read()
+        table = bytes_of(TABLE)
         for words, given in ((("compare", "-", self.profile), filter_of([0])),
                              (("compare", self.filter, "-"), profile_of("read")),
                              (("compare", self.filter, "/dev/stdin"), profile_of("read")),
@@ -184,9 +182,7 @@ class Words(Case):
         for words in (("compare", "-", "-"), ("compare", "--table=-", "-", self.profile),
                       ("decide", "--nr=0", "-", "-"), ("decide", "--calls-from=-", "-"), ("run", "--table=-", "-"),
                       ("check", "-", "-"), ("list", "--table=-", "-"), ("compile", "--table=-", "-")):
-            status, out, err = self.run_tool(*words)
-            self.assertEqual((status, out), (2, ""), words)
-            self.assertIn("only one input can be '-'", err)
+            self.is_refused("only one input can be '-'", *words)
 
     @unittest.skipUnless(shutil.which("bash"), "there is no bash here")
     def test_pipes_of_a_shell(self):
@@ -204,9 +200,7 @@ class Words(Case):
                       ("run", "none"), ("check", "none"), ("list", "none"), ("compile", "none"),
                       ("decide", "--calls-from=none", self.filter),
                       ("explain", "--table=none", "same"), ("bundle", "filter", "none")):
-            status, out, err = self.run_tool(*words)
-            self.assertEqual((status, out), (2, ""), words)
-            self.assertIn("there is no file 'none'", err)
+            self.is_refused("there is no file 'none'", *words)
         for words in (("run", self.folder), ("check", self.folder), ("compile", self.folder), ("run", ""),
                       ("compare", self.folder, self.profile), ("compare", self.filter, self.folder),
                       ("compare", "--table", self.folder, self.filter, self.profile)):

@@ -7,7 +7,7 @@ import subprocess
 import sys
 import unittest
 
-from support.common import CORE, PROGRAM, SCF, X86_64, Case, filter_of, insn, profile_of, tool
+from support.common import CORE, PROGRAM, SCF, X86_64, Case, filter_of, insn, profile_of, text_of, tool
 from support.on_parts import (ALL, ALLOW, ARCH_GATE, NO_TABLE, OnProgram, a_filter, a_table, assembled, beside, bundle,
                               long_filter, ran)
 from scftools.base import output
@@ -33,6 +33,8 @@ HOSTILE = {
     "t\u202eerom\u2028z": "t\\xe2\\x80\\xaeerom\\xe2\\x80\\xa8z",
     "naïve-名": "naïve-名",
 }
+# A record of the kernel's.
+RECORD = "audit: type=1326 audit(1.000:1): sig=31 arch=c000003e syscall=41 compat=0 ip=0x0 code=0x80000000"
 # A tool's Python itself: what stands in for it on the path may open closed descriptors again.
 PYTHON = ["sh", sys.executable, "-IS"]
 
@@ -167,7 +169,10 @@ class Failing(Case):
                 ("decide", "--nr=0", self.same), ("run", "--nr=0", self.same), ("check", self.same),
                 ("list", self.same), ("compile", self.profile), ("bundle", "profile", self.profile),
                 ("explain", "--help"), ("surface", self.same), ("surface", "--json", self.same),
-                ("compare-profiles", self.profile, self.profile), ("compare", "--version"))
+                ("compare-profiles", self.profile, self.profile), ("compare", "--version"),
+                ("resolve-profile", self.profile), ("needs", self.file("log", "read(0) = 0\n"), self.profile),
+                ("why", RECORD), ("unit-profile", "--set", "~read"),
+                ("call-table", self.file("asm.h", "#define __NR_read 0\n")))
 
     def test_a_reader_that_goes_away(self):
         for words in self.each():
@@ -184,8 +189,7 @@ class Failing(Case):
                                self.same, self.profile], cwd=self.folder, stdout=subprocess.PIPE,
                               stderr=subprocess.PIPE, check=False)
         self.assertEqual((done.stdout, done.stderr), (b"same\n", b""))
-        with open(os.path.join(self.folder, "status"), encoding="ascii") as file:
-            self.assertIn(file.read(), ("0\n", "141\n"))
+        self.assertIn(text_of(self.folder, "status"), ("0\n", "141\n"))
 
     def test_a_full_output(self):
         for words in self.each():

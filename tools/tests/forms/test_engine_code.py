@@ -86,9 +86,7 @@ class Members(Case):
             for name, words in (("verify-process", (str(os.getpid()), given)), ("compare-profiles", (given, given)),
                                 ("resolve-profile", (given,))):
                 for more in ((), ("--runtime", "runc")):
-                    status, out, err = self.run_tool(name, *more, *words)
-                    self.assertEqual((status, out), (2, ""), (name, more))
-                    self.assertIn(says, err)
+                    self.is_refused(says, name, *more, *words)
 
     def test_where_a_misread_member_stands(self):
         for text, says in (

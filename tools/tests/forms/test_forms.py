@@ -233,8 +233,7 @@ class Raw(Case):
             self.assertIsNone(texts.form_of(data, "it"))
             path = self.file("f.bpf", data)
             expected = subprocess.run([*CORE, "dis"], input=data, stdout=subprocess.PIPE, check=True).stdout.decode()
-            status, out, err = self.run_tool("list", path)
-            self.assertEqual((status, err), (0, ""))
+            out = self.output_of(0, "list", path)
             self.assertIn(expected.split("\n")[0], out)
 
     def test_every_code_that_the_kernel_takes_is_below_256(self):

@@ -69,9 +69,7 @@ class Commands(Case):
 
     def test_what_no_object_states(self):
         profile = self.file("p.json", json.dumps({**READS, "defaultErrnoRet": 38}))
-        status, out, err = self.run_tool("resolve-profile", "--kubernetes", "a", profile)
-        self.assertEqual((status, out), (2, ""))
-        self.assertIn("the default has the errno 38", err)
+        self.is_refused("the default has the errno 38", "resolve-profile", "--kubernetes", "a", profile)
 
     def test_recordings(self):
         """A recorded object is a log of what it allows."""

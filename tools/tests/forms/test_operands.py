@@ -41,9 +41,7 @@ class Files(Case):
                             (["lint", "pid:1"], "scf profile-of pid:1"), (["surface", "unit:*"], no_unit),
                             (["why", "type=1326", profile, "pid:"], "isn't a process")):
             with self.subTest(words):
-                status, out, err = self.run_tool(*words)
-                self.assertEqual((status, out), (2, ""))
-                self.assertIn(says, err)
+                self.is_refused(says, *words)
 
 
 class Processes(Confined):

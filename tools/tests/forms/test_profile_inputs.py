@@ -233,9 +233,7 @@ class Caps(Case):
         self.assertEqual(self.run_tool("compare-profiles", *words, engine, engine)[0], 0)
         for command in ("ask", "compile", "lint", "compare"):
             files = [path, engine] if command == "compare" else [engine]
-            status, out, err = self.run_tool(command, "--machine=arm64", *files)
-            self.assertEqual((status, out), (2, ""), command)
-            self.assertIn("--machine goes with an engine's profile", err)
+            self.is_refused("--machine goes with an engine's profile", command, "--machine=arm64", *files)
 
     def test_entries_have_their_places_in_the_file(self):
         out = self.run_tool("ask", "--caps=SYS_ADMIN", "--nr=mount", self.engine)[1]

@@ -2,7 +2,7 @@
 import json
 import os
 
-from support.common import CORE, TABLE, Case, part
+from support.common import CORE, TABLE, Case, bytes_of, part
 from support.oci import ALLOW, ERRNO, entry
 
 MAP = [{"architecture": "SCMP_ARCH_AARCH64", "subArchitectures": ["SCMP_ARCH_ARM"]},
@@ -35,9 +35,7 @@ class ResolveProfile(Case):
     def test_usage(self):
         self.says_usage("resolve-profile")
         for words in (("--caps", "NO_SUCH", "-"), ("--kernel", "six", "-"), ("--arch", "arm", "-")):
-            status, out, err = self.run_tool("resolve-profile", *words)
-            self.assertEqual((status, out), (2, ""))
-            self.assertIn("resolve-profile: ", err)
+            self.is_refused("resolve-profile: ", "resolve-profile", *words)
 
     def test_a_plain_profile_stays(self):
         given = engine(entry("read", args=[{"index": 0, "value": 2**64 - 1, "valueTwo": 0, "op": "SCMP_CMP_EQ"}]),
@@ -229,20 +227,14 @@ class ResolveProfile(Case):
         given = engine(entry("read", includes={"caps": ["CAP_KILL"]}), entry("write", excludes={"arches": ["amd64"]}),
                        {"name": "close", "action": ALLOW}, archMap=MAP)
         _, out, _ = self.run_tool("resolve-profile", "-", given=json.dumps(given).encode())
-        with open(TABLE, "rb") as file:
-            bundle = part("profile", out.encode()) + part("table", file.read())
+        bundle = part("profile", out.encode()) + part("table", bytes_of(TABLE))
         self.assertEqual(self.run_words([*CORE, "compile"], bundle, stdout=-3)[0], 0)
 
     def test_files(self):
         path = self.file("p.json", json.dumps(engine(entry("read"))).encode())
         self.assertEqual(self.run_tool("resolve-profile", path)[0], 0)
         for name, says in (("none", "there is no file 'none'"), (self.folder, "is a folder")):
-            status, out, err = self.run_tool("resolve-profile", name)
-            self.assertEqual((status, out), (2, ""))
-            self.assertIn(says, err)
-        status, _, err = self.closed_output("resolve-profile", path)
-        self.assertEqual(status, 2)
-        self.assertIn("the output failed", err)
+            self.is_refused(says, "resolve-profile", name)
 
     def test_the_engine_says_which_members_count(self):
         given = engine(entry("a", includes={"minKernel": "255.0"}), entry("b", action=ERRNO, errno="ENOSYS"),

@@ -10,7 +10,7 @@ import unittest
 from unittest import mock
 
 from support import oci
-from support.common import ALLOW as ALLOWED
+from support.common import ALLOW as ALLOWED, bytes_of, text_of
 from support.common import TABLE, Case, insn, jeq, load, part, ret, stub
 from support.confined import ended, started
 from support.drawn_profiles import drawn_profile
@@ -78,11 +78,9 @@ def container(runtime, seccomp, capabilities=CAPABILITIES):
             done = subprocess.run([*words, "run", "--detach", "--bundle", folder, "--pid-file", f"{folder}/pid", name],
                                   stdin=subprocess.DEVNULL, stdout=subprocess.DEVNULL, stderr=err, check=False)
         if done.returncode:
-            with open(said, encoding="utf-8") as file:
-                yield None, file.read()
+            yield None, text_of(said)
         else:
-            with open(f"{folder}/pid", encoding="utf-8") as file:
-                yield int(file.read()), ""
+            yield int(text_of(f"{folder}/pid")), ""
     finally:
         subprocess.run([*words, "delete", "--force", name], stdin=subprocess.DEVNULL, stdout=subprocess.DEVNULL,
                        stderr=subprocess.DEVNULL, check=False)
@@ -558,9 +556,8 @@ class Tools(Case):
                 out = self.run_tool("compare", "--runtime", name, "f.bpf", self.path)[1]
                 self.assertEqual(out.split("\n")[0], verdict)
         refused = self.file("r.json", json.dumps({**self.given, "architectures": [X86_64, "SCMP_ARCH_S390X"]}))
-        status, out, err = self.run_tool("compile", "--runtime", "crun", refused)
-        self.assertEqual((status, out), (2, ""))
-        self.assertIn("crun refuses the profile: libseccomp takes no big-endian", err)
+        self.is_refused("crun refuses the profile: libseccomp takes no big-endian", "compile", "--runtime", "crun",
+                        refused)
         status, _, err = self.run_tool("compare", "f.bpf", "--beside", "f.bpf", "--runtime", "runc")
         self.assertEqual((status, "--runtime speaks of a profile" in err), (2, True))
 
@@ -576,8 +573,7 @@ class Tools(Case):
         self.assertEqual((status, "runc doesn't read archMap" in err), (2, True))
 
     def test_a_bundle(self):
-        with open(TABLE, "rb") as file:
-            parts = part("profile", json.dumps(self.given).encode()) + part("table", file.read())
+        parts = part("profile", json.dumps(self.given).encode()) + part("table", bytes_of(TABLE))
         for words, more, line in ((("--reading", "crun"), b"", "ERRNO 1 default"),
                                   (("--reading", "runc"), part("stub-table", b"95"), "ERRNO 38 stub")):
             status, out, err = self.run_tool("ask", "--nr", "95", *words, given=parts + more)
@@ -705,15 +701,11 @@ class VerifyProcess(Case):
                       ("--runtime", "lxc", own_pid, "p"),
                       ("--runtime", "runc", "--caps", "X", own_pid, "p"),
                       ("--runtime", "runc", own_pid, "no_such_file")):
-            status, out, err = self.run_tool("verify-process", *words)
-            self.assertEqual((status, out), (2, ""))
-            self.assertIn("verify-process: ", err)
+            self.is_refused("verify-process: ", "verify-process", *words)
         for given, says in ((b'{"defaultAction":"SCMP_ACT_ERRNO","archMap":[{}]}', "runc doesn't read archMap"),
                             (b'{"defaultAction":"A"}', "has an unknown action"), (b"{", "isn't JSON"),
                             (b'{"DefaultAction":"SCMP_ACT_ALLOW"}', "which programs in Go read as 'defaultAction'")):
-            status, out, err = self.run_tool("verify-process", "--runtime", "runc", own_pid, self.file("p.json", given))
-            self.assertEqual((status, out), (2, ""))
-            self.assertIn(says, err)
+            self.is_refused(says, "verify-process", "--runtime", "runc", own_pid, self.file("p.json", given))
 
 
 def compiled(given):

@@ -8,7 +8,7 @@ import subprocess
 import unittest
 from unittest import mock
 
-from support.common import ALLOW, EPERM, Case, jeq, load, ret
+from support.common import ALLOW, EPERM, Case, bytes_of, jeq, load, ret, text_of
 
 from scftools.model import profiles
 from scftools.forms import filter_loads
@@ -51,9 +51,7 @@ class Lists(Case):
 
     def are_refused(self, texts):
         for text, why in texts.items():
-            status, out, err = self.run_tool("ask", self.file("list", text))
-            self.assertEqual((status, out), (2, ""), text)
-            self.assertIn(f": {why}\n", err, text)
+            self.is_refused(f": {why}\n", "ask", self.file("list", text))
 
     def loads(self, text, filters):
         """What a program loads for a list is proved to be what the list's profile answers."""
@@ -147,8 +145,7 @@ class Policies(Lists):
             if os.path.islink(f"/{name}"):
                 os.symlink(f"usr/{name}", os.path.join(self.folder, "root", name))
         configuration = self.file("container", LXC.format(self.folder))
-        with open("/usr/share/lxc/config/common.seccomp", encoding="utf-8") as file:
-            common = file.read()
+        common = text_of("/usr/share/lxc/config/common.seccomp")
         for at, text in enumerate((common, "2\ndenylist\n[x86]\nchown32 errno 1\n[all]\numount errno 1\nsocket trap\n"
                                    "swapon errno 9 [0,0x10000000,&=]\nswapoff errno 9 [0,15,SCMP_CMP_MASKED_EQ,0x1]\n"
                                    "mknod errno 1\nmknod errno 2\nmknodat errno 1\nmknodat errno 4 [0,1,==]\n"
@@ -219,8 +216,7 @@ class Templates(Lists):
             done = subprocess.run([SNAP_SECCOMP, "compile", self.file("source", text), f"{self.folder}/compiled"],
                                   stdout=subprocess.PIPE, stderr=subprocess.STDOUT, check=False)
             self.assertEqual(done.returncode, 0, done.stdout)
-            with open(f"{self.folder}/compiled", "rb") as file:
-                self.loads(text, [file.read()])
+            self.loads(text, [bytes_of(f"{self.folder}/compiled")])
 
 
 def groups(group):

@@ -9,9 +9,8 @@ import time
 import unittest
 from unittest import mock
 
-from support.common import (ALLOW, EPERM, LOADER, TOP, Case, comes, filter_of, gate, jeq, load, profile_of, ret,
-                            text_of,
-                            tool)
+from support.common import (ALLOW, EPERM, LOADER, TOP, Case, bytes_of, comes, filter_of, gate, jeq, load, profile_of,
+                            ret, text_of, tool)
 from support import json_schema
 from support.confined import processes
 from support.own_machine import OwnMachine, Systemd, podman_settings
@@ -724,7 +723,7 @@ class Service(Audited, Systemd):
     """The service of contrib/systemd, with its restrictions, under a real systemd."""
 
     # (nothing else of the system is started)
-    UNITS = {"scf-audit.service": text_of(os.path.join(TOP, "contrib", "systemd", "scf-audit.service")),
+    UNITS = {"scf-audit.service": text_of(TOP, "contrib", "systemd", "scf-audit.service"),
              "scf-audit.service.d/alone.conf": "[Unit]\nDefaultDependencies=no\n",
              "scf-same.service": UNIT.format("SystemCallFilter=~mount")}
 
@@ -914,8 +913,7 @@ class Snaps(Case):
         expected, judge = self.expectations.of_snap("snap.web.run"), audit_judge.StackJudge(self.expectations.options)
         path = self.file("p.json", expected.asked.profile)
         self.run_words(["sh", "-c", f"{tool('compile')} {path} >{self.folder}/own.bpf"])
-        with open(os.path.join(self.folder, "own.bpf"), "rb") as file:
-            compiled = file.read()
+        compiled = bytes_of(self.folder, "own.bpf")
         for filters, verdict in (((compiled, self.OF_ALL), "as configured"), ((compiled,), "as configured"),
                                  ((self.OF_ALL,), "weaker"), ((gate(ret(ALLOW)), self.OF_ALL), "weaker"),
                                  ((compiled, gate(ret(EPERM))), "stricter")):
@@ -1361,9 +1359,8 @@ class Words(Case):
     def test_an_earlier_object(self):
         for text in ("{", "[]", "{}", '{"rows": [{}]}', '{"rows": [{"kind": 1}]}'):
             for words in ((), ("--html", "x"), ("--json",)):
-                status, out, err = self.run_tool("audit", *words, "--since", self.file("a.json", text))
-                self.assertEqual((status, out), (2, ""), text)
-                self.assertIn("a.json' isn't an object that --json printed", err)
+                self.is_refused("a.json' isn't an object that --json printed", "audit", *words, "--since",
+                                self.file("a.json", text))
 
     def test_what_scf_refuses(self):
         """It is said before anything is looked at."""

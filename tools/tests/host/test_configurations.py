@@ -117,9 +117,7 @@ class Configurations(Confined):
                              "bundle\n"), ({"pid": 7, "bundle": "/b"}, "take /b/config.json\n")):
             path = self.file("config.json", json.dumps(given))
             for words in RUNTIMES:
-                status, out, err = self.run_tool("verify-process", *words, str(child.pid), path)
-                self.assertEqual((status, out), (2, ""), given)
-                self.assertIn(says, err)
+                self.is_refused(says, "verify-process", *words, str(child.pid), path)
 
     def test_a_profile_that_is_refused(self):
         """Nothing is said of a configuration that no runtime takes."""

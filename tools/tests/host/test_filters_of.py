@@ -10,8 +10,8 @@ import sys
 import time
 import unittest
 
-from support.common import (ALLOW, EPERM, I386, KILL_PROCESS, PATIENCE, TABLE, X86_64, comes, jeq, jge, load, module,
-                            profile_of, ret, text_of, tool)
+from support.common import (ALLOW, EPERM, I386, KILL_PROCESS, PATIENCE, TABLE, X86_64, bytes_of, comes, jeq, jge, load,
+                            module, profile_of, ret, text_of, tool)
 from support.confined import CHILD, NEWEST, OLDEST, OTHER, Confined, children_of, ended, here, processes, status_of
 from support.own_machine import make_rootfs, remove_groups, spec_of
 from scftools.forms import filters
@@ -190,8 +190,7 @@ class FiltersOf(Confined):
         return self.run_tool("filters-of", *words, str(child.pid), "out")
 
     def read(self, name):
-        with open(os.path.join(self.folder, name), "rb") as file:
-            return file.read()
+        return bytes_of(self.folder, name)
 
     @here
     def test_two_filters_oldest_first(self):
@@ -246,9 +245,7 @@ class FiltersOf(Confined):
         self.file("held/7.bpf", b"old")
         os.symlink("nothing", os.path.join(self.folder, "held/link"))
         for folder in ("held", self.file("file", b"")):
-            status, out, err = self.run_tool("filters-of", pid, folder)
-            self.assertEqual((status, out), (2, ""))
-            self.assertIn(folder, err)
+            self.is_refused(folder, "filters-of", pid, folder)
         status, _, err = self.run_tool("filters-of", pid, "/proc/nothing/is/made/here")
         self.assertEqual(status, 2)
         self.assertTrue(err.startswith("filters-of: '/proc/nothing"), err)
@@ -615,7 +612,7 @@ class Containers(Confined):
         for runtime in there:
             why = self.started(runtime, profile)
             if why is None:
-                return int(text_of(os.path.join(self.folder, "box/pid")))
+                return int(text_of(self.folder, "box/pid"))
             reasons.append(why)
         return self.skipTest(f"no container can be started here: {'; '.join(reasons)}")
 

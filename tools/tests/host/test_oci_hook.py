@@ -60,14 +60,11 @@ class OfStates(Hook):
     """What the runtime says."""
 
     def test_usage(self):
-        status, out, err = self.run_tool("oci-hook", "--help")
-        self.assertEqual((status, err), (0, ""))
+        out = self.output_of(0, "oci-hook", "--help")
         self.assertIn("EINTR", out)
         for words in (("--no-such-option",), ("x",), ("--policy", "less"), ("--wait", "61"), ("--wait", "nan"),
                       ("--wait", "-1"), ("--table", "-")):
-            status, out, err = self.run_tool("oci-hook", *words)
-            self.assertEqual((status, out), (2, ""), words)
-            self.assertIn("oci-hook: ", err)
+            self.is_refused("oci-hook: ", "oci-hook", *words)
 
     def test_states_that_are_none(self):
         bundle = self.bundle(refuses("mount"))
@@ -128,9 +125,7 @@ class OfStates(Hook):
     def test_the_file_for_hooks(self):
         """As oci-hooks(5) has it; the words are those that the hook is called with."""
         words = ["--policy", "no-more", "--keep-first", "--kill"]
-        status, out, err = self.run_tool("oci-hook", "--print-hook", *words)
-        self.assertEqual((status, err), (0, ""))
-        value = json.loads(out)
+        value = json.loads(self.output_of(0, "oci-hook", "--print-hook", *words))
         self.assertEqual((value["version"], value["when"], value["stages"]), ("1.0.0", {"always": True},
                                                                               ["poststart"]))
         self.assertEqual((value["hook"]["path"], value["hook"]["args"]), (tool("oci-hook"), ["oci-hook", *words]))
@@ -146,9 +141,7 @@ class OfStates(Hook):
             self.assertEqual(self.run_tool("oci-hook", "--print-hook", *words, given=read)[0], 2)
 
     def printed_hook(self, *words):
-        status, out, err = self.run_tool("oci-hook", "--print-hook", *words)
-        self.assertEqual((status, err), (0, ""))
-        return json.loads(out)["hook"]
+        return json.loads(self.output_of(0, "oci-hook", "--print-hook", *words))["hook"]
 
     def test_the_timeout_of_the_file_for_hooks(self):
         """It is a whole number, and leaves time to stop the threads and to compare after the wait."""

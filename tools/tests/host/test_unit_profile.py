@@ -144,7 +144,7 @@ class UnitProfile(Case):
 
     def test_what_systemd_is_asked(self):
         self.of_unit(SystemCallFilter="read")
-        asked = text_of(os.path.join(self.folder, "systemctl.words")).split("\n")[:-1]
+        asked = text_of(self.folder, "systemctl.words").split("\n")[:-1]
         self.assertEqual(asked[-3:], ["--no-pager", "show", "--property=Version"])
         asked = asked[:-3]
         self.assertEqual((asked[:2], asked[-2:]), (["--no-pager", "show"], ["--", "box.service"]))
@@ -513,12 +513,6 @@ class UnitProfile(Case):
         for name, number, line in (("mount", 165, "KILL_PROCESS 0 entry 0"), ("swapon", 167, "ERRNO 1 entry 1"),
                                    ("read", 0, "LOG 0 entry 2"), ("write", 1, "ALLOW 0 default")):
             self.assertEqual(self.run_words([*CORE, "ask", "--nr", str(number)], bundle)[1].split("\n")[0], line, name)
-
-    def test_a_closed_and_a_full_output(self):
-        self.shows(SystemCallFilter="read")
-        with open("/dev/full", "wb") as full:
-            status, _, err = self.run_tool("unit-profile", "box", env=self.env, stdout=full)
-        self.assertEqual((status, err), (2, "unit-profile: the output failed: No space left on device\n"))
 
 
 ALLOWING = """[Unit]

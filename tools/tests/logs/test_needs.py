@@ -298,9 +298,7 @@ class Judgement(Case):
 class Needs(Judgement):
     def test_usage(self):
         self.says_usage("needs", "a")
-        status, out, err = self.run_tool("needs", "--profile", "--json", "a", "b")
-        self.assertEqual((status, out), (2, ""))
-        self.assertIn("leave out --json", err)
+        self.is_refused("leave out --json", "needs", "--profile", "--json", "a", "b")
 
     def test_allowed_and_not_allowed(self):
         dispositions, _, out = self.judged("read(3, 0x7f, 1) = 1\nexit_group(0) = ?\n", 0)
@@ -453,11 +451,7 @@ class Needs(Judgement):
             self.assertTrue(out.split("\n")[1].startswith("# "), out)
         status, out, err = self.run_tool("needs", self.file("log", "x"), "none")
         self.assertEqual((status, out, err), (2, "", "needs: there is no file 'none'\n"))
-        status, out, err = self.run_tool("needs", self.folder, self.file("p.json", profile_of("read")))
-        self.assertEqual((status, out), (2, ""))
-        self.assertIn("is a folder", err)
-        status, _, err = self.closed_output("needs", self.file("log", "x"), self.file("p.json", profile_of("read")))
-        self.assertEqual((status, err), (2, "needs: the output failed: No space left on device\n"))
+        self.is_refused("is a folder", "needs", self.folder, self.file("p.json", profile_of("read")))
 
     def test_inputs(self):
         config = self.file("c.json", json.dumps({"linux": {"seccomp": self.PROFILE}}))
@@ -807,9 +801,7 @@ class Hostile(Judgement):
         self.assertIn("# syscalls not judged, since there are too many with other arguments: 169\n", out)
 
     def test_a_log_without_an_end(self):
-        status, out, err = self.run_tool("needs", "/dev/zero", self.file("p.json", profile_of("read")))
-        self.assertEqual((status, out), (2, ""))
-        self.assertIn("has more than 1073741824 bytes", err)
+        self.is_refused("has more than 1073741824 bytes", "needs", "/dev/zero", self.file("p.json", profile_of("read")))
 
 
 # Makes the calls that standard input holds, a number and six arguments each; a filter denies all but exit_group.
@@ -921,9 +913,7 @@ class Real(Judgement):
                       ("--quiet=none",)):
             for to_file in (True, False):
                 log = self.traced(*words, to_file=to_file)
-                status, out, err = self.run_tool("needs", "--json", log, profile)
-                self.assertEqual((status, err), (1, ""), words)
-                report = json.loads(out)
+                report = json.loads(self.output_of(1, "needs", "--json", log, profile))
                 self.assertEqual({key: count for key, count in report["not_judged"].items() if key != "lines"},
                                  {"names": {}, "foreign": 0, "cut": 0, "more": 0, "lost": 0, "before_load": 0}, words)
                 self.assertEqual(report["not_judged"]["lines"], 0, words)

@@ -8,7 +8,7 @@ import subprocess
 import sys
 import unittest
 
-from support.common import ALLOW, EPERM, LOADER, X86_64, Case, jeq, load, ret, tool
+from support.common import ALLOW, EPERM, LOADER, X86_64, Case, bytes_of, jeq, load, ret, text_of, tool
 from logs import entry, rules, where
 from scftools.model.architectures import NATIVE
 from scftools.forms import c_arrays, filter_loads, strace, texts
@@ -157,8 +157,7 @@ made.load()
         if subprocess.run(["/usr/bin/python3", "-c", "import seccomp"], stderr=subprocess.PIPE, check=False).returncode:
             self.skipTest("python3-seccomp isn't installed")
         self.assertEqual(self.run_tool("filters-of", "out", "--", "/usr/bin/python3", "-c", script)[0], 0)
-        with open(self.path("exported"), "rb") as file:
-            self.assertEqual(self.taken(), [file.read()])
+        self.assertEqual(self.taken(), [bytes_of(self.path("exported"))])
 
     def test_logs_that_say_too_little(self):
         stack = "{len=1, filter=[BPF_STMT(BPF_RET|BPF_K, SECCOMP_RET_ALLOW)]}"
@@ -180,18 +179,14 @@ made.load()
 
     def test_usage(self):
         for words in (("out",), ("--log", "x"), ("--log", "x", "1", "out"), ("1", "out", "--", "true"), ()):
-            status, out, err = self.run_tool("filters-of", *words)
-            self.assertEqual((status, out), (2, ""), words)
-            self.assertIn("give PID FOLDER, [FOLDER] -- PROGRAM, or --log LOG FOLDER", err)
+            self.is_refused("give PID FOLDER, [FOLDER] -- PROGRAM, or --log LOG FOLDER", "filters-of", *words)
 
     def test_a_program_without_dashes(self):
         """Both tools say where it stands."""
         for words, right in ((("filters-of", "true", "out"), "filters-of -- true out"),
                              (("record", "true", "-x"), "record -- true -x"),
                              (("record", "log", "true"), "record log -- true")):
-            status, out, err = self.run_tool(*words)
-            self.assertEqual((status, out), (2, ""), words)
-            self.assertIn(f": 'true' is a program, and stands behind --: `scf {right}`\n", err)
+            self.is_refused(f": 'true' is a program, and stands behind --: `scf {right}`\n", *words)
 
 
 class Recorded(Traced):
@@ -209,11 +204,9 @@ class Recorded(Traced):
 
     def test_a_profile_is_not_lost(self):
         profile = self.file("p.json", b"{}")
-        status, out, err = self.run_tool("record", profile, "--", "touch", "ran")
-        self.assertEqual((status, out), (2, ""))
-        self.assertIn("p.json' would get the log, not a profile: --profile BASE makes one", err)
-        with open(profile, "rb") as file:
-            self.assertEqual((file.read(), os.path.exists(os.path.join(self.folder, "ran"))), (b"{}", False))
+        self.is_refused("p.json' would get the log, not a profile: --profile BASE makes one", "record", profile, "--",
+                        "touch", "ran")
+        self.assertEqual((bytes_of(profile), os.path.exists(os.path.join(self.folder, "ran"))), (b"{}", False))
 
     def test_without_a_file(self):
         """It is a new one that is called by the program."""
@@ -264,8 +257,7 @@ class Recorded(Traced):
         self.assertEqual((status, out), (0, "ran\n"), err)
         self.assertIn("PROFILE denies it: 126 capset ERRNO 1 default (made by crun itself, before it executes the "
                       "program)\n", err)
-        with open(self.path("least.json"), encoding="utf-8") as file:
-            least = json.load(file)
+        least = json.loads(text_of(self.path("least.json")))
         entries = {tuple(entry["names"]): entry.get("args") for entry in least["syscalls"]}
         self.assertEqual(entries[("personality",)], [where(0, "EQ", 0xFFFFFFFF)])
         self.assertEqual(least["defaultAction"], "SCMP_ACT_ERRNO")

@@ -12,7 +12,7 @@ import sys
 import tempfile
 import unittest
 
-from support.common import CONFINED, TOP, Case, profile_of, text_of
+from support.common import CONFINED, TOP, Case, bytes_of, profile_of, text_of
 from support.oci import ERRNO
 from forms.test_runtimes import ALONE, BUSYBOX, config
 from logs import entry, read_log, rules, where
@@ -126,9 +126,7 @@ class Records(Case):
                 if struct.unpack_from("<IH", message)[1] == SECCOMP_RECORD and b" pid=%d " % child.pid in message:
                     records.append("audit: type=1326 " + message[16:].decode("latin-1").rstrip("\0\n"))
         log = self.file("log", "\n".join(records))
-        status, out, err = self.run_tool("needs", "--json", log, self.file("q.json", profile_of()))
-        self.assertEqual((status, err), (1, ""))
-        found = json.loads(out)
+        found = json.loads(self.output_of(1, "needs", "--json", log, self.file("q.json", profile_of())))
         traced = os.path.join(self.folder, "strace")
         subprocess.run(["strace", "-o", traced, shutil.which("true")], check=False)
         with open(traced, encoding="latin-1") as file:
@@ -253,8 +251,7 @@ class Words(Case):
         """As oci-seccomp-bpf-hook 1.2 writes it (the types of containers-common)."""
         for text in (json.dumps(self.HOOKS), "\n\n" + json.dumps(self.HOOKS, indent=2)):
             log, profile = self.file("hook.json", text), self.file("p.json", profile_of("read"))
-            status, out, err = self.run_tool("needs", log, profile)
-            self.assertEqual((status, err), (1, ""))
+            out = self.output_of(1, "needs", log, profile)
             self.assertEqual(out.split("\n")[0], "257 openat ERRNO 1 default")
             self.assertIn("allowed 1, not allowed 1, depends 0\n", out)
         status, out, err = self.run_tool("needs", self.file("x.json", '{"a\x1b": '), self.file("p.json", profile_of()))
@@ -265,8 +262,7 @@ class Words(Case):
         one = self.file("one", "7  openat(3) = 3\n7  [ Process PID=7 runs in 32 bit mode. ]\n7  brk(0) = 0\n")
         two = self.file("two\x1b", "@[257]: 2\n@[9]: 1\n")
         three = self.file("three", "7  mmap(1) = 0\n")
-        status, out, err = self.run_tool("needs", one, two, three, self.file("p.json", profile_of("read")))
-        self.assertEqual((status, err), (1, ""))
+        out = self.output_of(1, "needs", one, two, three, self.file("p.json", profile_of("read")))
         shown = two.replace("\x1b", "\\x1b")
         self.assertEqual(out, f"9 mmap ERRNO 1 default\n# 2 times, first in line 2 of '{shown}'\n"
                               f"257 openat ERRNO 1 default\n# 3 times, first in line 1 of '{one}'\n"
@@ -427,8 +423,7 @@ class Containers(Case):
                 break
         if not any("mkdir(" in line and "= -1 EPERM" in line for line in lines):
             self.skipTest("strace may not trace a container here")
-        with open(log, "rb") as file:
-            why = self.run_tool("why", "--runtime", runtime, "-", given, given=file.read())[1]
+        why = self.run_tool("why", "--runtime", runtime, "-", given, given=bytes_of(log))[1]
         self.assertIn("the syscall is mkdir (83)", why)
         status, out, _ = self.run_tool("needs", "--runtime", runtime, log, given)
         self.assertEqual((status, [line for line in out.split("\n")[:-1] if line[0] != "#"]),

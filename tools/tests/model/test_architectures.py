@@ -86,7 +86,7 @@ class Sources(unittest.TestCase):
 
     def held(self, pattern, *path):
         """What a pattern has in a file, small letters and digits alone."""
-        text = text_of(os.path.join(TOP, *path))
+        text = text_of(TOP, *path)
         return [re.sub("[^a-z0-9]", "", found.lower()) for found in re.findall(pattern, text, re.M)]
 
     def test_names(self):

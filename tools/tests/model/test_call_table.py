@@ -177,11 +177,6 @@ class CallTable(Case):
         for name in ("none", self.folder):
             self.is_refused(name, "call-table", name)
 
-    def test_output_that_fails(self):
-        status, _, err = self.closed_output("call-table", given=HEADER.encode())
-        self.assertEqual(status, 2)
-        self.assertIn("call-table: the output failed", err)
-
     @unittest.skipUnless(ctypes.util.find_library("seccomp"), "there is no libseccomp here")
     def test_what_libseccomp_knows(self):
         out = self.output_of(0, "call-table", "--libseccomp")
@@ -320,7 +315,7 @@ class OtherArchitectures(Case):
         vm86old waitpid"""
 
     def lines(self):
-        return text_of(os.path.join(TOP, "tables", "other_architectures.names")).split("\n")
+        return text_of(TOP, "tables", "other_architectures.names").split("\n")
 
     def test_comments_and_names(self):
         lines = self.lines()

@@ -76,8 +76,7 @@ class Arguments(Case):
 
     def call(self, *words):
         number = () if any(word.startswith("--nr") for word in words) else ("--nr=0",)
-        out = self.output_of(0, "decide", "--json", *number, *words, self.any)
-        return json.loads(out)["calls"][0]["call"]
+        return json.loads(self.output_of(0, "decide", "--json", *number, *words, self.any))["calls"][0]["call"]
 
     def test_names_and_numbers(self):
         for text, number in self.TEXTS:

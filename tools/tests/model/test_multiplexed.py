@@ -5,7 +5,7 @@ import random
 import re
 import unittest
 
-from support.common import I386, TOP, Case
+from support.common import I386, TOP, Case, text_of
 from support.oci import ALLOW, ERRNO, NATIVE, X32, X86, condition, entry, profile
 from support.seccomp_library import NEEDED, Conflict, Library, answer_of
 from support.stand_in import StandIn, unpacked, words_of
@@ -40,8 +40,7 @@ class Words(Case):
     arguments libseccomp compares 32 bits (arch-*.c and ARCH_SIZE of libseccomp)."""
 
     def test_the_architectures(self):
-        with open(os.path.join(TOP, "docs", "RUNTIMES.md"), encoding="utf-8") as file:
-            page = file.read()
+        page = text_of(TOP, "docs", "RUNTIMES.md")
         of_page = {word: line for line in page.split("\n") for word in ("`socketcall` and `ipc` make, too", "`wide`")
                    if word in line}
         for names, texts in ((("i386", "ppc64le", "mipsel"), (profile_of.__doc__.partition("also made by")[0], *(
@@ -119,8 +118,7 @@ class Numbers(unittest.TestCase):
     @unittest.skipUnless(all(os.path.exists(path) for path, _ in HEADERS.values()), "there are no kernel headers here")
     def test_they_are_those_of_the_headers(self):
         for name, (path, pattern) in HEADERS.items():
-            with open(path, encoding="ascii") as file:
-                numbers = {name.lower(): int(number) for name, number in re.findall(pattern, file.read(), re.M)}
+            numbers = {name.lower(): int(number) for name, number in re.findall(pattern, text_of(path), re.M)}
             self.assertEqual(multiplexed.CALL_NUMBERS[name], numbers)
 
 

@@ -3,7 +3,7 @@ import os
 import re
 import sys
 
-from support.common import TOP, Case, for_developers
+from support.common import TOP, Case, for_developers, text_of
 
 sys.path.append(os.path.join(TOP, "dev"))
 import sources  # noqa: E402
@@ -228,8 +228,7 @@ a ~~ b = a ≡ b
         self.assertIn("+- low/specs/Fine.antt: `IsFine` (4 lines)\n", out)
         self.assertIn("+- top/specs/Alike.antt: `Alike` (2 lines)\n", out)
         self.assertEqual(self.believe("--page", path, "--write"), (0, "", ""))
-        with open(path, encoding="utf-8") as file:
-            self.assertEqual(file.read(), self.WHOLE)
+        self.assertEqual(text_of(path), self.WHOLE)
         self.assertEqual(self.believe("--page", path), (0, "", ""))
         for name, old, new in ((FINE, "by_kinds", "low"), (WORDS, "-- of a word\n", "")):
             self.assertEqual(self.believe("--page", path, **{name: FILES[name].replace(old, new)})[0], 1, name)
@@ -280,8 +279,7 @@ a ~~ b = a ≡ b
         status, _, err = self.believe("--page", path, "--write")
         self.assertEqual(status, 2)
         self.assertIn("has no line <!-- end --> behind it", err)
-        with open(path, encoding="utf-8") as file:
-            self.assertIn("More.", file.read())
+        self.assertIn("More.", text_of(path))
 
 
 class Layers(Case):
@@ -293,8 +291,7 @@ class TrustedBase(Case):
     """docs/trusted-base.txt."""
 
     def page(self):
-        with open(os.path.join(TOP, "docs", "trusted-base.txt"), encoding="utf-8") as file:
-            return file.read()
+        return text_of(TOP, "docs", "trusted-base.txt")
 
     def test_its_lists_are_what_the_sources_have(self):
         """Where this fails, `dev/believe --page docs/trusted-base.txt --write` writes the lists anew."""
@@ -313,16 +310,14 @@ class TrustedBase(Case):
 
     def test_what_the_page_on_trust_says_to_read_stands_in_a_list(self):
         lists = " ".join(re.findall(r"<!-- believe .*?<!-- end -->", self.page(), re.S))
-        with open(os.path.join(TOP, "docs", "TRUST.md"), encoding="utf-8") as file:
-            paragraphs = re.findall(r"^Read: .*$", file.read(), re.M)
+        paragraphs = re.findall(r"^Read: .*$", text_of(TOP, "docs", "TRUST.md"), re.M)
         self.assertEqual(len(paragraphs), 3)
         for name in re.findall(r"`(\w+)`", " ".join(paragraphs)):
             self.assertIn(f"`{name}`", lists)
 
     def test_each_public_call_stands_in_the_list_of_the_page_on_trust(self):
         """By its own name or by that of its type, in the list of its crate."""
-        with open(os.path.join(TOP, "docs", "TRUST.md"), encoding="utf-8") as file:
-            lists = file.read().partition("## Every public call")[2]
+        lists = text_of(TOP, "docs", "TRUST.md").partition("## Every public call")[2]
         rows = dict(re.findall(r"^### (\w+)\n(.*?)(?=^### |\Z)", lists, re.M | re.S))
         self.assertGreater(len(rows), 9)
         repository = sources.Repository()

@@ -10,8 +10,8 @@ import shutil
 import subprocess
 import unittest
 
-from support.common import (ALLOW, CORE, PATIENCE, PROGRAM, SCF, TABLE, TOOLS, TOP, Case, filter_of, for_developers,
-                            insn, jeq, load, module, part, profile_of, ret)
+from support.common import (ALLOW, CORE, PATIENCE, PROGRAM, SCF, TABLE, TOOLS, TOP, Case, bytes_of, filter_of,
+                            for_developers, insn, jeq, load, module, part, profile_of, ret, text_of)
 from program import test_answers, test_profiles
 from support.on_parts import assembled
 
@@ -23,7 +23,7 @@ STATUSES = {"Refused": 1, "CommandLine": 2, "Failed": 3}
 def fault_rows():
     """The faults of scf_tool's definition: for each (source, kind) their numbers in scf.h, or 0, the names of the
     numbers behind them, and the status."""
-    text = text_of("crates", "scf_tool", "specs", "Faults.antt")
+    text = text_of(TOP, "crates", "scf_tool", "specs", "Faults.antt")
     for word, name in re.findall(r'^(\w+) = (\(codes "\w+", \d+\))$', text, re.M):
         text = re.sub(rf"\b{word}\b", name, text)
     kinds, actual = re.findall(rf"^(\w+_kind) [^=]+=\s+{KIND}$", text, re.M), {}
@@ -41,7 +41,7 @@ def fault_rows():
 def rows():
     """The faults of docs/FAULTS.md: for each (source, kind) the names of its numbers, and its sentences."""
     actual = {}
-    for row in re.split(r"^(?=- )", text_of("docs", "FAULTS.md"), flags=re.M)[1:]:
+    for row in re.split(r"^(?=- )", text_of(TOP, "docs", "FAULTS.md"), flags=re.M)[1:]:
         lines, *sentences = row.partition("\n\n")[0].rstrip().split("\n  ")
         words = re.sub(r"[][`]", "", lines).split()[1:]
         for key in itertools.product(words[1].split("|"), words[2].split("|")) if words[0] == "fault" else ():
@@ -73,7 +73,7 @@ class Faults(Case):
         printed |= {("number", name): ([], 2) for word in ("run", "decide", "compare") for name in options(word)}
         self.assertEqual({key: (names, status_of(*key)) for key, (names, _) in rows().items()}, printed)
         for at, enum in enumerate(("SOURCE", "KIND")):
-            numbers = re.findall(rf"^ +SCF_{enum}_(\w+) = (\d+)", text_of("library", "scf.h"), re.M)
+            numbers = re.findall(rf"^ +SCF_{enum}_(\w+) = (\d+)", text_of(TOP, "library", "scf.h"), re.M)
             self.assertEqual(sorted((name.replace("_", ""), int(number)) for name, number in numbers),
                              sorted({(key[at].upper(), row[0][at]) for key, row in proved.items() if row[0][at]}))
 
@@ -85,8 +85,7 @@ class Faults(Case):
 
     def test_printed_lines_and_statuses_are_those_of_the_rows(self):
         """Made inputs that give each kind but Read, Memory and that of the largest input: line, status, sentence."""
-        with open(TABLE, "rb") as file:
-            table = part("table", file.read())
+        table = part("table", bytes_of(TABLE))
 
         def with_table(profile):
             return part("profile", profile.encode() if isinstance(profile, str) else profile) + table
@@ -217,7 +216,7 @@ class Blocks(Page):
     def check_blocks(self, *path):
         """Runs the blocks of a page: how many outputs were compared."""
         compared = 0
-        blocks = list(blocks_of(text_of(*path)))
+        blocks = list(blocks_of(text_of(TOP, *path)))
         for block, output in blocks:
             ran, message = self.run_block(block)
             remaining = ""
@@ -237,15 +236,10 @@ class Blocks(Page):
 
     def test_readme(self):
         self.assertGreaterEqual(self.check_blocks("README.md"), 2)
-        self.assertLessEqual(text_of("README.md").count("\n"), 140)
+        self.assertLessEqual(text_of(TOP, "README.md").count("\n"), 140)
 
     def test_tutorial(self):
         self.assertGreaterEqual(self.check_blocks("docs", "TUTORIAL.md"), 8)
-
-
-def text_of(*path):
-    with open(os.path.join(TOP, *path), encoding="utf-8") as file:
-        return file.read()
 
 
 class Names(unittest.TestCase):
@@ -259,9 +253,9 @@ class Names(unittest.TestCase):
                 words.update(re.findall(r"\w+", " ".join([at, *files])))
                 for name in files:
                     if name.endswith((".rt", ".antt", ".h")) or name == "run":
-                        words.update(re.findall(r"\w+", text_of(at, name)))
+                        words.update(re.findall(r"\w+", text_of(TOP, at, name)))
         for page in ("TRUST.md", "ARCHITECTURE.md", "DECISIONS.md"):
-            for name in re.findall(r"`([a-z]+(?:_[a-z0-9]+)+|[A-Z]\w+)`", text_of("docs", page)):
+            for name in re.findall(r"`([a-z]+(?:_[a-z0-9]+)+|[A-Z]\w+)`", text_of(TOP, "docs", page)):
                 self.assertIn(name, words, page)
 
     # What docs/ARCHITECTURE.md says how to add, and how files name the example of each.
@@ -271,12 +265,12 @@ class Names(unittest.TestCase):
 
     def test_what_is_touched_for_an_architecture_an_action_and_a_fault(self):
         """Each file that names the example stands in the item, and each file of the item is there."""
-        page, places = text_of("docs", "ARCHITECTURE.md"), ("crates", "tools", "library", "")
+        page, places = text_of(TOP, "docs", "ARCHITECTURE.md"), ("crates", "tools", "library", "")
         paths = [path for pattern in ("tools/scf*/**/*.py", "library/*.[ch]*", "library/go/*.go", "library/*/scf/*.py",
                                       "library/rust/src/*.rs", "docs/*.json", "crates/*/src/**/*.rt",
                                       "crates/*/specs/**/*.antt", "crates/*/proofs/**/*.antt")
                  for path in glob.glob(os.path.join(TOP, pattern), recursive=True)]
-        sources = {path: text_of(path) for path in paths if not re.search("_tests?[/.]|/commands/", path)}
+        sources = {path: text_of(TOP, path) for path in paths if not re.search("_tests?[/.]|/commands/", path)}
         for what, pattern in self.ADDED.items():
             item = re.search(rf"^\*\*{what}\*\*.*?(?=^\*\*)", page, re.M | re.S)[0]
             listed = set()
@@ -304,7 +298,7 @@ PODMANS = "/usr/share/containers/seccomp.json"
 def console_of(*path):
     """The commands of a page's blocks ```console: whether root runs each, the command, and the lines it prints."""
     commands = []
-    for body in re.findall(r"^```console\n(.*?)^```$", text_of(*path), re.M | re.S):
+    for body in re.findall(r"^```console\n(.*?)^```$", text_of(TOP, *path), re.M | re.S):
         for line in body.splitlines():
             is_root = line.startswith("# ") and line.split()[1] in AS_ROOT
             if is_root or line.startswith("$ "):
@@ -357,7 +351,7 @@ class Consoles(Page):
         """And the block for continuous integration, which is a script of its own."""
         ran, compared = self.check_console("docs", "RECIPES.md")
         self.assertGreaterEqual((ran, compared), (10, 4) if os.path.exists(PODMANS) else (7, 1))
-        for block, _ in blocks_of(text_of("docs", "RECIPES.md")):
+        for block, _ in blocks_of(text_of(TOP, "docs", "RECIPES.md")):
             self.assertEqual(self.run_words(["sh", "-c", block], env=self.env),
                              (0, "allows nothing that the profile denies, on this ABI or another\n", ""))
 
@@ -367,7 +361,7 @@ class Consoles(Page):
 
     def test_each_tool_is_there_and_takes_its_options(self):
         actual = [command for path in (("docs", "RECIPES.md"), ("docs", "OPERATIONS.md"), ("README.md",))
-                  for command in self.tools_in(text_of(*path))]
+                  for command in self.tools_in(text_of(TOP, *path))]
         self.assertGreater(len(actual), 30)
         for name, options_of_command in sorted(set(actual)):
             with self.subTest(name):
@@ -389,15 +383,14 @@ class Consoles(Page):
     def test_descriptors_of_one_digit(self):
         """Of `10<file` POSIX leaves to the shell what it is (Shell Command Language, 2.7); to dash it is two words."""
         for name in ("RECIPES", "OPERATIONS", "TUTORIAL"):
-            self.assertNotRegex(text_of("docs", f"{name}.md"), r"\s[0-9]{2,}[<>]")
+            self.assertNotRegex(text_of(TOP, "docs", f"{name}.md"), r"\s[0-9]{2,}[<>]")
 
 
 class Manual(Case):
     """docs/scf.1."""
 
     def text(self):
-        with open(os.path.join(TOP, "docs", "scf.1"), encoding="ascii") as file:
-            return file.read()
+        return text_of(TOP, "docs", "scf.1")
 
     @unittest.skipUnless(shutil.which("groff"), "there is no groff here")
     def test_it_is_shown_without_a_warning(self):
@@ -456,8 +449,7 @@ class ManualOfTools(Case):
 
     def test_each_tool_has_a_page_that_names_its_options(self):
         for name in TOOLS:
-            with open(os.path.join(self.folder, f"scf-{name}.1"), encoding="utf-8") as file:
-                page = file.read().replace("\\-", "-")
+            page = text_of(self.folder, f"scf-{name}.1").replace("\\-", "-")
             status, shown, _ = self.run_tool(name, "--help")
             self.assertEqual(status, 0)
             for option in re.findall(r"^  (?:-\w, )?(--[a-z0-9-]+)", shown, re.M):
@@ -480,8 +472,7 @@ class ManualOfTools(Case):
             self.assertRegex(remaining, r"(?m)^\.SH EXIT STATUS\n\.PP\n(Exit status: |The exit status is )", name)
 
     def page(self, name):
-        with open(os.path.join(self.folder, f"scf-{name}.1"), encoding="utf-8") as file:
-            return file.read().replace("\\-", "-").replace("\\e", "\\")
+        return text_of(self.folder, f"scf-{name}.1").replace("\\-", "-").replace("\\e", "\\")
 
     def test_the_examples_of_the_assembler(self):
         os.symlink(SCF, os.path.join(self.folder, "scf"))
@@ -496,8 +487,7 @@ class ManualOfTools(Case):
             with self.subTest(line):
                 status, _, err = self.run_words(["sh", "-c", line], env=env)
                 self.assertEqual((status, err), (0, ""))
-        with open(os.path.join(self.folder, "again.bpf"), "rb") as file:
-            self.assertEqual(file.read(), filter_of([0]))
+        self.assertEqual(bytes_of(self.folder, "again.bpf"), filter_of([0]))
 
     def test_the_page_of_the_assembler_has_each_of_its_mnemonics(self):
         page = self.page("asm")

@@ -9,7 +9,7 @@ import subprocess
 import tempfile
 import unittest
 
-from support.common import TOOLS, TOP, Case, filter_of, profile_of
+from support.common import TOOLS, TOP, Case, bytes_of, filter_of, profile_of, text_of
 
 MODULES = sorted(os.path.relpath(path, os.path.join(TOP, "tools"))
                  for path in glob.glob(os.path.join(TOP, "tools", "scf*", "**", "*.py"), recursive=True))
@@ -64,16 +64,14 @@ class Install(Case):
 
     def test_the_links_of_the_readme(self):
         folder = os.path.join(self.once, "share", "doc", "scf")
-        with open(os.path.join(folder, "README.md"), encoding="utf-8") as file:
-            links = re.findall(r"\]\(([^)#]+)", file.read())
+        links = re.findall(r"\]\(([^)#]+)", text_of(folder, "README.md"))
         self.assertIn("TUTORIAL.md", links)
         self.assertEqual([link for link in links if not os.path.isfile(os.path.join(folder, link))], [])
 
     def test_each_page_that_a_tool_names_is_installed(self):
         named = set()
         for name in MODULES:
-            with open(os.path.join(TOP, "tools", name), encoding="utf-8") as file:
-                named.update(re.findall(r"[A-Z]+\.md", file.read()))
+            named.update(re.findall(r"[A-Z]+\.md", text_of(TOP, "tools", name)))
         self.assertIn("JSON.md", named)
         self.assertEqual(named - {*DOCUMENTS}, set())
 
@@ -132,10 +130,8 @@ class Install(Case):
         """The folder below which it is installed for a prefix; its unit and hook name what is installed."""
         stage = os.path.join(self.folder, "stage")
         self.make("install", f"PREFIX={prefix}", f"DESTDIR={stage}")
-        with open(f"{stage}{prefix}/lib/systemd/system/scf-audit.service", encoding="ascii") as file:
-            unit = re.findall(r"(?m)^ExecStart=(\S+)", file.read())
-        with open(f"{stage}{prefix}/share/scf/hooks.d/scf.json", encoding="ascii") as file:
-            hook = json.load(file)["hook"]
+        unit = re.findall(r"(?m)^ExecStart=(\S+)", text_of(f"{stage}{prefix}/lib/systemd/system/scf-audit.service"))
+        hook = json.loads(text_of(f"{stage}{prefix}/share/scf/hooks.d/scf.json"))["hook"]
         self.assertEqual((unit, hook["path"]), ([f"{prefix}/bin/scf-audit"], f"{prefix}/bin/scf-oci-hook"))
         for path in (*unit, hook["path"]):
             self.assertTrue(os.access(f"{stage}{path}", os.X_OK), path)
@@ -155,8 +151,7 @@ class Install(Case):
     def test_the_hook_is_what_the_tool_prints(self):
         """But for the place that it is installed at."""
         self.prefix = self.once
-        with open(f"{self.prefix}/share/scf/hooks.d/scf.json", encoding="utf-8") as file:
-            hook = json.load(file)
+        hook = json.loads(text_of(f"{self.prefix}/share/scf/hooks.d/scf.json"))
         printed = self.run_installed("scf-oci-hook", "--print-hook", *hook["hook"]["args"][1:])[1]
         self.assertEqual(json.loads(printed), hook)
 
@@ -212,8 +207,7 @@ class Install(Case):
                 if os.path.islink(path):
                     self.assertFalse(os.path.isabs(os.readlink(path)), path)
                     continue
-                with open(path, "rb") as file:
-                    self.assertNotIn(self.folder.encode(), file.read(), path)
+                self.assertNotIn(self.folder.encode(), bytes_of(path), path)
         self.assertEqual(self.run_installed("scf", "check", given=filter_of([]))[0], 0)
         self.make("uninstall", "PREFIX=/usr", f"DESTDIR={stage}")
         self.assertEqual(self.files(), [])

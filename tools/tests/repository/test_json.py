@@ -8,7 +8,7 @@ import shlex
 import subprocess
 
 from support import json_schema
-from support.common import ALLOW, EPERM, SCF, TOOLS, TOP, Case, jeq, load, ret, tool
+from support.common import ALLOW, EPERM, SCF, TOOLS, TOP, Case, jeq, load, ret, text_of, tool
 from scftools.base import output
 from scftools.cli.commands import ALIASES
 
@@ -90,8 +90,7 @@ class Page(Examples):
 
     def test_each_page_links_to_it(self):
         for path in ("README.md", "docs/OPERATIONS.md", "docs/scf.1", "tables/commands"):
-            with open(os.path.join(TOP, path), encoding="utf-8") as file:
-                self.assertIn("JSON.md", file.read(), path)
+            self.assertIn("JSON.md", text_of(TOP, path), path)
 
 
 class Checker(Examples):

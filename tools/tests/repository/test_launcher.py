@@ -5,7 +5,7 @@ import shutil
 import signal
 import subprocess
 
-from support.common import PATIENCE, TOP, Case, comes
+from support.common import PATIENCE, TOP, Case, comes, text_of
 
 # Notes where and how it was asked, and prints what it is told. A program that it builds, and runs, prints the source
 # and its words.
@@ -41,8 +41,7 @@ class Launcher(Case):
         return self.run_words([os.path.join(self.tree, name), *words], env={**self.env, **more})
 
     def asked(self):
-        with open(self.env["ASKED"], encoding="utf-8") as file:
-            return file.read().splitlines()
+        return text_of(self.env["ASKED"]).splitlines()
 
     def test_scf_is_built_where_it_never_was(self):
         status, out, err = self.run_here("scf", "core", "check", "--b c")
@@ -114,8 +113,7 @@ logic=proved functions=2 sum=dac8208d650f15bf incremental=trusted
         self.assertEqual((status, out), (125, ""))
         log, = os.listdir(self.room)
         self.assertEqual(err.splitlines(), [f"build: middle wasn't built: see {self.room}/{log}"])
-        with open(os.path.join(self.room, log), encoding="utf-8") as file:
-            self.assertEqual(file.read(), refused)
+        self.assertEqual(text_of(self.room, log), refused)
 
     def test_its_input_is_not_read_by_the_build(self):
         self.file("tree/crates/scf/src/main.rt", "$(cat)")

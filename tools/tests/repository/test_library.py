@@ -16,7 +16,7 @@ import zipfile
 from unittest import mock
 
 from support.common import (ALLOW, EPERM, I386, KILL_PROCESS, PATIENCE, TOP, X32, X86_64, Case, filter_of, gate, insn,
-                            jeq, jge, load, part, profile_of, ret)
+                            jeq, jge, load, part, profile_of, ret, text_of)
 from support.on_parts import CLONE_BY_AND, assembled
 from support.stand_in import StandIn
 
@@ -29,11 +29,6 @@ CALLS = {f"scf_{name}" for name in ("check", "run", "trace", "decide", "assemble
 BROUGHT = {"SCF_0.1": CALLS}
 STRICT = ["-Wall", "-Wextra", "-Wpedantic", "-Werror", "-Wno-unused-function", "-Wno-unused-variable"]
 LINES = re.compile(r"`fault ([\w|]+) (\w+)((?: \w+ N)*)( \[entry N\])?`")
-
-
-def read(*path):
-    with open(os.path.join(*path), encoding="utf-8") as file:
-        return file.read()
 
 
 def python_module(folder=OUT):
@@ -54,7 +49,7 @@ def snake(name):
 def header_numbers(prefix):
     """The numbers of an enum of scf.h, by their names without the prefix."""
     return {name: int(number) for name, number in
-            re.findall(rf"^ +SCF_{prefix}(\w+) = (\d+)", read(LIBRARY, "scf.h"), re.M)}
+            re.findall(rf"^ +SCF_{prefix}(\w+) = (\d+)", text_of(LIBRARY, "scf.h"), re.M)}
 
 
 ENUMS = ("source", "kind", "verdict", "relation", "reason", "architecture", "reading", "fact")
@@ -68,7 +63,7 @@ def plain(numbers):
 
 
 def numbers_of_header():
-    header = read(LIBRARY, "scf.h")
+    header = text_of(LIBRARY, "scf.h")
     bodies = {name: re.search(rf"enum scf_{name}(?:_kind)? {{.*?}};", header, re.S)[0] for name in ENUMS}
     return {name: plain(re.findall(r"(SCF_\w+) = (\d+)", body)) for name, body in bodies.items()}
 
@@ -80,14 +75,14 @@ def numbers_of_python():
 
 
 def numbers_of_go():
-    blocks = re.findall(r"const \(\n\t(\w+) +(\w+) += iota( \+ 1)?(.*?)\n\)", read(LIBRARY, "go", "scf.go"), re.S)
+    blocks = re.findall(r"const \(\n\t(\w+) +(\w+) += iota( \+ 1)?(.*?)\n\)", text_of(LIBRARY, "go", "scf.go"), re.S)
     return {kind.lower().removesuffix("kind") or "kind":
             plain(zip([first, *re.findall(r"(?m)^\t(\w+)", rest)], itertools.count(1 if plus else 0)))
             for first, kind, plus, rest in blocks}
 
 
 def numbers_of_rust():
-    text = "".join(read(LIBRARY, "rust", "src", f"{file}.rs") for file in ("fault", "lib", "compare"))
+    text = "".join(text_of(LIBRARY, "rust", "src", f"{file}.rs") for file in ("fault", "lib", "compare"))
     lists = {name: zip(names.split(), itertools.count(1)) for name, names in
              re.findall(r"\n    (Source|Kind): ([\w\s]+);", text)}
     enums = {name: re.findall(r"(?m)^ +(\w+) = (\d+),", body) for name, body in
@@ -96,7 +91,7 @@ def numbers_of_rust():
 
 
 def numbers_of_cpp():
-    enums = re.findall(r"enum class (\w+) : std::uint32_t {\s+(\w+)( = 1)?(.*?)\s};", read(LIBRARY, "scf.hpp"), re.S)
+    enums = re.findall(r"enum class (\w+) : std::uint32_t {\s+(\w+)( = 1)?(.*?)\s};", text_of(LIBRARY, "scf.hpp"), re.S)
     return {name: plain(zip([first, *re.findall(r"\w+", rest)], itertools.count(1 if one else 0)))
             for name, first, one, rest in enums if name != "status"}
 
@@ -104,7 +99,7 @@ def numbers_of_cpp():
 def fault_lines():
     """The faults of docs/FAULTS.md that the library may have: for a source and a kind, the names of the numbers."""
     sources = {name.lower() for name in header_numbers("SOURCE_")}
-    lines = " ".join(re.findall(r"^- (`fault .*)$", read(TOP, "docs", "FAULTS.md"), re.M))
+    lines = " ".join(re.findall(r"^- (`fault .*)$", text_of(TOP, "docs", "FAULTS.md"), re.M))
     return {(source, kind): numbers.replace(" N", "").split() or (["entry"] if entry else [])
             for alternatives, kind, numbers, entry in LINES.findall(lines)
             for source in alternatives.split("|") if source in sources}
@@ -195,7 +190,7 @@ class Interface(Built):
         self.assertEqual(len(lines), 16)
 
     def test_each_fault_has_the_text_of_the_page(self):
-        page = re.findall(r"^- (`fault .*)\n  (.*)$", read(TOP, "docs", "FAULTS.md"), re.M)
+        page = re.findall(r"^- (`fault .*)\n  (.*)$", text_of(TOP, "docs", "FAULTS.md"), re.M)
         sentences = {(source, kind): sentence.replace("`", "") for lines, sentence in page
                      for alternatives, kind, _, _ in LINES.findall(lines) for source in alternatives.split("|")}
         scf = python_module()
@@ -213,23 +208,23 @@ class Interface(Built):
             self.assertEqual(enums, {name: header[name] for name in enums})
             self.assertEqual(len(enums), count)
         # and what Go prints of a kind
-        names = re.search(r"Fields\(`(.*?)`", read(LIBRARY, "go", "scf.go"), re.S)[1].split()
+        names = re.search(r"Fields\(`(.*?)`", text_of(LIBRARY, "go", "scf.go"), re.S)[1].split()
         self.assertEqual([snake(name) for name in names], [*header_numbers("KIND_")])
 
     def test_the_audit_values_of_the_bindings_are_those_of_the_header(self):
         """Which tests/layout.c compares with linux/audit.h."""
-        header = read(LIBRARY, "scf.h").replace("SCF_AUDIT_X32 SCF_AUDIT_X86_64", "SCF_AUDIT_X32 0xc000003eu")
+        header = text_of(LIBRARY, "scf.h").replace("SCF_AUDIT_X32 SCF_AUDIT_X86_64", "SCF_AUDIT_X32 0xc000003eu")
         wanted = {name: int(number, 16) for name, number in re.findall(r"SCF_AUDIT_(\w+) (0x[0-9a-f]+)u", header)}
         self.assertEqual({member.name: member.audit for member in python_module().Architecture}, wanted)
-        values = re.findall(r'{"\w+", (0x[0-9a-f]+)}', read(LIBRARY, "go", "scf.go"))
+        values = re.findall(r'{"\w+", (0x[0-9a-f]+)}', text_of(LIBRARY, "go", "scf.go"))
         self.assertEqual([int(value, 16) for value in values], [*wanted.values()])
 
     def test_one_file_has_the_version(self):
-        version = read(TOP, "VERSION").strip()
-        self.assertEqual(".".join(re.findall(r"define SCF_VERSION_[MP]\w+ (\d+)", read(LIBRARY, "scf.h"))), version)
+        version = text_of(TOP, "VERSION").strip()
+        self.assertEqual(".".join(re.findall(r"define SCF_VERSION_[MP]\w+ (\d+)", text_of(LIBRARY, "scf.h"))), version)
         for path, line in ((("rust", "Cargo.toml"), 'version = "{}"'), (("python", "pyproject.toml"), 'version = "{}"'),
                            (("scf-uninstalled.pc",), "Version: {}")):
-            self.assertIn(line.format(version), read(LIBRARY, *path).splitlines())
+            self.assertIn(line.format(version), text_of(LIBRARY, *path).splitlines())
         for words in (["--version"], ["core", "--version"]):
             self.assertEqual(self.runs(os.path.join(TOP, "scf"), *words), f"scf {version}\n")
         self.assertEqual(".".join(map(str, python_module().version())), version)
@@ -242,7 +237,7 @@ class Interface(Built):
         names = {"X86": "i386"}
         for architecture in scf.Architecture:
             name = names.get(architecture.name, architecture.name.lower())
-            self.assertEqual(scf.table(architecture), read(TOP, "tables", f"{name}.table").encode(), name)
+            self.assertEqual(scf.table(architecture), text_of(TOP, "tables", f"{name}.table").encode(), name)
 
     def test_a_loaded_filter(self):
         program = self.linked("tests/load.c", *self.ARCHIVE, "-pthread", compiler=["gcc", "-std=gnu99"])
@@ -284,17 +279,17 @@ class Interface(Built):
             env = {"PKG_CONFIG_PATH": f"{prefix}/lib/pkgconfig"}
             flags = shlex.split(self.runs("pkg-config", "--cflags", "--libs", "scf", **env))
             self.assertEqual(flags, [f"-I{prefix}/include", f"-L{prefix}/lib", "-lscf"])
-            self.assertEqual(self.runs("pkg-config", "--modversion", "scf", **env), read(TOP, "VERSION"))
+            self.assertEqual(self.runs("pkg-config", "--modversion", "scf", **env), text_of(TOP, "VERSION"))
             if " " not in name:
-                self.assertIn("\nlibdir=${prefix}/lib\n", read(prefix, "lib", "pkgconfig", "scf.pc"))
+                self.assertIn("\nlibdir=${prefix}/lib\n", text_of(prefix, "lib", "pkgconfig", "scf.pc"))
             self.file(f"{name}/share/man/man3/scf_other.3", b"")
             self.runs(*words, "uninstall-lib")
             self.assertEqual([names for _, _, names in os.walk(prefix) if names], [["scf_other.3"]])
 
     def test_the_code_of_the_page(self):
         """Each piece is compiled as the body of a function."""
-        body, = re.findall(r"```c\n(.*?)```", read(TOP, "docs", "LIBRARY.md"), re.S)
-        cpp, = re.findall(r"```cpp\n(.*?)```", read(TOP, "docs", "LIBRARY.md"), re.S)
+        body, = re.findall(r"```c\n(.*?)```", text_of(TOP, "docs", "LIBRARY.md"), re.S)
+        cpp, = re.findall(r"```cpp\n(.*?)```", text_of(TOP, "docs", "LIBRARY.md"), re.S)
         given = "const uint8_t *filter, size_t len, const uint8_t *profile, size_t profile_len"
         self.file("page.c", f"#include <scf.h>\nint prove({given});\nint prove({given}) {{\n{body}return -1;\n}}\n")
         self.file("page.cpp", "#include <scf.hpp>\nint prove(std::span<const std::uint8_t> filter, "
@@ -395,7 +390,7 @@ class Bindings(Built):
         self.file("program/profile.json", self.PROFILE)
 
     def code(self, language, kind="sh"):
-        return "".join(re.findall(rf"```{kind}\n(.*?)```", read(LIBRARY, language, "README.md"), re.S))
+        return "".join(re.findall(rf"```{kind}\n(.*?)```", text_of(LIBRARY, language, "README.md"), re.S))
 
     def run_commands(self, language, **env):
         """The commands work as they are written, with no more than a shell has."""
@@ -439,7 +434,7 @@ class Bindings(Built):
                               cwd=f"{self.tree}/python")
         self.assertEqual(done[0], 0, done)
         wheel, = os.listdir(folder)
-        self.assertEqual(wheel, f"scf-{read(TOP, 'VERSION').strip()}-py3-none-any.whl")
+        self.assertEqual(wheel, f"scf-{text_of(TOP, 'VERSION').strip()}-py3-none-any.whl")
         with zipfile.ZipFile(os.path.join(folder, wheel)) as file:
             names = {re.sub(r"scf-[0-9.]+dist-info", "about", name) for name in file.namelist()}
         self.assertEqual(names, {"scf/__init__.py", "scf/py.typed", *(
@@ -461,7 +456,7 @@ class Bindings(Built):
         status, out, err = self.run_words(["cargo", "package", "--offline", "--allow-dirty"], env=self.env, cwd=folder)
         self.assertEqual((status, out), (0, ""), err)
         self.assertNotIn("warning", err)
-        package = f"{folder}/target/package/scf-{read(TOP, 'VERSION').strip()}.crate"
+        package = f"{folder}/target/package/scf-{text_of(TOP, 'VERSION').strip()}.crate"
         self.assertIn("/LICENSE\n", self.runs("tar", "tf", package))
         if shutil.which("rustfmt"):
             words = ["rustfmt", "--edition", "2021", "--check", "build.rs", "src/lib.rs", "tests/calls.rs"]
@@ -481,7 +476,7 @@ class Bindings(Built):
             done = self.run_words(words, cwd=folder, env={**self.env, **env})
             self.assertEqual(done[0], 0, done)
         self.assertEqual(self.runs("gofmt", "-l", folder), "")
-        module = re.search(r"(?m)^module (.*)", read(folder, "go.mod"))[1]
+        module = re.search(r"(?m)^module (.*)", text_of(folder, "go.mod"))[1]
         self.file("program/go.mod", f"module program\nrequire {module} v0.0.0\nreplace {module} => {folder}\n")
         self.program("main.go", self.code("go", "go"), "go", "vet", ".")
         self.check_printed_line(self.program("main.go", self.code("go", "go"), "go", "run", "."), 0, "go", "go")

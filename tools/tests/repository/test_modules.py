@@ -12,7 +12,7 @@ import sys
 import unittest
 from unittest import mock
 
-from support.common import TOP
+from support.common import TOP, text_of
 from scftools.base import values
 from scftools.ask import client
 
@@ -43,8 +43,7 @@ def modules():
 
 @functools.cache
 def parsed(name):
-    with open(os.path.join(TOOLS, *name.split(".")) + ".py", encoding="utf-8") as file:
-        return ast.parse(file.read())
+    return ast.parse(text_of(os.path.join(TOOLS, *name.split(".")) + ".py"))
 
 
 def is_for_types(node):

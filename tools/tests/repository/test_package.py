@@ -12,7 +12,7 @@ import tarfile
 import tempfile
 import unittest
 
-from support.common import ALLOW, TOP, Case, for_developers, profile_of, ret
+from support.common import ALLOW, TOP, Case, for_developers, profile_of, ret, text_of
 from repository.test_library import CALLS
 
 HAS_OBJECT = os.path.exists(os.path.join(TOP, "crates", "scf", "out", "scf.o"))
@@ -84,8 +84,7 @@ class Package(Case):
         root = os.path.join(self.folder, "root")
         self.assertEqual(self.run_words(["dpkg-deb", "-R", made, root])[0], 0)
         self.assertEqual(self.run_words(["md5sum", "--quiet", "-c", "DEBIAN/md5sums"], cwd=root), (0, "", ""))
-        with open(os.path.join(root, "usr", "share", "doc", "scf", "README.md"), encoding="utf-8") as file:
-            links = re.findall(r"\]\(([^)#]+)", file.read())
+        links = re.findall(r"\]\(([^)#]+)", text_of(root, "usr", "share", "doc", "scf", "README.md"))
         for name in ("copyright", "changelog.Debian.gz", "LICENCES.md", "README.md", *links):
             self.assertTrue(os.path.isfile(os.path.join(root, "usr", "share", "doc", "scf", name)), name)
         self.licences(os.path.join(root, "usr", "share", "doc", "scf"), {"clap", "strsim", "json", "core"})
@@ -99,8 +98,7 @@ class Package(Case):
 
     def licences(self, folder, parts):
         """The copyright file names these parts of the kit, if any, and says that the kit states no licence for some."""
-        with open(os.path.join(folder, "copyright"), encoding="utf-8") as file:
-            text = file.read()
+        text = text_of(folder, "copyright")
         for part in ("clap", "strsim", "json", "core"):
             self.assertEqual(bool(re.search(rf"(?m)^ {part}\b.*; licence: ", text)), part in parts, part)
         self.assertEqual("none stated" in text, bool(parts))
@@ -215,8 +213,7 @@ class Package(Case):
                          (0, "", ""))
         with open(os.path.join(folder, "SHA256SUMS"), encoding="utf-8") as file:
             summed = {line.rstrip("\n").split("  ")[1] for line in file}
-        with open(os.path.join(folder, "scf.spdx"), encoding="utf-8") as file:
-            listed = set(re.findall(r"^FileName: \./(.*)$", file.read(), re.M))
+        listed = set(re.findall(r"^FileName: \./(.*)$", text_of(folder, "scf.spdx"), re.M))
         self.assertEqual(listed | {"scf.spdx"}, summed)
         # (it has no dynamic section)
         program = os.path.join(folder, "lib", "scf", "program", "scf")

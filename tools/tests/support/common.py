@@ -154,10 +154,14 @@ os.execv(sys.argv[2], sys.argv[2:])
 """
 
 
-def text_of(path):
-    """The text of a file."""
-    with open(path, encoding="utf-8", errors="replace") as file:
+def bytes_of(*path):
+    """The bytes of a file, by the parts of its path."""
+    with open(os.path.join(*path), "rb") as file:
         return file.read()
+
+
+def text_of(*path):
+    return bytes_of(*path).decode("utf-8", "replace")
 
 
 def comes(holds):
