@@ -1,18 +1,15 @@
 """What runc and crun make of a profile: their own filters, taken from containers, beside what the tools say of it."""
-import contextlib
 import json
 import os
-import shutil
-import subprocess
 import sys
-import tempfile
 import unittest
 from unittest import mock
 
 from support import oci
-from support.common import ALLOW as ALLOWED, bytes_of, text_of
-from support.common import TABLE, Case, insn, jeq, load, part, ret, stub
+from support.common import ALLOW as ALLOWED
+from support.common import TABLE, Case, bytes_of, insn, jeq, load, part, ret, stub
 from support.confined import ended, started
+from support.containers import container
 from support.drawn_profiles import drawn_profile
 from support.oci import ALLOW, ERRNO, X32, X86, condition, entry
 from support.oci import NATIVE as X86_64
@@ -29,7 +26,6 @@ from scfhost import processes
 
 LOG, TRAP, TRACE, KILL = "SCMP_ACT_LOG", "SCMP_ACT_TRAP", "SCMP_ACT_TRACE", "SCMP_ACT_KILL_PROCESS"
 NAMES = sorted(tables.read_table(None).names())
-BUSYBOX = shutil.which("busybox")
 MOBY = "/usr/share/gocode/src/github.com/docker/docker/profiles/seccomp/default.json"
 PODMAN = "/usr/share/containers/seccomp.json"
 CAPABILITIES = [f"CAP_{name}" for name in engines.DOCKER.split()]
@@ -47,49 +43,15 @@ def config(seccomp, capabilities=CAPABILITIES):
     mounts = [{"destination": "/proc", "type": "proc", "source": "proc"},
               {"destination": "/dev", "type": "tmpfs", "source": "tmpfs"}]
     return {"ociVersion": "1.0.2",
-            "process": {"user": {"uid": 0, "gid": 0}, "args": ["/busybox", "sleep", "300"], "env": ["PATH=/"],
-                        "cwd": "/",
+            "process": {"user": {"uid": 0, "gid": 0}, "args": ["/bin/sleep", "300"], "env": ["PATH=/bin"], "cwd": "/",
                         "capabilities": {kind: capabilities for kind in ("bounding", "effective", "permitted")}},
             "root": {"path": "rootfs", "readonly": True}, "mounts": mounts,
             "linux": {"namespaces": [{"type": kind} for kind in ("pid", "ipc", "uts", "mount")], "seccomp": seccomp}}
 
 
-# crun takes no mix of both versions of control groups; in a mount namespace of its own it sees the second alone.
-ALONE = ["unshare", "-m", "sh", "-c", 'mount -t cgroup2 cgroup2 /sys/fs/cgroup && exec "$@"', "sh"]
-
-
-@contextlib.contextmanager
-def container(runtime, seccomp, capabilities=CAPABILITIES):
-    """A container with a profile: its process, or why the runtime refuses it."""
-    if os.geteuid() or not BUSYBOX or not shutil.which(runtime):
-        raise unittest.SkipTest(f"needs root, busybox and {runtime}")
-    folder = tempfile.mkdtemp(prefix="scf-runtimes-")
-    words = [*ALONE, "crun", "--cgroup-manager", "disabled"] if runtime == "crun" else [runtime]
-    words += ["--root", os.path.join(folder, "root")]
-    name = os.path.basename(folder)
-    try:
-        for inner in ("proc", "dev"):
-            os.makedirs(os.path.join(folder, "rootfs", inner))
-        shutil.copy(BUSYBOX, os.path.join(folder, "rootfs", "busybox"))
-        with open(os.path.join(folder, "config.json"), "w", encoding="utf-8") as file:
-            json.dump(config(seccomp, capabilities), file)
-        said = os.path.join(folder, "said")
-        with open(said, "wb") as err:
-            done = subprocess.run([*words, "run", "--detach", "--bundle", folder, "--pid-file", f"{folder}/pid", name],
-                                  stdin=subprocess.DEVNULL, stdout=subprocess.DEVNULL, stderr=err, check=False)
-        if done.returncode:
-            yield None, text_of(said)
-        else:
-            yield int(text_of(f"{folder}/pid")), ""
-    finally:
-        subprocess.run([*words, "delete", "--force", name], stdin=subprocess.DEVNULL, stdout=subprocess.DEVNULL,
-                       stderr=subprocess.DEVNULL, check=False)
-        shutil.rmtree(folder, ignore_errors=True)
-
-
 def filters_of(runtime, seccomp):
     """The filters of a container with a profile, oldest first, or why the runtime refuses it."""
-    with container(runtime, seccomp) as (process, why):
+    with container(runtime, config(seccomp)) as (process, why):
         if process is None:
             return None, why
         stacks = processes.look_at_process(processes.Kernel(), process).stacks
@@ -597,7 +559,7 @@ class VerifyProcess(Case):
         with open(MOBY, encoding="utf-8") as file:
             engine = engines.Resolver(runtimes.setting_of(runtimes.RUNTIMES["docker"]), lambda _: None)
             handed_on = engine.resolved(json.load(file))
-        with container("runc", handed_on) as (process, why):
+        with container("runc", config(handed_on)) as (process, why):
             self.assertIsNotNone(process, why)
             for words in ((), ("--calls",), ("--no-more",), ("--no-less",)):
                 status, out, err = self.verify(process, MOBY, "--runtime", "docker", *words)
@@ -633,7 +595,7 @@ class VerifyProcess(Case):
             for capabilities in (["CAP_CHOWN", "CAP_SYS_TIME"], ["CAP_BLOCK_SUSPEND"], []):
                 setting = engines.Setting(capabilities, (6, 1), False, engine)
                 resolved = engines.Resolver(setting, lambda _: None).resolved(given)
-                with container(runtime, resolved, capabilities) as (process, why):
+                with container(runtime, config(resolved, capabilities)) as (process, why):
                     self.assertIsNotNone(process, why)
                     status, out, _ = self.verify(process, given, "--runtime", engine)
                     self.assertEqual((status, out.splitlines()[0]), (0, "same"), capabilities)
@@ -671,7 +633,7 @@ class VerifyProcess(Case):
 
     def test_i386_syscalls_that_ipc_makes_too(self):
         given = of_ipc()
-        with container("runc", given) as (process, why):
+        with container("runc", config(given)) as (process, why):
             self.assertIsNotNone(process, why)
             for words in ((), ("--calls",), ("--no-more",), ("--no-less",), ("--json",)):
                 status, out, err = self.verify(process, given, "--runtime", "runc", *words)
@@ -689,7 +651,7 @@ class VerifyProcess(Case):
     def test_an_entry_that_is_never_handed_over(self):
         given = profile(entry("mkdir", action=ERRNO, errnoRet=1), entry("mkdir"))
         for runtime in ("runc", "crun"):
-            with container(runtime, given) as (process, why):
+            with container(runtime, config(given)) as (process, why):
                 self.assertIsNotNone(process, why)
                 self.assertEqual(self.verify(process, given, "--runtime", runtime)[1].splitlines()[0], "same")
                 # scf alone takes no profile with two answers, and the first of them isn't what the container has

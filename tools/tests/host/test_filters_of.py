@@ -3,7 +3,6 @@ test_processes."""
 import glob
 import json
 import os
-import shutil
 import signal
 import subprocess
 import sys
@@ -13,7 +12,8 @@ import unittest
 from support.common import (ALLOW, EPERM, I386, KILL_PROCESS, PATIENCE, TABLE, X86_64, bytes_of, comes, jeq, jge, load,
                             module, profile_of, ret, text_of, tool)
 from support.confined import CHILD, NEWEST, OLDEST, OTHER, Confined, children_of, ended, here, processes, status_of
-from support.own_machine import make_rootfs, remove_groups, spec_of
+from support.containers import Box
+from support.own_machine import remove_groups, spec_of
 from scftools.forms import filters
 from scftools.forms.stacks import Stack
 from scfhost import containers
@@ -587,33 +587,18 @@ class Containers(Confined):
             child.wait()
         comes(lambda: not remove_groups(group))
 
-    def started(self, runtime, profile):
-        """Why a runtime starts no container with this profile, or None where it runs."""
-        where, name = os.path.join(self.folder, "box"), f"scf-test-{os.getpid()}"
-        shutil.rmtree(where, ignore_errors=True)
-        make_rootfs(where)
-        config = spec_of(where, ["busybox", "sleep", "1000"])
-        config["linux"]["seccomp"] = profile
-        self.file("box/config.json", json.dumps(config))
-        self.addCleanup(subprocess.run, [runtime, "delete", "--force", name], stderr=subprocess.DEVNULL, check=False)
-        with open(os.path.join(self.folder, "said"), "w+b") as messages:
-            done = subprocess.run([runtime, "run", "--detach", "--pid-file", "pid", name], cwd=where, check=False,
-                                  stdin=subprocess.DEVNULL, stdout=messages, stderr=messages, timeout=PATIENCE)
-            messages.seek(0)
-            return f"{runtime}: {messages.read().decode(errors='replace').strip()}" if done.returncode else None
-
     def container(self, profile, *runtimes):
-        """The number of the process of a container that one of these runtimes starts with this profile."""
-        there = [runtime for runtime in runtimes if shutil.which(runtime)]
-        busybox = shutil.which("busybox")
-        if not there or not busybox:
-            self.skipTest(f"there is no {' and no '.join(runtimes)}, or no busybox, here")
+        """A container that one of these runtimes starts with this profile, and the number of its process."""
         reasons = []
-        for runtime in there:
-            why = self.started(runtime, profile)
-            if why is None:
-                return int(text_of(self.folder, "box/pid"))
-            reasons.append(why)
+        for runtime in runtimes:
+            box = Box(runtime)
+            self.addCleanup(box.close)
+            config = spec_of(box.where, ["busybox", "sleep", "1000"])
+            config["linux"]["seccomp"] = profile
+            status, message, pid = box.make(config)
+            if not status:
+                return box, pid
+            reasons.append(f"{runtime}: {message.strip()}")
         return self.skipTest(f"no container can be started here: {'; '.join(reasons)}")
 
     @here
@@ -627,7 +612,7 @@ class Containers(Confined):
         allowed = [name for name in allowed if name not in ("mount", "ptrace")]
         profile = {"defaultAction": "SCMP_ACT_ERRNO", "defaultErrnoRet": 1, "architectures": ["SCMP_ARCH_X86_64"],
                    "syscalls": [{"names": allowed, "action": "SCMP_ACT_ALLOW"}]}
-        pid = self.container(profile, "runc")
+        _, pid = self.container(profile, "runc")
         status, out, err = self.verify(pid, json.dumps(profile))
         self.assertEqual((status, err), (1, ""))
         self.assertEqual(out.split("\n")[:4],
@@ -654,12 +639,8 @@ class Containers(Confined):
     @ROOT
     def test_a_container_whose_processes_are_in_groups_of_their_own(self):
         """The container's own group is the one that its runtime mounted."""
-        pid = self.container({"defaultAction": "SCMP_ACT_ALLOW", "architectures": ["SCMP_ARCH_X86_64"],
-                              "syscalls": [{"names": ["mount", "ptrace"], "action": "SCMP_ACT_ERRNO", "errnoRet": 1}]},
-                             "runc")
-        name = f"scf-test-{os.getpid()}"
-        subprocess.run(["runc", "exec", "--detach", name, "busybox", "sleep", "1000"], check=True,
-                       stdin=subprocess.DEVNULL, stdout=subprocess.DEVNULL, stderr=subprocess.DEVNULL)
+        box, pid = self.container(json.loads(refuses("mount", "ptrace", architectures=["SCMP_ARCH_X86_64"])), "runc")
+        self.assertEqual(box.call("exec", "--detach", box.name, "busybox", "sleep", "1000")[0], 0)
         kernel = processes.Kernel()
         groups = kernel.groups_of(pid)
         hierarchy = next((name for name in containers.HIERARCHIES if groups.get(name, b"/") != b"/"), None)
@@ -672,8 +653,7 @@ class Containers(Confined):
         os.mkdir(f"{top}{group}/first")
         with open(f"{top}{group}/first/cgroup.procs", "w", encoding="ascii") as file:
             file.write(str(pid))
-        config = os.path.join(self.folder, "box/config.json")
-        status, out, err = self.run_tool("verify-process", "--all", str(pid), config)
+        status, out, err = self.run_tool("verify-process", "--all", str(pid), box.config)
         self.assertEqual((status, err, comments(out)[-1]),
                          (0, "", f"the container is the control group {group}; its processes that were checked: 2"))
 
@@ -681,8 +661,7 @@ class Containers(Confined):
     @ROOT
     def test_a_container_of_a_list_of_what_is_refused(self):
         """Its own config.json is a profile, too."""
-        pid = self.container({"defaultAction": "SCMP_ACT_ALLOW", "architectures": ["SCMP_ARCH_X86_64"],
-                              "syscalls": [{"names": ["mount", "ptrace"], "action": "SCMP_ACT_ERRNO", "errnoRet": 1}]},
-                             "crun", "runc")
-        status, out, err = self.run_tool("verify-process", str(pid), os.path.join(self.folder, "box/config.json"))
+        profile = json.loads(refuses("mount", "ptrace", architectures=["SCMP_ARCH_X86_64"]))
+        box, pid = self.container(profile, "crun", "runc")
+        status, out, err = self.run_tool("verify-process", str(pid), box.config)
         self.assertEqual((status, err, out.split("\n")[0]), (0, "", "same"))

@@ -11,6 +11,7 @@ import time
 
 from support.common import TOP, comes, text_of, tool
 from support.confined import here
+from support.containers import ALONE, Box, said
 from support.own_machine import make_rootfs, podman_settings, spec_of
 from host.test_filters_of import ROOT, refuses
 from host.test_oci_hook import Hook, processes
@@ -20,13 +21,7 @@ from scfhost import ptrace
 
 LOADED = {"defaultAction": "SCMP_ACT_ALLOW", "architectures": ["SCMP_ARCH_X86_64"],
           "syscalls": [{"names": ["mount", "ptrace"], "action": "SCMP_ACT_ERRNO", "errnoRet": 1}]}
-# crun takes no mix of both versions of control groups: it is run where there is none.
-HYBRID = "/sys/fs/cgroup/unified"
-WITHOUT = ["unshare", "--mount", "--propagation", "private", "sh", "-c", f'umount {HYBRID}; exec "$@"', "sh"]
-ALONE = WITHOUT if os.path.ismount(HYBRID) else []
 PATH = {"env": [f"PATH={os.environ['PATH']}"]}
-# A pause that is over soon; what needs longer hangs.
-SECONDS = 600
 
 
 def state_of(pid):
@@ -40,67 +35,35 @@ def has_ended(pid):
 @here
 @ROOT
 class Containers(Hook):
-    """A bundle, and containers that a runtime makes of it."""
+    """Containers that a runtime makes of a bundle."""
 
-    def setUp(self):
-        super().setUp()
-        self.needs("busybox")
-        self.name = f"scf-hook-{os.getpid()}"
-        self.where = os.path.join(self.folder, "box")
-        make_rootfs(self.where)
-
-    def words_of(self, runtime):
-        """How a runtime is called; skips the test where it isn't there."""
-        self.needs(runtime)
-        return [*(ALONE if runtime == "crun" else []), runtime, "--root", f"{self.folder}/{runtime}"]
-
-    def configure(self, loaded, stated, words, args=("sleep", "1000"), shared=(), hooks=None):
+    def configuration(self, loaded, stated, words, args=("sleep", "1000"), shared=(), hooks=None, **settings):
         """A configuration with a profile, whose hook finds another one that is stated in its place."""
-        config = spec_of(self.where, args)
+        config = spec_of(self.box.where, args)
         config["linux"]["namespaces"] = [namespace for namespace in config["linux"]["namespaces"]
                                          if namespace["type"] not in shared]
         config["linux"]["seccomp"] = stated
         second = self.file("other.json", json.dumps(config))
         config["linux"]["seccomp"] = loaded
         config["hooks"] = {**(hooks or {}), "poststart": [
-            {"path": shutil.which("cp"), "args": ["cp", second, f"{self.where}/config.json"], **PATH},
+            {"path": shutil.which("cp"), "args": ["cp", second, self.box.config], **PATH},
             # a runtime may take long to load the filter
-            {"path": tool("oci-hook"), "args": ["oci-hook", "--wait=30", *words], **PATH}]}
-        self.file("box/config.json", json.dumps(config))
-
-    def said(self, words, **settings):
-        """A run of which a container may keep the output open: the status, and what was said."""
-        with open(os.path.join(self.folder, "said"), "w+b") as message:
-            done = subprocess.run(words, cwd=self.folder, check=False, stdin=subprocess.DEVNULL, stdout=message,
-                                  stderr=message, timeout=SECONDS, **settings)
-            message.seek(0)
-            return done.returncode, message.read().decode(errors="replace")
+            {"path": tool("oci-hook"), "args": ["oci-hook", "--wait=30", *words], **PATH, **settings}]}
+        return config
 
     @contextlib.contextmanager
     def container(self, runtime, loaded=None, stated=None, *words, **settings):
         """A container: how the runtime ended, what was said, and the process, None where there is none."""
-        call = self.words_of(runtime)
         loaded = LOADED if loaded is None else loaded
-        self.configure(loaded, loaded if stated is None else stated, words, **settings)
-        pid_file = f"{self.folder}/pid"
-        try:
-            status, message = self.said([*call, "run", "--detach", "--bundle", self.where, "--pid-file", pid_file,
-                                         self.name])
-            if status and "oci-hook" not in message:
-                self.skipTest(f"{runtime} starts no container here: {message.strip()}")
-            pid = None
-            if os.path.exists(pid_file):
-                pid = int(text_of(pid_file))
-                os.remove(pid_file)
-            yield status, message, pid
-        finally:
-            self.said([*call, "delete", "--force", self.name])
-            os.remove(f"{self.where}/config.json")
+        with contextlib.closing(Box(runtime)) as self.box:
+            made = self.box.make(self.configuration(loaded, loaded if stated is None else stated, words, **settings))
+            if made[0] and "oci-hook" not in made[1]:
+                self.skipTest(f"{runtime} starts no container here: {made[1].strip()}")
+            yield made
 
-    def by_hand(self, runtime, *words):
+    def by_hand(self, *words):
         """The hook, called with the state of a container that runs."""
-        state = subprocess.run([*self.words_of(runtime), "state", self.name], stdout=subprocess.PIPE, check=True).stdout
-        status, _, err = self.run_tool("oci-hook", *words, given=state)
+        status, _, err = self.run_tool("oci-hook", *words, given=self.box.call("state", self.box.name)[1].encode())
         return status, self.lines(err)
 
     def is_same(self, pid, profile, *words):
@@ -132,7 +95,7 @@ class Runtimes(Containers):
         value = json.loads(refuses("mount", "chroot"))
         with self.container("runc", LOADED, value) as (status, message, pid):
             self.assertEqual(status, 1, message)
-            self.assertIn(f"container {self.name}: not confined as configured (differs)", message)
+            self.assertIn(f"container {self.box.name}: not confined as configured (differs)", message)
             self.assertTrue(pid is None or comes(lambda: has_ended(pid)))
         with self.container("runc", LOADED, json.loads(refuses("mount")), "--policy", "no-more") as result:
             status, message, pid = result
@@ -156,15 +119,15 @@ class Runtimes(Containers):
                 with self.subTest(f"{engine}'s by {runtime}"), self.container(
                         runtime, resolved, resolved, "--kill", f"--runtime={runtime}") as (status, message, pid):
                     self.assertEqual((status, self.runs(pid)), (0, True), message)
-                    self.is_same(pid, f"{self.where}/config.json", "--runtime", runtime)
+                    self.is_same(pid, self.box.config, "--runtime", runtime)
 
     def test_processes_that_were_brought_in(self):
         """All processes of a container are looked at."""
         for runtime in ("runc", "crun"):
             with self.subTest(runtime), self.container(runtime) as (status, message, pid):
                 self.assertEqual(status, 0, message)
-                self.said([*self.words_of(runtime), "exec", "--detach", self.name, "sleep", "999"])
-                status, lines = self.by_hand(runtime, "--kill")
+                self.box.call("exec", "--detach", self.box.name, "sleep", "999")
+                status, lines = self.by_hand("--kill")
                 self.assertEqual(status, 0, lines)
                 named = [line for line in lines if re.fullmatch(r"# process \d+ \(sleep\) has 1 filter, .*", line)]
                 self.assertEqual(len(named), 2, lines)
@@ -190,13 +153,13 @@ class Runtimes(Containers):
                 self.assertEqual(status, 0, message)
                 self.assertTrue(comes(lambda: len(self.called("sleep", "997")) == 3))
                 actual = self.called("sleep", "997")
-                status, lines = self.by_hand(runtime)
+                status, lines = self.by_hand()
                 named = [line for line in lines if line.startswith("# process ")]
                 self.assertEqual((status, len(named)), (0, 3), lines)
-                config = json.loads(text_of(f"{self.where}/config.json"))
+                config = json.loads(text_of(self.box.config))
                 config["linux"]["seccomp"] = json.loads(refuses("chroot"))
-                self.file("box/config.json", json.dumps(config))
-                status, lines = self.by_hand(runtime, "--kill")
+                self.box.configure(config)
+                status, lines = self.by_hand("--kill")
                 self.assertEqual((status, lines[1]), (1, f"process {pid} was killed, and 2 more of the container"))
                 self.assertTrue(comes(lambda: all(map(has_ended, actual))))
 
@@ -204,17 +167,15 @@ class Runtimes(Containers):
         """Nothing hangs, and it doesn't survive being let on."""
         with self.container("runc") as (status, message, pid):
             self.assertEqual(status, 0, message)
-            runc = self.words_of("runc")
-            status, message = self.said([*runc, "pause", self.name])
+            status, message = self.box.call("pause", self.box.name)
             if status:
                 self.skipTest(f"runc pauses no container here: {message.strip()}")
-            self.addCleanup(self.said, [*runc, "resume", self.name])
             began = time.monotonic()
-            status, lines = self.by_hand("runc", "--kill", "--wait=0", "--deadline=1")
+            status, lines = self.by_hand("--kill", "--wait=0", "--deadline=1")
             self.assertLess(time.monotonic() - began, 30)
             if status:
                 self.assertIn(str(pid), lines[1])
-                self.said([*runc, "resume", self.name])
+                self.box.call("resume", self.box.name)
                 self.assertTrue(comes(lambda: has_ended(pid)))
             else:
                 self.assertEqual(lines[1], "same")
@@ -226,27 +187,19 @@ class Runtimes(Containers):
                 self.assertTrue(pid is None or comes(lambda: has_ended(pid)), message)
 
     @contextlib.contextmanager
-    def begun(self, *words, timeout=None, **settings):
+    def begun(self, *words, program=None, **settings):
         """A container that crun creates and then starts, as podman has it do: crun says nothing of a hook that fails,
         or that it ends at its timeout, and lets the container run on. Its process, once crun has done all."""
-        call = self.words_of("crun")
-        self.configure(stated=LOADED, words=words, **settings)
-        config = json.loads(text_of(f"{self.where}/config.json"))
-        if timeout is not None:
-            config["hooks"]["poststart"][1]["timeout"] = timeout
-        self.file("box/config.json", json.dumps(config))
-        try:
-            status, message = self.said([*call, "create", "--bundle", self.where, "--pid-file", f"{self.folder}/pid",
-                                         self.name])
+        with contextlib.closing(Box("crun")) as self.box:
+            if program is not None:
+                shutil.copy(program, f"{self.box.where}/rootfs/bin")
+            status, message, pid = self.box.make(self.configuration(stated=LOADED, words=words, **settings), "create")
             if status:
                 self.skipTest(f"crun creates no container here: {message.strip()}")
             # (where a hook kills the container early, crun may write to one that is gone)
-            status, _ = self.said([*call, "start", self.name])
+            status, _ = self.box.call("start", self.box.name)
             self.assertTrue(status == 0 or "--kill" in words and status == -signal.SIGPIPE, status)
-            yield int(text_of(f"{self.folder}/pid"))
-        finally:
-            self.said([*call, "delete", "--force", self.name])
-            os.remove(f"{self.where}/config.json")
+            yield pid
 
     def test_one_whose_hook_is_ended_by_its_timeout(self):
         """crun ends the hook while that waits for a filter: the container is killed nevertheless."""
@@ -257,23 +210,29 @@ class Runtimes(Containers):
 
     def test_one_that_executes_itself_again_and_again(self):
         """From one of its many threads, which keeps who stops them waiting."""
-        program = f"{self.where}/rootfs/bin/execute"
+        program = f"{self.folder}/execute"
         done = subprocess.run(["cc", "-static", "-pthread", "-x", "c", "-", "-o", program], input=EXECUTE.encode(),
                               stderr=subprocess.PIPE, check=False) if shutil.which("cc") else None
         if done is None or done.returncode:
             self.skipTest("there is no C compiler that links statically here")
         value = json.loads(refuses("chroot"))
         args = ["/bin/execute", "200", "1000"]
-        with self.begun("--kill", "--deadline=2", "--wait=0", loaded=value, args=args) as pid:
+        with self.begun("--kill", "--deadline=2", "--wait=0", program=program, loaded=value, args=args) as pid:
             self.assertTrue(comes(lambda: has_ended(pid)))
 
 
 class Podman(Containers):
     """Podman with runc and with crun: the default profile of its own."""
 
+    def setUp(self):
+        super().setUp()
+        self.needs("busybox")
+        self.name, self.where = f"scf-hook-{os.getpid()}", os.path.join(self.folder, "box")
+        make_rootfs(self.where)
+
     def podman(self, *words):
         settings = podman_settings(self, f"{self.folder}/podman/run")
-        return self.said([*ALONE, "podman", *words], env={**os.environ, **settings})
+        return said([*ALONE, "podman", *words], env={**os.environ, **settings})
 
     def test_the_default_profile(self):
         self.needs("podman", "runc", "crun")

@@ -9,12 +9,12 @@ import socket
 import struct
 import subprocess
 import sys
-import tempfile
 import unittest
 
 from support.common import CONFINED, TOP, Case, bytes_of, profile_of, text_of
+from support.containers import Box
 from support.oci import ERRNO
-from forms.test_runtimes import ALONE, BUSYBOX, config
+from forms.test_runtimes import config
 from logs import entry, read_log, rules, where
 from scftools.model import architectures, tables
 from scftools.forms import runtimes
@@ -352,7 +352,7 @@ void _start(void)
 """
 
 
-@unittest.skipUnless(os.geteuid() == 0 and BUSYBOX and shutil.which("strace") and shutil.which("cc"),
+@unittest.skipUnless(os.geteuid() == 0 and shutil.which("busybox") and shutil.which("strace") and shutil.which("cc"),
                      "needs root, busybox, strace and a C compiler")
 class Containers(Case):
     """A container starts under the least profile with what its runtime calls, and not without."""
@@ -360,7 +360,8 @@ class Containers(Case):
     def least(self, *words):
         log = os.path.join(self.folder, "log")
         if not os.path.exists(log):
-            subprocess.run(["strace", "-f", "-o", log, BUSYBOX, "echo", "begun"], stdout=subprocess.DEVNULL, check=True)
+            subprocess.run(["strace", "-f", "-o", log, "busybox", "echo", "begun"], stdout=subprocess.DEVNULL,
+                           check=True)
         status, out, _ = self.run_tool("needs", "--widen", *words, log, self.file("p.json", profile_of()))
         self.assertEqual(status, 0)
         return {**json.loads(out), "architectures": ["SCMP_ARCH_X86_64"]}
@@ -368,32 +369,17 @@ class Containers(Case):
     def run_container(self, runtime, seccomp, is_created=False, tracer=(), **process):
         """What a container prints, on request one that is created and then started, as engines have it done, and by a
         runtime that a tracer starts."""
-        folder = tempfile.mkdtemp(dir=self.folder)
-        name = f"scf-traces-{os.path.basename(folder)}"
-        words = [*ALONE, "crun", "--cgroup-manager", "disabled"] if runtime == "crun" else [runtime]
-        words += ["--root", os.path.join(folder, "root")]
-        for inner in ("proc", "dev"):
-            os.makedirs(os.path.join(folder, "rootfs", inner))
-        shutil.copy(BUSYBOX, os.path.join(folder, "rootfs", "busybox"))
-        subprocess.run(["cc", "-O1", "-static", "-nostdlib", "-fno-stack-protector", "-o",
-                        os.path.join(folder, "rootfs", "begun"), "-x", "c", "-"], input=BEGUN.encode(), check=True)
         whole = config(seccomp)
-        whole["process"].update({"args": ["/busybox", "echo", "begun"], **process})
-        with open(os.path.join(folder, "config.json"), "w", encoding="utf-8") as file:
-            json.dump(whole, file)
+        whole["process"].update({"args": ["/bin/busybox", "echo", "begun"], **process})
         read, write = os.pipe()
-        try:
-            done = subprocess.run([*tracer, *words, "create" if is_created else "run", "--bundle", folder, name],
-                                  stdin=subprocess.DEVNULL, stdout=write, stderr=subprocess.DEVNULL, check=False)
-            if is_created and not done.returncode:
-                subprocess.run([*words, "start", name], stdin=subprocess.DEVNULL, stdout=subprocess.DEVNULL,
-                               stderr=subprocess.DEVNULL, check=False)
+        with contextlib.closing(Box(runtime)) as box, os.fdopen(read, encoding="utf-8") as file:
+            subprocess.run(["cc", "-O1", "-static", "-nostdlib", "-fno-stack-protector", "-o",
+                            f"{box.where}/rootfs/begun", "-x", "c", "-"], input=BEGUN.encode(), check=True)
+            done = box.make(whole, "create" if is_created else "run", before=tracer, stdout=write)
             os.close(write)
-            with os.fdopen(read, encoding="utf-8") as file:
-                return file.read()
-        finally:
-            subprocess.run([*words, "delete", "--force", name], stdin=subprocess.DEVNULL, stdout=subprocess.DEVNULL,
-                           stderr=subprocess.DEVNULL, check=False)
+            if is_created and not done[0]:
+                box.call("start", box.name)
+            return file.read()
 
     def tried(self, runtime):
         if not shutil.which(runtime):
@@ -410,7 +396,7 @@ class Containers(Case):
         """Of the log of a container that dies of its profile `needs` judges what is made under it, as `why` does, and
         makes a profile of it under which the container runs."""
         log = os.path.join(self.folder, "started")
-        args = ["/busybox", "sh", "-c", "/busybox mkdir /dev/x && echo begun"]
+        args = ["/bin/busybox", "sh", "-c", "/bin/busybox mkdir /dev/x && echo begun"]
         table = tables.read_table(None)
         denying = rules(entry(*(name for name in table.names() if name not in ("mkdir", "clone3"))),
                         architectures=["SCMP_ARCH_X86_64"])
