@@ -172,7 +172,7 @@ class Expectations:
             # (one profile names all if x86-64 alone is judged)
             groups = unit_profiles.groups_of(settings) if self.options.scope is None else [settings.architectures]
             profiles = [unit_profiles.profile_of(settings, group).encode() for group in groups]
-        except (units.SettingError, program.ToolError) as why:
+        except program.ToolError as why:
             return Expectation(source=source, why=str(why))
         return self._of_groups(profiles, source, settings.doubt)
 

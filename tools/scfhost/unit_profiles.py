@@ -15,6 +15,7 @@ from scftools.model.architectures import I386, Architecture
 from scftools.model.profiles import DerivedProfile
 from scftools.ask.explanation import join_names
 from scftools.forms.lists import unit_restrictions
+from scftools.forms.lists.sandbox_rules import Policy, Rule
 from scftools.forms.lists.unit_restrictions import Alternative, Restriction
 from . import units
 from .units import UnitSettings
@@ -57,20 +58,13 @@ def _of_multiplexer(settings: UnitSettings, name: str) -> Iterator[tuple[Answer,
 
 def profile_of(settings: UnitSettings, group: Sequence[str]) -> str:
     """The text of the profile that the settings describe, for architectures of one group."""
-    default, rules = settings.answer_of(None), unit_restrictions.rules_of(settings.restrictions, group[0])
+    policy = Policy(settings.answer_of(None), architectures=group)
+    rules = unit_restrictions.rules_of(settings.restrictions, group[0])
     multiplexers = [*multiplexed.CALL_NUMBERS] if I386 in group else []
-    named: dict[tuple[Answer, Alternative], list[str]] = {}
     for name in dict.fromkeys([*settings.names(), *rules, *multiplexers]):
         answers = _of_multiplexer(settings, name) if name in multiplexers else _of_call(settings, name, rules.get(name))
-        for answer, conditions in answers:
-            if answer != default:
-                named.setdefault((answer, conditions), []).append(name)
-    entries = []
-    for (answer, conditions), names in named.items():
-        args = {"args": [condition.as_json() for condition in conditions]} if conditions else {}
-        entries.append({"names": names, **answer.members(), **args})
-    top = {**default.default(), "architectures": list(group), "syscalls": entries}
-    return json.dumps(top, indent=4) + "\n"
+        policy.rules += (Rule(name, answer, conditions) for answer, conditions in answers if answer != policy.default)
+    return json.dumps(policy.profile(), indent=4) + "\n"
 
 
 def _settings_of(name: str | None, options: Any, say: Callable[[str], None]) -> UnitSettings:
@@ -109,17 +103,14 @@ def profile_of_unit(name: str | None, say: Callable[[str], None], options: Any =
     """The profile of a unit, or of the settings that a command line says, for the architecture that it says. By default
     it is this one's, and `others` are those for architectures on which something else is denied."""
     wanted = architectures.judged_in((options and options.arch) or architectures.NATIVE)
-    try:
-        settings = _settings_of(name, options, say)
-        groups = groups_of(settings)
-        if options is not None:
-            groups = [_group_of(settings, wanted, say)]
-            if settings.filter is None:
-                say("there is no SystemCallFilter: every syscall is allowed"
-                    + (" that no other setting denies" if settings.restrictions else ""))
-        first, *others = (profile_of(settings, group).encode() for group in groups)
-    except units.SettingError as why:
-        raise program.ToolError(str(why)) from why
+    settings = _settings_of(name, options, say)
+    groups = groups_of(settings)
+    if options is not None:
+        groups = [_group_of(settings, wanted, say)]
+        if settings.filter is None:
+            say("there is no SystemCallFilter: every syscall is allowed"
+                + (" that no other setting denies" if settings.restrictions else ""))
+    first, *others = (profile_of(settings, group).encode() for group in groups)
     if settings.doubt is not None:
         say(settings.doubt)
     profile = DerivedProfile(first)

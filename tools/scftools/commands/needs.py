@@ -147,8 +147,6 @@ def main():
     judges = requirements.Judges(profiles.read_as(profile, options.runtime or profiles.STRICT), named, options.table)
     try:
         return tell(options, requirements.read_needs(options.logs, judges, options.runtime), judges)
-    except profiles.Refused as why:
-        raise program.ToolError(str(why)) from why
     except client.Refusal as why:
         output.put_lines(refusals.lines_of(why, judges.profile, judges.listed))
         return why.status

@@ -108,7 +108,7 @@ import json
 
 from ..base import inputs, output, program
 from ..base.values import replace
-from ..model import architectures, multiplexed, profiles, tables
+from ..model import architectures, multiplexed, tables
 from ..ask import explanation, verdicts
 from ..ask.client import Refusal
 from ..cli import words
@@ -174,20 +174,17 @@ def of_engine(data, options):
         raise program.ToolError("--no-more and --no-less speak of filters, and this is a profile")
     remarks = []
     say = (lambda *texts: remarks.extend(texts)) if options.json else program.say
-    try:
-        value = engines.parse_json(data)
-        setting = replace(options.setting, keeps_comments=getattr(data, "has_comments", False))
-        if options.runtime is not None:
-            given = runtimes.applied(value, options.runtime, setting, options.keep_first)
-            say(*given.describe())
-            profile = given.profile
-        else:
-            profile, _ = engines.resolve(value, setting, say, options.keep_first)
-        if options.multiplexed:
-            profile, _ = multiplexed.with_rules(profile, say)
-        return put_profile(engines.printed(profile), profile, options, remarks)
-    except profiles.Refused as why:
-        raise program.ToolError(str(why)) from why
+    value = engines.parse_json(data)
+    setting = replace(options.setting, keeps_comments=getattr(data, "has_comments", False))
+    if options.runtime is not None:
+        given = runtimes.applied(value, options.runtime, setting, options.keep_first)
+        say(*given.describe())
+        profile = given.profile
+    else:
+        profile, _ = engines.resolve(value, setting, say, options.keep_first)
+    if options.multiplexed:
+        profile, _ = multiplexed.with_rules(profile, say)
+    return put_profile(engines.printed(profile), profile, options, remarks)
 
 
 def of_unit(options):
@@ -199,10 +196,7 @@ def of_unit(options):
     say = remarks.append if options.json else program.say
     name = options.inputs[0].removeprefix(inputs.UNIT) if options.inputs else None
     data = unit_profiles.profile_of_unit(name, say, options)
-    try:
-        return put_profile(data, json.loads(data), options, remarks)
-    except profiles.Refused as why:
-        raise program.ToolError(str(why)) from why
+    return put_profile(data, json.loads(data), options, remarks)
 
 
 def judge(stack, options, architecture, table):
@@ -219,8 +213,6 @@ def judge(stack, options, architecture, table):
         if not options.json:
             program.say(why.line, *sentences)
         return Block(why.status, [], {"fault": why.fault.as_json(sentences)} if why.fault is not None else {})
-    except profiles.Refused as why:
-        raise program.ToolError(str(why)) from why
     if options.json:
         members = result.as_json()
         return Block(members.pop("status"), [], members)

@@ -399,14 +399,14 @@ def resolve(value: Any, setting: Setting, tell: Callable[[str], None],
 
 
 def capabilities_of(text: str) -> list[str]:
-    """The capabilities of a list of names, with or without CAP_, in which a name of a set stands for it; a ValueError
-    where there is no such capability."""
+    """The capabilities of a list of names, with or without CAP_, in which a name of a set stands for it. Raises
+    Refused where there is no such capability."""
     names: list[str] = []
     for word in filter(None, (word.strip() for word in text.split(","))):
         name = word.upper()
         name = name[4:] if name.startswith("CAP_") else name
         if word not in SETS and name not in CAPABILITIES:
-            raise ValueError(f"'{word}' isn't a capability")
+            raise Refused(f"'{word}' isn't a capability")
         names += SETS.get(word, [name])
     return sorted({f"CAP_{name}" for name in names})
 
@@ -417,8 +417,8 @@ def capabilities_in(mask: int) -> list[str]:
 
 
 def kernel_of(text: str) -> tuple[int, int]:
-    """The version of a kernel, of which two numbers count; a ValueError where it is none."""
+    """The version of a kernel, of which two numbers count. Raises Refused where it is none."""
     parts = re.match(r"([0-9]{1,9})\.([0-9]{1,9})", text)
     if not parts:
-        raise ValueError(f"'{text}' isn't a kernel version such as 6.1")
+        raise Refused(f"'{text}' isn't a kernel version such as 6.1")
     return int(parts[1]), int(parts[2])

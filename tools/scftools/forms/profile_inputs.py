@@ -160,11 +160,8 @@ def plain(data: bytes, name: str) -> bytes:
 
 def setting_of(caps: str, engine: str | None = None, machine: str | None = None) -> engines.Setting:
     """A container with these capabilities on this kernel, and by default on this machine."""
-    try:
-        return engines.Setting(engines.capabilities_of(caps), engines.kernel_of(os.uname().release), engine=engine,
-                               machine=machine or engines.machine_here())
-    except ValueError as why:
-        raise program.ToolError(str(why)) from why
+    return engines.Setting(engines.capabilities_of(caps), engines.kernel_of(os.uname().release), engine=engine,
+                           machine=machine or engines.machine_here())
 
 
 def _resolved(data: bytes, name: str, caps: str, machine: str | None) -> ProfileInput:

@@ -151,7 +151,7 @@ def setting_of_words(options: Any, parser: Parser) -> Setting:
                                                "podman" if is_podman else "docker"),
                        engines.kernel_of(options.kernel or os.uname().release), options.arch_map == "native", engine,
                        options.ignore or (), machine=getattr(options, "machine", None) or engines.machine_here())
-    except ValueError as why:
+    except Refused as why:
         parser.error(str(why))
 
 

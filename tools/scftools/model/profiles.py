@@ -9,7 +9,7 @@ import json
 import re
 from collections.abc import Iterator, Sequence
 
-from ..base import json_places
+from ..base import json_places, program
 from ..base.values import Any, Pattern, dataclass
 from . import entries
 from .answers import Answer
@@ -54,7 +54,7 @@ _FOLD = {**{upper: upper + 32 for upper in range(ord("A"), ord("Z") + 1)}, 0x17F
 STRICT, SANDBOX = BY_WORDS = "strict", "sandbox"
 
 
-class Refused(Exception):
+class Refused(program.ToolError):
     """The engines refuse the profile, or it is ambiguous."""
 
 

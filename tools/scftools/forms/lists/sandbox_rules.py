@@ -41,12 +41,12 @@ def error_at(line: int, why: str, kind: type[ListError] = ListError) -> ListErro
 
 @dataclass(frozen=True)
 class Rule:
-    """The answer to a syscall whose arguments meet all of some conditions, and the number of its line."""
+    """The answer to a syscall whose arguments meet all of some conditions, and the number of its line, 0 of no list."""
 
     name: str
     answer: Answer
     conditions: tuple[Condition, ...]
-    line: int
+    line: int = 0
 
 
 @dataclass
@@ -109,8 +109,9 @@ class Policy:
         made = []
         for (answer, conditions), names in entries.items():
             args = {"args": [condition.as_json() for condition in conditions]} if conditions else {}
+            lines = {line for its in names.values() for line in its if line}
             made.append({"names": list(names), **answer.members(), **args,
-                         "comment": lines_text(line for lines in names.values() for line in lines)})
+                         **({"comment": lines_text(lines)} if lines else {})})
         top = {**self.default.default(), "architectures": list(self.architectures), "syscalls": made}
         return multiplexed.with_rules(top)[0] if self.is_multiplexed else top
 

@@ -18,6 +18,7 @@ import re
 import stat
 from collections.abc import Callable, Iterable, Sequence
 
+from ...base import program
 from ...base.values import Pattern, dataclass
 from ...model import constants
 from ...model.answers import ENOSYS, KILL_PROCESS, MAX_ERRNO, Answer
@@ -53,7 +54,7 @@ ERRNO_NUMBERS = {**{name: number for number, name in errno.errorcode.items()}, "
 ERRNO_NUMBER = Pattern(r"\+?(?:0[xX][0-9a-fA-F]+|0[bB][01]+|0[oO][0-7]+|0[0-7]*|[1-9][0-9]*)|-0", re.A)
 
 
-class SettingError(Exception):
+class SettingError(program.ToolError):
     """A setting that systemd prints, or that is given in its place, isn't as systemd.exec(5) says."""
 
 
