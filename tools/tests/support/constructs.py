@@ -82,12 +82,6 @@ def value_in(dice, mask):
     return dice.getrandbits(32) & mask
 
 
-def mask_and_value(dice):
-    """A mask, and a value that has no other bit."""
-    mask = some_mask(dice)
-    return mask, value_in(dice, mask)
-
-
 def of_any_length(dice):
     """A number from 1 on, of any count of bits."""
     return dice.randrange(1, 1 << dice.randrange(1, 33))
@@ -97,112 +91,177 @@ def odd(dice):
     return dice.choice((3, 5, 7, 0x10001, WORD, of_any_length(dice) | 1))
 
 
+# Tests whether what is computed is 0; and codes that return the answer that belongs to a bit, which is set if the
+# condition holds.
+ZERO_TESTS = (is_equal(0), (JSET, WORD, "no", "yes"), (JGT, 0, "no", "yes"), (JGE, 1, "no", "yes"))
+ANSWERS_OF_BIT = ([(MUL, ALLOW - EPERM), (ADD, EPERM), (RET_A, 0)],
+                  [(NEG, 0), (AND, ALLOW ^ EPERM), (XOR, EPERM), (RET_A, 0)])
+
+
 def is_zero(dice):
-    """One of the tests whether what is computed is 0."""
-    return dice.choice((is_equal(0), (JSET, WORD, "no", "yes"), (JGT, 0, "no", "yes"), (JGE, 1, "no", "yes")))
+    return dice.choice(ZERO_TESTS)
 
 
-# Constructs of a word by one drawn number or two: each gives the codes of which one is drawn. Of a mask and a value
-# that has no other bit, and any number:
-OF_MASK = {
-    "mask": lambda mask, value, _: [[(AND, mask), is_equal(value)]],
-    "mask in x": lambda mask, value, _: [[(LDX, mask), (AND | X, 0), is_equal(value)]],
-    "word in x": lambda mask, value, _: [[(TAX, 0), (LD_K, mask), (AND | X, 0), is_equal(value)]],
-    "or": lambda mask, value, _: [[(OR, ~mask & WORD), is_equal(value | ~mask)]],
-    "xor and mask": lambda mask, value, _: [[(XOR, value), *test] for test in (
-        [(AND, mask), is_equal(0)], [(JSET, mask, "no", "yes")], [(OR, ~mask & WORD), is_equal(~mask)])],
-    "offset under mask": lambda mask, value, by: [[(AND, mask), *test] for test in (
-        [(ADD, by), is_equal(value + by)], [(SUB, by), is_equal(value - by)], [(NEG, 0), is_equal(-value)],
-        [(XOR, WORD), (ADD, by), is_equal(~value + by)])],
-}
-# Of a value, and any number.
-OF_VALUE = {
-    "copies": lambda value, _: [[(ST, 3), (LD_K, 7), (LD_M, 3), (TAX, 0), (LD_K, 0), (TXA, 0), is_equal(value)]],
-    "identity": lambda value, _: [[*code, is_equal(value)] for code in (
-        [(ADD, 0)], [(SUB, 0)], [(OR, 0)], [(XOR, 0)], [(RSH, 0)], [(LSH, 0)], [(MUL, 1)], [(DIV, 1)],
-        [(LDX, 1), (DIV | X, 0)], [(LDX, 1), (MUL | X, 0)], [(LDX, 0), (ADD | X, 0)], [(LDX, 0), (RSH | X, 0)])],
-    "xor": lambda value, by: [[(XOR, by), is_equal(value ^ by)]],
-    "offset": lambda value, by: [[(ADD, by), is_equal(value + by)], [(SUB, by), is_equal(value - by)]],
-    "negation": lambda value, _: [[(NEG, 0), is_equal(-value)]],
-    "difference": lambda value, by: [[(TAX, 0), (LD_K, by), (SUB | X, 0), is_equal(by - value)]],
-}
-# Of the least value, from 1 on.
-OF_LEAST = {
-    "order in x": lambda value: [[(LDX, value), (JGE | X, 0, "yes", "no")]],
-    "order of offset": lambda value: [[(SUB, value), (JGT, WORD - value, "no", "yes")]],
-    "order of negation": lambda value: [[(NEG, 0), (JEQ, 0, "no", "then"), "then",
-                                         (JGT, (1 << 32) - value, "no", "yes")]],
-    "order of complement": lambda value: [[(XOR, WORD), (JGT, value ^ WORD, "no", "yes")]],
-    "order of difference": lambda value: [[(TAX, 0), (LD_K, value - 1), (SUB | X, 0), (JGE, value, "yes", "no")]],
-}
+# What is drawn for a construct of a word: a mask, a value that has no other bit, and a number
+
+def under(dice, mask, number):
+    return mask, value_in(dice, mask), number
 
 
-def of_mask(codes, dice, low):
-    mask, value = mask_and_value(dice)
-    return masked(mask, value, low, *dice.choice(codes(mask, value, dice.getrandbits(32))))
+def any_mask(dice):
+    return under(dice, some_mask(dice), dice.getrandbits(32))
 
 
-def of_value(codes, dice, low):
-    value = dice.getrandbits(32)
-    return equal(value, low, *dice.choice(codes(value, dice.getrandbits(32))))
+def low_bits(dice):
+    by = dice.randrange(1, 31)
+    return under(dice, WORD >> by, by)
 
 
-def of_least(codes, dice, low):
-    value = dice.randrange(1, 1 << 32)
-    return least(value, low, *dice.choice(codes(value)))
+def some_low_bits(dice):
+    by = dice.randrange(1, 31)
+    return under(dice, WORD >> by & (dice.getrandbits(32) | 1 if dice.random() < 0.5 else WORD), by)
 
 
-# Parts of a word
-
-def by_bits(dice, low):
-    mask = some_mask(dice)
-    return masked(mask, 0, low, (JSET, mask, "no", "yes"))
+def high_bits(dice):
+    by = dice.randrange(1, 31)
+    return under(dice, WORD >> by << by, by)
 
 
-def by_right_shift(dice, low):
+def middle_bits(dice):
     by, width = dice.randrange(1, 31), dice.randrange(1, 32)
-    mask = (((1 << width) - 1) << by) & WORD
-    value = value_in(dice, mask)
-    test = [(RSH, by)] if dice.random() < 0.7 else [(LDX, by), (RSH | X, 0)]
-    if width + by < 32:
-        test.append((AND, mask >> by))
-    return masked(mask, value, low, *test, is_equal(value >> by))
+    return under(dice, (1 << width) - 1 << by & WORD, by)
 
 
-def by_left_shift(dice, low):
-    by = dice.randrange(1, 31)
-    mask = WORD >> by
-    if dice.random() < 0.5:
-        mask &= dice.getrandbits(32) | 1
-    value = value_in(dice, mask)
-    test = [(LSH, by)] if dice.random() < 0.7 else [(LDX, by), (LSH | X, 0)]
-    if mask != WORD >> by:
-        test.append((AND, mask << by & WORD))
-    return masked(mask, value, low, *test, is_equal(value << by))
+def bits_of_product(dice):
+    """A factor of 2^n drops the highest n bits."""
+    factor = of_any_length(dice)
+    return under(dice, WORD // (factor & -factor), factor)
 
 
-def by_division(dice, low):
-    by = dice.randrange(1, 31)
-    mask = WORD >> by << by
-    value = value_in(dice, mask)
-    return masked(mask, value, low, (DIV, 1 << by), is_equal(value >> by))
+def but_few_bits(dice):
+    """Few bits are left out, whose values scf tries one by one."""
+    part_of_it = of_any_length(dice) & 0xFF << dice.randrange(25) or 1
+    return under(dice, ~part_of_it & WORD, part_of_it)
 
 
-def by_product(dice, low):
-    by = dice.randrange(1, 31)
-    mask = WORD >> by
-    value = value_in(dice, mask)
-    return masked(mask, value, low, (MUL, 1 << by), is_equal(value << by))
+def but_a_bit(dice):
+    bit = 1 << dice.randrange(32)
+    return under(dice, WORD ^ bit, bit)
 
 
-def by_order_of_high_bits(dice, low):
-    by = dice.randrange(1, 31)
-    value = dice.getrandbits(32) >> by << by
-    return least(value, low, *dice.choice((
-        [(AND, WORD >> by << by), (JGE, value, "yes", "no")],
-        [(AND, WORD >> by << by), (JGT, max(value, 1) - 1, "yes", "no" if value else "yes")],
-        [(RSH, by), (JGE, value >> by, "yes", "no")])))
+def a_bit(dice):
+    at = dice.randrange(32)
+    return 1 << at, 1 << at, at
 
+
+def shifted(codes, mask, *test):
+    """Codes of a shift, behind each of which a test is, under a mask unless that has all bits."""
+    return [[*code, *([(AND, mask)] if mask is not None else []), *test] for code in codes]
+
+
+# Constructs of a word by what is drawn: each gives the codes of which one is drawn, of an argument whose low word
+# stands at `low`.
+OF_MASK = {
+    any_mask: {
+        "mask": lambda mask, value, _, __: [[(AND, mask), is_equal(value)]],
+        "mask in x": lambda mask, value, _, __: [[(LDX, mask), (AND | X, 0), is_equal(value)]],
+        "word in x": lambda mask, value, _, __: [[(TAX, 0), (LD_K, mask), (AND | X, 0), is_equal(value)]],
+        "or": lambda mask, value, _, __: [[(OR, ~mask & WORD), is_equal(value | ~mask)]],
+        "xor and mask": lambda mask, value, _, __: [[(XOR, value), *test] for test in (
+            [(AND, mask), is_equal(0)], [(JSET, mask, "no", "yes")], [(OR, ~mask & WORD), is_equal(~mask)])],
+        "offset under mask": lambda mask, value, by, _: [[(AND, mask), *test] for test in (
+            [(ADD, by), is_equal(value + by)], [(SUB, by), is_equal(value - by)], [(NEG, 0), is_equal(-value)],
+            [(XOR, WORD), (ADD, by), is_equal(~value + by)])]},
+    (lambda dice: (some_mask(dice), 0, 0)): {"bits": lambda mask, _, __, ___: [[(JSET, mask, "no", "yes")]]},
+    high_bits: {"division": lambda _, value, by, __: [[(DIV, 1 << by), is_equal(value >> by)]]},
+    low_bits: {"product": lambda _, value, by, __: [[(MUL, 1 << by), is_equal(value << by)]]},
+    some_low_bits: {"left shift": lambda mask, value, by, _: shifted(
+        ([(LSH, by)], [(LDX, by), (LSH | X, 0)]), mask << by & WORD if mask != WORD >> by else None,
+        is_equal(value << by))},
+    middle_bits: {"right shift": lambda mask, value, by, _: shifted(
+        ([(RSH, by)], [(LDX, by), (RSH | X, 0)]), mask >> by if mask >> by != WORD >> by else None,
+        is_equal(value >> by))},
+    (lambda dice: under(dice, WORD >> dice.randrange(1, 32), odd(dice))): {
+        "odd product under mask": lambda mask, value, factor, _: [
+            [(MUL, factor), (AND, mask), is_equal(value * factor & mask)]]},
+    bits_of_product: {"any product": lambda _, value, factor, __: [[(MUL, factor), is_equal(value * factor)]]},
+    (lambda dice: under(dice, WORD >> 1, 0)): {
+        "sum with itself": lambda _, value, __, ___: [[(TAX, 0), (ADD | X, 0), is_equal(2 * value)]]},
+    but_few_bits: {"word less part": lambda _, value, part_of_it, low: [
+        [(AND, part_of_it), (TAX, 0), (LD, low), (SUB | X, 0), is_equal(value)]]},
+    but_a_bit: {"cleared bit": lambda _, value, bit, __: [
+        [*stored((JSET, bit, "set", "clear"), [(SUB, bit)], []), is_equal(value)]]},
+    a_bit: {"returned bit": lambda _, __, at, ___: [[(RSH, at), (AND, 1), *end] for end in ANSWERS_OF_BIT]},
+}
+# Of a value, and a number.
+OF_VALUE = {
+    (lambda dice: (dice.getrandbits(32), dice.getrandbits(32))): {
+        "copies": lambda value, _, __: [
+            [(ST, 3), (LD_K, 7), (LD_M, 3), (TAX, 0), (LD_K, 0), (TXA, 0), is_equal(value)]],
+        "identity": lambda value, _, __: [[*code, is_equal(value)] for code in (
+            [(ADD, 0)], [(SUB, 0)], [(OR, 0)], [(XOR, 0)], [(RSH, 0)], [(LSH, 0)], [(MUL, 1)], [(DIV, 1)],
+            [(LDX, 1), (DIV | X, 0)], [(LDX, 1), (MUL | X, 0)], [(LDX, 0), (ADD | X, 0)], [(LDX, 0), (RSH | X, 0)])],
+        "xor": lambda value, by, _: [[(XOR, by), is_equal(value ^ by)]],
+        "offset": lambda value, by, _: [[(ADD, by), is_equal(value + by)], [(SUB, by), is_equal(value - by)]],
+        "negation": lambda value, _, __: [[(NEG, 0), is_equal(-value)]],
+        "difference": lambda value, by, _: [[(TAX, 0), (LD_K, by), (SUB | X, 0), is_equal(by - value)]],
+        "halves": lambda value, _, low: [[(RSH, 16), (JEQ, value >> 16, "then", "no"), "then", (LD, low),
+                                          (AND, 0xFFFF), is_equal(value & 0xFFFF)]],
+        "joined halves": lambda value, _, low: [
+            [(RSH, 16), (XOR, value >> 16), (TAX, 0), (LD, low), (AND, 0xFFFF), (XOR, value & 0xFFFF), (OR | X, 0),
+             test] for test in ZERO_TESTS],
+        "three times": lambda value, _, __: [[(TAX, 0), (ADD | X, 0), (ADD | X, 0), is_equal(3 * value)]],
+        "returned scratch word": lambda value, _, __: [
+            [*stored((JEQ, value, "set", "clear"), [(LD_K, ALLOW)], [(LD_K, EPERM)]), (RET_A, 0)]],
+        # (a number OR its negation has its highest bit set if it isn't 0)
+        "returned equality": lambda value, _, __: [
+            [(XOR, value), (TAX, 0), (NEG, 0), (OR | X, 0), (RSH, 31), (XOR, 1), *end] for end in ANSWERS_OF_BIT]},
+    # (an odd factor has an inverse modulo 2^32)
+    (lambda dice: (dice.getrandbits(32), odd(dice))): {
+        "odd product": lambda value, factor, _: [[(MUL, factor), is_equal(value * factor)]]},
+    (lambda dice: (dice.getrandbits(32), some_mask(dice))): {
+        "sum of parts": lambda value, mask, low: [
+            [(AND, mask), (TAX, 0), (LD, low), (AND, ~mask & WORD), (ADD | X, 0), is_equal(value)]]},
+    (lambda dice: (dice.getrandbits(32), of_any_length(dice))): {
+        "quotient and remainder": lambda value, divisor, low: [
+            [(DIV, divisor), (JEQ, value // divisor, "then", "no"), "then", (MUL, divisor), (TAX, 0), (LD, low),
+             (SUB | X, 0), is_equal(value % divisor)]]},
+}
+# Of the least value, and a number.
+OF_LEAST = {
+    (lambda dice: (dice.randrange(1, 1 << 32), 0)): {
+        "order in x": lambda value, _, __: [[(LDX, value), (JGE | X, 0, "yes", "no")]],
+        "order of offset": lambda value, _, __: [[(SUB, value), (JGT, WORD - value, "no", "yes")]],
+        "order of negation": lambda value, _, __: [[(NEG, 0), (JEQ, 0, "no", "then"), "then",
+                                                    (JGT, (1 << 32) - value, "no", "yes")]],
+        "order of complement": lambda value, _, __: [[(XOR, WORD), (JGT, value ^ WORD, "no", "yes")]],
+        "order of difference": lambda value, _, __: [[(TAX, 0), (LD_K, value - 1), (SUB | X, 0),
+                                                      (JGE, value, "yes", "no")]]},
+    (lambda dice: high_bits(dice)[1:]): {
+        "order of high bits": lambda value, by, _: [
+            [(AND, WORD >> by << by), (JGE, value, "yes", "no")],
+            [(AND, WORD >> by << by), (JGT, max(value, 1) - 1, "yes", "no" if value else "yes")],
+            [(RSH, by), (JGE, value >> by, "yes", "no")]],
+        "order of high complement": lambda value, by, _: [
+            [*code, (JGT, (WORD >> by << by) - value, "no", "yes")] for code in (
+                [(XOR, WORD), (AND, WORD >> by << by)], [(AND, WORD >> by << by), (XOR, WORD >> by << by)])]},
+    # (an order of the high bits, and where they are equal, of the low ones)
+    (lambda dice: (dice.getrandbits(32), dice.randrange(1, 32))): {
+        "order of low bits": lambda value, by, low: [
+            [(RSH, by), (JGT, value >> by, "yes", "then"), "then", (JEQ, value >> by, "more", "no"), "more", (LD, low),
+             (AND, (1 << by) - 1), (JGE, value & (1 << by) - 1, "yes", "no")]]},
+    (lambda dice: (dice.randrange((1 << 31) + 1, 1 << 32), 0)): {
+        "returned quotient": lambda value, _, __: [[(DIV, value), *end] for end in ANSWERS_OF_BIT]},
+}
+
+
+def of_row(condition, count, draw, codes, dice, low):
+    """The condition of a row, by so many of the drawn numbers."""
+    drawn = draw(dice)
+    return condition(*drawn[:count], low, *dice.choice(codes(*drawn, low)))
+
+
+# Other constructs
 
 def by_high_bits(dice, low):
     by = dice.randrange(1, 31)
@@ -211,27 +270,7 @@ def by_high_bits(dice, low):
         [(JSET, mask, "no", "yes")], [(RSH, by), is_equal(0)], [(AND, mask), is_equal(0)])))
 
 
-def by_order_of_high_complement(dice, low):
-    by = dice.randrange(1, 31)
-    mask = WORD >> by << by
-    value = value_in(dice, mask)
-    return least(value, low, *dice.choice(([(XOR, WORD), (AND, mask)], [(AND, mask), (XOR, mask)])),
-                 (JGT, mask - value, "no", "yes"))
-
-
 # Parts of a word joined
-
-def by_halves(dice, low):
-    value = dice.getrandbits(32)
-    return equal(value, low, (RSH, 16), (JEQ, value >> 16, "then", "no"), "then", (LD, low), (AND, 0xFFFF),
-                 is_equal(value & 0xFFFF))
-
-
-def by_joined_halves(dice, low):
-    value = dice.getrandbits(32)
-    return equal(value, low, (RSH, 16), (XOR, value >> 16), (TAX, 0), (LD, low), (AND, 0xFFFF),
-                 (XOR, value & 0xFFFF), (OR | X, 0), is_zero(dice))
-
 
 def by_joined_masks(dice, low):
     first, second = some_mask(dice), some_mask(dice)
@@ -312,35 +351,7 @@ def by_order_behind_high_bits(dice, low):
                   (AND, high | mask), at_least(dice, value | top & top - 1 | mask & ~top, value | top, "yes", "no"))
 
 
-def by_order_of_low_bits(dice, low):
-    """An order of the high bits, and where they are equal, of the low ones."""
-    by, value = dice.randrange(1, 32), dice.getrandbits(32)
-    low_bits = (1 << by) - 1
-    return least(value, low, (RSH, by), (JGT, value >> by, "yes", "then"), "then", (JEQ, value >> by, "more", "no"),
-                 "more", (LD, low), (AND, low_bits), (JGE, value & low_bits, "yes", "no"))
-
-
 # Products and quotients by constants
-
-def by_odd_product(dice, low):
-    """An odd factor has an inverse modulo 2^32."""
-    factor, value = odd(dice), dice.getrandbits(32)
-    return equal(value, low, (MUL, factor), is_equal(value * factor))
-
-
-def by_odd_product_under_mask(dice, low):
-    factor, mask = odd(dice), WORD >> dice.randrange(1, 32)
-    value = value_in(dice, mask)
-    return masked(mask, value, low, (MUL, factor), (AND, mask), is_equal(value * factor & mask))
-
-
-def by_any_product(dice, low):
-    """A factor of 2^n drops the highest n bits."""
-    factor = of_any_length(dice)
-    mask = WORD // (factor & -factor)
-    value = value_in(dice, mask)
-    return masked(mask, value, low, (MUL, factor), is_equal(value * factor))
-
 
 def by_order_of_product(dice, low):
     """The word is known to be small."""
@@ -367,12 +378,6 @@ def by_least_or_greatest_quotient(dice, low):
     if dice.random() < 0.5:
         return most(divisor - 1, low, (DIV, divisor), is_equal(0))
     return least(WORD // divisor * divisor, low, (DIV, divisor), is_equal(WORD // divisor))
-
-
-def by_quotient_and_remainder(dice, low):
-    value, divisor = dice.getrandbits(32), of_any_length(dice)
-    return equal(value, low, (DIV, divisor), (JEQ, value // divisor, "then", "no"), "then", (MUL, divisor), (TAX, 0),
-                 (LD, low), (SUB | X, 0), is_equal(value % divisor))
 
 
 def by_square(dice, low):
@@ -431,27 +436,6 @@ def by_order_of_sum_of_words(dice, low):
         [(NEG, 0), (ADD | X, 0), (JEQ, 0, "yes", "more"), "more", (JGT, high, "yes", "no")])))
 
 
-# Sums of a word's parts
-
-def by_sum_of_parts(dice, low):
-    mask, value = some_mask(dice), dice.getrandbits(32)
-    return equal(value, low, (AND, mask), (TAX, 0), (LD, low), (AND, ~mask & WORD), (ADD | X, 0), is_equal(value))
-
-
-def by_sum_with_itself(dice, low):
-    value = dice.getrandbits(32)
-    if dice.random() < 0.5:
-        return masked(WORD >> 1, value & WORD >> 1, low, (TAX, 0), (ADD | X, 0), is_equal(2 * value))
-    return equal(value, low, (TAX, 0), (ADD | X, 0), (ADD | X, 0), is_equal(3 * value))
-
-
-def by_word_less_part(dice, low):
-    """Of a part of few bits, whose values scf tries one by one."""
-    mask = of_any_length(dice) & 0xFF << dice.randrange(25) or 1
-    value = value_in(dice, ~mask & WORD)
-    return masked(~mask & WORD, value, low, (AND, mask), (TAX, 0), (LD, low), (SUB | X, 0), is_equal(value))
-
-
 # Words joined under wide masks
 
 def wide_mask(dice):
@@ -508,13 +492,6 @@ def stored(test, if_so, otherwise):
     return [test, "set", *if_so, (ST, 2), (JA, "join"), "clear", *otherwise, (ST, 2), "join", (LD_M, 2)]
 
 
-def by_cleared_bit(dice, low):
-    bit, value = 1 << dice.randrange(32), dice.getrandbits(32)
-    mask = WORD ^ bit
-    return masked(mask, value & mask, low, *stored((JSET, bit, "set", "clear"), [(SUB, bit)], []),
-                  is_equal(value & mask))
-
-
 def by_changed_way(dice, low):
     """Where a bit is set, other bits are flipped."""
     bit, value = 1 << dice.randrange(32), dice.getrandbits(32)
@@ -541,39 +518,11 @@ def by_flags(dice, low):
                  *dice.choice(([(ADD | X, 0), is_equal(2)], [(AND | X, 0), is_equal(1)], [(MUL | X, 0), is_equal(1)])))
 
 
-# Answers that are computed
-
-def answer_of_bit(dice):
-    """Returns the answer that belongs to a bit, which is set if the condition holds."""
-    return dice.choice(([(MUL, ALLOW - EPERM), (ADD, EPERM), (RET_A, 0)],
-                        [(NEG, 0), (AND, ALLOW ^ EPERM), (XOR, EPERM), (RET_A, 0)]))
-
-
-def by_returned_bit(dice, low):
-    bit = dice.randrange(32)
-    return masked(1 << bit, 1 << bit, low, (RSH, bit), (AND, 1), *answer_of_bit(dice))
-
-
-def by_returned_quotient(dice, low):
-    divisor = dice.randrange((1 << 31) + 1, 1 << 32)
-    return least(divisor, low, (DIV, divisor), *answer_of_bit(dice))
-
-
-def by_returned_scratch_word(dice, low):
-    value = dice.getrandbits(32)
-    return equal(value, low, *stored((JEQ, value, "set", "clear"), [(LD_K, ALLOW)], [(LD_K, EPERM)]), (RET_A, 0))
-
-
-def by_returned_equality(dice, low):
-    """A number OR its negation has its highest bit set if it isn't 0."""
-    value = dice.getrandbits(32)
-    return equal(value, low, (XOR, value), (TAX, 0), (NEG, 0), (OR | X, 0), (RSH, 31), (XOR, 1), *answer_of_bit(dice))
-
-
 # The constructs by their names.
 CONSTRUCTS = {
-    **{name: functools.partial(draws, codes) for draws, rows in (
-        (of_mask, OF_MASK), (of_value, OF_VALUE), (of_least, OF_LEAST)) for name, codes in rows.items()},
+    **{name: functools.partial(of_row, condition, count, draw, codes)
+       for condition, count, tables in ((masked, 2, OF_MASK), (equal, 1, OF_VALUE), (least, 1, OF_LEAST))
+       for draw, rows in tables.items() for name, codes in rows.items()},
     **{name[3:].replace("_", " "): made for name, made in list(globals().items()) if name.startswith("by_")}}
 ENDS = ["no", (RET, EPERM), "yes", (RET, ALLOW)]
 
