@@ -290,7 +290,7 @@ def described_containers(kernel: Kernel, snapshot: Snapshot, more_roots: Sequenc
     by_first: dict[int, ContainerDescription] = {}
     folders_of_users: dict[int, list[str]] = {}
 
-    def ask(work: Callable[[child.Send], object], seconds: float, user: int | None) -> None:
+    def ask(work: child.Work, seconds: float, user: int | None) -> None:
         """Takes the answers of a child that reads root's files, or a user's."""
         settings: list[str] = []
 
@@ -313,14 +313,12 @@ def described_containers(kernel: Kernel, snapshot: Snapshot, more_roots: Sequenc
             elif user is None:
                 folders_of_users.setdefault(value["user"], []).append(value["folder"])
 
-        try:
-            child.ask(work, seconds, receive)
-        except child.Lost as why:
+        for why in child.ask_each([work], [(0, seconds)], lambda _, value: receive(value)).values():
             snapshot.leave_out(f"the folders of containers can't be read: {why}", user)
 
-    ask(lambda send: _send_roots(send, more_roots), child.LONGEST, None)
+    ask(lambda send, _: _send_roots(send, more_roots), child.LONGEST, None)
     for (user, folders), seconds in budget.shares(sorted(folders_of_users.items())):
-        ask(lambda send, user=user, folders=folders: _send_users(send, user, folders), seconds, user)
+        ask(lambda send, _, user=user, folders=folders: _send_users(send, user, folders), seconds, user)
     return list(by_first.values())
 
 

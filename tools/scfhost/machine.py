@@ -14,7 +14,7 @@ from scftools.base import output
 from scftools.base.values import Any, Pattern, dataclass, field
 from .hold import PF_KTHREAD
 from .processes import Kernel
-from .ptrace import PROC_PID_INIT_INO, contents, has_ended, stat_of
+from .ptrace import PROC_PID_INIT_INO, contents, has_ended, ticks_at_start
 
 # How often processes that started meanwhile are looked for.
 LISTINGS = 3
@@ -122,11 +122,10 @@ def process_of_number(kernel: Kernel, number: int) -> Process | None:
     is_confined = status.get("Seccomp", "0") != "0" or any(_mode_of(thread) for thread in threads if thread != first)
     is_stuck = is_confined and status["State"][:1] == "D"
     user = int(status["Uid"].split()[1])
-    fields = stat_of(number)
     return Process(number, int(status["PPid"]), kernel.name_of(number), _executable_of(first), user,
                    kernel.groups_of(first), tuple(kernel.namespaces_of(first)), int(inner),
                    int(status.get("CapEff", "0"), 16), status.get("NoNewPrivs") == "1", tuple(threads), is_confined,
-                   is_stuck, kernel.owner_of(first, user), int(fields[19]) if len(fields) > 19 else 0)
+                   is_stuck, kernel.owner_of(first, user), ticks_at_start(number) or 0)
 
 
 def _left_out(kernel: Kernel, why: str | None) -> Iterable[str]:

@@ -327,12 +327,6 @@ def ask_each(works: Sequence[Work], turns: Iterable[tuple[int, float]], receive:
     return lost
 
 
-def ask(work: Callable[[Send], object], seconds: float, receive: Callable[[Any], object]) -> None:
-    """Has one function send values from a child. Raises Lost."""
-    for why in ask_each([lambda send, _: work(send)], [(0, seconds)], lambda _, value: receive(value)).values():
-        raise Lost(why)
-
-
 def checked(value: Any, form: Any) -> Any:
     """A value that has this form: a type, None, several forms of which one fits, a list of values of one form, or an
     object with these members. Raises TypeError."""

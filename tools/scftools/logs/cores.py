@@ -12,7 +12,7 @@ import struct
 from collections.abc import Iterator
 
 from ..base import inputs, program
-from ..base.values import dataclass
+from ..base.values import dataclass, replace
 from ..model.answers import I386_NUMBER
 from ..model.calls import ARGUMENT_REGISTERS, REGISTERS, Call
 from .events import CORE, KILLS, Event, Outcome
@@ -134,9 +134,8 @@ def event_of(data: bytes) -> Event:
         process = struct.unpack_from("<i", status, layout.process)[0]
     name = notes.get(PRPSINFO, b"")[layout.name:layout.name + 16].partition(b"\0")[0].decode("latin-1")
     outcome = Outcome(("TRAP", *KILLS), data=answered)
-    plain = Call(number, architecture, pointer)
-    event = Event(CORE, plain, outcome, arguments, process, name)
-    return Event(CORE, event.with_values(next(event.ways())), outcome, arguments, process, name)
+    event = Event(CORE, Call(number, architecture, pointer), outcome, arguments, process, name)
+    return replace(event, call=event.with_values(next(event.ways())))
 
 
 def read_core(name: str) -> Event:

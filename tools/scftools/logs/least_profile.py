@@ -7,7 +7,7 @@ from __future__ import annotations
 import json
 from collections.abc import Iterable, Iterator, Sequence
 
-from ..base import program
+from ..base import output, program
 from ..base.values import dataclass, field
 from ..model import profiles
 from ..model.answers import ALLOW, ALLOWED, DEPENDS, ENOSYS, MAX_ERRNO, Answer
@@ -201,12 +201,10 @@ class Making:
 
     def all_remarks(self) -> list[str]:
         """What is to be known of the profile, for standard error."""
-        failing = list(self.failing)
-        more = f" and {len(failing) - MOST_LISTED} more" if len(failing) > MOST_LISTED else ""
-        more += "; --widen allows them" if self.needs.log.has_load else ""
-        return [*requirements.log_remarks(self.needs), *self.denied, *self.remarks,
-                *([f"left out, since PROFILE answers as they fail in the log: {', '.join(failing[:MOST_LISTED])}{more}"]
-                  if failing else [])]
+        failing = output.some(list(self.failing), MOST_LISTED)
+        more = "; --widen allows them" if self.needs.log.has_load else ""
+        return [*requirements.log_remarks(self.needs), *self.denied, *self.remarks, *(
+            [f"left out, since PROFILE answers as they fail in the log: {failing}{more}"] if failing else [])]
 
 
 def _conditions(values: dict[int, int]) -> Alternative:

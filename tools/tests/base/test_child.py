@@ -102,11 +102,8 @@ class Child(Case):
     def answers(self, work, seconds=600):
         """What a child answers, and why there is no more."""
         values = []
-        try:
-            child.ask(work, seconds, values.append)
-        except child.Lost as why:
-            return values, str(why)
-        return values, None
+        lost = child.ask_each([lambda send, _: work(send)], [(0, seconds)], lambda _, value: values.append(value))
+        return values, lost.get(0)
 
     def test_answers(self):
         """They are JSON of some bytes, and what was sent before a child ended is received."""

@@ -109,6 +109,5 @@ class Units(Case):
                             (["lint", "unit:box.service"], "# findings"),
                             (["surface", "unit:box.service"], "denied 1")):
             with self.subTest(words):
-                status, out, _ = self.run_tool(*words, env=self.env)
-                self.assertEqual(status, 0)
+                out = self.output_of(0, *words, env=self.env)
                 self.assertIn(says, out)

@@ -116,8 +116,8 @@ class Files(Case):
                 self.assertEqual(owned_files.users_mounts()[where], USER)
                 self.assertEqual(self.writer(f"{name}/x"), USER)
                 names = []
-                child.ask(lambda send, where=where: (owned_files.leave_users_mounts(), send(os.listdir(where))), 600,
-                             names.append)
+                child.ask_each([lambda send, *_, at=where: (owned_files.leave_users_mounts(), send(os.listdir(at)))],
+                               [(0, 600)], lambda _, value: names.append(value))
                 self.assertEqual(names, [["below"]])
             finally:
                 # (whoever waits for an answer gets an error)
