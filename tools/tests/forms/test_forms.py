@@ -175,9 +175,8 @@ class Texts(Case):
                            (f"#define X(a) {'a ' * 9999}\n" + array.replace("X", f"X({'1' * 9999})"), "too long"),
                            (array.replace("[]", "[3]").replace("X", "1"), "its array has 1 of 3 instructions"),
                            (array.replace("};", ""), "a '{' isn't closed")):
-            with self.subTest(says=says), self.assertRaises(program.ToolError) as caught:
-                texts.form_of(text.encode(), "it")
-            self.assertIn(says, str(caught.exception))
+            with self.subTest(says=says):
+                self.assertIn(says, self.text_of_error(program.ToolError, texts.form_of, text.encode(), "it"))
 
     def test_arrays_that_only_a_compiler_reads(self):
         for text, says in (("BPF_STMT(BPF_RET, MY_ANSWER)", "'MY_ANSWER' is no constant"),
@@ -190,18 +189,14 @@ class Texts(Case):
                            ("unsigned char f[] = { 6, 0, 0, 0, 0, 0, 0, 0 }; int x;", "text follows the array"),
                            ("{ 6, 0, 0, __NR_raed },", "'__NR_raed' is no constant"), ("0x06, 0x00,", "multiple of 8"),
                            ("{ " + "(" * 999 + "6" + ")" * 999 + ", 0, 0, 0 },", "nested too deep")):
-            with self.assertRaises(program.ToolError, msg=text[:40]) as caught:
-                texts.form_of(text.encode(), "it")
-            self.assertIn(says, str(caught.exception))
+            self.assertIn(says, self.text_of_error(program.ToolError, texts.form_of, text.encode(), "it"))
 
     def test_assembler(self):
         listing = subprocess.run([*CORE, "dis"], input=FILTER, stdout=subprocess.PIPE, check=True).stdout.decode()
         self.is_read(listing, texts.ASSEMBLER)
         self.is_read("// a comment\n start: ret #0x7fff0000", texts.ASSEMBLER, ret(ALLOW))
-        with self.assertRaises(program.ToolError) as caught:
-            texts.form_of(b"ld [4]\nret #x\n", "it")
         self.assertIn("it begins as scf's assembler text, but isn't one: fault text Operand line 2: the statement is "
-                      "'ret #x'", str(caught.exception))
+                      "'ret #x'", self.text_of_error(program.ToolError, texts.form_of, b"ld [4]\nret #x\n", "it"))
 
     def test_the_word_that_an_assembler_text_has_wrong(self):
         for text, says in (("ld [0]\njeqq #41, a, b // c\na: b: ret a", "'jeqq' is no mnemonic; the nearest is 'jeq'"),
@@ -218,9 +213,8 @@ class Texts(Case):
         """This is hexadecimal digits in pairs, and a count with rows of decimals."""
         both = b"0000000000000004\n" + b"20 10 10 10\n" * 4
         self.assertEqual(len(bytes.fromhex(both.decode())), 24)
-        with self.assertRaises(program.ToolError) as caught:
-            texts.form_of(both, "it")
-        self.assertIn("can be read as hexadecimal text and as decimals of tcpdump -ddd", str(caught.exception))
+        self.assertIn("can be read as hexadecimal text and as decimals of tcpdump -ddd",
+                      self.text_of_error(program.ToolError, texts.form_of, both, "it"))
 
 
 class Raw(Case):

@@ -1,6 +1,5 @@
 """SeccompProfile objects of Kubernetes' Security Profiles Operator: those that commands print, and recordings."""
 import json
-import unittest
 
 from support.common import Case, filter_of
 from scftools.model import profiles
@@ -11,7 +10,7 @@ from forms.test_profile_inputs import HAS_YAML, OBJECT, SPEC, YAML
 READS = {"defaultAction": "SCMP_ACT_ERRNO", "syscalls": [{"names": ["read"], "action": "SCMP_ACT_ALLOW"}]}
 
 
-class Objects(unittest.TestCase):
+class Objects(Case):
     def test_what_is_printed(self):
         """The object of the operator's documentation; members of a spec that it doesn't have aren't printed."""
         profile = {**SPEC, "defaultErrnoRet": 1, "syscalls": [{**SPEC["syscalls"][0], "comment": "line 1"},
@@ -31,9 +30,7 @@ class Objects(unittest.TestCase):
                  "entry 1 compares with more than 2^63-1, which a SeccompProfile can't state"),
                 ({**READS, "defaultAction": "SCMP_ACT_X"}, "the default has an action that a SeccompProfile doesn't "
                                                            "have")):
-            with self.assertRaises(profiles.Refused) as caught:
-                kubernetes.printed(profile, "a")
-            self.assertEqual(str(caught.exception), says)
+            self.assertEqual(self.text_of_error(profiles.Refused, kubernetes.printed, profile, "a"), says)
         for profile in (READS, {**READS, "defaultErrnoRet": 1}, {**READS, "defaultAction": "SCMP_ACT_LOG"},
                         {**READS, "syscalls": [{**call, "action": "SCMP_ACT_ERRNO", "errnoRet": 38}]},
                         {**READS, "syscalls": [{**call, "args": [

@@ -128,11 +128,9 @@ class Kubernetes(Case):
     def test_without_pyyaml(self):
         os.chmod(self.folder, 0o777)
         self.file("yaml.py", "")
-        folders, kubernetes.YAML_FOLDERS = kubernetes.YAML_FOLDERS, ("/nonexistent", self.folder)
-        self.addCleanup(setattr, kubernetes, "YAML_FOLDERS", folders)
-        with self.assertRaises(profiles.Refused) as caught:
-            kubernetes.spec_of(YAML.encode())
-        self.assertIn("PyYAML isn't installed (Debian's python3-yaml)", str(caught.exception))
+        self.patched(kubernetes, "YAML_FOLDERS", ("/nonexistent", self.folder))
+        self.assertIn("PyYAML isn't installed (Debian's python3-yaml)",
+                      self.text_of_error(profiles.Refused, kubernetes.spec_of, YAML.encode()))
 
     @unittest.skipUnless(HAS_YAML, "there is no PyYAML here")
     def test_yaml_that_is_refused(self):

@@ -259,8 +259,7 @@ class Profiles(Lists):
         self.assertIn("line 1: firejail leaves utime:log out", policy.remarks)
 
     def test_files_that_are_included(self):
-        kept, firejail.PROFILES = firejail.PROFILES, self.folder
-        self.addCleanup(setattr, firejail, "PROFILES", kept)
+        self.patched(firejail, "PROFILES", self.folder)
         self.file("a.inc", "seccomp.drop mkdir\ninclude a.local\ninclude gone.inc\n")
         rules, policy = self.rules("# x\ninclude a.inc\n")
         self.assertEqual(rules, {("mkdir", "ERRNO 1"): 2})
@@ -274,8 +273,7 @@ class Profiles(Lists):
                 self.rules(text)
 
     def test_the_configuration_of_firejail(self):
-        kept, firejail.PROFILES = firejail.PROFILES, self.folder
-        self.addCleanup(setattr, firejail, "PROFILES", kept)
+        self.patched(firejail, "PROFILES", self.folder)
         self.file("firejail.config", "# seccomp no\nseccomp-error-action ENOSYS\nseccomp yes\n")
         self.assertEqual(self.rules("seccomp.drop mkdir\n")[0], {("mkdir", "ERRNO 38"): 1})
         self.assertEqual(self.rules("seccomp.drop mkdir\nseccomp-error-action kill\n")[0],

@@ -124,6 +124,22 @@ class Audited:
         os.chown(os.path.dirname(group), owner, owner)
         self.assertEqual(self.on("sh", "-c", f"echo {number} >{group}/cgroup.procs")[0], 0)
 
+    def start_users(self):
+        """Starts a container of a user who isn't root."""
+        where = self.bundle("mine", STATED, change=rootless)
+        os.chmod(self.folder, 0o755)
+        self.on("sh", "-c", f"mkdir -p /run/user && mkdir -m 700 /run/user/12345 && chown 12345:12345 /run/user/12345; "
+                            f"chown -R 12345:12345 {where}")
+        self.container_in(where, ["setpriv", "--reuid=12345", "--regid=12345", "--clear-groups", "crun"], "mine",
+                          XDG_RUNTIME_DIR="/run/user/12345", HOME="/")
+
+    def container_in(self, where, words, name, **env):
+        """Starts a container of crun, without a control group."""
+        status, out, err = self.on(*words, "--cgroup-manager=disabled", "run", "--detach", "--bundle", where, name,
+                                   **env)
+        if status:
+            self.skipTest(f"crun starts no container here: {(out + err).strip()}")
+
 
 class Programs(Audited, OwnMachine):
     def test_confined_programs(self):
@@ -360,15 +376,7 @@ class Containers(Audited, OwnMachine):
     def test_one_of_a_user(self):
         """A container that crun makes for a user who isn't root, with a user namespace and no control group."""
         self.runtime("crun")
-        where = self.bundle("mine", STATED, change=rootless)
-        os.chmod(self.folder, 0o755)
-        self.on("sh", "-c", "mkdir -m 700 /run/user/12345 && chown 12345:12345 /run/user/12345")
-        self.on("chown", "-R", "12345:12345", where)
-        status, out, err = self.on("setpriv", "--reuid=12345", "--regid=12345", "--clear-groups", "crun",
-                                   "--cgroup-manager=disabled", "run", "--detach", "--bundle", where, "mine",
-                                   XDG_RUNTIME_DIR="/run/user/12345", HOME="/")
-        if status:
-            self.skipTest(f"crun starts no container of a user here: {(out + err).strip()}")
+        self.start_users()
         rows = self.rows()
         self.assertEqual({name: (row["verdict"], row["users"]) for name, row in rows.items()},
                          {("container", "mine"): ("as configured", [12345])})
@@ -673,22 +681,6 @@ class Node(Podman, Systemd):
             if status:
                 self.skipTest(f"podman starts no container here: {err}")
 
-    def start_users(self):
-        """Starts a container of a user who isn't root."""
-        where = self.bundle("mine", STATED, change=rootless)
-        os.chmod(self.folder, 0o755)
-        self.on("sh", "-c", f"mkdir -p /run/user && mkdir -m 700 /run/user/12345 && chown 12345:12345 /run/user/12345; "
-                            f"chown -R 12345:12345 {where}")
-        self.container_in(where, ["setpriv", "--reuid=12345", "--regid=12345", "--clear-groups", "crun"], "mine",
-                          XDG_RUNTIME_DIR="/run/user/12345", HOME="/")
-
-    def container_in(self, where, words, name, **env):
-        """Starts a container of crun, without a control group."""
-        status, out, err = self.on(*words, "--cgroup-manager=disabled", "run", "--detach", "--bundle", where, name,
-                                   **env)
-        if status:
-            self.skipTest(f"crun starts no container here: {(out + err).strip()}")
-
     def test_each(self):
         for name in ("runc", "crun", "podman"):
             self.runtime(name)
@@ -814,15 +806,12 @@ class Firejail(Case):
 
     def setUp(self):
         super().setUp()
-        patch = mock.patch.object(sandbox_programs, "FIREJAIL_SANDBOXES", os.path.join(self.folder, "profile"))
-        patch.start()
-        self.addCleanup(patch.stop)
+        self.patched(sandbox_programs, "FIREJAIL_SANDBOXES", os.path.join(self.folder, "profile"))
         self.profile = self.file("p.profile", "seccomp.drop mkdir\n")
 
     def started(self, *words):
         """A process with these words, in place of firejail's, and the sandbox that it started."""
-        child = subprocess.Popen(["sh", "-c", "echo; read x", *words], stdin=subprocess.PIPE, stdout=subprocess.PIPE)
-        self.addCleanup(child.communicate)
+        child = self.beside("sh", "-c", "echo; read x", *words, stdin=subprocess.PIPE, stdout=subprocess.PIPE)
         # (while it is being executed, the kernel has no words of it yet)
         child.stdout.readline()
         self.file(f"profile/{child.pid}", f"{self.profile}\n")
@@ -872,9 +861,7 @@ class Snaps(Case):
 
     def setUp(self):
         super().setUp()
-        patch = mock.patch.object(sandbox_programs, "SNAP_RULES", self.folder)
-        patch.start()
-        self.addCleanup(patch.stop)
+        self.patched(sandbox_programs, "SNAP_RULES", self.folder)
         self.file("snap.web.run.src", self.RULES)
         self.file("snap.classic.run.src", "@unrestricted\n")
         self.file("global.bin", self.OF_ALL)
@@ -1081,9 +1068,7 @@ class Kept(Case):
     def setUp(self):
         super().setUp()
         self.judges, self.asked = audit_judge.Judges(Options(tables.read_table(None))), []
-        patch = mock.patch.object(audit_judge.child, "ask_each", self.ask_each)
-        patch.start()
-        self.addCleanup(patch.stop)
+        self.patched(audit_judge.child, "ask_each", self.ask_each)
         self.copies = audit_judge.Copies(processes.Kernel(), (), False)
         self.copies.stacks = {None: Stack((filter_of([0]),), False, {7: [7]})}
 

@@ -53,9 +53,7 @@ class Asked(Case):
         super().setUp()
         for where, name, soon in ((hold, "SURE_AFTER", 0), (hold, "SURE_SOON", 0), (hold, "SURE_TIMES", 4),
                                   (hold, "PAUSE_UNHELD", 0.001), (hold.Hold, "vain_waits", 0)):
-            patch = mock.patch.object(where, name, soon)
-            patch.start()
-            self.addCleanup(patch.stop)
+            self.patched(where, name, soon)
 
     def look(self, kernel, process=7, **settings):
         with here_and_now:
@@ -346,10 +344,9 @@ class Asked(Case):
         for process in (7, 8, 11, 13):
             for space in ([(1, 1)], [(1, 7), (1, 1)]):
                 kernel.namespaces_of = lambda number, space=space: [(1, 1)] if number == os.getpid() else space
-                with self.assertRaises(processes.Unreadable) as caught:
-                    processes.container_of(kernel, process)
-                self.assertIn(f"the container of process {process} is unknown: ", str(caught.exception))
-                self.assertIn(f" as {groups[process].decode()}: ", str(caught.exception))
+                said = self.text_of_error(processes.Unreadable, processes.container_of, kernel, process)
+                self.assertIn(f"the container of process {process} is unknown: ", said)
+                self.assertIn(f" as {groups[process].decode()}: ", said)
         for process, members in ((9, [9, 10]), (10, [10]), (12, [12])):
             container = processes.container_of(kernel, process)
             self.assertEqual((container.group, container.processes()), (groups[process], members))
@@ -518,9 +515,7 @@ class Real(Confined):
         if not shutil.which("cc") or subprocess.run(["cc", "-pthread", "-o", program, source], check=False).returncode:
             self.skipTest("there is no C compiler here")
         for words in (["60", "1000"], ["3", "0"]):
-            child = subprocess.Popen([program, *words])
-            self.addCleanup(child.wait)
-            self.addCleanup(child.kill)
+            child = self.beside(program, *words)
             for _ in range(15):
                 inspection = processes.look_at_process(processes.Kernel(), child.pid, patience=PATIENCE)
                 self.assertEqual([stack.filters for stack in inspection.stacks], [()])
@@ -535,11 +530,10 @@ class Real(Confined):
         # the thread has ended, and isn't waited for
         self.wait_for(second, "Z")
         begun = time.monotonic()
-        with self.assertRaises(processes.Unreadable) as caught:
-            processes.look_at_process(kernel, child.pid, patience=0.5)
+        said = self.text_of_error(processes.Unreadable, processes.look_at_process, kernel, child.pid, patience=0.5)
         self.assertLess(time.monotonic() - begun, PATIENCE)
-        self.assertEqual(str(caught.exception), "the threads couldn't be read within 0.5 seconds: the kernel makes a "
-                         "tracer wait, as for a thread that executes a program; all stopped threads continue")
+        self.assertEqual(said, "the threads couldn't be read within 0.5 seconds: the kernel makes a tracer wait, as "
+                               "for a thread that executes a program; all stopped threads continue")
         os.waitpid(second, ptrace.WALL)
         self.assertTrue(comes(lambda: kernel.name_of(child.pid) == b"sleep"))
         self.let_go(child)
@@ -547,11 +541,8 @@ class Real(Confined):
     def held(self, *words):
         """A process that looks at a child which doesn't stop, with a thread of it held, and that thread."""
         child, _ = self.stuck([OLDEST], [OLDEST])
-        looks = subprocess.Popen([sys.executable, "-c", TRY, os.path.dirname(os.path.dirname(processes.__file__)),
-                                  str(child.pid), *words], stdout=subprocess.PIPE, text=True)
-        self.addCleanup(looks.stdout.close)
-        self.addCleanup(looks.wait)
-        self.addCleanup(looks.kill)
+        looks = self.beside(sys.executable, "-c", TRY, os.path.dirname(os.path.dirname(processes.__file__)),
+                            str(child.pid), *words, stdout=subprocess.PIPE, text=True)
         self.assertTrue(comes(lambda: status_of(child.threads[1])["TracerPid"] != "0"))
         return child, looks
 

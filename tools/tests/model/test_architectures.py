@@ -30,7 +30,7 @@ def numbers_of_headers():
     return actual
 
 
-class Numbers(unittest.TestCase):
+class Numbers(Case):
     @unittest.skipUnless(os.path.exists(AUDIT) and os.path.exists(MACHINES), "there are no kernel headers here")
     def test_they_are_those_of_the_kernels_header(self):
         header = numbers_of_headers()
@@ -60,9 +60,7 @@ class Numbers(unittest.TestCase):
         for text, says in (("abc", "no table of the architecture 'abc'"), ("0", "no table of the architecture '0'"),
                            ("i387", "no table of the architecture 'i387'"), ("0x80000016", "S390X is big-endian"),
                            ("40000003", "is ambiguous")):
-            with self.assertRaises(program.ToolError) as caught:
-                architectures.judged_in(text)
-            self.assertIn(says, str(caught.exception))
+            self.assertIn(says, self.text_of_error(program.ToolError, architectures.judged_in, text))
 
     def test_what_is_ambiguous_unknown_or_big_endian(self):
         big_endian = "is big-endian: its filters and records have another byte order, which scf doesn't read"

@@ -12,6 +12,7 @@ import time
 import traceback
 import unittest
 import warnings
+from unittest import mock
 
 from . import json_schema
 
@@ -214,9 +215,22 @@ class Case(unittest.TestCase):
 
     def text_of_error(self, error, call, *words, **settings):
         """The text of an error that a call raises."""
-        with self.assertRaises(error) as caught:
+        with self.assertRaises(error, msg=words) as caught:
             call(*words, **settings)
         return str(caught.exception)
+
+    def patched(self, where, name, value):
+        """Lets a name of a module or class stand for another value in this test."""
+        patch = mock.patch.object(where, name, value)
+        patch.start()
+        self.addCleanup(patch.stop)
+
+    def beside(self, *words, **settings):
+        """A process with these words, which ends with the test."""
+        child = subprocess.Popen(words, **settings)
+        self.addCleanup(child.__exit__, None, None, None)
+        self.addCleanup(child.kill)
+        return child
 
     def file(self, name, data):
         path = os.path.join(self.folder, name)
