@@ -10,7 +10,7 @@ from collections.abc import Iterable
 
 from ..base.values import Pattern
 from . import c_arrays, strace
-from .strace_reader import SUPERSEDED, Confinement
+from .strace_reader import Confinement
 
 # The most filters that are loaded in a log, and the most bytes of a line, which holds a filter of 4096 instructions.
 MOST_LOADS, LONGEST_LOAD = 4096, 1 << 20
@@ -60,24 +60,18 @@ class FilterLoads(Confinement):
             raise c_arrays.NotAnArray("it doesn't number each process: strace -f -o LOG does")
         self.begins(who, (maker for maker, begun in self._unfinished.items() if begun.startswith(strace.FORKS)))
         if is_end:
-            self._ends(who, SUPERSEDED.match(text))
+            self.ends(who, text)
         elif text.endswith(strace.UNFINISHED_MARK):
             self._unfinished[who] = text.removesuffix(strace.UNFINISHED_MARK)
         else:
             self.takes(who, text, call, False)
 
-    def _ends(self, who: str | None, superseded: re.Match[str] | None) -> None:
-        self._unfinished.pop(superseded[1] if superseded else who, None)
-        if superseded:
-            self.supersedes(who, superseded[1])
-        else:
-            self.end(who)
-
     def end(self, who: str | None) -> None:
         """A process or thread has ended, or the log has."""
         if self.has(who):
             self.ended.setdefault(self.filters[who], []).append(who or "")
-        self.forget(who)
+        self._unfinished.pop(who, None)
+        super().end(who)
 
 
 def stacks_in(lines: Iterable[str]) -> Stacks:

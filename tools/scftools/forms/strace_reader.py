@@ -118,13 +118,14 @@ class Confinement:
             if thread == who or self.process[thread] == process:
                 self.filters[thread] = filters
 
-    def supersedes(self, who: str | None, thread: str) -> None:
-        """A thread goes on as its process."""
-        if thread in self.process:
-            self.filters[who] = self.filters[thread]
-        self.forget(thread)
+    def ends(self, who: str | None, text: str) -> None:
+        """A line says that a process or thread has ended, or that a thread goes on as its process."""
+        superseded = SUPERSEDED.match(text)
+        if superseded and superseded[1] in self.process:
+            self.filters[who] = self.filters.pop(superseded[1])
+        self.end(superseded[1] if superseded else who)
 
-    def forget(self, who: str | None) -> None:
+    def end(self, who: str | None) -> None:
         """A process or thread isn't there any more."""
         self.filters.pop(who, None)
         self.process.pop(who, None)
@@ -213,14 +214,7 @@ class Reader:
         self._add(who, read)
         self._sink.end_line(who, read)
         if read.text.startswith("+++ "):
-            self._ends(who, SUPERSEDED.match(read.text))
-
-    def _ends(self, who: str | None, superseded: re.Match[str] | None) -> None:
-        """A process or thread has ended, or a thread goes on as its process."""
-        if superseded:
-            self.confinement.supersedes(who, superseded[1])
-        else:
-            self.confinement.forget(who)
+            self.confinement.ends(who, read.text)
 
     def _is_message(self, line: str) -> bool:
         """Whether a message of strace ends a line, which it broke off there and continues in the next one."""
