@@ -12,6 +12,7 @@ import time
 from collections.abc import Callable
 
 from scftools.base import child
+from scftools.base.values import unless_refused
 from scftools.model.bpf import BPF_MAXINSNS, INSTRUCTION
 from scftools.forms.stacks import called
 from . import restart
@@ -248,11 +249,8 @@ class Hold:
     def interrupt_seized(self) -> None:
         """Tells those that run to stop."""
         for thread in sorted(self.seized):
-            try:
-                self.kernel.ptrace(PTRACE_INTERRUPT, thread, None, None)
-            except OSError:
-                # it has ended
-                pass
+            # (it may have ended)
+            unless_refused(None, self.kernel.ptrace, PTRACE_INTERRUPT, thread, None, None)
             self.stopping.add(thread)
         self.seized.clear()
 
@@ -272,10 +270,7 @@ class Hold:
 
     def state_of(self, thread: int) -> tuple[int, ...]:
         """The state that a thread stopped or ended in, if it did; 0 of one that isn't there."""
-        try:
-            state = self.kernel.wait(thread)
-        except OSError:
-            return (0,)
+        state = unless_refused(0, self.kernel.wait, thread)
         return () if state is None else (state,)
 
     def note(self, thread: int, state: int) -> None:

@@ -11,7 +11,7 @@ import time
 from collections.abc import Iterable, Mapping
 
 from scftools.base import output
-from scftools.base.values import Any, Pattern, dataclass, field
+from scftools.base.values import Any, Pattern, dataclass, field, unless_refused
 from .hold import PF_KTHREAD
 from .processes import Kernel
 from .ptrace import PROC_PID_INIT_INO, contents, has_ended, ticks_at_start
@@ -99,13 +99,6 @@ def _mode_of(thread: int) -> int:
     return int(match[1]) if match else 0
 
 
-def _executable_of(process: int) -> bytes:
-    try:
-        return os.readlink(f"/proc/{process}/exe".encode())
-    except OSError:
-        return b""
-
-
 def process_of_number(kernel: Kernel, number: int) -> Process | None:
     """A process, or None if all of its threads have ended or it is the kernel's."""
     status, threads = kernel.status_of(number), kernel.threads_of(number)
@@ -121,8 +114,8 @@ def process_of_number(kernel: Kernel, number: int) -> Process | None:
         first, status = threads[0], statuses[threads[0]]
     is_confined = status.get("Seccomp", "0") != "0" or any(_mode_of(thread) for thread in threads if thread != first)
     is_stuck = is_confined and status["State"][:1] == "D"
-    user = int(status["Uid"].split()[1])
-    return Process(number, int(status["PPid"]), kernel.name_of(number), _executable_of(first), user,
+    user, executable = int(status["Uid"].split()[1]), unless_refused(b"", os.readlink, f"/proc/{first}/exe".encode())
+    return Process(number, int(status["PPid"]), kernel.name_of(number), executable, user,
                    kernel.groups_of(first), tuple(kernel.namespaces_of(first)), int(inner),
                    int(status.get("CapEff", "0"), 16), status.get("NoNewPrivs") == "1", tuple(threads), is_confined,
                    is_stuck, kernel.owner_of(first, user), ticks_at_start(number) or 0)
@@ -132,11 +125,8 @@ def _left_out(kernel: Kernel, why: str | None) -> Iterable[str]:
     """Lines on what this tool can't see."""
     if why is not None:
         yield f"no filters could be read: {why}"
-    try:
-        is_first = os.stat("/proc/self/ns/pid").st_ino == PROC_PID_INIT_INO
-    except OSError:
-        is_first = False
-    if not is_first:
+    space = unless_refused(None, os.stat, "/proc/self/ns/pid")
+    if space is None or space.st_ino != PROC_PID_INIT_INO:
         yield "processes outside of the PID namespace that this tool runs in"
     if not kernel.is_root_the_first():
         yield ("control groups outside of the cgroup namespace that this tool runs in, so containers and units may not "

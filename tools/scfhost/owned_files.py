@@ -5,7 +5,7 @@ import os
 import stat
 from itertools import islice
 
-from scftools.base.values import Pattern
+from scftools.base.values import Pattern, unless_refused
 from .ptrace import without_octal
 
 # Stands for any user: what a folder or file has that others than its owner may write.
@@ -57,10 +57,7 @@ def _unreadable(path: str, error: Exception) -> UnreadableFile:
 
 def _has_access_list(path: str) -> bool:
     """Whether the bits of a file's group are those of an access list's mask (acl(5))."""
-    try:
-        return bool(os.getxattr(path, "system.posix_acl_access"))
-    except OSError:
-        return False
+    return bool(unless_refused(b"", os.getxattr, path, "system.posix_acl_access"))
 
 
 def _writer(path: str, status: os.stat_result) -> int | None:

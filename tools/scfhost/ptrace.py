@@ -7,7 +7,7 @@ import os
 import struct
 from collections.abc import Iterator
 
-from scftools.base.values import Pattern
+from scftools.base.values import Pattern, unless_refused
 from scftools.model.calls import REGISTERS
 
 # sys/ptrace.h
@@ -38,10 +38,7 @@ ESCAPED_BYTE = Pattern(rb"\\([0-3][0-7]{2})")
 
 
 def numbers_in(folder: str) -> list[int]:
-    try:
-        return sorted(int(name) for name in os.listdir(folder) if name.isascii() and name.isdigit())
-    except OSError:
-        return []
+    return sorted(int(name) for name in unless_refused([], os.listdir, folder) if name.isascii() and name.isdigit())
 
 
 def contents(path: str) -> bytes:
@@ -83,11 +80,8 @@ def _group_mounts(process: int | str) -> Iterator[tuple[bytes, list[bytes], byte
 def _namespace_files(process: int, kind: str) -> Iterator[int]:
     """The open namespace of a process, and those around it that this tool may see, one at a time, the innermost first
     (ioctl_ns(2)); none if there is no such process."""
-    try:
-        file = os.open(f"/proc/{process}/ns/{kind}", os.O_RDONLY | os.O_CLOEXEC)
-    except OSError:
-        return
-    while True:
+    file = unless_refused(None, os.open, f"/proc/{process}/ns/{kind}", os.O_RDONLY | os.O_CLOEXEC)
+    while file is not None:
         try:
             yield file
             around = fcntl.ioctl(file, NS_GET_PARENT)
@@ -151,11 +145,8 @@ class Kernel:
     def architecture_of_call(self, thread: int) -> int | None:
         """The architecture of the system call in which a thread is stopped; None before Linux 5.3."""
         room = self.ctypes.create_string_buffer(SYSCALL_INFO.size)
-        try:
-            self.ptrace(PTRACE_GET_SYSCALL_INFO, thread, SYSCALL_INFO.size, room)
-        except OSError:
-            return None
-        return SYSCALL_INFO.unpack(room.raw)[1]
+        written = unless_refused(None, self.ptrace, PTRACE_GET_SYSCALL_INFO, thread, SYSCALL_INFO.size, room)
+        return None if written is None else SYSCALL_INFO.unpack(room.raw)[1]
 
     def waits_for_supervisor(self, thread: int) -> bool:
         """Whether a thread waits for a supervisor's answer to its system call (seccomp_unotify(2)): then it is in
@@ -169,10 +160,7 @@ class Kernel:
 
     def is_proc_ours(self) -> bool:
         """Whether /proc is mounted, and is that of this tool's PID namespace."""
-        try:
-            return os.readlink("/proc/self") == str(os.getpid())
-        except OSError:
-            return False
+        return unless_refused("", os.readlink, "/proc/self") == str(os.getpid())
 
     def processes(self) -> list[int]:
         return numbers_in("/proc")

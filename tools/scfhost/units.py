@@ -12,7 +12,7 @@ import os
 from collections.abc import Callable, Collection, Iterator, Sequence
 
 from scftools.base import output, program
-from scftools.base.values import dataclass, field
+from scftools.base.values import dataclass, field, unless_refused
 from scftools.model import libseccomp
 from scftools.model.answers import ALLOW, ENOSYS, KILL_PROCESS, Answer
 from scftools.model.architectures import NATIVE
@@ -271,11 +271,8 @@ def assignments_of(text: str, section: str, setting: str) -> Iterator[str]:
 
 def _systemds_root() -> str:
     """The prefix of systemd's paths: a tool in a container of the machine has another root."""
-    try:
-        return "" if os.path.samefile("/proc/1/root", "/") else "/proc/1/root"
-    except OSError:
-        # only root may look; others aren't in a container with the machine's processes
-        return ""
+    # only root may look; others aren't in a container with the machine's processes
+    return "" if unless_refused(True, os.path.samefile, "/proc/1/root", "/") else "/proc/1/root"
 
 
 def files_of(shown: dict[str, str]) -> Iterator[str]:

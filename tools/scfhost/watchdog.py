@@ -8,6 +8,7 @@ import time
 from collections.abc import Callable
 
 from scftools.base import program
+from scftools.base.values import unless_refused
 
 
 def is_ready(file: int, until: float) -> bool:
@@ -26,11 +27,8 @@ class Watchdog:
         # The hook keeps both ends: a write to a watchdog that has ended isn't to end the hook.
         self.file, self.end = os.pipe()
         hook, child = os.getpid(), os.fork()
-        try:
-            # both do it, so that it is done before either continues
-            os.setpgid(child, child)
-        except OSError:
-            pass
+        # both do it, so that it is done before either continues
+        unless_refused(None, os.setpgid, child, child)
         if child:
             return
         try:

@@ -15,7 +15,7 @@ import struct
 import time
 from collections.abc import Callable, Iterable, Iterator, Sequence
 
-from .values import Any, NoReturn, dataclass
+from .values import Any, NoReturn, dataclass, unless_refused
 
 # linux/prctl.h
 PR_SET_PDEATHSIG, PR_SET_DUMPABLE, PR_SET_NO_NEW_PRIVS = 1, 4, 38
@@ -165,11 +165,8 @@ def _take_output(child: int, file: int, heeded: set[int], until: float, take: Ca
 def _end(child: int) -> int | None:
     """Kills a child and what it started, and waits for it: its status."""
     for kill in (os.killpg, os.kill):
-        try:
-            kill(child, signal.SIGKILL)
-        except OSError:
-            # it has no group of its own yet
-            pass
+        # (it may have no group of its own yet)
+        unless_refused(None, kill, child, signal.SIGKILL)
     return _status_of(child)
 
 

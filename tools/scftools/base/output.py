@@ -12,7 +12,7 @@ import sys
 import time
 from collections.abc import Iterable, Iterator, Sequence
 
-from .values import Pattern
+from .values import Pattern, unless_refused
 
 # C0, DEL and C1; and the characters that change the direction of text or end a line (Unicode's Bidi_Control, LINE
 # SEPARATOR and PARAGRAPH SEPARATOR), which make text look different than it is.
@@ -178,10 +178,7 @@ def _replace_in(folder: int, name: str, text: str) -> None:
             os.fchmod(file, 0o644)
         os.replace(temporary, name, src_dir_fd=folder, dst_dir_fd=folder)
     except BaseException:
-        try:
-            os.unlink(temporary, dir_fd=folder)
-        except OSError:
-            pass
+        unless_refused(None, os.unlink, temporary, dir_fd=folder)
         raise
 
 

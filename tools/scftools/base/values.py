@@ -1,5 +1,5 @@
 """What takes Python's own modules long at a tool's start: value classes, patterns, the module json, and the types `Any`
-and `NoReturn`.
+and `NoReturn`; and a value for what the system refuses.
 
 `dataclass`, `field` and `replace` are those of the module `dataclasses`, as far as the tools need them. That imports
 `inspect` and compiles methods for each class; here the methods of all classes are the same few functions. The types are
@@ -53,6 +53,14 @@ def _is_there(name: str) -> bool:
 # (many modules import it, and few runs need it; where Python lacks it, they fail as they start)
 if "json" not in sys.modules and _is_there("json"):
     sys.modules["json"] = LateModule("json")
+
+
+def unless_refused(default: Any, call: Callable[..., Any], *words: Any, **settings: Any) -> Any:
+    """What a call of the system gives, or the default where the system refuses it."""
+    try:
+        return call(*words, **settings)
+    except OSError:
+        return default
 
 
 class Default:

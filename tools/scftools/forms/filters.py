@@ -5,6 +5,7 @@ import os
 from collections.abc import Callable, Sequence
 
 from ..base import inputs, program
+from ..base.values import unless_refused
 from ..model import bundles
 from ..model.bpf import BPF_MAXINSNS
 from . import texts
@@ -36,11 +37,8 @@ def filter_in(name: str, data: bytes) -> Filter:
 
 def saved_in(folder: str) -> list[str]:
     """The filters in a folder, as `scf filters-of` writes them: its *.bpf, in the order of their names."""
-    try:
-        return sorted(os.path.join(folder, name) for name in os.listdir(folder)
-                      if name.endswith(".bpf") and name[0] != ".")
-    except OSError:
-        return []
+    return sorted(os.path.join(folder, name) for name in unless_refused([], os.listdir, folder)
+                  if name.endswith(".bpf") and name[0] != ".")
 
 
 def read_stack(names: Sequence[str], read_one: Callable[[str], Filter] = read_filter) -> list[Filter]:

@@ -8,6 +8,7 @@ import stat
 from collections.abc import Sequence
 
 from ..base import output, program
+from ..base.values import unless_refused
 from ..cli.words import Parser
 
 # The statuses of what runs another program, as of env(1): it isn't executable, there is none.
@@ -60,10 +61,7 @@ def _gains_privileges(path: str) -> bool:
     """Whether a program has set-user-ID, set-group-ID or capabilities: the kernel gives a traced one none of them."""
     if os.stat(path).st_mode & (stat.S_ISUID | stat.S_ISGID):
         return True
-    try:
-        return bool(os.getxattr(path, "security.capability"))
-    except OSError:
-        return False
+    return bool(unless_refused(b"", os.getxattr, path, "security.capability"))
 
 
 def run_traced(log: str, options: Sequence[str], words: Sequence[str]) -> int:
