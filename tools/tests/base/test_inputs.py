@@ -209,12 +209,8 @@ class Words(Case):
             self.assertNotIn("Traceback", err)
 
     def test_names_that_are_not_utf_8(self):
-        name = os.path.join(os.fsencode(self.folder), b"odd\xff\x1b[2J.bpf")
-        with open(name, "wb") as file:
-            file.write(filter_of([0]))
-        broken = os.path.join(os.fsencode(self.folder), b"\xfe\n.bpf")
-        with open(broken, "wb") as file:
-            file.write(jeq(0, 9, 0) + ret(ALLOW))
+        name = self.file(os.fsdecode(b"odd\xff\x1b[2J.bpf"), filter_of([0]))
+        broken = self.file(os.fsdecode(b"\xfe\n.bpf"), jeq(0, 9, 0) + ret(ALLOW))
         self.assertEqual(self.run_words([tool("compare"), name, self.profile]), (0, "same\n", ""))
         status, out, err = self.run_words([tool("check"), name, broken])
         self.assertEqual((status, err), (1, ""))
@@ -223,7 +219,7 @@ class Words(Case):
         status, out, err = self.run_words([tool("decide"), "--nr=0", name, broken])
         self.assertEqual((status, err), (2, ""))
         self.assertTrue(out.endswith("/\\xfe\\x0a.bpf\n"), out)
-        status, out, err = self.run_words([tool("check"), name + b"\n"])
+        status, out, err = self.run_words([tool("check"), name + "\n"])
         self.assertEqual((status, out), (2, ""))
         self.assertTrue(err.endswith("/odd\\xff\\x1b[2J.bpf\\x0a'\n"), err)
 

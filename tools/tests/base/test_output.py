@@ -116,17 +116,12 @@ class Hostile(Case):
             for given in (b"skipped " + name.encode("utf-8", "surrogatepass"), name.encode("utf-8", "surrogatepass")):
                 out = self.run_tool("explain", given=given)[1]
                 self.assertTrue(all(line.isprintable() for line in out.split("\n")), out)
-            status, out, err = self.compiled(name)
+            status, out, err = self.compile(self.profile(name))
             self.assertEqual(status, 0)
             self.assertTrue(all(line.isprintable() and line.startswith("compile: ") for line in
                                 err.split("\n")[:-1]), err)
             self.assertTrue(out)
             self.assertIn(f" {shown[:40]}", err)
-
-    def compiled(self, name):
-        done = subprocess.run([tool("compile"), self.profile(name)], stdout=subprocess.PIPE, stderr=subprocess.PIPE,
-                              check=False)
-        return done.returncode, done.stdout, done.stderr.decode()
 
     def test_words_of_the_command_line(self):
         for words in (("compare", "--\x1b[2J", "a", "b"), ("decide", "--nr", "\x1b[2Jx", self.same),

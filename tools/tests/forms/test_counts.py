@@ -98,12 +98,8 @@ class Hot(Case):
 
     def compiled(self, text, *words, profile=None):
         """The status, the filter and what is said of it; by default all that the profile allows is counted."""
-        path = self.file("out.bpf", b"")
-        with open(path, "wb") as out:
-            status, _, err = self.run_tool("compile", *(words or ("--no-bitmap",)), "--hot", self.file("hot", text),
-                                           f"--table={self.table}", profile or self.profile, stdout=out)
-        with open(path, "rb") as out:
-            return status, out.read(), err
+        return self.compile(*(words or ("--no-bitmap",)), "--hot", self.file("hot", text), f"--table={self.table}",
+                            profile or self.profile)
 
     def test_lines(self):
         """Comments, blanks, names that stand twice, and counts that are too great for scf."""

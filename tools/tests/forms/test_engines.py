@@ -67,12 +67,7 @@ class Hostile(MeasuredCase):
                     self.ends(path, (0, 2), "")
 
     def test_many_members(self):
-        path = self.file("given", b"")
-        with open(path, "wb") as file:
-            file.write(b"{")
-            for at in range(300000):
-                file.write(b'"%d":0,' % at)
-            file.write(b'"299999":0}')
+        path = self.file("given", b"{" + b"".join(b'"%d":0,' % at for at in range(300000)) + b'"299999":0}')
         self.ends(path, 2, "the member '299999' is repeated in one object")
 
     def test_many_names(self):

@@ -220,10 +220,8 @@ class Caps(Case):
             out = self.run_tool("ask", *words, "--arch=aarch64", "--nr", name, engine)[1]
             self.assertEqual(out.split("\n")[0], answer)
         self.assertEqual(self.run_tool("ask", *words, "--nr=write", engine)[1].split("\n")[0], "KILL_PROCESS 0 foreign")
-        done = subprocess.run([tool("compile"), *words, engine], stdout=subprocess.PIPE, stderr=subprocess.PIPE,
-                              check=True)
-        self.assertIn(b"--caps none --machine arm64, which says", done.stderr)
-        path = self.file("f.bpf", done.stdout)
+        path, said = self.file("f.bpf", b""), self.compile(*words, engine)[2]
+        self.assertIn("--caps none --machine arm64, which says", said)
         self.assertEqual(self.run_tool("compare", *words, path, engine)[1].split("\n")[0], "same")
         self.assertEqual(self.run_tool("compare", "--caps=none", path, engine)[1].split("\n")[0], "differs")
         plain = self.file("p.json", self.run_tool("resolve-profile", *words, engine)[1])

@@ -317,9 +317,8 @@ class Runtimes(Case):
                 continue
             applied = runtimes.applied(engines.parse_json(inputs.read_input(path, "engine's profile")), name)
             # as the engine itself hands it on, its entries without effect among them
-            with open(path, encoding="utf-8") as file:
-                resolver = engines.Resolver(runtimes.setting_of(applied.runtime), lambda _: None)
-                handed_on = resolver.resolved(json.load(file))
+            resolver = engines.Resolver(runtimes.setting_of(applied.runtime), lambda _: None)
+            handed_on = resolver.resolved(json.loads(bytes_of(path)))
             verdict, has_stub, _ = self.compared(name, handed_on, applied)
             self.assertEqual((verdict, has_stub), ("same", name == "docker"), name)
 
@@ -510,8 +509,7 @@ class Tools(Case):
 
     def test_compile_and_compare(self):
         for runtime, other_runtime, word in (("runc", "crun", "differs"), ("crun", "runc", "same")):
-            with open(self.file("f.bpf", b""), "wb") as file:
-                status, _, err = self.run_tool("compile", "--runtime", runtime, self.path, stdout=file)
+            status, _, err = self.compile("--runtime", runtime, self.path)
             self.assertEqual((status, "ENOSYS" in err), (0, runtime == "runc"), err)
             # (a filter without a stub may be runc's)
             for name, verdict in ((runtime, "same"), (other_runtime, word)):
@@ -556,9 +554,8 @@ class VerifyProcess(Case):
     def test_the_default_profile_of_docker(self):
         if not os.path.exists(MOBY):
             raise unittest.SkipTest("no profile of Docker's")
-        with open(MOBY, encoding="utf-8") as file:
-            engine = engines.Resolver(runtimes.setting_of(runtimes.RUNTIMES["docker"]), lambda _: None)
-            handed_on = engine.resolved(json.load(file))
+        engine = engines.Resolver(runtimes.setting_of(runtimes.RUNTIMES["docker"]), lambda _: None)
+        handed_on = engine.resolved(json.loads(bytes_of(MOBY)))
         with container("runc", config(handed_on)) as (process, why):
             self.assertIsNotNone(process, why)
             for words in ((), ("--calls",), ("--no-more",), ("--no-less",)):

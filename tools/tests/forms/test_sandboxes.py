@@ -71,8 +71,7 @@ class Lists(Case):
             except subprocess.TimeoutExpired:
                 os.killpg(process.pid, signal.SIGKILL)
                 raise
-        with open(path, encoding="utf-8", errors="replace") as file:
-            return list(filter_loads.stacks_in(file.read().split("\n"))), messages
+        return list(filter_loads.stacks_in(text_of(path).split("\n"))), messages
 
 
 class Policies(Lists):

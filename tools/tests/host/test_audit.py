@@ -9,8 +9,8 @@ import time
 import unittest
 from unittest import mock
 
-from support.common import (ALLOW, EPERM, LOADER, TOP, Case, bytes_of, comes, filter_of, gate, jeq, load, profile_of,
-                            ret, text_of, tool)
+from support.common import (ALLOW, EPERM, LOADER, TOP, Case, comes, filter_of, gate, jeq, load, profile_of, ret,
+                            text_of, tool)
 from support import json_schema
 from support.confined import processes
 from support.own_machine import OwnMachine, Systemd, podman_settings
@@ -811,7 +811,7 @@ class Firejail(Case):
 
     def started(self, *words):
         """A process with these words, in place of firejail's, and the sandbox that it started."""
-        child = self.beside("sh", "-c", "echo; read x", *words, stdin=subprocess.PIPE, stdout=subprocess.PIPE)
+        child = self.alongside("sh", "-c", "echo; read x", *words, stdin=subprocess.PIPE, stdout=subprocess.PIPE)
         # (while it is being executed, the kernel has no words of it yet)
         child.stdout.readline()
         self.file(f"profile/{child.pid}", f"{self.profile}\n")
@@ -899,8 +899,7 @@ class Snaps(Case):
         """The filter of all snaps makes nothing stricter than configured; a filter that allows more is weaker."""
         expected, judge = self.expectations.of_snap("snap.web.run"), audit_judge.StackJudge(self.expectations.options)
         path = self.file("p.json", expected.asked.profile)
-        self.run_words(["sh", "-c", f"{tool('compile')} {path} >{self.folder}/own.bpf"])
-        compiled = bytes_of(self.folder, "own.bpf")
+        compiled = self.compile(path)[1]
         for filters, verdict in (((compiled, self.OF_ALL), "as configured"), ((compiled,), "as configured"),
                                  ((self.OF_ALL,), "weaker"), ((gate(ret(ALLOW)), self.OF_ALL), "weaker"),
                                  ((compiled, gate(ret(EPERM))), "stricter")):

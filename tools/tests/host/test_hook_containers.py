@@ -210,13 +210,9 @@ class Runtimes(Containers):
 
     def test_one_that_executes_itself_again_and_again(self):
         """From one of its many threads, which keeps who stops them waiting."""
-        program = f"{self.folder}/execute"
-        done = subprocess.run(["cc", "-static", "-pthread", "-x", "c", "-", "-o", program], input=EXECUTE.encode(),
-                              stderr=subprocess.PIPE, check=False) if shutil.which("cc") else None
-        if done is None or done.returncode:
-            self.skipTest("there is no C compiler that links statically here")
+        program = self.built(EXECUTE, "-static", "-pthread")
         value = json.loads(refuses("chroot"))
-        args = ["/bin/execute", "200", "1000"]
+        args = ["/bin/program", "200", "1000"]
         with self.begun("--kill", "--deadline=2", "--wait=0", program=program, loaded=value, args=args) as pid:
             self.assertTrue(comes(lambda: has_ended(pid)))
 

@@ -88,7 +88,7 @@ class OfStates(Hook):
         self.file("twice/config.json", b'{"\\ud800":1,"\\ud800":2}')
         for bundle, says in (("/b\ud800", "there is no file '/b\\xed\\xa0\\x80/config.json'"),
                              (twice, "the member '\\xed\\xa0\\x80' is repeated")):
-            child = self.beside("sleep", "1000")
+            child = self.alongside("sleep", "1000")
             status, _, err = self.run_tool("oci-hook", "--kill", given=self.state(child.pid, bundle, id="a\udfff"))
             self.assertEqual((status, child.wait()), (2, -signal.SIGKILL), err)
             self.assertIn("container a\\xed\\xbf\\xbf", err)
@@ -402,8 +402,8 @@ class OfTime(Hook):
 
     def begin(self, child, *words, profile=refuses("mount"), **settings):
         """A hook that is begun and given the state of a child."""
-        hook = self.beside(tool("oci-hook"), *words, stdin=subprocess.PIPE, stdout=subprocess.DEVNULL,
-                           stderr=subprocess.PIPE, **settings)
+        hook = self.alongside(tool("oci-hook"), *words, stdin=subprocess.PIPE, stdout=subprocess.DEVNULL,
+                              stderr=subprocess.PIPE, **settings)
         hook.stdin.write(self.state(child.pid, self.bundle(profile)))
         hook.stdin.close()
         return hook
@@ -499,7 +499,7 @@ class OfTime(Hook):
         self.assertIsNone(hook.poll())
 
     def test_an_explanation_that_takes_too_long(self):
-        child = self.beside("sleep", "1000")
+        child = self.alongside("sleep", "1000")
         process = hooks.ContainerProcess(hooks.container_of(self.state(child.pid, "/none")))
         examination = hooks.Examination(process, 60, True)
         with mock.patch.object(hooks, "EXPLANATION_SECONDS", 0.1):
@@ -557,7 +557,7 @@ class Inside(Hook):
     def test_a_process_that_does_not_end_at_once(self):
         """One that is killed while it is frozen: the watchdog leaves the hook the time to say so."""
         self.assertGreater(hooks.GRACE, hooks.KILL_SECONDS + 1)
-        child = self.beside("sleep", "1000")
+        child = self.alongside("sleep", "1000")
         process = self.process(pid=child.pid)
         with mock.patch.object(hooks, "send_signal"), mock.patch.object(hooks, "KILL_SECONDS", 0.1):
             hooks.send_signal.return_value = None

@@ -3,7 +3,6 @@ import ctypes
 import errno
 import itertools
 import os
-import shutil
 import signal
 import subprocess
 import sys
@@ -511,11 +510,9 @@ class Real(Confined):
     def test_one_that_executes_programs_meanwhile(self):
         """Again and again, from a thread that isn't the main one, which the kernel lets it do once all others have
         ended, and those that are traced have been waited for."""
-        program, source = os.path.join(self.folder, "execute"), self.file("execute.c", EXECUTE)
-        if not shutil.which("cc") or subprocess.run(["cc", "-pthread", "-o", program, source], check=False).returncode:
-            self.skipTest("there is no C compiler here")
+        program = self.built(EXECUTE, "-pthread")
         for words in (["60", "1000"], ["3", "0"]):
-            child = self.beside(program, *words)
+            child = self.alongside(program, *words)
             for _ in range(15):
                 inspection = processes.look_at_process(processes.Kernel(), child.pid, patience=PATIENCE)
                 self.assertEqual([stack.filters for stack in inspection.stacks], [()])
@@ -541,8 +538,8 @@ class Real(Confined):
     def held(self, *words):
         """A process that looks at a child which doesn't stop, with a thread of it held, and that thread."""
         child, _ = self.stuck([OLDEST], [OLDEST])
-        looks = self.beside(sys.executable, "-c", TRY, os.path.dirname(os.path.dirname(processes.__file__)),
-                            str(child.pid), *words, stdout=subprocess.PIPE, text=True)
+        looks = self.alongside(sys.executable, "-c", TRY, os.path.dirname(os.path.dirname(processes.__file__)),
+                               str(child.pid), *words, stdout=subprocess.PIPE, text=True)
         self.assertTrue(comes(lambda: status_of(child.threads[1])["TracerPid"] != "0"))
         return child, looks
 

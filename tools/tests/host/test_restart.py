@@ -208,12 +208,9 @@ class Restarts(Confined):
         self.runs_on(child)
 
     def test_a_program_of_i386(self):
-        source = self.file("sleep.c", PROGRAM_32)
-        program, given = os.path.join(self.folder, "sleep"), self.file("f", denying(KILL_PROCESS))
-        words = ["cc", "-m32", f"-DWAIT={WAIT}", "-o", program, source]
-        if subprocess.run(words, check=False, stderr=subprocess.DEVNULL, stdout=subprocess.DEVNULL).returncode \
-                or subprocess.run([program], check=False).returncode:
-            self.skipTest("no program of i386 can be made and run here")
+        program, given = self.built(PROGRAM_32, "-m32", f"-DWAIT={WAIT}"), self.file("f", denying(KILL_PROCESS))
+        if self.run_words([program])[0]:
+            self.skipTest("no program of i386 can be run here")
         with subprocess.Popen([program, given], stdout=subprocess.PIPE, text=True) as child:
             self.assertEqual(child.stdout.readline(), "begins\n")
             self.assertTrue(comes(lambda: self.call_of(child.pid) in (NANOSLEEP_32, CLOCK_NANOSLEEP_32, 407)))

@@ -12,7 +12,7 @@ import types
 import unittest
 import unittest.mock
 
-from support.common import (ALLOW, I386, KILL_PROCESS, KILL_THREAD, LOADER, LOG, PATIENCE, TOP, TRACE, TRAP, USER_NOTIF,
+from support.common import (ALLOW, I386, KILL_PROCESS, KILL_THREAD, LOADER, LOG, PATIENCE, TRACE, TRAP, USER_NOTIF,
                             X86_64, Case, bytes_of, jeq, module, profile_of, ret, text_of)
 from logs import entry, where
 from scftools.model import bpf, tables
@@ -125,11 +125,7 @@ class Causes(Case):
 
     def of_i386(self):
         """The program of OF_I386, if it can be built."""
-        program = os.path.join(self.folder, "of_i386")
-        if not shutil.which("cc") or subprocess.run(["cc", "-m32", "-x", "c", "-o", program, "-"], check=False,
-                                                    input=OF_I386.encode(), stderr=subprocess.DEVNULL).returncode:
-            self.skipTest("no program of i386 can be built here")
-        return program
+        return self.built(OF_I386, "-m32")
 
 
 @heard
@@ -313,7 +309,7 @@ class Cores(Causes):
         event = cores.read_core(self.found_core())
         self.assertEqual((event.call.number, event.call.architecture, event.call.arguments),
                          (359, I386, (16, 0xFFFFFFFD, 9, 0x77777777, 5, 6)))
-        self.assertEqual((event.outcome.data, event.name), (3, "of_i386"))
+        self.assertEqual((event.outcome.data, event.name), (3, "program"))
 
     def test_a_change_that_allows_it(self):
         """By the steps that are printed the profile allows this call, and no other."""
@@ -353,9 +349,7 @@ class Cores(Causes):
                         self.assertEqual(after[1], 0)
 
     def compiled(self, profile):
-        done = subprocess.run([os.path.join(TOP, "tools", "compile"), self.file("c.json", json.dumps(profile))],
-                              stdout=subprocess.PIPE, check=True)
-        return done.stdout
+        return bytes_of(self.filter_file(self.file("c.json", json.dumps(profile))))
 
     @staticmethod
     def changed(profile, steps):
@@ -376,8 +370,7 @@ class Cores(Causes):
 
     def test_hostile_cores(self):
         core = self.core(answering(KILL_PROCESS))
-        with open(core, "rb") as file:
-            data = file.read(1 << 20)
+        data = bytes_of(core)[:1 << 20]
         for cut in (0, 3, 4, 16, 24, 51, 63, 64, 100, 1000, 3000, 3450, 4000):
             self.refused(data[:cut], "the core")
         for at, text, says in ((0, b"\x28\xb5\x2f\xfd", "is compressed"), (16, b"\2\0", "isn't one, but a program"),
@@ -417,8 +410,7 @@ class Strace(Causes):
                        stdout=subprocess.DEVNULL, stderr=subprocess.DEVNULL, check=False)
         if not os.path.exists(log) or not os.path.getsize(log):
             self.skipTest("strace may not trace here")
-        with open(log, encoding="latin-1") as file:
-            return file.read()
+        return text_of(log)
 
     def test_a_process_that_is_killed(self):
         for answer, forms in ((KILL_PROCESS, ((), ("-f", "-X", "raw"))), (KILL_THREAD, (("-n", "-tt", "-i"),)),

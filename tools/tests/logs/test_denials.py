@@ -8,7 +8,7 @@ import sys
 import unittest
 from unittest import mock
 
-from support.common import LOADER, TOP, Case
+from support.common import LOADER, Case, text_of
 from support.oci import ALLOW, ERRNO
 from logs import entry, rules, where
 from scftools.ask import client, trials
@@ -111,16 +111,13 @@ class Traced(Denials):
     """Programs under a filter, as strace logs them."""
 
     def traced(self, before, of_child, after, status=0, profile=None):
-        done = subprocess.run([os.path.join(TOP, "tools", "compile"),
-                               self.file("c.json", json.dumps(PROFILE if profile is None else profile))],
-                              stdout=subprocess.PIPE, check=True)
+        filters = self.filter_file(self.file("c.json", json.dumps(PROFILE if profile is None else profile)))
         log = os.path.join(self.folder, "log")
-        subprocess.run(["strace", "-f", "-o", log, sys.executable, "-ISc", UNDER, self.file("f.bpf", done.stdout),
+        subprocess.run(["strace", "-f", "-o", log, sys.executable, "-ISc", UNDER, filters,
                         *map(repr, (status, before, of_child, after))], stderr=subprocess.DEVNULL, check=False)
         if not os.path.exists(log) or not os.path.getsize(log):
             self.skipTest("strace may not trace here")
-        with open(log, encoding="latin-1") as file:
-            return file.read()
+        return text_of(log)
 
     def test_the_most_telling_first(self):
         """What a process ended after comes before what was tried once, and that before what was tried again."""

@@ -9,7 +9,7 @@ import subprocess
 import sys
 import unittest
 
-from support.common import CONFINED, LOADER, Case, limited, profile_of, taken, tool
+from support.common import CONFINED, LOADER, Case, limited, profile_of, taken, text_of
 from support.oci import ALLOW, ERRNO
 from logs import entry, read_log, rules, where
 from scftools.model import tables
@@ -866,8 +866,7 @@ class Registers(Case):
         if done.returncode == 99 or done.returncode and not os.path.exists(log):
             self.skipTest("strace may not trace, or no filter can be installed here")
         self.assertEqual(done.returncode, 0, done.stderr)
-        with open(log, encoding="latin-1") as file:
-            lines = file.read().split("\n")
+        lines = text_of(log).split("\n")
         mark = re.compile(r"\[ 157\] prctl\((?:PR_SET_SECCOMP|0x16)\b")
         first = max(at for at, line in enumerate(lines[:200]) if mark.match(line))
         return lines[first + 1:first + 1 + len(calls)]
@@ -918,9 +917,7 @@ class Real(Judgement):
                                  {"names": {}, "foreign": 0, "cut": 0, "more": 0, "lost": 0, "before_load": 0}, words)
                 self.assertEqual(report["not_judged"]["lines"], 0, words)
                 names = {call["name"] for call in report["calls"]}
-                with open(log, encoding="utf-8", errors="replace") as file:
-                    text = file.read()
-                self.assertEqual(names, set(BEGUN.findall(text)), words)
+                self.assertEqual(names, set(BEGUN.findall(text_of(log))), words)
                 self.assertLessEqual({"execve", "wait4", "exit_group", "openat"}, names)
 
     def test_the_least_profile_lets_it_through(self):
@@ -935,9 +932,7 @@ class Real(Judgement):
 
     def ended(self, profile, *words):
         """How a program ends under a profile's filter, and what it prints."""
-        filters = os.path.join(self.folder, "f.bpf")
-        with open(filters, "wb") as out:
-            subprocess.run([tool("compile"), profile], stdout=out, check=True)
+        filters = self.filter_file(profile)
         done = subprocess.run([sys.executable, "-IS", "-c", CONFINED, filters, shutil.which(words[0]), *words[1:]],
                               stdout=subprocess.PIPE, stderr=subprocess.PIPE, check=False)
         if done.returncode == 99:
@@ -997,11 +992,9 @@ int main(int count, char **words)
 
     def test_a_program_that_calls_clone3(self):
         """Under a list that answers ENOSYS no least profile allows it, which a filter can't keep from namespaces."""
-        made = os.path.join(self.folder, "cloning")
-        built = subprocess.run(["cc", "-w", "-o", made, "-x", "c", "-"], input=self.CLONING.encode(), check=False,
-                               stderr=subprocess.PIPE) if shutil.which("cc") else None
-        if built is None or built.returncode or self.run_words([made])[:2] != (0, "0\n"):
-            self.skipTest("no such program can be made or run here")
+        made = self.built(self.CLONING)
+        if self.run_words([made])[:2] != (0, "0\n"):
+            self.skipTest("no such program can be run here")
         for words in ((), ("--widen",)):
             status, out, err = self.run_tool("record", "--profile", self.listed(), *words, "least.json", "--", made)
             self.assertEqual((status, out, err), (0, "0\n", ""))
@@ -1041,10 +1034,7 @@ until curl -s http://127.0.0.1:$p/; do sleep 0.1; done; kill -QUIT $!; wait $!""
                 least = os.path.join(self.folder, "least.json")
                 found = json.loads(self.run_tool("lint", "--json", least)[1])["findings"]
                 self.assertEqual({finding["kind"] for finding in found} - {"dangerous-call"}, set())
-                filters = os.path.join(self.folder, "f.bpf")
-                with open(filters, "wb") as file:
-                    subprocess.run([tool("compile"), least], stdout=file, stderr=subprocess.DEVNULL, check=True)
-                with open(filters, "rb") as file:
+                with open(self.filter_file(least), "rb") as file:
                     done = subprocess.run(["bwrap", "--bind", "/", "/", "--dev", "/dev", "--proc", "/proc",
                                            "--seccomp", "0", "sh", program], stdin=file, stdout=subprocess.PIPE,
                                           stderr=subprocess.PIPE, timeout=120, check=False)
@@ -1088,12 +1078,10 @@ void _start(void)
 
     def narrow(self, calls):
         """A 32-bit program that makes these calls."""
-        made, source = os.path.join(self.folder, "narrow"), ", ".join(f"{{{nr}, {at}}}" for _, nr, at in calls)
-        words = ["cc", "-m32", "-O1", "-w", "-static", "-nostdlib", "-fno-pie", "-no-pie", "-fno-stack-protector", "-o"]
-        built = subprocess.run([*words, made, "-x", "c", "-"], input=(self.NARROW % source).encode(), check=False,
-                               stderr=subprocess.PIPE) if shutil.which("cc") else None
-        if built is None or built.returncode or self.run_words([made])[0]:
-            self.skipTest("no 32-bit program can be made or run here")
+        made = self.built(self.NARROW % ", ".join(f"{{{nr}, {at}}}" for _, nr, at in calls), "-m32", "-O1", "-static",
+                          "-nostdlib", "-fno-pie", "-no-pie", "-fno-stack-protector")
+        if self.run_words([made])[0]:
+            self.skipTest("no 32-bit program can be run here")
         return made
 
     def test_calls_of_a_32_bit_program(self):
@@ -1144,9 +1132,7 @@ void _start(void)
         numbered = repr([(TABLE.number_of(name), *arguments) for name, *arguments in calls])
         profile, looked = self.file("p.json", json.dumps(denied)), {entry["names"][0]: entry["args"][0]["index"]
                                                                     for entry in denied["syscalls"]}
-        with open(os.path.join(self.folder, "f.bpf"), "wb") as out:
-            subprocess.run([tool("compile"), profile], stdout=out, check=True)
-        done = self.run_words([sys.executable, "-IS", "-c", self.CALLS, numbered, out.name])
+        done = self.run_words([sys.executable, "-IS", "-c", self.CALLS, numbered, self.filter_file(profile)])
         if done[0] == 99:
             self.skipTest("no filter can be installed here")
         failed = [line == "1" for line in done[1].split()]

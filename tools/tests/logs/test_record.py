@@ -218,8 +218,8 @@ class Recorded(Traced):
         base = self.file("base.json", b'{"defaultAction": "SCMP_ACT_ERRNO"}')
         status, _, err = self.run_tool("record", "--profile", base, "--widen", "--", program)
         self.assertEqual((status, err.split("\n")[0]), (0, "record: writes true.json"))
-        with open(self.path("true.json"), encoding="utf-8") as file:
-            self.assertIn("exit_group", [name for entry in json.load(file)["syscalls"] for name in entry["names"]])
+        entries = json.loads(text_of(self.path("true.json")))["syscalls"]
+        self.assertIn("exit_group", [name for entry in entries for name in entry["names"]])
 
     def test_the_terminal_interrupts_the_program_alone(self):
         script = "trap 'echo caught; exit 3' INT; echo ready; while :; do sleep 0.1; done"
@@ -246,8 +246,8 @@ class Recorded(Traced):
         status, out, err = self.run_python("record", script, "--profile", base, "least.json")
         self.assertEqual((status, out), (1, "ran\n"))
         self.assertIn("record: needed, and PROFILE denies it: 231 exit_group ERRNO 1 default", err)
-        with open(self.path("least.json"), encoding="utf-8") as file:
-            self.assertEqual([entry["names"] for entry in json.load(file)["syscalls"]], [["personality"]])
+        entries = json.loads(text_of(self.path("least.json")))["syscalls"]
+        self.assertEqual([entry["names"] for entry in entries], [["personality"]])
         status, out, err = self.run_python("record", script + "; sys.exit(7)", "--profile", base, "least.json")
         self.assertEqual((status, out), (7, "ran\n"))
         for words in (("--widen",), ("--runtime", "crun"), ("--runtime", "x", "--profile", base)):

@@ -11,7 +11,7 @@ import subprocess
 import sys
 import unittest
 
-from support.common import CONFINED, TOP, Case, bytes_of, profile_of, text_of
+from support.common import CONFINED, Case, bytes_of, profile_of, text_of
 from support.containers import Box
 from support.oci import ERRNO
 from forms.test_runtimes import config
@@ -58,12 +58,10 @@ class Written(Case):
         done = subprocess.run(words, stdout=subprocess.PIPE, stderr=subprocess.PIPE, cwd=self.folder, check=False)
         text = done.stdout.decode("latin-1")
         if os.path.exists(log):
-            with open(log, encoding="latin-1") as file:
-                text = file.read()
+            text = text_of(log)
         if not os.path.exists(traced) or not text:
             self.skipTest(f"strace or {words[0]} may not trace here: {done.stderr[-200:]}")
-        with open(traced, encoding="latin-1") as file:
-            expected = calls_of(file.read())[0]
+        expected = calls_of(text_of(traced))[0]
         found, log = calls_of(text)
         expected = {name: count for name, count in expected.items() if name not in without}
         self.assertEqual(found if is_counted else set(found), expected if is_counted else set(expected))
@@ -112,9 +110,7 @@ class Records(Case):
             self.skipTest(f"the kernel's audit records can't be heard here: {error.strerror}")
         self.addCleanup(listener.close)
         profile = self.file("p.json", profile_of(default="SCMP_ACT_LOG"))
-        filters = self.file("f.bpf", b"")
-        with open(filters, "wb") as out:
-            subprocess.run([os.path.join(TOP, "tools", "compile"), profile], stdout=out, check=True)
+        filters = self.filter_file(profile)
         child = subprocess.Popen([sys.executable, "-ISc", CONFINED, filters, shutil.which("true")])
         child.wait()
         # the kernel's thread hands them on when it runs; the last is that of exit_group
@@ -129,8 +125,7 @@ class Records(Case):
         found = json.loads(self.output_of(1, "needs", "--json", log, self.file("q.json", profile_of())))
         traced = os.path.join(self.folder, "strace")
         subprocess.run(["strace", "-o", traced, shutil.which("true")], check=False)
-        with open(traced, encoding="latin-1") as file:
-            expected = calls_of(file.read())[0]
+        expected = calls_of(text_of(traced))[0]
         self.assertEqual({it["name"]: it["count"] for it in found["calls"]}, expected)
         self.assertEqual(found["not_judged"], {"names": {}, "foreign": 0, "cut": 0, "more": 0, "lines": 0, "lost": 0,
                                                "before_load": 0})

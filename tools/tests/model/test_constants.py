@@ -225,9 +225,8 @@ class AsC(Case):
         log = os.path.join(self.folder, "log")
         status, _, err = self.run_words(["strace", "-o", log, sys.executable, "-c", MAKER, self.file("calls", text)])
         self.assertEqual(status, 0, err)
-        with open(log, encoding="latin-1") as file:
-            # the C library's names of two that the kernel's headers call otherwise
-            text = re.sub("(PEEK|POKE)USER", r"\1USR", file.read()).replace("SCHED_OTHER", "SCHED_NORMAL")
+        # the C library's names of two that the kernel's headers call otherwise
+        text = re.sub("(PEEK|POKE)USER", r"\1USR", text_of(log)).replace("SCHED_OTHER", "SCHED_NORMAL")
         refused = [line for line in text.split("\n") if line.endswith("= -1 EPERM (Operation not permitted)")]
         self.assertTrue(refused[0].startswith("getpid()"))
         lines = refused[1:]

@@ -225,7 +225,7 @@ class Case(unittest.TestCase):
         patch.start()
         self.addCleanup(patch.stop)
 
-    def beside(self, *words, **settings):
+    def alongside(self, *words, **settings):
         """A process with these words, which ends with the test."""
         child = subprocess.Popen(words, **settings)
         self.addCleanup(child.__exit__, None, None, None)
@@ -238,6 +238,27 @@ class Case(unittest.TestCase):
         with open(path, "wb") as file:
             file.write(data if isinstance(data, bytes) else data.encode())
         return path
+
+    def built(self, source, *words):
+        """The program that a C compiler makes of a text; the test is skipped where none does."""
+        path = os.path.join(self.folder, "program")
+        words = ["cc", "-w", *words, "-x", "c", "-o", path, "-"]
+        if not shutil.which("cc") or self.run_words(words, source.encode())[0]:
+            self.skipTest("no such program can be built here")
+        return path
+
+    def compile(self, *words):
+        """How `scf compile` ends, the filter that it writes to the file `f.bpf`, and what it says."""
+        path = self.file("f.bpf", b"")
+        with open(path, "wb") as out:
+            status, _, err = self.run_tool("compile", *words, stdout=out)
+        return status, bytes_of(path), err
+
+    def filter_file(self, *words):
+        """The file of the filter that scf compiles of a profile."""
+        status, _, err = self.compile(*words)
+        self.assertEqual(status, 0, err)
+        return os.path.join(self.folder, "f.bpf")
 
     def run_words(self, words, given=b"", seconds=None, **settings):
         """The status, what was printed, and what was said on standard error.
