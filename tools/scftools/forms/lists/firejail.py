@@ -13,7 +13,7 @@ import re
 import struct
 from collections.abc import Callable, Iterator
 
-from ...base.values import Pattern, dataclass, field
+from ...base.values import Pattern, dataclass, field, unless_refused
 from ...model import constants
 from ...model.answers import ALLOW, ENOSYS, Answer
 from ...model.architectures import I386
@@ -296,10 +296,8 @@ def _rules_of(name: str, main: tuple[Answer, int], restricted: tuple[Restriction
 def _global_action() -> str:
     """The error action of the machine's configuration. Raises UnknownRules if that changes the filters otherwise."""
     action = "EPERM"
-    try:
-        data = _contents(os.path.join(PROFILES, CONFIGURATION), sandbox_rules.MOST_LIST_BYTES)
-    except OSError:
-        return action
+    path = os.path.join(PROFILES, CONFIGURATION)
+    data = unless_refused(b"", _contents, path, sandbox_rules.MOST_LIST_BYTES)
     for line in data.decode("utf-8", "replace").split("\n"):
         name, _, value = line.strip().partition(" ")
         if name == "seccomp-error-action":
