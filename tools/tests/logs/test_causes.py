@@ -405,12 +405,7 @@ class Strace(Causes):
         """What strace writes of a process under filters."""
         names = [self.file(f"{at}.bpf", data) for at, data in enumerate(stack)]
         call = settings.get("call", (SOCKET, AF_NETLINK, 3, NETLINK_AUDIT))
-        log = os.path.join(self.folder, "log")
-        subprocess.run(["strace", *options, "-o", log, sys.executable, "-ISc", CONFINED, "0", "0", repr(call), *names],
-                       stdout=subprocess.DEVNULL, stderr=subprocess.DEVNULL, check=False)
-        if not os.path.exists(log) or not os.path.getsize(log):
-            self.skipTest("strace may not trace here")
-        return text_of(log)
+        return text_of(self.strace(*options, sys.executable, "-ISc", CONFINED, "0", "0", repr(call), *names)[0])
 
     def test_a_process_that_is_killed(self):
         for answer, forms in ((KILL_PROCESS, ((), ("-f", "-X", "raw"))), (KILL_THREAD, (("-n", "-tt", "-i"),)),
@@ -454,11 +449,9 @@ class Strace(Causes):
             self.why(line, self.file("f.bpf", answering(answer)), status=0)
 
     def test_i386(self):
-        program, log = self.of_i386(), os.path.join(self.folder, "log")
+        program = self.of_i386()
         for answer in (KILL_PROCESS, TRAP | 5):
-            subprocess.run(["strace", "--quiet=none", "-o", log, program, hex(answer)], cwd=self.folder, check=False,
-                           stderr=subprocess.DEVNULL)
-            data = bytes_of(log)
+            data = bytes_of(self.strace("--quiet=none", program, hex(answer))[0])
             lines = self.why("-", self.file("f.bpf", answering(answer, 359)), given=data, status=0)
             self.assertEqual(lines[0], "# a process: the syscall is socket (359) of the architecture i386")
             self.assertEqual(lines[2], "# its arguments, as far as they are shown: 0 is 0x10, 1 is 0xfffffffd, "
@@ -515,11 +508,10 @@ int main(int count, char **words)
     @unittest.skipUnless(shutil.which("cc"), "there is no C compiler here")
     def test_one_of_several_threads(self):
         """All are killed by SIGSYS, and one is the cause."""
-        program, log = (os.path.join(self.folder, each) for each in ("threads", "log"))
+        program = os.path.join(self.folder, "threads")
         subprocess.run(["cc", "-x", "c", "-o", program, "-", "-lpthread"], input=self.THREADS.encode(), check=True)
         for answer in (KILL_PROCESS, KILL_THREAD):
-            subprocess.run(["strace", "-f", "-o", log, program, hex(answer)], stderr=subprocess.DEVNULL, check=False)
-            data = bytes_of(log)
+            data = bytes_of(self.strace("-f", program, hex(answer))[0])
             lines = self.why("-", self.file("f.bpf", answering(answer)), given=data, status=0)
             self.assertEqual([each for each in lines if "the syscall is " in each], [lines[0]])
             self.assertIn("the syscall is socket (41)", lines[0])

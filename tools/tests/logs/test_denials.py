@@ -3,7 +3,6 @@ import json
 import os
 import re
 import shutil
-import subprocess
 import sys
 import unittest
 from unittest import mock
@@ -112,12 +111,8 @@ class Traced(Denials):
 
     def traced(self, before, of_child, after, status=0, profile=None):
         filters = self.filter_file(self.file("c.json", json.dumps(PROFILE if profile is None else profile)))
-        log = os.path.join(self.folder, "log")
-        subprocess.run(["strace", "-f", "-o", log, sys.executable, "-ISc", UNDER, filters,
-                        *map(repr, (status, before, of_child, after))], stderr=subprocess.DEVNULL, check=False)
-        if not os.path.exists(log) or not os.path.getsize(log):
-            self.skipTest("strace may not trace here")
-        return text_of(log)
+        words = map(repr, (status, before, of_child, after))
+        return text_of(self.strace("-f", sys.executable, "-ISc", UNDER, filters, *words)[0])
 
     def test_the_most_telling_first(self):
         """What a process ended after comes before what was tried once, and that before what was tried again."""

@@ -939,14 +939,6 @@ class Real(Judgement):
             self.skipTest("no filter can be installed here")
         return done.returncode, done.stdout
 
-    def log_of(self, *words, options=()):
-        log = os.path.join(self.folder, "real.log")
-        done = subprocess.run(["strace", "-f", *options, "-o", log, *words], stdout=subprocess.PIPE,
-                              stderr=subprocess.DEVNULL, check=False)
-        if not os.path.exists(log) or not os.path.getsize(log):
-            self.skipTest("strace may not trace here")
-        return log, (done.returncode, done.stdout)
-
     def test_a_program_runs_under_its_least_profile(self):
         conditions = {"defaultAction": ERRNO, "syscalls": [
             entry(name, args=[where(index, "EQ", 0)])
@@ -956,7 +948,7 @@ class Real(Judgement):
             for words in (("ls", "/"), ("sh", "-c", "ls / | head -n 1; (exit 3) & wait $!; exit 4"),
                           ("git", "--version"), ("python3", "-ISc", "import json; print(json.dumps([1]))")):
                 if shutil.which(words[0]):
-                    log, plain = self.log_of(*words, options=options)
+                    log, plain = self.strace("-f", *options, *words)
                     status, out, err = self.run_tool("needs", "--widen", log, given)
                     self.assertEqual(status, 0, (err, options, words))
                     self.assertEqual(self.ended(self.file("least.json", out), *words), plain, (options, words))
@@ -1041,13 +1033,13 @@ until curl -s http://127.0.0.1:$p/; do sleep 0.1; done; kill -QUIT $!; wait $!""
                 self.assertEqual((done.returncode, done.stdout.decode()), (0, out), done.stderr)
 
     def test_a_call_that_is_not_made_ends_a_program(self):
-        log, _ = self.log_of("ls", self.folder, options=("-X", "raw"))
+        log, _ = self.strace("-f", "-X", "raw", "ls", self.folder)
         made = json.loads(self.run_tool("needs", "--widen", log, self.file("p.json", profile_of()))[1])
         made["syscalls"][0]["names"].remove("getdents64")
         less = self.file("less.json", json.dumps(made))
         self.assertIn("217 getdents64 ERRNO 1 default\n", self.run_tool("needs", log, less)[1])
         status, out = self.ended(less, "ls", self.folder)
-        self.assertEqual((bool(status), b"real.log" in out), (True, False))
+        self.assertEqual((bool(status), b"strace.log" in out), (True, False))
 
     # Makes calls, under a filter where one is given, and prints for each whether it failed with errno 77.
     CALLS = LOADER + """
@@ -1102,7 +1094,7 @@ void _start(void)
         expected = "".join(str(int(call)) for call in calls.values())
         self.assertEqual(self.ended(profile, made), (0, expected.encode()))
         for options in (("--quiet=none",), ("-n",), ("-n", "-X", "raw", "--quiet=none"), ("-e", "raw=all", "-n")):
-            log, _ = self.log_of(made, options=options)
+            log, _ = self.strace("-f", *options, made)
             judged = json.loads(self.run_tool("needs", "--json", log, profile)[1])
             self.assertEqual([count for count in judged["not_judged"].values() if count], [])
             dispositions = {(call.get("architecture"), call["number"], *call["arguments"].get("0", ["0x0"])):
@@ -1138,7 +1130,7 @@ void _start(void)
         failed = [line == "1" for line in done[1].split()]
         self.assertEqual((len(failed), sum(failed)), (len(calls), 7))
         for options in ((), ("-X", "raw"), ("-X", "verbose"), ("-y",), ("-e", "raw=all")):
-            log, _ = self.log_of(sys.executable, "-IS", "-c", self.CALLS, numbered, options=options)
+            log, _ = self.strace("-f", *options, sys.executable, "-IS", "-c", self.CALLS, numbered)
             judged = json.loads(self.run_tool("needs", "--json", log, profile)[1])["calls"]
             for (name, *arguments), is_denied in zip(calls, failed):
                 value = hex(arguments[looked[name]] % HIGH)

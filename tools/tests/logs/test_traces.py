@@ -50,17 +50,16 @@ class Written(Case):
 
     def written(self, *words, without=(), is_counted=True):
         """The syscalls in a log that a program writes to the file `log`, and of strace's those beside `without`."""
-        if not shutil.which(words[0]):
-            self.skipTest(f"there is no {words[0]} here")
-        log, traced = (os.path.join(self.folder, it) for it in ("log", "strace"))
+        self.needs(words[0])
+        log = os.path.join(self.folder, "log")
         # ls asks what its output is
-        subprocess.run(["strace", "-f", "-o", traced, *self.PROGRAM], stdout=subprocess.PIPE, check=False)
+        traced = self.strace("-f", *self.PROGRAM)[0]
         done = subprocess.run(words, stdout=subprocess.PIPE, stderr=subprocess.PIPE, cwd=self.folder, check=False)
         text = done.stdout.decode("latin-1")
         if os.path.exists(log):
             text = text_of(log)
-        if not os.path.exists(traced) or not text:
-            self.skipTest(f"strace or {words[0]} may not trace here: {done.stderr[-200:]}")
+        if not text:
+            self.skipTest(f"{words[0]} may not trace here: {done.stderr[-200:]}")
         expected = calls_of(text_of(traced))[0]
         found, log = calls_of(text)
         expected = {name: count for name, count in expected.items() if name not in without}
@@ -80,8 +79,7 @@ class Written(Case):
         """With all arguments; recording begins with the program's execve, which isn't in it."""
         words = ("sh", "-c", 'perf record -q -o data -e raw_syscalls:sys_enter "$@" >&2; perf script -i data >log',
                  "sh")
-        if not shutil.which("perf"):
-            self.skipTest("there is no perf here")
+        self.needs("perf")
         text, log = self.written(*words, *self.PROGRAM, without=("execve",))
         self.assertEqual(log.unjudged["lines"], 0)
         known = calls_of(text, range(6))[0]
@@ -123,9 +121,7 @@ class Records(Case):
                     records.append("audit: type=1326 " + message[16:].decode("latin-1").rstrip("\0\n"))
         log = self.file("log", "\n".join(records))
         found = json.loads(self.output_of(1, "needs", "--json", log, self.file("q.json", profile_of())))
-        traced = os.path.join(self.folder, "strace")
-        subprocess.run(["strace", "-o", traced, shutil.which("true")], check=False)
-        expected = calls_of(text_of(traced))[0]
+        expected = calls_of(text_of(self.strace(shutil.which("true"))[0]))[0]
         self.assertEqual({it["name"]: it["count"] for it in found["calls"]}, expected)
         self.assertEqual(found["not_judged"], {"names": {}, "foreign": 0, "cut": 0, "more": 0, "lines": 0, "lost": 0,
                                                "before_load": 0})
@@ -377,8 +373,7 @@ class Containers(Case):
             return file.read()
 
     def tried(self, runtime):
-        if not shutil.which(runtime):
-            self.skipTest(f"there is no {runtime} here")
+        self.needs(runtime)
         least = self.least("--runtime", runtime)
         for process in ({}, {"noNewPrivileges": True}, {"user": {"uid": 1000, "gid": 1000, "additionalGids": [5]}}):
             for is_created in (False, True):

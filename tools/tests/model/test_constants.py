@@ -222,9 +222,8 @@ class AsC(Case):
         numbers = dict(rows(TABLE))
         calls = list(some_calls())
         text = "".join(f"{numbers[name]} {' '.join(map(str, values))}\n" for name, *values in calls)
-        log = os.path.join(self.folder, "log")
-        status, _, err = self.run_words(["strace", "-o", log, sys.executable, "-c", MAKER, self.file("calls", text)])
-        self.assertEqual(status, 0, err)
+        log, (status, _) = self.strace(sys.executable, "-c", MAKER, self.file("calls", text))
+        self.assertEqual(status, 0)
         # the C library's names of two that the kernel's headers call otherwise
         text = re.sub("(PEEK|POKE)USER", r"\1USR", text_of(log)).replace("SCHED_OTHER", "SCHED_NORMAL")
         refused = [line for line in text.split("\n") if line.endswith("= -1 EPERM (Operation not permitted)")]

@@ -247,6 +247,16 @@ class Case(unittest.TestCase):
             self.skipTest("no such program can be built here")
         return path
 
+    def strace(self, *words):
+        """The file of the log that strace writes by its own words and a program's, and how it ends; the test is skipped
+        where it may not trace."""
+        log = os.path.join(self.folder, "strace.log")
+        done = subprocess.run(["strace", "-o", log, *words], stdin=subprocess.DEVNULL, stdout=subprocess.PIPE,
+                              stderr=subprocess.DEVNULL, cwd=self.folder, check=False)
+        if not os.path.exists(log) or not os.path.getsize(log):
+            self.skipTest("strace may not trace here")
+        return log, (done.returncode, done.stdout)
+
     def compile(self, *words):
         """How `scf compile` ends, the filter that it writes to the file `f.bpf`, and what it says."""
         path = self.file("f.bpf", b"")
