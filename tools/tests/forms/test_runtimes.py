@@ -633,8 +633,7 @@ class VerifyProcess(Case):
         with container("runc", config(given)) as (process, why):
             self.assertIsNotNone(process, why)
             for words in ((), ("--calls",), ("--no-more",), ("--no-less",), ("--json",)):
-                status, out, err = self.verify(process, given, "--runtime", "runc", *words)
-                self.assertEqual((status, err), (0, ""), out)
+                out = self.out_of(0, self.verify(process, given, "--runtime", "runc", *words))
             self.assertIn("\n# so it answers i386's msgrcv, semget, shmat, though",
                           self.verify(process, given, "--runtime", "runc")[1])
         # a process that has what runc's filter hasn't: each answer that is shown is its own

@@ -83,9 +83,8 @@ def of_root(answer):
 class Audits(OwnMachine):
     def audits(self, **settings):
         """What two audits say, one after another, as --watch makes them."""
-        status, out, err = self.on("/usr/bin/python3", "-c", AUDIT, os.path.join(TOP, "tools"),
-                                   json.dumps({**BUDGETS, **settings}))
-        self.assertEqual((status, err), (0, ""))
+        out = self.out_of(0, self.on("/usr/bin/python3", "-c", AUDIT, os.path.join(TOP, "tools"),
+                                     json.dumps({**BUDGETS, **settings})))
         return [json.loads(line) for line in out.splitlines()]
 
 

@@ -167,8 +167,7 @@ class Programs(Audited, OwnMachine):
         self.crowd(("alpha", [filter_of([0])], 1, 1))
         value = self.audit()
         name, count = value["rows"][0]["name"], "other confined programs: stricter 1"
-        status, out, err = self.on(tool("audit"), "--since", self.file("same.json", json.dumps(value)))
-        self.assertEqual((status, err), (4, ""))
+        out = self.out_of(4, self.on(tool("audit"), "--since", self.file("same.json", json.dumps(value))))
         lines = out.splitlines()
         self.assertIn(f"# nothing changed since {value['time']}", lines)
         self.assertIn(f"# {count}; without a configuration, and listed by --programs: 1", lines)
@@ -194,8 +193,7 @@ class Programs(Audited, OwnMachine):
         self.assertEqual([process["threads"] for process in part["processes"]], [300, 1, 1, 1, 1, 1])
         self.assertEqual([process["name"] for process in part["processes"]],
                          ["many", "x\\x0a# done", 'a"} 1\\x0ab', "\\x1b[2J", "y\\", "\\xff"])
-        status, out, err = self.on(tool("audit"), "--programs")
-        self.assertEqual((status, err), (4, ""))
+        out = self.out_of(4, self.on(tool("audit"), "--programs"))
         self.assertEqual({line[:10] for line in out.splitlines() if line[:2] != "# "}, {"stricter: "}, out)
         self.assertTrue(out.replace("\n", "").isprintable())
 

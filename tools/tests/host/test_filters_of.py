@@ -55,10 +55,9 @@ class Programs(Confined):
                 self.assertIn(word, out)
         for name, *before in (("filters-of",), ("verify-process", "--")):
             for pid in ("0", "-1", "x", "1.5", "4294967296", "²", "9" * 5000, "\x1b[2J\n"):
-                status, out, err = self.run_tool(name, *before, pid, "out")
-                self.assertEqual((status, out), (2, ""))
-                self.assertIn("isn't a process ID", err)
-                self.assertNotIn("\x1b", err)
+                done = self.run_tool(name, *before, pid, "out")
+                self.is_refusal("isn't a process ID", done)
+                self.assertNotIn("\x1b", done[2])
         self.assertEqual(self.run_tool("filters-of", "--thread", "0", "1", "out")[0], 2)
         self.assertEqual(self.run_tool("verify-process", "--native", "--calls", "1", "p")[0], 2)
 
@@ -488,9 +487,7 @@ class Containers(Confined):
     def test_no_container(self):
         child = self.child([OLDEST])
         self.skip_in_a_group(child.pid)
-        status, out, err = self.verify(child.pid, ALLOWS_ALL, "--all")
-        self.assertEqual((status, out), (2, ""))
-        self.assertIn(f"process {child.pid} is in no container", err)
+        self.is_refusal(f"process {child.pid} is in no container", self.verify(child.pid, ALLOWS_ALL, "--all"))
 
     @here
     @ROOT
@@ -502,8 +499,7 @@ class Containers(Confined):
         self.assertEqual(child.stdout.readline(), "2\n")
         second = children_of(first)[0]
         self.wait_for(second, "S")
-        status, out, err = self.verify(first, refuses("mount"), "--all")
-        self.assertEqual((status, err), (1, ""))
+        out = self.out_of(1, self.verify(first, refuses("mount"), "--all"))
         blocks = out.split("\n\n")
         self.assertEqual([block.split("\n")[0] for block in blocks], ["differs", "same"])
         self.assertIn(f"# process {second} (", blocks[0])
@@ -613,8 +609,7 @@ class Containers(Confined):
         profile = {"defaultAction": "SCMP_ACT_ERRNO", "defaultErrnoRet": 1, "architectures": ["SCMP_ARCH_X86_64"],
                    "syscalls": [{"names": allowed, "action": "SCMP_ACT_ALLOW"}]}
         _, pid = self.container(profile, "runc")
-        status, out, err = self.verify(pid, json.dumps(profile))
-        self.assertEqual((status, err), (1, ""))
+        out = self.out_of(1, self.verify(pid, json.dumps(profile)))
         self.assertEqual(out.split("\n")[:4],
                          ["differs", "call nr 440 arch 0xc000003e ip 0x0 args 0x0 0x0 0x0 0x0 0x0 0x0",
                           "filter ERRNO 38", "profile ERRNO 1"])
@@ -631,8 +626,7 @@ class Containers(Confined):
         self.assertEqual(notes[0], "syscalls in the table that differ: 2")
         self.assertEqual([line.split()[:2] for line in notes[1:3]], [["161", "chroot"], ["165", "mount"]])
         self.assertTrue(notes[3].startswith("syscalls with numbers above all that the profile names"), notes)
-        status, out, err = self.verify(pid, json.dumps(profile), "--all")
-        self.assertEqual((status, err), (1, ""))
+        out = self.out_of(1, self.verify(pid, json.dumps(profile), "--all"))
         self.assertIn("its processes that were checked: 1", out)
 
     @here

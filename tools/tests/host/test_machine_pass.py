@@ -64,8 +64,7 @@ time.sleep(1000)
 class Passes(OwnMachine):
     def found(self, **limits):
         """What is copied: the object, with the processes of each stack by the lengths of its filters."""
-        status, out, err = self.on("/usr/bin/python3", "-c", PASS, os.path.join(TOP, "tools"), json.dumps(limits))
-        self.assertEqual((status, err), (0, ""))
+        out = self.out_of(0, self.on("/usr/bin/python3", "-c", PASS, os.path.join(TOP, "tools"), json.dumps(limits)))
         value = json.loads(out)
         value["unread"] = {int(number): why for number, why in value["unread"].items()}
         value["threads"] = {tuple(lengths): threads for lengths, _, threads in value["read"]}

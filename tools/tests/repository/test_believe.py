@@ -126,8 +126,7 @@ class Believe(Case):
         return self.run_words([for_developers("believe"), "--repository", self.tree(**changed), *words])
 
     def prints(self, words, *lines):
-        status, out, err = self.believe(*words)
-        self.assertEqual((status, err), (0, ""))
+        out = self.out_of(0, self.believe(*words))
         self.assertEqual(out.splitlines(), list(lines))
 
     def test_what_a_clause_stands_on(self):
@@ -155,16 +154,14 @@ class Believe(Case):
     def test_definitions_with_parameters_in_common(self):
         text = ("use Rattle.low.specs.Fine.{IsFine}\n\nabbrev pub Alike : Type 0\nAlike = Inside 1\n\n"
                 "module _ (n : ℕ) where\n  -- the number is fine\n  abbrev pub Inside : Type 0\n  Inside = IsFine n\n")
-        status, out, err = self.believe("top::made", **{"crates/top/specs/Alike.antt": text})
-        self.assertEqual((status, err), (0, ""))
+        out = self.out_of(0, self.believe("top::made", **{"crates/top/specs/Alike.antt": text}))
         self.assertEqual(out.splitlines()[3:5], [f"{ALIKE}:3-4 Alike", f"{ALIKE}:7-9 Inside"])
 
     def test_a_call_for_c(self):
         calls = "crates/top/src/calls.rt"
         exported = FILES[calls].replace("pub fn made(n", '#[unsafe(no_mangle)]\npub extern "C" fn top_made(n')
-        status, out, err = self.believe("top_made", **{
-            calls: exported, "crates/top/src/lib.rt": "mod calls;\n\npub use calls::{top_made, Store, stored};\n"})
-        self.assertEqual((status, err), (0, ""))
+        out = self.out_of(0, self.believe("top_made", **{
+            calls: exported, "crates/top/src/lib.rt": "mod calls;\n\npub use calls::{top_made, Store, stored};\n"}))
         self.assertIn(f"{ALIKE}:3-4 Alike\n", out)
 
     def test_wrong_words(self):
@@ -174,10 +171,9 @@ class Believe(Case):
                             ([], "either a CALL, a --page or --all"), (["a", "b", "c"], "unrecognized"),
                             (["a", "--page", "b"], "either a CALL"), (["a", "--write"], "either a CALL"),
                             (["--page", "none"], "No such file"), (["\udcff"], r"no public call '\udcff'")):
-            status, out, err = self.believe(*words)
-            self.assertEqual((status, out), (2, ""), words)
-            self.assertIn(message, err)
-            self.assertNotIn("Traceback", err)
+            done = self.believe(*words)
+            self.is_refusal(message, done)
+            self.assertNotIn("Traceback", done[2])
 
     def test_a_public_clause_stands_on_no_internal_definition(self):
         """Neither by its own names nor by those of a definition, an operator or a whole path."""
@@ -200,8 +196,7 @@ class Believe(Case):
                     "as words", "as words\nuse Rattle.low.specs.internal.States as states"), "low::made",
                  message.format("IsState"))):
             with self.subTest(name + wanted[1]):
-                status, out, err = self.believe("--all", **inner, **{name: text})
-                self.assertEqual((status, err), (1, ""))
+                out = self.out_of(1, self.believe("--all", **inner, **{name: text}))
                 self.assertIn(" ".join(wanted) + "\n", out)
                 self.assertEqual(self.believe(wanted[0], **inner, **{name: text})[:2], (1, ""))
 
@@ -223,8 +218,7 @@ a ~~ b = a ≡ b
 
     def test_a_page(self):
         path = self.file("page.md", self.PAGE.format("", self.OTHERS.format("")))
-        status, out, err = self.believe("--page", path)
-        self.assertEqual((status, err), (1, ""))
+        out = self.out_of(1, self.believe("--page", path))
         self.assertIn("+- low/specs/Fine.antt: `IsFine` (4 lines)\n", out)
         self.assertIn("+- top/specs/Alike.antt: `Alike` (2 lines)\n", out)
         self.assertEqual(self.believe("--page", path, "--write"), (0, "", ""))
@@ -248,8 +242,7 @@ a ~~ b = a ≡ b
         self.assertEqual(self.believe("--page", path, "--write"), (0, "", ""))
         # a list beside another one has only what that one hasn't, so that both are wanted
         path = self.file("page.md", calls)
-        status, out, err = self.believe("--page", path, "--write")
-        self.assertEqual((status, err), (1, ""))
+        out = self.out_of(1, self.believe("--page", path, "--write"))
         self.assertIn("low::made stands on IsFine of crates/low/specs/Fine.antt, which no list has\n", out)
 
     def test_lists_beside_others_and_of_files_alone(self):

@@ -91,8 +91,7 @@ class Install(Case):
         self.file("p.json", profile_of("read", "write"))
         self.assertEqual(self.run_installed("scf", "check", given=filter_of([])), (0, "accepted 8\n", ""))
         for words in (["scf-compare"], ["scf", "compare"]):
-            status, out, err = self.run_installed(*words, "f.bpf", "p.json")
-            self.assertEqual((status, err), (1, ""))
+            out = self.out_of(1, self.run_installed(*words, "f.bpf", "p.json"))
             self.assertIn("exit_group (231)", out)
         self.assertIn("usage: scf lint ", self.run_installed("scf", "help", "lint")[1])
         self.assertIn("usage: scf asm ", self.run_installed("scf", "help", "asm")[1])
@@ -104,15 +103,11 @@ class Install(Case):
         version = self.run_installed("scf", "--version")[1].strip()
         for name in TOOLS:
             with self.subTest(name):
-                status, out, err = self.run_installed(f"scf-{name}", "--help")
-                self.assertEqual((status, err), (0, ""))
+                out = self.out_of(0, self.run_installed(f"scf-{name}", "--help"))
                 self.assertIn(f"usage: scf-{name} ", out)
-                status, out, err = self.run_installed(f"scf-{name}", "--version")
-                self.assertEqual((status, err), (0, ""))
+                out = self.out_of(0, self.run_installed(f"scf-{name}", "--version"))
                 self.assertIn(version, out)
-                status, out, err = self.run_installed(f"scf-{name}", "--no-such-option")
-                self.assertEqual((status, out), (2, ""))
-                self.assertIn(f"scf-{name}: ", err)
+                self.is_refusal(f"scf-{name}: ", self.run_installed(f"scf-{name}", "--no-such-option"))
 
     def test_nothing_that_stands_beside_it_runs_or_is_read(self):
         self.installed()

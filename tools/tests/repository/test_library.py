@@ -137,8 +137,7 @@ class Built(Case):
         return out
 
     def runs(self, *words, **env):
-        status, out, err = self.run_words(words, env={**os.environ, "LD_LIBRARY_PATH": OUT, **env})
-        self.assertEqual((status, err), (0, ""), words)
+        out = self.out_of(0, self.run_words(words, env={**os.environ, "LD_LIBRARY_PATH": OUT, **env}))
         return out
 
 

@@ -297,17 +297,23 @@ class Case(unittest.TestCase):
     def run_tool(self, name, *words, given=b"", **settings):
         return self.run_words([tool(name), *words], given, **settings)
 
-    def output_of(self, status, *words, **settings):
-        """What a tool prints that ends with a status and says nothing else."""
-        done = self.run_tool(*words, **settings)
-        self.assertEqual((done[0], done[2]), (status, ""), words)
+    def out_of(self, status, done):
+        """What something printed that ended with a status and said nothing else."""
+        self.assertEqual((done[0], done[2]), (status, ""), done[1])
         return done[1]
+
+    def output_of(self, status, *words, **settings):
+        """The same of a tool with these words."""
+        return self.out_of(status, self.run_tool(*words, **settings))
+
+    def is_refusal(self, says, done):
+        """Something ended with status 2, and said so on standard error alone."""
+        self.assertEqual(done[:2], (2, ""), says)
+        self.assertIn(says, done[2])
 
     def is_refused(self, says, *words, **settings):
         """A tool refuses its words, and says so on standard error alone."""
-        status, out, err = self.run_tool(*words, **settings)
-        self.assertEqual((status, out), (2, ""), words)
-        self.assertIn(says, err)
+        self.is_refusal(says, self.run_tool(*words, **settings))
 
     def closed_output(self, name, *words, given=b""):
         """A tool whose output is full."""
@@ -319,13 +325,10 @@ class Case(unittest.TestCase):
 
         For --help it is started, as a user does.
         """
-        status, out, err = self.run_words(["env", tool(name), "--help"])
-        self.assertEqual((status, err), (0, ""))
+        out = self.out_of(0, self.run_words(["env", tool(name), "--help"]))
         self.assertIn("usage", out.lower())
         for words in (without, ("--no-such-option",)):
-            status, out, err = self.run_tool(name, *words)
-            self.assertEqual((status, out), (2, ""), words)
-            self.assertIn(name, err)
+            self.is_refusal(name, self.run_tool(name, *words))
 
     def made_tree(self, scf):
         """A tree with the tools, the table and the page of faults, and a program that stands in for scf."""
