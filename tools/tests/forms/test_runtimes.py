@@ -500,8 +500,7 @@ class Tools(Case):
         for runtime, newer in (("runc", "ERRNO 38 stub"), ("crun", "ERRNO 1 default")):
             for call, line in ((("mkdir",), "ALLOW 0 entry 1"), (("read",), "ALLOW 0 entry 1"), (("95",), newer),
                                (("rmdir", "--a0=2"), "ALLOW 0 entry 3"), (("rmdir", "--a0=3"), "ERRNO 1 default")):
-                status, out, _ = self.run_tool("ask", "--runtime", runtime, "--nr", *call, self.path)
-                self.assertEqual((status, out.splitlines()[0]), (0, line), (runtime, call))
+                self.begins(0, line, self.run_tool("ask", "--runtime", runtime, "--nr", *call, self.path))
         self.assertEqual(self.run_tool("ask", "--nr", "mkdir", self.path)[1].split("\n")[0],
                          "fault profile RepeatedIndex entry 3")
         out = self.run_tool("ask", "--runtime", "runc", "--nr", "95", self.path)[1]
@@ -594,8 +593,7 @@ class VerifyProcess(Case):
                 resolved = engines.Resolver(setting, lambda _: None).resolved(given)
                 with container(runtime, config(resolved, capabilities)) as (process, why):
                     self.assertIsNotNone(process, why)
-                    status, out, _ = self.verify(process, given, "--runtime", engine)
-                    self.assertEqual((status, out.splitlines()[0]), (0, "same"), capabilities)
+                    out = self.begins(0, "same", self.verify(process, given, "--runtime", engine))
                     names = ", ".join(capability[4:] for capability in capabilities) or "none"
                     self.assertIn(f"\n# resolved for the capabilities of the process's bounding set: {names}\n", out)
                     has_default = capabilities == []
@@ -616,8 +614,7 @@ class VerifyProcess(Case):
             hole = load(0) + jeq(number, 0, 1) + ret(ALLOWED) + insn(0, 0) + stubbed
             child, _ = started([[self.file("f.bpf", hole)]])
             self.addCleanup(ended, child)
-            status, out, _ = self.verify(child.pid, given, "--runtime", "runc")
-            self.assertEqual((status, out.splitlines()[0]), (1, "differs"))
+            out = self.begins(1, "differs", self.verify(child.pid, given, "--runtime", "runc"))
             self.assertIn("# by the ENOSYS that runc puts before the filter\n", out)
             named = [name] if name else []
             self.assertEqual([line.split()[2] for line in out.splitlines() if " differs " in line], named)
@@ -641,8 +638,7 @@ class VerifyProcess(Case):
         child, _ = started([[self.file("f.bpf", load(0) + jeq(397, 0, 1) + ret(0x00050016) + insn(0, 0)
                                        + stub(335) + insn(0, 0) + compiled(applied))]])
         self.addCleanup(ended, child)
-        status, out, _ = self.verify(child.pid, given, "--runtime", "runc")
-        self.assertEqual((status, out.splitlines()[0]), (1, "differs"))
+        self.begins(1, "differs", self.verify(child.pid, given, "--runtime", "runc"))
 
     def test_an_entry_that_is_never_handed_over(self):
         given = profile(entry("mkdir", action=ERRNO, errnoRet=1), entry("mkdir"))

@@ -57,8 +57,7 @@ class Lists(Case):
         """What a program loads for a list is proved to be what the list's profile answers."""
         paths = [self.file(f"{at}.bpf", data) for at, data in enumerate(filters)]
         self.assertTrue(paths, text)
-        status, out, err = self.run_tool("compare", *paths, self.file("list", text))
-        self.assertEqual((status, out.split("\n")[0]), (0, "same"), (text, out, err))
+        self.begins(0, "same", self.run_tool("compare", *paths, self.file("list", text)))
 
     def traced(self, words, log="log"):
         """The stacks of filters that processes of a command load, in their order."""

@@ -41,8 +41,7 @@ class Configurations(Confined):
         child = self.child([])
         for given in WITHOUT:
             for words in RUNTIMES:
-                status, out = self.verify(child, given, *words)
-                self.assertEqual((status, out.splitlines()[0]), (1, BY_CONFIGURATION), (given, words))
+                out = self.begins(1, BY_CONFIGURATION, self.verify(child, given, *words))
                 self.assertIn(f"# process {child.pid} (", out)
                 self.assertIn(f"# {NOTHING}\n", out)
                 status, out = self.verify(child, given, "--json", *words)
@@ -81,8 +80,7 @@ class Configurations(Confined):
         given["linux"]["seccomp"]["syscalls"].append({"names": ["mount"], "action": "SCMP_ACT_TRAP"})
         child = self.child([])
         for words in RUNTIMES:
-            status, out = self.verify(child, given, *words)
-            self.assertEqual((status, out.splitlines()[0]), (1, THOUGH), words)
+            self.begins(1, THOUGH, self.verify(child, given, *words))
 
     def test_a_thread_beside_others(self):
         child = self.child([refusing(MOUNT)], [])

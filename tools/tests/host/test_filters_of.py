@@ -294,8 +294,7 @@ class VerifyProcess(Confined):
     @here
     def test_one_stack(self):
         child = self.child([OLDEST, load(0) + jeq(1, 0, 1) + ret(ALLOW) + ret(ALLOW)])
-        status, out = self.verify(child, ALLOWS_ALL)
-        self.assertEqual((status, out.split("\n")[0]), (0, "same"))
+        out = self.begins(0, "same", self.verify(child, ALLOWS_ALL))
         self.assertEqual(comments(out)[-1], f"{self.called(child)} has 2 filters, of 1, 4 instructions")
         status, out = self.verify(child, profile_of("read"))
         self.assertEqual(status, 1)
@@ -311,8 +310,7 @@ class VerifyProcess(Confined):
         status, out = self.verify(child, ALLOWS_ALL)
         self.assertEqual(status, 1)
         self.assertIn("\n# the last tests on the path in 0.bpf:\n", out)
-        status, out = self.verify(child, refuses("umount2"), "--no-more")
-        self.assertEqual((status, out.split("\n")[0]), (1, "more"))
+        out = self.begins(1, "more", self.verify(child, refuses("umount2"), "--no-more"))
         self.assertIn("\n# the last tests on the path in 0.bpf:\n", out)
         self.assertEqual(self.run_tool("filters-of", str(child.pid), "out")[1], "out/0.bpf\nout/1.bpf\n")
         child = self.child([refusing(MOUNT), refusing(MOUNT)])
@@ -390,8 +388,7 @@ class VerifyProcess(Confined):
         untested = load(0) + jeq(MOUNT, 0, 1) + ret(EPERM) + ret(ALLOW)
         child, named = self.child([untested]), refuses("mount", architectures=["SCMP_ARCH_X86_64", "SCMP_ARCH_X86"])
         self.assertEqual(self.verify(child, named, "--native")[1].split("\n")[0], "same")
-        status, out = self.verify(child, named)
-        self.assertEqual((status, out.split("\n")[0]), (1, "differs"))
+        out = self.begins(1, "differs", self.verify(child, named))
         self.assertIn("x32: some syscalls are allowed, such as read (0x40000000 + 0): ALLOW; the profile doesn't name "
                       "SCMP_ARCH_X32", comments(out))
         logs_one = (load(4) + jeq(I386, 0, 4) + load(0) + jeq(3, 0, 1) + ret(0x7FFC0000) + ret(EPERM) + refusing(MOUNT))
@@ -404,16 +401,14 @@ class VerifyProcess(Confined):
         reads = {"defaultAction": "SCMP_ACT_ERRNO", "architectures": ["SCMP_ARCH_X86"],
                  "syscalls": [{"names": ["read"], "action": "SCMP_ACT_LOG"}]}
         of_i386 = self.file("i386.json", json.dumps(reads))
-        status, out = self.verify(self.child([logs_one]), refuses("mount"), "--also", of_i386)
-        self.assertEqual((status, out.split("\n")[0]), (0, "same"))
+        self.begins(0, "same", self.verify(self.child([logs_one]), refuses("mount"), "--also", of_i386))
 
     @here
     def test_named_calls_alone(self):
         """A call that no name has makes no difference."""
         child = self.child([refusing(MOUNT, 0x3FFFFFFF)])
         self.assertEqual(self.verify(child, refuses("mount"))[0], 1)
-        status, out = self.verify(child, refuses("mount"), "--calls")
-        self.assertEqual((status, out.split("\n")[0]), (0, "same"))
+        self.begins(0, "same", self.verify(child, refuses("mount"), "--calls"))
 
     @here
     def test_json(self):
@@ -572,8 +567,7 @@ class Containers(Confined):
         self.assertEqual((status, err, [block.split("\n")[0] for block in out.split("\n\n")]),
                          (1, "", ["differs", "same"]))
         self.assertIn(f"/scf-test-{os.getpid()}; its processes that were checked: 2", comments(out)[-1])
-        status, out, err = self.verify(children[1].pid, refuses("umount2"), "--all")
-        self.assertEqual((status, out.split("\n")[0]), (0, "same"))
+        self.begins(0, "same", self.verify(children[1].pid, refuses("umount2"), "--all"))
         for child in children:
             self.runs_on(child)
 

@@ -68,8 +68,7 @@ class Containers(Hook):
 
     def is_same(self, pid, profile, *words):
         """verify-process says it plainly."""
-        status, out, err = self.run_tool("verify-process", "--all", *words, str(pid), profile)
-        self.assertEqual((status, out.split("\n")[0]), (0, "same"), err)
+        out = self.begins(0, "same", self.run_tool("verify-process", "--all", *words, str(pid), profile))
         self.assertFalse([line for line in out.split("\n") if "differ" in line], out)
 
     def called(self, *words):

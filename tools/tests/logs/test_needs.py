@@ -441,10 +441,8 @@ class Needs(Judgement):
             self.assertEqual(self.judged(f"{name}(0x1) = -1", 4)[1]["not_judged"]["names"], {name: 1})
 
     def test_limits_and_refusals(self):
-        status, out, _ = self.needs("socket(AF_NONE) = 3", "--limit=0")
-        self.assertEqual((status, out.split("\n")[0]), (4, "41 socket unfinished"))
-        status, out, _ = self.needs("socket(X) = 3", "--limit=x")
-        self.assertEqual((status, out.split("\n")[0]), (2, "fault number limit"))
+        self.begins(4, "41 socket unfinished", self.needs("socket(AF_NONE) = 3", "--limit=0"))
+        self.begins(2, "fault number limit", self.needs("socket(X) = 3", "--limit=x"))
         for text, fault in (("{", "fault profile Json"), ('{"defaultAction":"ALLOW"}', "fault profile Action")):
             status, out, err = self.run_tool("needs", self.file("log", "read(1) = 1"), self.file("q.json", text))
             self.assertEqual((status, out.split("\n")[0], err), (2, fault, ""))
@@ -566,8 +564,7 @@ class InArchitectures(Judgement):
             taken = ("# a log that doesn't say its architecture is taken as aarch64's, since the profile doesn't list "
                      "x86-64: --arch names another\n")
             self.assertEqual(self.needs(log, profile=arm), (1, lines + taken + remarks, ""))
-        status, out, _ = self.needs(log, "--arch", "x86-64", profile=arm)
-        self.assertEqual((status, out.split("\n")[0]), (1, "0 read KILL_PROCESS 0 foreign"))
+        out = self.begins(1, "0 read KILL_PROCESS 0 foreign", self.needs(log, "--arch", "x86-64", profile=arm))
         self.assertIn("# x86-64 syscalls aren't allowed, since the profile doesn't list SCMP_ARCH_X86_64: ", out)
         status, out, _ = self.needs("read(3) = 1\n[ Process PID=7 runs in 32 bit mode. ]\nmmap2(3) = 1\nopen(1) = 1",
                                     profile={**arm, "architectures": ["SCMP_ARCH_AARCH64", "SCMP_ARCH_ARM"]})

@@ -148,8 +148,7 @@ class Believe(Case):
     def test_over_crates_and_traits(self):
         self.prints(["put"], IS_FINE, LOW, BY_KINDS, f"{ALIKE}:3-4 Alike", KIND, PART,
                     "top::Store::put: 4 definitions, 12 lines; beside them 2 types, 11 lines of the code")
-        status, out, _ = self.believe("stored")
-        self.assertEqual((status, out.splitlines()[0]), (0, "crates/top/src/calls.rt:3-8 Store"))
+        self.begins(0, "crates/top/src/calls.rt:3-8 Store", self.believe("stored"))
 
     def test_definitions_with_parameters_in_common(self):
         text = ("use Rattle.low.specs.Fine.{IsFine}\n\nabbrev pub Alike : Type 0\nAlike = Inside 1\n\n"

@@ -302,8 +302,13 @@ class Case(unittest.TestCase):
         self.assertEqual((done[0], done[2]), (status, ""), done[1])
         return done[1]
 
+    def begins(self, status, line, done):
+        """What something printed that ended with a status; its first line is this one."""
+        self.assertEqual((done[0], done[1].split("\n")[0]), (status, line), done)
+        return done[1]
+
     def output_of(self, status, *words, **settings):
-        """The same of a tool with these words."""
+        """What a tool prints that ends with a status and says nothing else."""
         return self.out_of(status, self.run_tool(*words, **settings))
 
     def is_refusal(self, says, done):
