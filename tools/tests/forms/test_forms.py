@@ -227,8 +227,7 @@ class Raw(Case):
             self.assertIsNone(texts.form_of(data, "it"))
             path = self.file("f.bpf", data)
             expected = subprocess.run([*CORE, "dis"], input=data, stdout=subprocess.PIPE, check=True).stdout.decode()
-            out = self.output_of(0, "list", path)
-            self.assertIn(expected.split("\n")[0], out)
+            self.assertIn(expected.split("\n")[0], self.output_of(0, "list", path))
 
     def test_every_code_that_the_kernel_takes_is_below_256(self):
         """What the rule stands on: seccomp_check_filter of kernel/seccomp.c, by scf."""

@@ -109,5 +109,4 @@ class Units(Case):
                             (["lint", "unit:box.service"], "# findings"),
                             (["surface", "unit:box.service"], "denied 1")):
             with self.subTest(words):
-                out = self.output_of(0, *words, env=self.env)
-                self.assertIn(says, out)
+                self.assertIn(says, self.output_of(0, *words, env=self.env))

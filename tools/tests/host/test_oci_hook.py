@@ -60,8 +60,7 @@ class OfStates(Hook):
     """What the runtime says."""
 
     def test_usage(self):
-        out = self.output_of(0, "oci-hook", "--help")
-        self.assertIn("EINTR", out)
+        self.assertIn("EINTR", self.output_of(0, "oci-hook", "--help"))
         for words in (("--no-such-option",), ("x",), ("--policy", "less"), ("--wait", "61"), ("--wait", "nan"),
                       ("--wait", "-1"), ("--table", "-")):
             self.is_refused("oci-hook: ", "oci-hook", *words)

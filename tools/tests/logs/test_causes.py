@@ -752,8 +752,7 @@ class Journals(Causes):
 
     def test_what_cannot_be_read(self):
         for text in (journal(WRITTEN)[:-1], '{"MESSAGE": ' + "[" * 5000, '[{"pid": 1', "[\n{", '{"'):
-            out = self.output_of(2, "why", "-", given=text.encode())
-            self.assertIn("# line 1 isn't judged: it isn't a", out)
+            self.assertIn("# line 1 isn't judged: it isn't a", self.output_of(2, "why", "-", given=text.encode()))
 
     def test_cores(self):
         present = ("# process 1065 (sleep) was ended by SIGSYS, and its core has the syscall: coredumpctl dump 1065 | "
@@ -798,8 +797,7 @@ class Words(Causes):
     def test_refusals(self):
         for name, data, line in (("q.json", b"{", "fault profile Json"), ("f.bpf", jeq(0, 9, 0) + ret(ALLOW),
                                                                          "fault filter Jump at 0")):
-            out = self.output_of(2, "why", WRITTEN, self.file(name, data))
-            self.assertIn(f"{line}\n# ", out)
+            self.assertIn(f"{line}\n# ", self.output_of(2, "why", WRITTEN, self.file(name, data)))
         status, out, err = self.run_tool("why", WRITTEN, "none")
         self.assertEqual((status, out, err), (2, "", "why: there is no file 'none'\n"))
 
@@ -808,8 +806,7 @@ class Words(Causes):
         reads = [entry("read", action="SCMP_ACT_ERRNO", args=[where(at % 6, "MASKED_EQ", 2 * at + 1, 1)])
                  for at in range(2000)]
         profile = self.profile(*reads, entry("socket", action="SCMP_ACT_KILL_PROCESS"))
-        out = self.output_of(0, "why", WRITTEN, profile)
-        self.assertEqual(out.splitlines()[-1], "# so the profile answers it")
+        self.assertEqual(self.output_of(0, "why", WRITTEN, profile).splitlines()[-1], "# so the profile answers it")
 
     def test_json(self):
         profile = self.profile(entry("socket", action="SCMP_ACT_KILL_PROCESS"))

@@ -118,8 +118,7 @@ class Words(Case):
         self.profile = self.file("p.json", b'{"defaultAction":"SCMP_ACT_ALLOW"}')
 
     def answer(self, *words):
-        out = self.output_of(0, "decide", *words)
-        return out.split("\n")[0]
+        return self.output_of(0, "decide", *words).split("\n")[0]
 
     def test_names_and_audits_hexadecimal(self):
         for word in ("i386", "SCMP_ARCH_X86", "0x40000003", "x86"):

@@ -179,8 +179,7 @@ class CallTable(Case):
 
     @unittest.skipUnless(ctypes.util.find_library("seccomp"), "there is no libseccomp here")
     def test_what_libseccomp_knows(self):
-        out = self.output_of(0, "call-table", "--libseccomp")
-        lines = out.splitlines()
+        lines = self.output_of(0, "call-table", "--libseccomp").splitlines()
         self.assertRegex(lines[0], r"^# The x86-64 syscalls that libseccomp [0-9]+\.[0-9]+\.[0-9]+ knows\.$")
         actual = {line.split(" ")[0]: line for line in text_of(TABLE).splitlines()}
         rows = lines[1:]

@@ -126,8 +126,7 @@ class Believe(Case):
         return self.run_words([for_developers("believe"), "--repository", self.tree(**changed), *words])
 
     def prints(self, words, *lines):
-        out = self.out_of(0, self.believe(*words))
-        self.assertEqual(out.splitlines(), list(lines))
+        self.assertEqual(self.out_of(0, self.believe(*words)).splitlines(), list(lines))
 
     def test_what_a_clause_stands_on(self):
         self.prints(["low::made", "fine"], IS_FINE, LOW, BY_KINDS, KIND, PART,
@@ -195,8 +194,7 @@ class Believe(Case):
                     "as words", "as words\nuse Rattle.low.specs.internal.States as states"), "low::made",
                  message.format("IsState"))):
             with self.subTest(name + wanted[1]):
-                out = self.out_of(1, self.believe("--all", **inner, **{name: text}))
-                self.assertIn(" ".join(wanted) + "\n", out)
+                self.assertIn(" ".join(wanted) + "\n", self.out_of(1, self.believe("--all", **inner, **{name: text})))
                 self.assertEqual(self.believe(wanted[0], **inner, **{name: text})[:2], (1, ""))
 
     def test_an_operator_is_a_definition_too(self):

@@ -91,8 +91,7 @@ class Install(Case):
         self.file("p.json", profile_of("read", "write"))
         self.assertEqual(self.run_installed("scf", "check", given=filter_of([])), (0, "accepted 8\n", ""))
         for words in (["scf-compare"], ["scf", "compare"]):
-            out = self.out_of(1, self.run_installed(*words, "f.bpf", "p.json"))
-            self.assertIn("exit_group (231)", out)
+            self.assertIn("exit_group (231)", self.out_of(1, self.run_installed(*words, "f.bpf", "p.json")))
         self.assertIn("usage: scf lint ", self.run_installed("scf", "help", "lint")[1])
         self.assertIn("usage: scf asm ", self.run_installed("scf", "help", "asm")[1])
         self.assertEqual(self.run_installed("scf-run", given=b"x")[:2], (3, "fault filter Truncated offset 0\n"))
@@ -103,10 +102,8 @@ class Install(Case):
         version = self.run_installed("scf", "--version")[1].strip()
         for name in TOOLS:
             with self.subTest(name):
-                out = self.out_of(0, self.run_installed(f"scf-{name}", "--help"))
-                self.assertIn(f"usage: scf-{name} ", out)
-                out = self.out_of(0, self.run_installed(f"scf-{name}", "--version"))
-                self.assertIn(version, out)
+                self.assertIn(f"usage: scf-{name} ", self.out_of(0, self.run_installed(f"scf-{name}", "--help")))
+                self.assertIn(version, self.out_of(0, self.run_installed(f"scf-{name}", "--version")))
                 self.is_refusal(f"scf-{name}: ", self.run_installed(f"scf-{name}", "--no-such-option"))
 
     def test_nothing_that_stands_beside_it_runs_or_is_read(self):

@@ -137,8 +137,7 @@ class Built(Case):
         return out
 
     def runs(self, *words, **env):
-        out = self.out_of(0, self.run_words(words, env={**os.environ, "LD_LIBRARY_PATH": OUT, **env}))
-        return out
+        return self.out_of(0, self.run_words(words, env={**os.environ, "LD_LIBRARY_PATH": OUT, **env}))
 
 
 class Interface(Built):

@@ -35,8 +35,7 @@ class Package(Case):
     def made(self, what, folder="made", top=TOP):
         """The files that dev/package writes."""
         env = {**os.environ, "SOURCE_DATE_EPOCH": "1700000000"}
-        out = self.out_of(0, self.run_words([os.path.join(top, "dev", "package"), what, folder], env=env))
-        return out.splitlines()
+        return self.out_of(0, self.run_words([os.path.join(top, "dev", "package"), what, folder], env=env)).splitlines()
 
     def copy_of_tree(self):
         """The tree as it is built, in another folder."""

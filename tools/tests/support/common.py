@@ -330,8 +330,7 @@ class Case(unittest.TestCase):
 
         For --help it is started, as a user does.
         """
-        out = self.out_of(0, self.run_words(["env", tool(name), "--help"]))
-        self.assertIn("usage", out.lower())
+        self.assertIn("usage", self.out_of(0, self.run_words(["env", tool(name), "--help"])).lower())
         for words in (without, ("--no-such-option",)):
             self.is_refusal(name, self.run_tool(name, *words))
 
