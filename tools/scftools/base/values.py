@@ -1,5 +1,5 @@
-"""What takes Python's own modules long at a tool's start: value classes, patterns, the module json, and the types `Any`
-and `NoReturn`; and a value for what the system refuses.
+"""What takes Python's own modules long at a tool's start: value classes, patterns, and the types `Any` and `NoReturn`;
+and a value for what the system refuses.
 
 `dataclass`, `field` and `replace` are those of the module `dataclasses`, as far as the tools need them. That imports
 `inspect` and compiles methods for each class; here the methods of all classes are the same few functions. The types are
@@ -8,7 +8,6 @@ only for who reads or checks them.
 from __future__ import annotations
 
 import re
-import sys
 
 TYPE_CHECKING = False
 if TYPE_CHECKING:
@@ -30,29 +29,6 @@ class Pattern:
         self.__dict__.update((name, getattr(compiled, name))
                              for name in ("finditer", "fullmatch", "match", "search", "sub"))
         return getattr(compiled, name)
-
-
-class LateModule(type(re)):
-    """A module of Python's, which is imported when something of it is first used."""
-
-    def __getattr__(self, name: str) -> Any:
-        if sys.modules.get(self.__name__) is self:
-            del sys.modules[self.__name__]
-        module = __import__(self.__name__)
-        self.__dict__.update(vars(module))
-        return getattr(module, name)
-
-
-def _is_there(name: str) -> bool:
-    try:
-        return any(finder.find_spec(name, None) for finder in sys.meta_path)
-    except ImportError:
-        return False
-
-
-# (many modules import it, and few runs need it; where Python lacks it, they fail as they start)
-if "json" not in sys.modules and _is_there("json"):
-    sys.modules["json"] = LateModule("json")
 
 
 def unless_refused(default: Any, call: Callable[..., Any], *words: Any, **settings: Any) -> Any:

@@ -7,10 +7,7 @@ import importlib.util
 import os
 import pickle
 import re
-import subprocess
-import sys
 import unittest
-from unittest import mock
 
 from support.common import TOP, text_of
 from scftools.base import values
@@ -170,24 +167,6 @@ class Values(unittest.TestCase):
         wrong = values.Pattern("(")
         with self.assertRaises(re.error):
             wrong.match("x")
-
-    def test_a_late_module_is_imported_when_it_is_used(self):
-        with mock.patch.dict(sys.modules):
-            sys.modules.pop("colorsys", None)
-            late = sys.modules["colorsys"] = values.LateModule("colorsys")
-            import colorsys  # pylint: disable=import-outside-toplevel
-            self.assertIs(colorsys, late)
-            self.assertNotIn("rgb_to_hsv", vars(late))
-            self.assertEqual(late.rgb_to_hsv(1, 1, 1), (0, 0, 1))
-            self.assertIs(late.hls_to_rgb, sys.modules["colorsys"].hls_to_rgb)
-            self.assertRaises(AttributeError, lambda: late.other)
-
-    def test_a_start_imports_no_json(self):
-        """Which takes as long as all modules of a small command."""
-        code = (f"import sys; sys.path.append({TOOLS!r}); import scftools.launch, scftools.commands.check; "
-                "print('loads' in vars(sys.modules['json']), sys.modules['json'].loads('[1]'))")
-        words = [sys.executable, "-IS", "-c", code]
-        self.assertEqual(subprocess.run(words, capture_output=True, text=True, check=True).stdout, "False [1]\n")
 
     def test_they_are_pickled(self):
         fault = client.Fault.read("fault profile Conflict number 41 first 0 second 1")
