@@ -1,6 +1,7 @@
 """Reasons: why a profile answers a syscall as it does, by `scf ask`, with the entry that decides and its conditions."""
 from __future__ import annotations
 
+import functools
 import json
 from collections.abc import Iterator, Sequence
 
@@ -45,8 +46,9 @@ def profile_reason(profile: bytes, judged: Tables, words: Sequence[str]) -> Reas
     return _read(done.status, done.text)
 
 
+@functools.lru_cache(None)
 def region_reason(line: str) -> Reason:
-    """The reason of all records of a region of a profile, by its line."""
+    """The reason of all records of a region of a profile, by its line, which many regions have."""
     return _read(program.SUCCESS, line)
 
 
@@ -95,8 +97,14 @@ def index_of(reason: Reason, origins: Sequence[Origin] | None) -> int | None:
     return reason.entry if reason.entry is None or origins is None else origins[reason.entry].index
 
 
+def conditions_met(reason: Reason, profile: bytes, call: Call) -> list[str]:
+    """Lines on the conditions of the entry that gives the answer, as far as a call meets them; none without an entry."""
+    entry = None if reason.entry is None else profiles.entry_at(profile, reason.entry)
+    return [*filter(None, (_condition_text(condition, call) for condition in _conditions(entry)))]
+
+
 def describe_reason(reason: Reason, profile: bytes, call: Call | None,
-             origins: Sequence[Origin] | None = None) -> Iterator[str]:
+                    origins: Sequence[Origin] | None = None) -> Iterator[str]:
     """Lines on what gives the answer; for an entry also on which of its conditions hold."""
     if reason.answer is None:
         return
@@ -109,14 +117,11 @@ def describe_reason(reason: Reason, profile: bytes, call: Call | None,
     else:
         entry, index = profiles.entry_at(profile, reason.entry), index_of(reason, origins)
         yield f"by entry {index} of syscalls" + (f": {_entry_text(entry)}" if entry is not None else "")
-        for condition in _conditions(entry) if call else ():
-            met = _condition_text(condition, call)
-            if met:
-                yield met
+        yield from conditions_met(reason, profile, call) if call else ()
 
 
 def reason_json(reason: Reason, profile: bytes, call: Call | None,
-            origins: Sequence[Origin] | None = None) -> dict[str, object]:
+                origins: Sequence[Origin] | None = None) -> dict[str, object]:
     """The reason as members of an object."""
     if reason.answer is None:
         return {}
@@ -124,7 +129,6 @@ def reason_json(reason: Reason, profile: bytes, call: Call | None,
     word = "foreign" if reason.is_foreign else "stub" if reason.is_stub else "default" if index is None else "entry"
     members: dict[str, object] = {"reason": word}
     if reason.entry is not None and word == "entry":
-        entry = profiles.entry_at(profile, reason.entry)
-        met = [_condition_text(condition, call) for condition in _conditions(entry)] if call else []
-        members.update(entry=index, definition=entry, conditions_met=[text for text in met if text])
+        members.update(entry=index, definition=profiles.entry_at(profile, reason.entry),
+                       conditions_met=conditions_met(reason, profile, call) if call else [])
     return members

@@ -108,7 +108,7 @@ def tell_left_out(of_old, of_new):
 
 def tell_changes(judgement, is_json):
     """Prints all changes between two profiles; the status."""
-    found = changes.changes_of(judgement.comparison, judgement.report)
+    found = changes.changes_of(judgement.comparison, judgement.first)
     if is_json:
         output.put_json(changes.changes_json(found))
     else:
@@ -131,7 +131,7 @@ def main():
 
     if isinstance(old, ProfileInput) and isinstance(new, ProfileInput) and options.scope != verdicts.CALLS:
         judgement = judge(new)
-        if judgement.report.verdict is not None:
+        if judgement.first.verdict is not None:
             return tell_changes(judgement, options.json)
         block = judgement.block(options.json)
         members = {name: value for name, value in block.members.items() if name in OF_FAULT}

@@ -10,6 +10,7 @@ from ..model import constants, tables
 from ..model.answers import DISPOSITIONS, FIRST_X32, Answer
 from ..model.architectures import JUDGED, NATIVE, Architecture
 from ..model.calls import Call
+from ..model.tables import Table
 from ..ask import questions, reasons
 from ..ask.explanation import MORE_SPLITS, join_names
 from ..ask.reasons import Reason
@@ -98,39 +99,46 @@ def _kind(old: Answer, new: Answer) -> str:
     return MORE if before < after else LESS if before > after else OTHERWISE
 
 
-def _of_number(here: Sequence[Region], architecture: Architecture, number: int) -> dict[str, Call] | None:
-    """The kinds of change of a number with these differences, each with an example; None if they don't tell."""
-    kinds: dict[str, Call] = {}
+def _kinds_in(here: Sequence[Region]) -> dict[str, Region] | None:
+    """The kinds of change in these differences, each with one that has it; None if they don't tell."""
+    kinds: dict[str, Region] = {}
     for region in here:
         if not region.is_decided:
             return None
-        call = region.call_of(architecture.first + number, architecture.number)
-        kinds.setdefault(_kind(region.answer, region.beside.answer), call)
+        kinds.setdefault(_kind(region.answer, region.beside.answer), region)
     if len(kinds) > 1:
         kinds.pop(OTHERWISE, None)
     return kinds
 
 
-def _reasons(pair: ProfileComparison, call: Call) -> dict[str, Reason]:
-    """Each profile's answer to a syscall, and its reason."""
-    return {name: pair.reason_of(at, call) for at, name in enumerate(pair.names)}
+def _reasons(pair: ProfileComparison, call: Call | None, region: Region | None = None) -> dict[str, Reason]:
+    """Each profile's answer to a syscall, if there is one, which may be of a known difference; and its reason."""
+    return {name: pair.reason_of(at, call, region) for at, name in enumerate(pair.names)} if call is not None else {}
+
+
+def _of_regions(pair: ProfileComparison, architecture: Architecture, table: Table) -> list[Change] | None:
+    """The syscalls of an architecture that differ; None if the differences don't tell."""
+    changes, numbers = [], pair.differences.of_architecture(architecture)
+    for number in sorted(table.numbers()):
+        kinds = _kinds_in(numbers.of(architecture.first + number))
+        if kinds is None:
+            return None
+        for kind, region in kinds.items():
+            call = region.call_of(architecture.first + number, architecture.number)
+            changes.append(Change(number, tuple(table.names_of(number)), kind, call, _reasons(pair, call, region),
+                                  architecture))
+    return changes if pair.differences.is_finished else None
 
 
 def _of_calls(pair: ProfileComparison) -> list[Change]:
     """The syscalls that differ: first more permissive, then stricter, then others. Where the differences don't tell,
     a number for which scf has an example may have others."""
-    changes, differences = [], pair.differences
+    changes = []
     for name, table in pair.named.items():
-        architecture = JUDGED[name]
-        numbers = differences.of_architecture(architecture)
-        listed = [(number, tuple(table.names_of(number)),
-                   _of_number(numbers.of(architecture.first + number), architecture, number))
-                  for number in sorted(table.numbers())]
-        if differences.regions is None or None in [kinds for _, _, kinds in listed]:
-            listed = [(line.number, line.names, {UNDECIDED if line.verdict.fails else line.verdict.word:
-                                                 line.verdict.call}) for line in pair.calls_of(name, SAME)]
-        changes += [Change(number, names, kind, call, _reasons(pair, call) if call else {}, architecture)
-                    for number, names, kinds in listed for kind, call in kinds.items()]
+        known = _of_regions(pair, JUDGED[name], table)
+        changes += [Change(line.number, line.names, UNDECIDED if line.verdict.fails else line.verdict.word,
+                           line.verdict.call, _reasons(pair, line.verdict.call), JUDGED[name])
+                    for line in pair.calls_of(name, SAME)] if known is None else known
     return sorted(changes, key=lambda change: CHANGE_KINDS.index(change.kind))
 
 
@@ -181,8 +189,7 @@ def _conditions(sides: dict[str, Side], change: Change) -> Iterator[str]:
     """The conditions of both profiles' entries that the example meets, and the example as C would have it."""
     for name, reason in change.reasons.items():
         side = sides[name]
-        for line in list(reasons.describe_reason(reason, side.profile, change.call, side.origins))[1:]:
-            yield f"{name}: {line}"
+        yield from (f"{name}: {line}" for line in reasons.conditions_met(reason, side.profile, change.call))
     if change.names and change.call is not None and any(change.call.arguments):
         yield f"the syscall is {constants.call_text(change.names[0], change.call.arguments)}"
 

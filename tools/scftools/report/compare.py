@@ -16,6 +16,7 @@ from ..ask.client import Fault, Refusal
 from ..ask.differences import EVERY_RECORD, Differences, beyond
 from ..ask.other_abis import AbiAccess
 from ..ask.reasons import Reason
+from ..ask.regions import Region
 from ..ask.verdicts import (ALL, CALLS, FOR_OTHER_ABI, LISTED, NATIVE_SCOPE, NO_LESS, RELATIONS, SAME, SCOPES,
                             UNDETERMINED, UNFINISHED, NamedCall, Report, Verdict, checked)
 from ..forms.filters import Filter
@@ -338,9 +339,10 @@ class ProfileComparison(Pair):
         """The regions of a side, where the differences don't tell."""
         return {}
 
-    def reason_of(self, at: int, call: Call) -> Reason:
-        """A profile's answer to a syscall and its reason: by the differences, by its own regions, or else by `ask`."""
-        region = self.differences.of(call)
+    def reason_of(self, at: int, call: Call, region: Region | None = None) -> Reason:
+        """A profile's answer to a syscall and its reason: by the differences, of which one may be known to have it, by
+        its own regions, or else by `ask`."""
+        region = region or self.differences.of(call)
         if region is not None and (at == 1 or self.are_judged_alike):
             return reasons.region_reason((region.beside if at else region).line)
         source, judged = self.sources[at], self.judged[at]

@@ -2,6 +2,7 @@
 differ, the example with what gives each answer, what was left out, and what is at fault."""
 from __future__ import annotations
 
+import functools
 import itertools
 from collections.abc import Iterator, Sequence
 
@@ -345,15 +346,19 @@ class Judgement:
 
     comparison: Any
     status: int
-    report: Report
+    first: Report
     scope: str
 
     @classmethod
     def of(cls, pairs: Sequence[Pair], scope: str | None) -> Judgement:
-        """That of a side by all that judge it, each for its architectures; with the most telling example."""
-        pair, status, report = compare_unit(pairs, scope)
-        report = verdicts.most_telling(report, pair.table, lambda: pair.named_calls or ())
-        return cls(pair, status, report, scope or pair.scope)
+        """That of a side by all that judge it, each for its architectures."""
+        pair, *found = compare_unit(pairs, scope)
+        return cls(pair, *found, scope or pair.scope)
+
+    @functools.cached_property
+    def report(self) -> Report:
+        """The report with the most telling example."""
+        return verdicts.most_telling(self.first, self.comparison.table, lambda: self.comparison.named_calls or ())
 
     def block(self, is_json: bool, is_verbose: bool = False) -> Block:
         """What a command says of it; the verdict doesn't wait for what explains it."""

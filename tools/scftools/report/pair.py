@@ -135,11 +135,15 @@ class Pair:
         """Both sides and these tables."""
         raise NotImplementedError
 
+    @functools.cached_property
+    def _question(self) -> tuple[tuple[str, ...], bytes]:
+        """The options and the bundle by which scf lists all that both sides may answer differently. Raises Refusal."""
+        return tuple(self.words(self.tables)), self.bundle(self.tables)
+
     @property
     def found(self) -> Differences:
         """All that both sides may answer differently, which is asked for once. Raises Refusal."""
-        listed = _listed(tuple(self.words(self.tables)), self.bundle(self.tables), self.beside,
-                         client.limits.get("limit"))
+        listed = _listed(*self._question, self.beside, client.limits.get("limit"))
         if not listed.is_finished and not client.has_time():
             _listed.cache_clear()
         return listed

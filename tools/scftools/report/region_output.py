@@ -6,7 +6,7 @@ from collections.abc import Iterator, Sequence
 from ..base import output, program
 from ..base.values import dataclass, field
 from ..model.architectures import Architecture
-from ..model.calls import ARGUMENTS
+from ..model.calls import ARCHITECTURE, ARGUMENTS
 from ..model.entries import AT_LEAST, AT_MOST, EQUAL, MASKED, NOT_EQUAL, Condition
 from ..model.tables import Table
 from ..ask import explanation, regions
@@ -60,10 +60,8 @@ def _terms(name: str, index: int, word: Word, syscall: str, architecture: Archit
 def conditions(region: Region, syscall: str, architecture: Architecture) -> list[str]:
     """The conditions on all arguments of a region's syscalls as C has them, which hold together."""
     terms: list[str] = []
-    for index in range(POINTER, 6):
+    for index in sorted({(word - ARGUMENTS) // 2 for word in region.words if word > ARCHITECTURE}):
         low, high = (region.words.get(ARGUMENTS + 2 * index + half, FREE) for half in (0, 1))
-        if low is high is FREE:
-            continue
         # (the instruction pointer has no constants)
         name, of = ("ip", "") if index == POINTER else (name_of(syscall, index), syscall)
         at = max(index, 0)
