@@ -12,6 +12,7 @@ import functools
 from collections.abc import Iterable, Iterator, Mapping, Sequence
 
 from ..base import program
+from ..base.values import Pattern
 from ..model import bundles
 from ..model.answers import Answer
 from ..model.architectures import Architecture
@@ -21,6 +22,8 @@ from . import client, reasons
 from .verdicts import UNFINISHED
 
 UNKNOWN_ANSWER, OPEN, BESIDE = "unknown", " open", " beside "
+# A region, and its record, which an open one may lack.
+SHOWN = Pattern("(.+)\n?(?:(call .+)\n)?")
 # The index of the instruction pointer, whose words stand before those of argument 0.
 POINTER = -1
 # The greatest value of a word, and the most intervals into which known bits may divide the numbers of a region.
@@ -37,10 +40,20 @@ def _number_in(text: str) -> int:
     return int(text, 16)
 
 
+# (many words have the same)
+@functools.lru_cache(None)
 def _bits_in(text: str) -> tuple[int, int]:
     """A mask and the bits in it."""
     mask, bits = text.split("=")
     return _number_in(mask), _number_in(bits)
+
+
+@functools.lru_cache(None)
+def _interval_in(text: str) -> tuple[int, int]:
+    """The least and the greatest value of an interval."""
+    low, _, high = text.partition("-")
+    value = _number_in(low)
+    return value, _number_in(high) if high else value
 
 
 class Word:
@@ -54,12 +67,10 @@ class Word:
     def read(cls, text: str) -> Word:
         """Parses what `scf answers` prints of a word, which is mostly one value. Raises ValueError."""
         if text.isalnum():
-            value = _number_in(text)
-            return cls(((value, value),))
+            return cls((_interval_in(text),))
         possible, *refuted = text.split("!")
         intervals, _, known = possible.partition("&")
-        ends = [interval.partition("-") for interval in intervals.split(",") if interval]
-        return cls([(_number_in(low), _number_in(high or low)) for low, _, high in ends],
+        return cls([*map(_interval_in, intervals.split(","))] if intervals else (),
                    *(_bits_in(known) if known else (0, 0)), [*map(_bits_in, refuted)])
 
     def has(self, value: int) -> bool:
@@ -176,20 +187,13 @@ def _side_in(text: str, places: Sequence[int] | None) -> tuple[str, Answer | Non
 
 def parse_regions(text: str, places: Sequence[int] | None = None) -> list[Region] | None:
     """Parses what `scf answers --examples` prints, None if it isn't that. Entries may get a user's places."""
-    *lines, last = text.splitlines() or [""]
-    shown: list[list[str]] = []
-    for line in lines:
-        # (an open region may lack a record)
-        if line.startswith("call ") and shown and len(shown[-1]) == 1:
-            shown[-1].append(line)
-        else:
-            shown.append([line])
+    *shown, (last, _) = SHOWN.findall(text) or [("", "")]
     # what many lines have alike is parsed once
     sides: dict[str, tuple[str, Answer | None, int | None]] = {}
     words: dict[str, tuple[int, Word]] = {}
     regions: list[Region] = []
     try:
-        for line, *example in shown:
+        for line, example in shown:
             head, *given = line.split(" w")
             texts = head.removesuffix(OPEN).split(BESIDE)
             for text in texts:
@@ -201,7 +205,7 @@ def parse_regions(text: str, places: Sequence[int] | None = None) -> list[Region
                     words[word] = int(index), Word.read(values)
             side, *beside = map(sides.__getitem__, texts)
             regions.append(Region(*side, not head.endswith(OPEN), dict(map(words.__getitem__, given)),
-                                  "".join(example), *(Side(*other) for other in beside)))
+                                  example, *(Side(*other) for other in beside)))
     except ValueError:
         return None
     return regions if last.startswith(f"regions {len(regions)} steps ") else None
@@ -221,14 +225,22 @@ def asked(words: Sequence[str], bundle: bytes, places: Sequence[int] | None = No
     raise refusal
 
 
-def regions_of_filters(filters: Sequence[bytes]) -> list[Region] | None:
-    """The regions of filters, oldest first; None if they are unfinished. Raises Refusal."""
-    return asked([], bundles.stack_bundle(filters))
+def _scope_of(number: int | None) -> list[str]:
+    """The options of scf for records with a number of x86-64's alone, or for all."""
+    return [] if number is None else [f"--nr-from={number}", f"--nr-to={number}"]
 
 
-def regions_of_profile(profile: bytes, judged: Tables, places: Sequence[int] | None = None) -> list[Region] | None:
-    """The regions of a profile, on request with other places of entries; None if unfinished. Raises Refusal."""
-    return asked(judged.words, bundles.compilation_bundle(profile, judged), places)
+def regions_of_filters(filters: Sequence[bytes], number: int | None = None) -> list[Region] | None:
+    """The regions of filters, oldest first, on request of one of x86-64's numbers alone; None if they are unfinished.
+    Raises Refusal."""
+    return asked(_scope_of(number), bundles.stack_bundle(filters))
+
+
+def regions_of_profile(profile: bytes, judged: Tables, places: Sequence[int] | None = None,
+                       number: int | None = None) -> list[Region] | None:
+    """The regions of a profile, on request with other places of entries, or of one number alone; None if unfinished.
+    Raises Refusal."""
+    return asked([*judged.words, *_scope_of(number)], bundles.compilation_bundle(profile, judged), places)
 
 
 class Numbers:

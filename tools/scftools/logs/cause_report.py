@@ -180,6 +180,7 @@ def _denials(log: EventLog, given: Inputs) -> Denials | None:
 
 def log_report(log: EventLog, given: Inputs, is_all: bool) -> LogReport:
     """The causes of a log's events and of its denials; where there are none, of its last syscall, if that failed."""
+    given = given.on(log.all_events)
     denied = _denials(log, given)
     shown = len(denied.of) if denied and is_all else SHOWN
     of_events = [causes.cause_of(event, count, given) for event, count in log.events.values()]

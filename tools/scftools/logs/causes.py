@@ -6,9 +6,10 @@ import functools
 from collections.abc import Callable, Iterator, Sequence
 
 from ..base import output, program
-from ..base.values import dataclass, field
+from ..base.values import dataclass, field, replace
 from ..model import tables
 from ..model.answers import ERRNOS, Answer
+from ..model.architectures import NATIVE
 from ..model.calls import Call
 from ..model.tables import Table, Tables
 from ..ask import client, reasons, regions
@@ -59,14 +60,14 @@ class AnsweringStack:
         self.regions, self.answer = Lookup(region_list), answer
 
     @classmethod
-    def of_filters(cls, data: Sequence[bytes]) -> AnsweringStack:
+    def of_filters(cls, data: Sequence[bytes], number: int | None = None) -> AnsweringStack:
         """Of filters, oldest first. Raises Refusal."""
-        return cls(regions.regions_of_filters(data), Asker(data).decided)
+        return cls(regions.regions_of_filters(data, number), Asker(data).decided)
 
     @classmethod
-    def of_profile(cls, profile: bytes, judged: Tables) -> AnsweringStack:
+    def of_profile(cls, profile: bytes, judged: Tables, number: int | None = None) -> AnsweringStack:
         """Of a profile. Raises Refusal."""
-        return cls(regions.regions_of_profile(profile, judged),
+        return cls(regions.regions_of_profile(profile, judged, number=number),
                    lambda call: reasons.profile_reason(profile, judged, call.words()).answer)
 
     def case(self, event: Event, values: dict[int, int]) -> Case | None:
@@ -129,10 +130,18 @@ class Inputs:
     filters: Sequence[Filter] = ()
     # whether the profile is judged for x86-64 alone
     is_native: bool = False
+    # the number of x86-64's that all events have, if they have one, and are judged
+    number: int | None = None
 
     @property
     def table(self) -> Table:
         return self.trial.tables.native
+
+    def on(self, events: Sequence[Event]) -> Inputs:
+        """The same to explain these events, which of one number takes fewer steps."""
+        numbers = {event.call.number if event.call.is_native else None for event in events}
+        is_one = len(numbers) == 1 and (self.profile is None or NATIVE in self.judged.of)
+        return replace(self, number=numbers.pop() if is_one else None)
 
     @property
     def judged(self) -> Tables:
@@ -142,12 +151,12 @@ class Inputs:
     @functools.cached_property
     def of_filters(self) -> AnsweringStack:
         """What the filters answer. Raises Refusal."""
-        return AnsweringStack.of_filters([each.data for each in self.filters])
+        return AnsweringStack.of_filters([each.data for each in self.filters], self.number)
 
     @functools.cached_property
     def of_profile(self) -> AnsweringStack:
         """What the profile answers. Raises Refusal."""
-        return AnsweringStack.of_profile(self.profile or b"", self.judged)
+        return AnsweringStack.of_profile(self.profile or b"", self.judged, self.number)
 
     def reason(self, call: Call) -> Reason:
         """Why the profile answers a call so: as all calls of its region, if scf decides that. Raises Refusal."""
