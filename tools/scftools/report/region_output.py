@@ -94,10 +94,11 @@ def listed(regions: Sequence[Region], table: Table, architecture: Architecture) 
         if numbers_of_region or others:
             where = conditions(region, table.names_of(numbers_of_region[0])[0] if len(numbers_of_region) == 1 else "",
                                architecture)
-            first = numbers_of_region[0] if numbers_of_region else others[0][0]
-            one_of = entries.setdefault((region.line, region.is_exact, *where), Listed(region, where, first))
-            one_of.numbers += numbers_of_region
-            one_of.unnamed += sum(count for _, count in others)
+            key = region.line, region.is_exact, *where
+            if key not in entries:
+                entries[key] = Listed(region, where, (numbers_of_region or others[0])[0])
+            entries[key].numbers += numbers_of_region
+            entries[key].unnamed += sum(count for _, count in others)
     return list(entries.values())
 
 
