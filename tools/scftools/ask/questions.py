@@ -46,8 +46,7 @@ class Asker:
 
     def _asked(self, profile: bytes, relation: str, words: Sequence[str], table: bytes = b"") -> Report:
         judged = Tables({self.architecture.oci: Table(table)}, profiles.reading_of(profile))
-        return verdicts.compared(self.filters, profile, judged, [*judged.words, *words, *RELATIONS[relation]],
-                                 self.architecture)
+        return verdicts.compared(self.filters, profile, judged, [*words, *RELATIONS[relation]], self.architecture)
 
     def profile_of(self, question: Question) -> bytes:
         """The profile of a question, for the architecture."""

@@ -98,7 +98,7 @@ def index_of(reason: Reason, origins: Sequence[Origin] | None) -> int | None:
 
 
 def conditions_met(reason: Reason, profile: bytes, call: Call) -> list[str]:
-    """Lines on the conditions of the entry that gives the answer, as far as a call meets them; none without an entry."""
+    """Lines on the conditions of the entry that gives the answer, if one does, as far as a call meets them."""
     entry = None if reason.entry is None else profiles.entry_at(profile, reason.entry)
     return [*filter(None, (_condition_text(condition, call) for condition in _conditions(entry)))]
 

@@ -247,10 +247,10 @@ def most_telling(checked_report: Report, table: Table, calls_of: Callable[[], Se
     return replace(checked_report, lines=Report.of(shown, beside).lines, verdict=shown)
 
 
-def compared(filters: Sequence[bytes], profile: bytes, tables: Tables, words: Sequence[str],
+def compared(filters: Sequence[bytes], profile: bytes, tables: Tables, words: Sequence[str] = (),
              architecture: Architecture = JUDGED[NATIVE]) -> Report:
-    """scf's report on filters compared with a profile by these options, `checked`."""
-    done = client.compare(words, bundles.comparison_bundle(filters, profile, tables))
+    """scf's report on filters compared with a profile by these options beside those of the tables, `checked`."""
+    done = client.compare([*tables.words, *words], bundles.comparison_bundle(filters, profile, tables))
     return checked(done.status, report(done.text, 0, architecture), "--calls" in words)
 
 

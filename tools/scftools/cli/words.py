@@ -105,26 +105,15 @@ def seconds(text: str) -> float:
         raise argparse.ArgumentTypeError(f"'{text}' isn't a number of seconds") from None
 
 
-class Version(argparse.Action):
-    """`--version`: the version is scf's."""
+class Ending(argparse.Action):
+    """An option that has the tool print something and end."""
 
-    def __init__(self, option_strings: list[str], dest: str, **_: Any):
-        super().__init__(option_strings, dest, nargs=0, default=argparse.SUPPRESS, help="print the version and exit")
+    def __init__(self, option_strings: list[str], dest: str, put: Callable[[], None], **shown: Any):
+        super().__init__(option_strings, dest, nargs=0, default=argparse.SUPPRESS, **shown)
+        self.put = put
 
-    def __call__(self, parser: argparse.ArgumentParser, *_: Any) -> None:
-        output.put_line(program.version())
-        program.finish(program.SUCCESS)
-
-
-class ShortHelp(argparse.Action):
-    """`-h`: the usage, the first of the tool's own options, and the examples."""
-
-    def __init__(self, option_strings: list[str], dest: str, **_: Any):
-        super().__init__(option_strings, dest, nargs=0, default=argparse.SUPPRESS,
-                         help="show the usage, some options and the examples")
-
-    def __call__(self, parser: Any, *_: Any) -> None:
-        parser.print_help(is_short=True)
+    def __call__(self, *_: Any) -> None:
+        self.put()
         program.finish(program.SUCCESS)
 
 
@@ -160,9 +149,11 @@ class Parser(argparse.ArgumentParser):
                          epilog="\n\n".join([*filter(None, [needs]), *statuses]), allow_abbrev=False, add_help=False,
                          formatter_class=lambda prog: Formatter(prog, width=100))
         self.examples = re.findall(r"(?m)^    (.*)$", examples)
-        self.add_argument("-h", action=ShortHelp)
+        self.add_argument("-h", action=Ending, put=lambda: self.print_help(is_short=True),
+                          help="show the usage, some options and the examples")
         self.add_argument("--help", action="help", help="show all and exit")
-        self.add_argument("--version", action=Version)
+        self.add_argument("--version", action=Ending, put=lambda: output.put_line(program.version()),
+                          help="print the version and exit")
         self.add_argument("--color", choices=("auto", "always", "never"), default="auto",
                           help="whether verdicts are coloured [default: auto, at a terminal unless NO_COLOR is set]")
 

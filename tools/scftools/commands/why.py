@@ -63,7 +63,6 @@ import types
 from ..base import output, program
 from ..base.values import replace
 from ..model import profiles, tables
-from ..ask import trials
 from ..cli import words
 from ..forms import operands, runtimes, strace
 from ..forms.profile_inputs import ProfileInput
@@ -115,8 +114,8 @@ def read_files(names, table, options):
             raise program.ToolError(f"'{name}' is a second profile: give one, and filters")
         else:
             profile = profiles.read_as(given.data, reading)
-    trial = trials.Trial(replace(tables.native_alone(table.data), reading=reading))
-    return causes.Inputs(trial, profile, stack, options.native)
+    own_tables = replace(tables.native_alone(table.data), reading=reading)
+    return causes.Inputs(own_tables, profile, stack, options.native)
 
 
 def started(process):
@@ -154,7 +153,7 @@ def of_process(options, files, table):
     log = events.read_events((line for line in records() if audit_records.is_of(line, options.pid, since)), table)
     if not options.words:
         is_wanted = begun is not None and log.events
-        files = causes.Inputs(files.trial, None, operands.read_stack([f"pid:{options.pid}"]) if is_wanted else [])
+        files = causes.Inputs(files.tables, None, operands.read_stack([f"pid:{options.pid}"]) if is_wanted else [])
     return log, files
 
 

@@ -145,7 +145,7 @@ class Search:
                      for entry in self.entries.values())
         syscalls = [entry.as_json() for entry in remaining if entry.names]
         profile, judged = runtimes.as_read({**self.top, "syscalls": syscalls}, self.judged)
-        return verdicts.compared([self.filter], profile, judged, judged.words).verdict
+        return verdicts.compared([self.filter], profile, judged).verdict
 
     def _why(self, entry: Entry, names: Sequence[str]) -> tuple[str, tuple[int, ...]]:
         """Why names of an entry have no effect, and the entries by which."""

@@ -12,10 +12,11 @@ from ..base.values import dataclass
 from ..model import answers, bpf, constants, entries
 from ..model.bpf import BPF_MAXINSNS
 from ..model.entries import EQUAL, GREATEST_VALUE, LOW_HALF, MASKED, NOT_EQUAL, Object
+from ..model.tables import Tables
+from ..ask import client, verdicts
 from ..ask.client import Refusal
 from ..ask.reasons import Reason
-from ..ask.trials import Trial
-from ..ask.verdicts import SAME
+from ..ask.verdicts import NATIVE_SCOPE, SAME, SCOPES
 from .events import Event
 
 ALLOW_ACTION = "SCMP_ACT_ALLOW"
@@ -70,14 +71,14 @@ def conditions_of(event: Event, name: str, tested: Collection[int]) -> list[dict
 class AmendmentSearch:
     """Tries changes of a profile that allow a syscall of one name."""
 
-    def __init__(self, profile: bytes, top: Object, trial: Trial, name: str, number: int):
-        self.top, self.trial, self.name, self.number = top, trial, name, number
-        self.filter = trial.filter_of(profile)
+    def __init__(self, profile: bytes, top: Object, tables: Tables, name: str, number: int):
+        self.top, self.tables, self.name, self.number = top, tables, name, number
+        self.filter = client.compile_profile(profile, tables)
 
     def _changed(self, taken_out: list[int], added: list[dict[str, object]],
                  conditions: list[dict[str, object]]) -> Amendment:
         """A change, which isn't proved yet."""
-        own_names = self.trial.tables.native.names_of(self.number)
+        own_names = self.tables.native.names_of(self.number)
         changed_entries, gone = [], []
         for index, entry in enumerate(self.top.get("syscalls", [])):
             if index not in taken_out:
@@ -97,7 +98,7 @@ class AmendmentSearch:
         if len(excepted) > BPF_MAXINSNS * bpf.INSTRUCTION.size:
             return False
         try:
-            verdict = self.trial.verdict([excepted], change.profile, "--native")
+            verdict = verdicts.compared([excepted], change.profile, self.tables, SCOPES[NATIVE_SCOPE]).verdict
         except Refusal:
             return False
         return verdict.word == SAME
@@ -142,7 +143,7 @@ class AmendmentSearch:
             yield from self._of_entry(reason.entry)
         if not conditions:
             naming = [index for index, entry in enumerate(self.top.get("syscalls", []))
-                      if any(self.trial.tables.number_of(name) == self.number for name in entry["names"])]
+                      if any(self.tables.number_of(name) == self.number for name in entry["names"])]
             if self.top["defaultAction"] == ALLOW_ACTION:
                 yield self._changed(naming, [], conditions)
             yield from self._with(naming, conditions)
@@ -153,17 +154,17 @@ class AmendmentSearch:
                     None)
 
 
-def amendments(profile: bytes, event: Event, reason: Reason, trial: Trial) -> Iterator[Amendment]:
+def amendments(profile: bytes, event: Event, reason: Reason, tables: Tables) -> Iterator[Amendment]:
     """The changes that allow the calls with the known arguments of an event, and then all that the entry denies. There
     are none if the syscall is of another ABI, or has no name in the table, or no filter says what the profile does."""
-    names = trial.tables.native.names_of(event.call.number) if event.call.is_native else []
+    names = tables.native.names_of(event.call.number) if event.call.is_native else []
     if not names or reason.is_foreign or reason.answer is None or reason.answer.allows:
         return
     top = entries.parse_seccomp(profile)
     if top is None:
         return
     try:
-        search = AmendmentSearch(profile, top, trial, names[0], event.call.number)
+        search = AmendmentSearch(profile, top, tables, names[0], event.call.number)
     except Refusal:
         # (its filter would be too large)
         return

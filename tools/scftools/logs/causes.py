@@ -17,7 +17,6 @@ from ..ask.client import Refusal
 from ..ask.questions import Asker
 from ..ask.reasons import Reason
 from ..ask.regions import POINTER, Lookup, Region
-from ..ask.trials import Trial
 from ..ask.verdicts import FOR_OTHER_ABI
 from ..forms import refusals
 from ..forms.filters import Filter
@@ -125,7 +124,7 @@ class Side:
 class Inputs:
     """What events are explained by: a profile, filters oldest first, and the settings for scf."""
 
-    trial: Trial
+    tables: Tables
     profile: bytes | None = None
     filters: Sequence[Filter] = ()
     # whether the profile is judged for x86-64 alone
@@ -135,7 +134,7 @@ class Inputs:
 
     @property
     def table(self) -> Table:
-        return self.trial.tables.native
+        return self.tables.native
 
     def on(self, events: Sequence[Event]) -> Inputs:
         """The same to explain these events, which of one number takes fewer steps."""
@@ -212,7 +211,7 @@ def cause_of(event: Event, count: int, given: Inputs, common: Event | None = Non
     denied = next((case for case in cause.profile.cases if not case.answer.allows), None)
     if denied is not None:
         reason = given.reason(denied.call)
-        cause.changes = list(amendment.amendments(given.profile, common or event, reason, given.trial))
+        cause.changes = list(amendment.amendments(given.profile, common or event, reason, given.tables))
     return cause
 
 

@@ -168,8 +168,8 @@ class EventLog:
     @property
     def all_events(self) -> list[Event]:
         """The events, and the syscalls that failed."""
-        return [*(event for event, _ in self.events.values()), *(failure.event for failure in self.failures.of.values()),
-                *filter(None, [self.last_failure])]
+        failed = (failure.event for failure in self.failures.of.values())
+        return [*(event for event, _ in self.events.values()), *failed, *filter(None, [self.last_failure])]
 
     def add(self, event: Event) -> None:
         if event.key in self.events:

@@ -14,9 +14,8 @@ from ..model.answers import ALLOW, ALLOWED, DEPENDS, ENOSYS, MAX_ERRNO, Answer
 from ..model.architectures import Architecture
 from ..model.entries import EQUAL, Condition, default_of
 from ..model.tables import MOST_LISTED, Tables
-from ..ask import client
-from ..ask.trials import Trial
-from ..ask.verdicts import NO_MORE
+from ..ask import client, verdicts
+from ..ask.verdicts import NO_MORE, RELATIONS
 from ..forms.engines import PASSED_ON
 from ..lint.watchlist import FALLBACKS
 from ..report.covers import Alternative
@@ -214,7 +213,8 @@ def _conditions(values: dict[int, int]) -> Alternative:
 def check(made: bytes, judges: Judges, listed: Iterable[Architecture]) -> None:
     """Ends the tool if scf doesn't prove that a profile allows no more than the base."""
     tables = Tables({each.oci: judges.tables[each.oci] for each in listed}, judges.listed.reading)
-    verdict = Trial(judges.listed).verdict([client.compile_profile(made, tables)], judges.profile, "--no-more")
+    made_filter = client.compile_profile(made, tables)
+    verdict = verdicts.compared([made_filter], judges.profile, judges.listed, RELATIONS[NO_MORE]).verdict
     if verdict.word != NO_MORE:
         status = program.NEGATIVE if verdict.fails else program.UNKNOWN
         raise program.ToolError("the profile isn't printed, since it isn't proved to allow no more than PROFILE: "

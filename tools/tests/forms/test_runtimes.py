@@ -425,7 +425,7 @@ class Drawn(Case):
 
     def compared_readings(self, applied, judged, words):
         by_its_words = replace(judged, reading="strict")
-        scope = ["--architectures"]
+        scope = ["--architectures"] * judged.is_native
         try:
             filter_ = client.compile_profile(applied.data, judged)
         except client.Refusal as why:

@@ -10,7 +10,7 @@ from unittest import mock
 from support.common import LOADER, Case, text_of
 from support.oci import ALLOW, ERRNO
 from logs import entry, rules, where
-from scftools.ask import client, trials
+from scftools.ask import client
 from scftools.forms import strace
 from scftools.logs import cause_report, causes, events
 from scftools.model import tables
@@ -89,7 +89,7 @@ class Changes(Denials):
             log = events.read_events([f"10 {line}", f"11 {line}"] * 1000, table)
         self.assertEqual((read.call_count, log.failures.count), (2, 2000))
         log = events.read_events([f"chroot({at:#x}) = -1 EPERM (Operation not permitted)" for at in range(500)], table)
-        given = causes.Inputs(trials.Trial(tables.native_alone(table.data)), json.dumps(PROFILE).encode())
+        given = causes.Inputs(tables.native_alone(table.data), json.dumps(PROFILE).encode())
         with mock.patch.object(client, "run_scf", wraps=client.run_scf) as run:
             self.assertEqual([denial.count for denial in cause_report.denials_of(log.failures, given).of], [500])
         self.assertEqual([call.args[0][0] for call in run.call_args_list], ["answers"])
