@@ -39,9 +39,9 @@ pub use Rattle.scf_insn.specs.declared.insn.Insn.{Insn}
 pub use Rattle.scf_insn.specs.declared.operation.Operation.{Operation}
 pub use Rattle.scf_text.specs.Characters.{is_blank, is_line_end, is_word_byte}
 pub use Rattle.scf_text.specs.ParsedInsns.{ParsedInsn, Label, Number, FieldValue, fill_by, has_mnemonic, is_below, is_in_range, is_name, read_by}
-unfoldable pub use Rattle.scf_text.specs.ParsedInsns.{parsed_of}
-pub use Rattle.scf_text.specs.Faults.{IsFault, ascii_fault, operands_fault, instruction_fault, label_fault, statement_fault, statements_fault, target_fault, targets_fault}
-unfoldable pub use Rattle.scf_text.specs.Faults.{fault_of}
+unfoldable pub use Rattle.scf_text.specs.ParsedInsns.{field_number, parsed_of}
+pub use Rattle.scf_text.specs.Faults.{IsFault, ascii_fault, insn_fault, operands_fault, instruction_fault, label_fault, statement_fault, statements_fault, target_fault, targets_fault}
+unfoldable pub use Rattle.scf_text.specs.Faults.{fault_in, fault_of}
 pub use Rattle.scf_text.specs.Encodings.{field_of, encodings, names, raw, names_all, tells_all}
 unfoldable pub use Rattle.scf_text.specs.Encodings.{encoding_for, known_encodings}
 pub use Rattle.scf_text.specs.Listing.{line_of, number_text, operands_text, piece_text, text_of}
@@ -64,6 +64,5 @@ unfoldable pub use Rattle.scf_text.specs.internal.Parts.{others_in, words_in}
 pub use Rattle.scf_text.specs.internal.Labels.{IsFirstRepeat, IsRepeat, Labels, TellsRepeat, compared, is_before, labels_at, least, repeat_fault}
 pub use Rattle.scf_text.specs.internal.Symbols.{FollowsBehind, count_ends, IsBehind, IsLinePart, LiesBehind, line_at, index_after, name_at}
 pub use Rattle.scf_text.specs.internal.Reading.{AreKept, AreNew, HaveTokens, IsEnded, IsLeft, IsRead, Leaves, begins_of, parsed_insns_view, label_at, part_statements, statements_from}
-pub use Rattle.scf_text.specs.internal.Results.{AddsInstruction, AddsLabel, TellsInsns, TellsText, insn_fault, indices_view}
-unfoldable pub use Rattle.scf_text.specs.internal.Results.{fault_in}
+pub use Rattle.scf_text.specs.internal.Results.{AddsInstruction, AddsLabel, TellsInsns, TellsText, indices_view}
 pub use Rattle.scf_text.specs.internal.Views.{encoding_view, parsed_view}

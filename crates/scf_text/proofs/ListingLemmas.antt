@@ -1,5 +1,5 @@
 -- The lines of a listing: their tokens, and that no byte or token of them ends a line, a statement or a label.
-use Rattle.scf_text.proofs.Common.{◌≡◌, ℕ, ◌/◌, ◌%◌, ◌<◌, ◌^◌, true, false, ◌&&◌, eqb, List, [], ◌∷◌, ◌++◌, length, map, Some, refl, ap, arith, ◌≤◌, Bool, ltb, None, not, list_all, flat_map, AllByRecursion, is_digit, digit_value, decimal, digits, digit_glyph, digits_value, AllDigits, IsNumeral, eqb-true, ne_eqb, lt-ltb, agree_below_at, and_parts, and_right, ltb-true, digits_is_IsNumeral, digit_from_value, is_word_byte, begins_in_word, before_comment, number_of, numeral, has_hex_prefix, is_name, nat_tests, number_text, operands_text, piece_text, words_of_part, codes, cases_Bool, inl, inr, IsInsn, Insn, Piece, Field, Code, Jt, Jf, K, Style, Decimal, Hexadecimal, FourDigits, field_of, encodings, known_encodings, encoding_for, bytes_eq, is_semicolon, label_in, list_all-append}
+use Rattle.scf_text.proofs.Common.{◌≡◌, ℕ, ◌-◌, ◌/◌, ◌%◌, ◌<◌, ◌^◌, true, false, ◌&&◌, eqb, List, [], ◌∷◌, ◌++◌, length, map, min, Some, refl, ap, arith, ◌≤◌, Bool, ltb, None, not, list_all, flat_map, AllByRecursion, is_digit, digit_value, decimal, digits, digit_glyph, digits_value, AllDigits, IsNumeral, eqb-true, ne_eqb, lt-ltb, agree_below_at, and_parts, and_right, ltb-true, digits_is_IsNumeral, digit_from_value, is_word_byte, begins_in_word, before_comment, field_number, number_of, numeral, has_hex_prefix, is_name, nat_tests, number_text, operands_text, piece_text, words_of_part, codes, cases_Bool, inl, inr, IsInsn, Insn, Piece, Field, Code, Jt, Jf, K, Style, Decimal, Hexadecimal, FourDigits, field_of, encodings, known_encodings, encoding_for, bytes_eq, is_semicolon, label_in, list_all-append}
 use Rattle.scf_text.proofs.TokenLemmas.{words_nil, words_blank, words_mark, words_word, words_one, words_more, onto_word}
 use Rattle.scf_text.specs.declared.encoding.Piece.TheVariants as p
 use Rattle.scf_text.specs.Encodings.{Encoding}
@@ -19,16 +19,22 @@ numeral_is : (radix : ℕ) (ds : List ℕ) (n : ℕ) → IsNumeral radix ds × (
     → numeral radix ds ≡ Some n
 numeral_is radix ds n h = rw (lt-ltb 0 (length ds) h.0.0, all_digits radix ds h.0.1, h.1) refl
 
-pub hexadecimal_is : (n : ℕ) → n < 2 ^ 32 → number_of (48 ∷ 120 ∷ digits 16 false n) ≡ Some n
+field_is : (t : List ℕ) (n : ℕ) → n < 2 ^ 32 → number_of t ≡ Some n → field_number t ≡ Some n
+unfolding field_number
+field_is t n lt e = let same : min (2 ^ 64 - 1) n ≡ n = omega arith in rw (e, same) refl
+
+pub hexadecimal_is : (n : ℕ) → n < 2 ^ 32 → field_number (48 ∷ 120 ∷ digits 16 false n) ≡ Some n
 unfolding number_of
-hexadecimal_is n lt = grind (arith, common_steps, nat_tests, numeral_is, digits_is_IsNumeral)
+hexadecimal_is n lt =
+    field_is (48 ∷ 120 ∷ digits 16 false n) n lt (grind (arith, common_steps, nat_tests, numeral_is, digits_is_IsNumeral))
 
 no_prefix : (ds : List ℕ) → AllDigits 10 ds → has_hex_prefix ds ≡ false
 no_prefix ds h = grind (arith, common_steps, nat_tests, and_right, digit_from_value, ne_eqb)
 
-pub decimal_is : (n : ℕ) → n < 2 ^ 32 → number_of (decimal n) ≡ Some n
+pub decimal_is : (n : ℕ) → n < 2 ^ 32 → field_number (decimal n) ≡ Some n
 unfolding number_of
-decimal_is n lt = grind (arith, common_steps, digits_is_IsNumeral, false, no_prefix, numeral_is)
+decimal_is n lt =
+    field_is (decimal n) n lt (grind (arith, common_steps, digits_is_IsNumeral, false, no_prefix, numeral_is))
 
 -- the last four hexadecimal digits
 abbrev four_digits : ℕ → List ℕ
@@ -38,9 +44,10 @@ four_values : (n : ℕ) → AllDigits 16 (four_digits n)
     × (n < 2 ^ 16 → digits_value 16 (four_digits n) ≡ n)
 four_values n = grind (arith, common_steps, nat_tests, glyph_is)
 
-pub four_digits_is : (n : ℕ) → n < 2 ^ 16 → number_of (48 ∷ 120 ∷ four_digits n) ≡ Some n
+pub four_digits_is : (n : ℕ) → n < 2 ^ 16 → field_number (48 ∷ 120 ∷ four_digits n) ≡ Some n
 unfolding number_of
-four_digits_is n lt = grind (arith, common_steps, nat_tests, four_values, numeral_is)
+four_digits_is n lt =
+    field_is (48 ∷ 120 ∷ four_digits n) n (omega arith) (grind (arith, common_steps, nat_tests, four_values, numeral_is))
 
 digits_no_name : (ds : List ℕ) → AllDigits 10 ds → is_name ds ≡ false
 digits_no_name ds h = grind (arith, common_steps, nat_tests, digit_from_value)
@@ -92,7 +99,6 @@ piece_wordy i f style fits = number_wordy style (field_of i f) (field_small i f 
 abbrev pub piece_words : Insn → Piece → List (List ℕ)
 piece_words i (p.Mark b) = (b ∷ []) ∷ []
 piece_words i p.Len = codes "len" ∷ []
-piece_words i p.Memory = codes "M" ∷ []
 piece_words i p.Accumulator = codes "a" ∷ []
 piece_words i p.Index = codes "x" ∷ []
 piece_words i (p.Number f style) = number_text style (field_of i f) ∷ []

@@ -1,11 +1,5 @@
 -- Sorted labels, and the first that has the name of an earlier one.
-use Rattle.std.proofs.lemmas.List.{drop_more}
-use Rattle.std.proofs.lemmas.List.Sums.{take_while-cons}
-use Rattle.std.specs.List.{take_while}
-use Rattle.std.specs.Option.{option_cmp}
-use Rattle.scf_text.specs.internal.Labels.{front_byte, word_byte, word_order}
-use Rattle.scf_text.proofs.Common.{is_word_byte, drop, cond, [], ◌∷◌}
-use Rattle.scf_text.proofs.Common.{◌≡◌, ◌≢◌, ◌⊎◌, ℕ, ◌+◌, ◌-◌, ◌<◌, ◌≤◌, Bool, true, false, List, length, length-drop, length-take-le, get_or, get_or-take, get_or_default, take, take_more, Decides, Option, Some, None, refl, sym, ap, ◌∙◌, min, arith, inl, inr, IsDistinct, IsPermutation, IsSortedBy, bytes_eq-Decides, slice_cmp, nat_cmp, nat_tests, cases_lt, IsTotalOrder, Ordering, Equal, is_lt, is_eq, ordering_then, ordering_reverse, nat_list_cmp_total, nat_cmp_total, on_total, then_total, ranks_by, sorted_far, is_eq-slice_cmp, apart_from_distinct, Contains-append_left, Contains-permutation, Contains-push, Contains-push_cases, Contains, MatchBool, cond, [], ◌∷◌, ◌++◌, IsPermutation-sym, nat_eq, unwrap_or, All, option_or, cases_Bool, name_at, compared, is_before, IsRepeat, IsFirstRepeat, least}
+use Rattle.scf_text.proofs.Common.{◌≡◌, ◌≢◌, ◌⊎◌, ℕ, ◌+◌, ◌-◌, ◌<◌, ◌≤◌, Bool, true, false, List, length, length-take-le, get_or, get_or-take, get_or_default, take, take_more, Decides, Option, Some, None, refl, sym, ap, ◌∙◌, min, arith, inl, inr, IsDistinct, IsPermutation, IsSortedBy, bytes_eq-Decides, slice_cmp, nat_cmp, nat_tests, cases_lt, IsTotalOrder, Ordering, is_lt, is_eq, ordering_then, ordering_reverse, nat_list_cmp_total, nat_cmp_total, on_total, then_total, ranks_by, sorted_far, is_eq-slice_cmp, apart_from_distinct, Contains-append_left, Contains-permutation, Contains-push, Contains-push_cases, Contains, MatchBool, cond, [], ◌∷◌, ◌++◌, IsPermutation-sym, nat_eq, unwrap_or, All, option_or, cases_Bool, name_at, compared, is_before, IsRepeat, IsFirstRepeat, least}
 use Rattle.std.proofs.lemmas.Grind.{common_steps}
 
 pub compared_total : (text : List ℕ) → IsTotalOrder (compared text)
@@ -195,63 +189,3 @@ least_is first s m h = grind (arith, common_steps, nat_tests)
 pub least_last : (text xs : List ℕ) (s : ℕ) (first : Option ℕ) (known : Bool) → All (λ a. a < s) xs
     → IsFirstRepeat text xs first → cond known (Some (least first s)) first ≡ option_or first (cond known (Some s) None)
 least_last text xs s first known h h2 = grind (arith, common_steps, nat_tests)
-
--- a byte of a word in front of both changes nothing in how they compare
-equal_front : (x : ℕ) (xs ys : List ℕ) → slice_cmp nat_cmp (x ∷ xs) (x ∷ ys) ≡ slice_cmp nat_cmp xs ys
-equal_front x xs ys = let e : nat_cmp x x ≡ Equal = grind (arith, nat_tests) in rw e refl
-
-front_taken : (p : ℕ → Bool) (x : ℕ) (xs : List ℕ) → p x ≡ true → take_while p (x ∷ xs) ≡ x ∷ take_while p xs
-front_taken p x xs passes = take_while-cons p x xs ∙ ap (λ b. cond b (x ∷ take_while p xs) []) passes
-
-same_front : (p : ℕ → Bool) (x : ℕ) (xs ys : List ℕ) → p x ≡ true
-    → slice_cmp nat_cmp (take_while p (x ∷ xs)) (take_while p (x ∷ ys))
-    ≡ slice_cmp nat_cmp (take_while p xs) (take_while p ys)
-same_front p x xs ys passes = grind (arith, common_steps, nat_tests, front_taken, equal_front)
-
-ordered_by : (ℕ → Bool) → List ℕ → List ℕ → Ordering
-ordered_by p xs ys = slice_cmp nat_cmp (take_while p xs) (take_while p ys)
-
-drop_same : (p : ℕ → Bool) (xs ys : List ℕ) (i : ℕ) → i < length xs → i < length ys → get_or xs i 0 ≡ get_or ys i 0
-    → p (get_or xs i 0) ≡ true → ordered_by p (drop (i + 1) xs) (drop (i + 1) ys) ≡ ordered_by p (drop i xs) (drop i ys)
-unfolding ordered_by
-drop_same p xs ys i lt below same passes = grind (arith, common_steps, nat_tests, drop_more, same_front)
-
--- A byte of a word in front of one of them alone, or two that differ, decide how they compare.
-order_apart : (o later : Ordering) → (o ≡ Equal → ⊥) → o ≡ ordering_then o later
-order_apart o later h = grind (arith, common_steps, nat_tests)
-
-front_refused : (p : ℕ → Bool) (x : ℕ) (xs : List ℕ) → p x ≡ false → take_while p (x ∷ xs) ≡ []
-front_refused p x xs fails = take_while-cons p x xs ∙ ap (λ b. cond b (x ∷ take_while p xs) []) fails
-
-fronts_decide : (p : ℕ → Bool) (x y : ℕ) (xs ys : List ℕ) → (p x ≡ true → x ≢ y)
-    → option_cmp nat_cmp (front_byte p (x ∷ xs)) (front_byte p (y ∷ ys)) ≡ ordered_by p (x ∷ xs) (y ∷ ys)
-unfolding ordered_by
-fronts_decide p x y xs ys apart = grind (arith, common_steps, nat_tests, cases_Bool, front_taken, order_apart, front_refused)
-
-end_decides : (p : ℕ → Bool) (xs ys : List ℕ) → min (length xs) (length ys) ≡ 0
-    → option_cmp nat_cmp (front_byte p xs) (front_byte p ys) ≡ ordered_by p xs ys
-unfolding ordered_by
-end_decides p xs ys h = grind (arith, common_steps, nat_tests, cases_Bool, front_taken, front_refused)
-
-pub word_order-fronts : (xs ys : List ℕ) (i : ℕ) → i < length xs → i < length ys
-    → (is_word_byte (get_or xs i 0) ≡ true → get_or xs i 0 ≢ get_or ys i 0)
-    → option_cmp nat_cmp (word_byte (drop i xs)) (word_byte (drop i ys)) ≡ word_order (drop i xs) (drop i ys)
-unfolding ordered_by
-word_order-fronts xs ys i lt below apart =
-    let left = drop_more xs i 0 lt in
-    let right = drop_more ys i 0 below in
-    (λ j. option_cmp nat_cmp (front_byte is_word_byte (left j)) (front_byte is_word_byte (right j)))
-    ∙ fronts_decide is_word_byte (get_or xs i 0) (get_or ys i 0) (drop (i + 1) xs) (drop (i + 1) ys) apart
-    ∙ sym (λ j. ordered_by is_word_byte (left j) (right j))
-
-pub word_order-ends : (xs ys : List ℕ) (i : ℕ) → i ≡ min (length xs) (length ys)
-    → option_cmp nat_cmp (word_byte (drop i xs)) (word_byte (drop i ys)) ≡ word_order (drop i xs) (drop i ys)
-unfolding ordered_by
-word_order-ends xs ys i end = grind (arith, common_steps, nat_tests, end_decides, length-drop)
-
--- nor does one at one index of both behind alike ones
-pub word_order-drop_more : (xs ys : List ℕ) (i : ℕ) → i < length xs → i < length ys → get_or xs i 0 ≡ get_or ys i 0
-    → is_word_byte (get_or xs i 0) ≡ true
-    → word_order (drop (i + 1) xs) (drop (i + 1) ys) ≡ word_order (drop i xs) (drop i ys)
-unfolding ordered_by
-word_order-drop_more xs ys i lt below same of_word = drop_same is_word_byte xs ys i lt below same of_word

@@ -18,7 +18,7 @@ use Rattle.scf_insn.specs.declared.operation.Operation.TheVariants.{StoreScratch
 use Rattle.scf_insn.specs.declared.operation.Operation.TheVariants.{ReturnConstant, ReturnAccumulator}
 use Rattle.scf_insn.specs.declared.operation.Operation.TheVariants.{CopyToIndex, CopyToAccumulator}
 use Rattle.scf_text.specs.declared.encoding.Piece.{Piece}
-use Rattle.scf_text.specs.declared.encoding.Piece.TheVariants.{Mark, Len, Memory, Accumulator, Index, Number, Target}
+use Rattle.scf_text.specs.declared.encoding.Piece.TheVariants.{Mark, Len, Accumulator, Index, Number, Target}
 use Rattle.scf_text.specs.declared.encoding.Field.{Field}
 use Rattle.scf_text.specs.declared.encoding.Field.TheVariants.{Code, Jt, Jf, K}
 use Rattle.scf_text.specs.declared.encoding.Style.TheVariants.{Decimal, Hexadecimal, FourDigits}
@@ -62,10 +62,10 @@ word_and_pieces (LoadLength A) = (codes "ld", Len ∷ [])
 word_and_pieces (LoadLength X) = (codes "ldx", Len ∷ [])
 word_and_pieces (LoadConstant A) = (codes "ld", operand_pieces operands.Constant)
 word_and_pieces (LoadConstant X) = (codes "ldx", operand_pieces operands.Constant)
-word_and_pieces (LoadScratch A) = (codes "ld", Memory ∷ index_pieces)
-word_and_pieces (LoadScratch X) = (codes "ldx", Memory ∷ index_pieces)
-word_and_pieces (StoreScratch A) = (codes "st", Memory ∷ index_pieces)
-word_and_pieces (StoreScratch X) = (codes "stx", Memory ∷ index_pieces)
+word_and_pieces (LoadScratch A) = (codes "ld", Mark (code "M") ∷ index_pieces)
+word_and_pieces (LoadScratch X) = (codes "ldx", Mark (code "M") ∷ index_pieces)
+word_and_pieces (StoreScratch A) = (codes "st", Mark (code "M") ∷ index_pieces)
+word_and_pieces (StoreScratch X) = (codes "stx", Mark (code "M") ∷ index_pieces)
 word_and_pieces (Compute arithmetic operand) = (arithmetic_word arithmetic, operand_pieces operand)
 word_and_pieces Negate = (codes "neg", [])
 word_and_pieces Jump = (codes "ja", Target K ∷ [])

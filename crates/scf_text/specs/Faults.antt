@@ -58,17 +58,23 @@ target_fault symbols at line limit (Label name) =
     option_map_or (λ index. if is_far index then Some (fault.JumpTooFar line) else None) (symbols name)
     (Some (fault.Label line))
 
--- The targets of instructions with their lines, the first at this index: of a conditional jump its JT and then its JF.
+-- the targets of an instruction: of a conditional jump its JT and then its JF
+abbrev pub insn_fault : SymbolTable → ℕ → ℕ → ParsedInsn → Option TextFault
+insn_fault symbols at line d =
+    option_or (target_fault symbols at line (2 ^ 8) d.jt)
+    (option_or (target_fault symbols at line (2 ^ 8) d.jf) (target_fault symbols at line (2 ^ 32) d.k))
+
+-- the targets of instructions with their lines, the first at this index
 abbrev pub targets_fault : SymbolTable → ℕ → List (ℕ × ParsedInsn) → Option TextFault
 targets_fault symbols at [] = None
-targets_fault symbols at (d ∷ ds) =
-    let first = target_fault symbols at d.0 in
-    option_or (option_or (first (2 ^ 8) d.1.jt) (option_or (first (2 ^ 8) d.1.jf) (first (2 ^ 32) d.1.k)))
-    (targets_fault symbols (at + 1) ds)
+targets_fault symbols at (d ∷ ds) = option_or (insn_fault symbols at d.0 d.1) (targets_fault symbols (at + 1) ds)
 
--- The first fault: first of all a byte that isn't ASCII, then the first fault of a statement, then the first wrong
--- target.
+-- of an ASCII text the first fault of a statement, then the first wrong target
+unfoldable pub fault_in : List ℕ → Option TextFault
+fault_in text =
+    option_or (statements_fault [] (statements_of text))
+    (targets_fault (symbols_in (statements_of text)) 0 (parsed_insns_of text))
+
+-- the first fault: first of all a byte that isn't ASCII
 unfoldable pub fault_of : List ℕ → Option TextFault
-fault_of text =
-    option_or (ascii_fault 1 text) (option_or (statements_fault [] (statements_of text))
-    (targets_fault (symbols_in (statements_of text)) 0 (parsed_insns_of text)))
+fault_of text = option_or (ascii_fault 1 text) (fault_in text)

@@ -5,7 +5,7 @@ use Rattle.std.specs.List.{flat_map}
 use Rattle.std.specs.Fmt.{decimal, digits, digit_glyph}
 use Rattle.scf_insn.specs.declared.insn.Insn.{Insn}
 use Rattle.scf_text.specs.declared.encoding.Piece.{Piece}
-use Rattle.scf_text.specs.declared.encoding.Piece.TheVariants.{Mark, Len, Memory, Accumulator, Index, Number, Target}
+use Rattle.scf_text.specs.declared.encoding.Piece.TheVariants.{Mark, Len, Accumulator, Index, Number, Target}
 use Rattle.scf_text.specs.declared.encoding.Style.{Style}
 use Rattle.scf_text.specs.declared.encoding.Style.TheVariants.{Decimal, Hexadecimal, FourDigits}
 use Rattle.scf_text.specs.Encodings.{field_of, encoding_for}
@@ -21,7 +21,6 @@ number_text FourDigits n =
 abbrev pub piece_text : Insn → Piece → List ℕ
 piece_text i (Mark b) = if b == code "," then codes ", " else b ∷ []
 piece_text i Len = codes "len"
-piece_text i Memory = codes "M"
 piece_text i Accumulator = codes "a"
 piece_text i Index = codes "x"
 piece_text i (Number field style) = number_text style (field_of i field)

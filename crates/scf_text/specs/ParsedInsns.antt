@@ -1,5 +1,5 @@
 -- What the tokens of an instruction say.
-use Rattle.std.specs.Prelude.{ℕ, ◌&&◌, ◌^◌, Bool, true, List, [], ◌∷◌, Option, Some, None, nat_lt, codes}
+use Rattle.std.specs.Prelude.{ℕ, ◌&&◌, ◌-◌, ◌^◌, Bool, true, List, [], ◌∷◌, Option, Some, None, min, nat_lt, codes}
 use Rattle.std.specs.Prelude.{if◌then◌else◌}
 use Rattle.std.specs.Option.{option_map, option_and_then, option_or}
 use Rattle.std.specs.List.{list_any}
@@ -24,6 +24,10 @@ pub record ParsedInsn : Type 0 where
   pub jf : FieldValue
   pub k : FieldValue
 
+-- an instruction in a form, before any field is named
+abbrev pub blank : Encoding → ParsedInsn
+blank encoding = record { code = encoding.code; jt = Number 0; jf = Number 0; k = Number 0 }
+
 -- a token is a name where it begins with a letter or `_`
 abbrev pub is_name : List ℕ → Bool
 is_name = begins_in is_name_start
@@ -39,7 +43,6 @@ with_field K o d = record { code = d.code; jt = d.jt; jf = d.jf; k = o }
 abbrev pub spellings : Piece → List (List ℕ)
 spellings (p.Mark b) = (b ∷ []) ∷ []
 spellings p.Len = codes "len" ∷ []
-spellings p.Memory = codes "M" ∷ []
 spellings p.Accumulator = codes "a" ∷ codes "A" ∷ []
 spellings p.Index = codes "x" ∷ codes "X" ∷ []
 spellings (p.Number field style) = []
@@ -67,12 +70,16 @@ module _ (number : List ℕ → Option ℕ) where
   abbrev pub read_by : List Encoding → List ℕ → List (List ℕ) → Option ParsedInsn
   read_by [] t ts = None
   read_by (encoding ∷ remaining) t ts =
-      let blank : ParsedInsn = record { code = encoding.code; jt = Number 0; jf = Number 0; k = Number 0 } in
-      option_or (if has_mnemonic t encoding then fill_by encoding.pieces ts blank else None) (read_by remaining t ts)
+      option_or (if has_mnemonic t encoding then fill_by encoding.pieces ts (blank encoding) else None)
+      (read_by remaining t ts)
+
+-- The number of a token. No field has room for one past 2 ^ 64 - 1, nor for that one.
+unfoldable pub field_number : List ℕ → Option ℕ
+field_number t = option_map (min (2 ^ 64 - 1)) (number_of t)
 
 -- what a mnemonic and the tokens behind it say
 unfoldable pub parsed_of : List ℕ → List (List ℕ) → Option ParsedInsn
-parsed_of t ts = read_by number_of encodings t ts
+parsed_of t ts = read_by field_number encodings t ts
 
 abbrev pub is_below : ℕ → FieldValue → Bool
 is_below limit (Number n) = nat_lt n limit

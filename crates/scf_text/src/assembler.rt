@@ -6,9 +6,9 @@ ghost use Rattle.scf_text.specs.ParsedInsns.{is_below};
 ghost use Rattle.scf_text.specs.Statements.{Statement, statements_of};
 ghost use Rattle.scf_text.specs.Spelling.{Spells};
 ghost use Rattle.scf_text.specs.Tokens.{tokens_of};
-ghost use Rattle.scf_text.specs.Faults.{IsFault, ascii_fault, statements_fault, targets_fault, fault_of};
+ghost use Rattle.scf_text.specs.Faults.{IsFault, ascii_fault, statements_fault, targets_fault, fault_in, fault_of};
 ghost use Rattle.scf_text.specs.internal.Reading.{parsed_insns_view, HaveTokens, IsLeft, IsRead, Leaves};
-ghost use Rattle.scf_text.specs.internal.Results.{TellsTarget, TellsInsn, TellsInsns, TellsText, fault_in, indices_view};
+ghost use Rattle.scf_text.specs.internal.Results.{TellsTarget, TellsInsn, TellsInsns, TellsText, indices_view};
 ghost use Rattle.scf_text.specs.internal.Views.{field_value_view, parsed_view};
 
 use crate::fault::TextFault;
@@ -99,9 +99,7 @@ fn value_of<'a>(
     ensures { TellsTarget (indices_view symbols.now) at line limit (field_value_view written.entry) result }
 {
     match written {
-        FieldValue::Number(_) | FieldValue::Large(_) => written
-            .below(limit)
-            .ok_or(TextFault::NumberRange { line }),
+        FieldValue::Number(number) => Ok(number),
         FieldValue::Label(name) => {
             let Some(index) = find_index(symbols, name) else {
                 return Err(TextFault::Label { line });
@@ -128,15 +126,11 @@ fn resolve(
 {
     let line = written.line;
     let parsed = written.parsed;
-    let code = parsed
-        .code
-        .below(1 << 16)
-        .ok_or(TextFault::NumberRange { line })?;
     let jt = value_of(symbols, parsed.jt, at, 1 << 8, line)?;
     let jf = value_of(symbols, parsed.jf, at, 1 << 8, line)?;
     let k = value_of(symbols, parsed.k, at, 1 << 32, line)?;
     Ok(Insn {
-        code: code as u16,
+        code: parsed.code as u16,
         jt: jt as u8,
         jf: jf as u8,
         k: k as u32,

@@ -32,7 +32,6 @@ pub(crate) enum Piece {
     /// This byte.
     Mark(u8),
     Len,
-    Memory,
     Accumulator,
     Index,
     /// A number: the field's value.
@@ -73,7 +72,7 @@ const ABSOLUTE: &[Piece] = &[
 ];
 
 const SCRATCH: &[Piece] = &[
-    Piece::Memory,
+    Piece::Mark(b'M'),
     Piece::Mark(b'['),
     Piece::Number(Field::K, Style::Decimal),
     Piece::Mark(b']'),
@@ -165,13 +164,10 @@ impl Encoding {
     fn names(&self, field: Field) -> bool
         ensures { result ≡ list_any (names field) self.now.pieces.now }
     {
-        for piece in self.pieces {
-            match piece {
-                Piece::Number(named, _) | Piece::Target(named) if *named == field => return true,
-                _ => {}
-            }
-        }
-        false
+        self.pieces.iter().any(|piece| match piece {
+            Piece::Number(named, _) | Piece::Target(named) => *named == field,
+            _ => false,
+        })
     }
 
     /// Whether the encoding shows everything of an instruction of its code: the fields that it doesn't name are 0.

@@ -1,11 +1,10 @@
 //! Labels, kept by the offsets where they begin.
-ghost use Rattle.std.specs.Prelude.{◌≡◌, ◌≤◌, nat_eq, drop, length};
+ghost use Rattle.std.specs.Prelude.{◌≡◌, nat_eq, drop};
 ghost use Rattle.std.specs.Cmp.Lexicographic.{slice_cmp};
 ghost use Rattle.std.specs.List.{IsDistinct};
-ghost use Rattle.std.specs.Option.{option_cmp};
 ghost use Rattle.std.specs.List.Sorted.{IsPermutation, IsSortedBy};
 ghost use Rattle.std.specs.Ordering.{nat_cmp};
-ghost use Rattle.scf_text.specs.internal.Labels.{compared, is_before, word_byte, word_order, IsFirstRepeat, TellsRepeat};
+ghost use Rattle.scf_text.specs.internal.Labels.{compared, is_before, IsFirstRepeat, TellsRepeat};
 ghost use Rattle.scf_text.specs.internal.Symbols.{name_at, line_at};
 
 use crate::fault::TextFault;
@@ -19,39 +18,14 @@ fn text_from(text: &[u8], index: usize) -> &[u8]
     text.get(index..).unwrap_or_default()
 }
 
-/// The length of the common prefix of the leading words of two texts: the bytes behind it decide how they compare.
-fn common_len(left: &[u8], right: &[u8]) -> usize
-    ensures within { (result ≤ length left.now) × (result ≤ length right.now) }
-    ensures order { option_cmp nat_cmp (word_byte (drop result left.now)) (word_byte (drop result right.now))
-        ≡ word_order left.now right.now }
-{
-    let len = left.len().min(right.len());
-    for at in 0..len {
-        if left[at] != right[at] || !is_of_word(left[at]) {
-            return at;
-        }
-    }
-    len
-}
-
-/// The first byte of a text, if it is a word's.
-fn word_byte(text: &[u8]) -> Option<u8>
-    ensures { result ≡ word_byte text.now }
-{
-    match text {
-        [byte, ..] if is_of_word(*byte) => Some(*byte),
-        _ => None,
-    }
-}
-
-/// Compares the words at two offsets.
+/// Compares the words at two offsets, byte by byte up to the first difference.
 fn compare_words(text: &[u8], left: usize, right: usize) -> Ordering
     ensures { result ≡ slice_cmp nat_cmp (name_at text.now left) (name_at text.now right) }
 {
-    let left = text_from(text, left);
-    let right = text_from(text, right);
-    let len = common_len(left, right);
-    word_byte(&left[len..]).cmp(&word_byte(&right[len..]))
+    let left = text_from(text, left).iter();
+    let right = text_from(text, right).iter();
+    left.take_while(|byte| is_of_word(**byte))
+        .cmp(right.take_while(|byte| is_of_word(**byte)))
 }
 
 /// Compares the word at an offset with another.
@@ -73,13 +47,7 @@ fn line_at(text: &[u8], index: usize) -> usize
     ensures { result ≡ line_at text.now index }
 {
     let before = text.get(..index).unwrap_or(text);
-    let mut line = 1;
-    for byte in before {
-        if *byte == b'\n' {
-            line += 1;
-        }
-    }
-    line
+    1 + before.iter().filter(|byte| **byte == b'\n').count()
 }
 
 /// The first label, by offset, that repeats an earlier one, given sorted labels.

@@ -59,7 +59,6 @@ fn write_piece<S: Sink>(sink: &mut S, insn: &Insn, piece: Piece) -> Result<(), W
         Piece::Mark(b',') => ", ",
         Piece::Mark(byte) => return write_whole(sink, &[byte]),
         Piece::Len => "len",
-        Piece::Memory => "M",
         Piece::Accumulator => "a",
         Piece::Index => "x",
         Piece::Number(field, style) => return write_number(sink, style, value_of(insn, field)),

@@ -1,51 +1,48 @@
 //! Parsed instructions: an operand format filled with fields.
-ghost use Rattle.std.specs.Prelude.{◌≡◌, IfSome, Some, None, if◌then◌else◌, nat_lt};
+ghost use Rattle.std.specs.Prelude.{◌≡◌, IfSome, Some, None, if◌then◌else◌};
 ghost use Rattle.std.specs.Option.{option_map};
 ghost use Rattle.std.specs.List.{list_any};
 ghost use Rattle.std.specs.Str.{bytes_eq};
-ghost use Rattle.scf_insn.specs.Numbers.{number_of};
 ghost use Rattle.scf_text.specs.Encodings.{encodings};
 ghost use Rattle.scf_text.specs.ParsedInsns.{is_name, with_field, spellings, put_by, fill_by, has_mnemonic};
-ghost use Rattle.scf_text.specs.ParsedInsns.{read_by, is_in_range};
+ghost use Rattle.scf_text.specs.ParsedInsns.{blank, field_number, read_by, is_below, is_in_range};
 ghost use Rattle.scf_text.specs.ParsedInsns as written;
 ghost use Rattle.scf_text.specs.internal.Parts.{words_in, others_in, statements_after};
 ghost use Rattle.scf_text.specs.internal.Symbols.{FollowsBehind};
 ghost use Rattle.scf_text.specs.internal.Results.{Reads};
-ghost use Rattle.scf_text.specs.internal.Views.{blank, encoding_view, number_view, field_value_view, parsed_view};
+ghost use Rattle.scf_text.specs.internal.Views.{encoding_view, field_value_view, parsed_view};
 
 use crate::encoding::{Encoding, Field, Piece};
+use crate::fault::TextFault;
 use crate::part::{Next, front};
 use scf_insn::{NumeralFault, parse_number};
 
 /// The text of a field: a number, or a label.
 #[derive(Clone, Copy)]
 pub(crate) enum FieldValue<'a> {
+    /// A number; 2^64-1 in place of a larger one, since neither fits a field.
     Number(u64),
-    /// The token of a number past 2^64-1.
-    Large(&'a [u8]),
     Label(&'a [u8]),
 }
 
 /// An instruction as parsed, before labels are resolved.
 #[derive(Clone, Copy)]
 pub(crate) struct ParsedInsn<'a> {
-    pub code: FieldValue<'a>,
+    pub code: u64,
     pub jt: FieldValue<'a>,
     pub jf: FieldValue<'a>,
     pub k: FieldValue<'a>,
 }
 
 impl<'a> FieldValue<'a> {
-    /// The number, if it is below the limit; 0 for a label.
-    pub(crate) fn below(self, limit: u64) -> Option<u64>
-        ensures { result ≡ (if nat_lt (number_view self.entry) limit then Some (number_view self.entry) else None) }
+    /// Whether this is a number below the limit, or a label.
+    fn is_below(self, limit: u64) -> bool
+        ensures { result ≡ is_below limit (field_value_view self.entry) }
     {
-        let number = match self {
-            FieldValue::Number(number) => number,
-            FieldValue::Large(token) => parse_number(token).ok()?,
-            FieldValue::Label(_) => 0,
-        };
-        if number < limit { Some(number) } else { None }
+        match self {
+            FieldValue::Number(number) => number < limit,
+            FieldValue::Label(_) => true,
+        }
     }
 }
 
@@ -66,7 +63,7 @@ impl<'a> ParsedInsn<'a> {
     {
         let zero = FieldValue::Number(0);
         ParsedInsn {
-            code: FieldValue::Number(encoding.code as u64),
+            code: encoding.code as u64,
             jt: zero,
             jf: zero,
             k: zero,
@@ -79,7 +76,7 @@ impl<'a> ParsedInsn<'a> {
     {
         match field {
             Field::Code => match operand {
-                FieldValue::Number(_) | FieldValue::Large(_) => self.code = operand,
+                FieldValue::Number(code) => self.code = code,
                 FieldValue::Label(_) => {}
             },
             Field::Jt => self.jt = operand,
@@ -96,7 +93,6 @@ fn is_spelling(piece: Piece, token: &[u8]) -> bool
     match piece {
         Piece::Mark(byte) => token == [byte].as_slice(),
         Piece::Len => token == b"len".as_slice(),
-        Piece::Memory => matches!(token, [b'M']),
         Piece::Accumulator => matches!(token, [b'a' | b'A']),
         Piece::Index => matches!(token, [b'x' | b'X']),
         Piece::Number(..) | Piece::Target(_) => false,
@@ -104,22 +100,23 @@ fn is_spelling(piece: Piece, token: &[u8]) -> bool
 }
 
 /// Sets a field to the number that a token spells, if it spells one.
+#[tactic(auto, unfolding(crate::specs::ParsedInsns::field_number))]
 fn put_number<'a>(parsed: &mut ParsedInsn<'a>, field: Field, token: &'a [u8]) -> bool
-    ensures { option_map (λ n. with_field field (written.Number n) (parsed_view parsed.old)) (number_of token.now)
+    ensures { option_map (λ n. with_field field (written.Number n) (parsed_view parsed.old)) (field_number token.now)
         ≡ (if result then Some (parsed_view parsed.new) else None) }
 {
     let number = match parse_number(token) {
-        Ok(number) => FieldValue::Number(number),
-        Err(NumeralFault::TooLarge) => FieldValue::Large(token),
+        Ok(number) => number,
+        Err(NumeralFault::TooLarge) => u64::MAX,
         Err(NumeralFault::Malformed) => return false,
     };
-    parsed.set_field(field, number);
+    parsed.set_field(field, FieldValue::Number(number));
     true
 }
 
 /// Matches a token with a piece; a field is set.
 fn put<'a>(parsed: &mut ParsedInsn<'a>, piece: Piece, token: &'a [u8]) -> bool
-    ensures { put_by number_of piece token.now (parsed_view parsed.old)
+    ensures { put_by field_number piece token.now (parsed_view parsed.old)
         ≡ (if result then Some (parsed_view parsed.new) else None) }
 {
     match piece {
@@ -131,19 +128,20 @@ fn put<'a>(parsed: &mut ParsedInsn<'a>, piece: Piece, token: &'a [u8]) -> bool
             parsed.set_field(field, FieldValue::Label(token));
             true
         }
-        Piece::Mark(_) | Piece::Len | Piece::Memory | Piece::Accumulator | Piece::Index => {
+        Piece::Mark(_) | Piece::Len | Piece::Accumulator | Piece::Index => {
             is_spelling(piece, token)
         }
     }
 }
 
 /// Matches the tokens of a statement with pieces, and returns the text behind the statement.
+#[tactic(auto, using(crate::proofs::IndexLemmas::follows_behind))]
 fn fill<'a>(
     parsed: &mut ParsedInsn<'a>,
     pieces: &[Piece],
     part: &'a [u8],
 ) -> Option<Option<&'a [u8]>>
-    ensures fills { fill_by number_of pieces.now (words_in part.now) (parsed_view parsed.old)
+    ensures fills { fill_by field_number pieces.now (words_in part.now) (parsed_view parsed.old)
         ≡ option_map (λ _. parsed_view parsed.new) result }
     ensures stops { IfSome result (λ after. others_in part.now ≡ statements_after after) }
     ensures behind { IfSome result (λ after. FollowsBehind part.now 0 after) }
@@ -166,21 +164,16 @@ fn fill<'a>(
     }
 }
 
-/// The result of parsing a mnemonic and its operands.
-#[derive(Clone, Copy)]
-pub(crate) enum Reading<'a> {
-    /// The mnemonic is unknown.
-    Unknown,
-    /// The operands have none of the mnemonic's formats.
-    Unfit,
-    /// The parsed instruction, and the text behind the statement.
-    Said(Option<&'a [u8]>),
-}
-
-/// Parses a mnemonic and its operands by the first encoding of the mnemonic whose format they have.
-pub(crate) fn read<'a>(parsed: &mut ParsedInsn<'a>, mnemonic: &[u8], part: &'a [u8]) -> Reading<'a>
-    ensures { Reads (list_any (has_mnemonic mnemonic.now) encodings)
-        (read_by number_of encodings mnemonic.now (words_in part.now)) part.now (parsed_view parsed.new) result }
+/// Parses a mnemonic and its operands by the first encoding of the mnemonic whose format they have, and returns the text
+/// behind the statement.
+pub(crate) fn read<'a>(
+    parsed: &mut ParsedInsn<'a>,
+    mnemonic: &[u8],
+    part: &'a [u8],
+    line: usize,
+) -> Result<Option<&'a [u8]>, TextFault>
+    ensures { Reads line (list_any (has_mnemonic mnemonic.now) encodings)
+        (read_by field_number encodings mnemonic.now (words_in part.now)) part.now (parsed_view parsed.new) result }
 {
     let mut is_known = false;
     for encoding in Encoding::all() {
@@ -189,14 +182,14 @@ pub(crate) fn read<'a>(parsed: &mut ParsedInsn<'a>, mnemonic: &[u8], part: &'a [
         }
         *parsed = ParsedInsn::blank(*encoding);
         if let Some(after) = fill(parsed, encoding.pieces, part) {
-            return Reading::Said(after);
+            return Ok(after);
         }
         is_known = true;
     }
     if is_known {
-        Reading::Unfit
+        Err(TextFault::Operand { line })
     } else {
-        Reading::Unknown
+        Err(TextFault::Mnemonic { line })
     }
 }
 
@@ -205,9 +198,9 @@ impl<'a> ParsedInsn<'a> {
     pub(crate) fn is_in_range(self) -> bool
         ensures { result ≡ is_in_range (parsed_view self.entry) }
     {
-        self.code.below(1 << 16).is_some()
-            && self.jt.below(1 << 8).is_some()
-            && self.jf.below(1 << 8).is_some()
-            && self.k.below(1 << 32).is_some()
+        self.code < 1 << 16
+            && self.jt.is_below(1 << 8)
+            && self.jf.is_below(1 << 8)
+            && self.k.is_below(1 << 32)
     }
 }

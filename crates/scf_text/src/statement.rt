@@ -12,7 +12,7 @@ use crate::encoding::Encoding;
 use crate::fault::TextFault;
 use crate::label::check_labels;
 use crate::numbered_insn::NumberedInsn;
-use crate::parsed_insn::{ParsedInsn, Reading, is_token_name, read};
+use crate::parsed_insn::{ParsedInsn, is_token_name, read};
 use crate::part::{LinePart, Next, front};
 use scf_insn::kernel::BPF_MAXINSNS;
 
@@ -29,11 +29,7 @@ fn read_instruction<'a>(
     ensures stops { IfOk result (λ after. others_in part.now ≡ statements_after after) }
     ensures behind { IfOk result (λ after. FollowsBehind part.now 0 after) }
 {
-    let after = match read(parsed, mnemonic, part) {
-        Reading::Unknown => return Err(TextFault::Mnemonic { line }),
-        Reading::Unfit => return Err(TextFault::Operand { line }),
-        Reading::Said(after) => after,
-    };
+    let after = read(parsed, mnemonic, part, line)?;
     if !parsed.is_in_range() {
         Err(TextFault::NumberRange { line })
     } else if at >= BPF_MAXINSNS {
@@ -44,6 +40,7 @@ fn read_instruction<'a>(
 }
 
 /// Splits off the label of a statement, if it has one: its offset in the part, and the beginning of what follows.
+#[tactic(auto, using(crate::proofs::IndexLemmas::lies_behind))]
 fn split_label(part: &[u8]) -> (Option<usize>, Next<'_>)
     ensures label { option_map (name_at part.now) result.0 ≡ label_in (words_in part.now) }
     ensures rest { words_at result.1 ≡ instruction_in (words_in part.now) }

@@ -154,7 +154,7 @@ pub(crate) fn push_tokens<'a>(
 /// Each borrows its slice of the text. `Memory` comes if an allocation failed; never for a text without tokens.
 ///
 /// `assemble` works on the same tokens: it looks for a byte that isn't ASCII first, then takes the tokens one by one
-/// from the text, and stores the names of jump targets, numbers past 2^64-1, and the offset of each label.
+/// from the text, and stores the names of jump targets and the offset of each label.
 #[tactic(auto, unfolding(crate::specs::Tokens::tokens_of))]
 pub fn tokens(alloc: Global, text: &[u8]) -> Result<Vec<Token<'_>>, Memory>
     ensures pieces { IfOk result (λ tokens. lexemes tokens.items ≡ tokens_of text.now) }

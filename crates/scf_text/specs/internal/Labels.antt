@@ -1,10 +1,9 @@
 -- The labels of a text, kept by the indices where they begin.
-use Rattle.std.specs.Prelude.{◌≡◌, ℕ, ◌<◌, ◌≤◌, List, [], ◌∷◌, if◌then◌else◌, map, min, Option, Some, None, Result, Ok, Err, nat_lt, Bool}
+use Rattle.std.specs.Prelude.{◌≡◌, ℕ, ◌<◌, ◌≤◌, List, map, min, Option, Some, None, Result, Ok, Err, nat_lt, Bool}
 use Rattle.std.specs.declared.cmp.Ordering.{Ordering}
 use Rattle.std.specs.Cmp.Lexicographic.{slice_cmp}
-use Rattle.std.specs.List.{Contains, prefix_len, take_while}
+use Rattle.std.specs.List.{Contains, prefix_len}
 use Rattle.std.specs.Ordering.{is_lt, nat_cmp, ordering_then}
-use Rattle.scf_text.specs.Characters.{is_word_byte}
 use Rattle.scf_text.specs.declared.fault.TextFault.{TextFault}
 use Rattle.scf_text.specs.declared.fault.TextFault.TheVariants as fault
 use Rattle.scf_text.specs.internal.Symbols.{name_at, line_at}
@@ -17,19 +16,6 @@ Labels = List (List ℕ × ℕ)
 -- instructions before it.
 abbrev pub labels_at : List ℕ → List ℕ → List ℕ → Labels
 labels_at text begins starts = map (λ s. (name_at text s, prefix_len (λ b. nat_lt b s) begins)) starts
-
--- how the words in front of two texts compare
-abbrev pub word_order : List ℕ → List ℕ → Ordering
-word_order left right = slice_cmp nat_cmp (take_while is_word_byte left) (take_while is_word_byte right)
-
--- the first byte, if it passes the test
-abbrev pub front_byte : (ℕ → Bool) → List ℕ → Option ℕ
-front_byte test [] = None
-front_byte test (b ∷ bs) = if test b then Some b else None
-
--- the first byte, if it is a word's
-abbrev pub word_byte : List ℕ → Option ℕ
-word_byte text = front_byte is_word_byte text
 
 -- by their names, and those of one name by where they begin
 abbrev pub compared : List ℕ → ℕ → ℕ → Ordering

@@ -1,21 +1,19 @@
 -- What the functions of the assembler answer: what was asked for, or the fault that stands in its place.
-use Rattle.std.specs.Prelude.{◌≡◌, ℕ, ◌<◌, ◌^◌, Bool, true, false, List, [], ◌∷◌, ◌++◌, length, map, Option, Some, None}
+use Rattle.std.specs.Prelude.{◌≡◌, ℕ, ◌<◌, Bool, true, false, List, ◌∷◌, ◌++◌, length, map, Option, Some, None}
 use Rattle.std.specs.Prelude.{Result, Ok, Err, IsTrue, nat_eq, ◌⊎◌}
 use Rattle.std.specs.List.{AllByRecursion, IsDistinct}
 use Rattle.std.specs.List.Sorted.{IsPermutation}
-use Rattle.std.specs.Option.{option_or, option_to_list}
+use Rattle.std.specs.Option.{option_to_list}
+use Rattle.std.specs.Borrow.{Bor}
 use Rattle.std.specs.Global.{Vec}
 use Rattle.scf_insn.specs.Insn.{IsInsn}
 use Rattle.scf_insn.specs.declared.insn.Insn.{Insn}
-use Rattle.scf_text.specs.declared.parsed_insn.Reading.{Reading}
-use Rattle.scf_text.specs.declared.parsed_insn.Reading.TheVariants.{Unknown, Unfit, Said}
 use Rattle.scf_text.specs.declared.fault.TextFault.{TextFault}
 use Rattle.scf_text.specs.declared.fault.TextFault.TheVariants as fault
 use Rattle.scf_text.specs.declared.numbered_insn.NumberedInsn.{NumberedInsn}
 use Rattle.scf_text.specs.declared.symbols.SymbolTable.{SymbolTable as Kept}
 use Rattle.scf_text.specs.ParsedInsns as parsed_insns
-use Rattle.scf_text.specs.Faults.{IsFault, instruction_fault, statements_fault}
-use Rattle.scf_text.specs.Faults.{target_fault, targets_fault}
+use Rattle.scf_text.specs.Faults.{IsFault, insn_fault, instruction_fault, target_fault}
 use Rattle.scf_text.specs.Spelling.{Says, SaysInsn, SaysEach}
 use Rattle.scf_text.specs.Statements.{SymbolTable, index_of, symbols_in, statements_of, parsed_insns_of, parsed_insns_by}
 use Rattle.scf_text.specs.internal.Labels.{labels_at, TellsRepeat}
@@ -23,23 +21,11 @@ use Rattle.scf_text.specs.internal.Parts.{others_in, statements_after}
 use Rattle.scf_text.specs.internal.Symbols.{FollowsBehind}
 use Rattle.scf_text.specs.internal.Reading.{parsed_insns_view, begins_of}
 
--- the first fault of a text but for bytes that aren't ASCII
-unfoldable pub fault_in : List ℕ → Option TextFault
-fault_in text =
-    option_or (statements_fault [] (statements_of text))
-    (targets_fault (symbols_in (statements_of text)) 0 (parsed_insns_of text))
-
 -- the number that is written, or the offset to the label, below the limit
 abbrev pub TellsTarget : SymbolTable → ℕ → ℕ → ℕ → parsed_insns.FieldValue → Result ℕ TextFault → Type 0
 TellsTarget symbols at line limit written (Ok value) =
     (target_fault symbols at line limit written ≡ None) × Says symbols at written value × (value < limit)
 TellsTarget symbols at line limit written (Err e) = target_fault symbols at line limit written ≡ Some e
-
--- the targets of an instruction: of a conditional jump its JT and then its JF
-abbrev pub insn_fault : SymbolTable → ℕ → ℕ → parsed_insns.ParsedInsn → Option TextFault
-insn_fault symbols at line d =
-    option_or (target_fault symbols at line (2 ^ 8) d.jt)
-    (option_or (target_fault symbols at line (2 ^ 8) d.jf) (target_fault symbols at line (2 ^ 32) d.k))
 
 -- the instruction that is written at this index
 abbrev pub TellsInsn : SymbolTable → ℕ → ℕ → parsed_insns.ParsedInsn → Result Insn TextFault → Type 0
@@ -83,12 +69,14 @@ AddsInstruction old start line tokens (Ok _) new =
     × (begins_of new ≡ begins_of old ++ map (λ _. start) (parsed_insns_by line tokens))
 AddsInstruction old start line tokens (Err e) new = IsFault e (instruction_fault (length old) line tokens)
 
--- Whether a mnemonic is known, and the instruction that it spells with the operands in the part behind it, if they fit.
-abbrev pub Reads : Bool → Option parsed_insns.ParsedInsn → List ℕ → parsed_insns.ParsedInsn → Reading → Type 0
-Reads is_known outcome part parsed Unknown = is_known ≡ false
-Reads is_known outcome part parsed Unfit = (is_known ≡ true) × (outcome ≡ None)
-Reads is_known outcome part parsed (Said after) =
+-- The instruction that a known mnemonic spells with the operands in the part behind it, or why they spell none.
+abbrev pub Reads : ℕ → Bool → Option parsed_insns.ParsedInsn → List ℕ → parsed_insns.ParsedInsn
+    → Result (Option (Bor (List ℕ))) TextFault → Type 0
+Reads line is_known outcome part parsed (Ok after) =
     (is_known ≡ true) × (outcome ≡ Some parsed) × (others_in part ≡ statements_after after) × FollowsBehind part 0 after
+Reads line is_known outcome part parsed (Err e) =
+    ((is_known ≡ false) × (e ≡ fault.Mnemonic line))
+    ⊎ ((is_known ≡ true) × (outcome ≡ None) × (e ≡ fault.Operand line))
 
 -- the indices that labels stand for
 abbrev pub indices_view : Kept → SymbolTable
