@@ -1,16 +1,14 @@
 -- What holds of the forms of all codes holds of the form of an instruction; reading by the forms in turn.
-use Rattle.scf_text.proofs.Common.{◌≡◌, ℕ, Bool, ◌||◌, true, List, [], ◌∷◌, Option, inl, inr, unwrap_or, AllByRecursion, list_any, find, cases_Bool, Insn, known_encodings, encodings, raw, tells_all, encoding_for, has_mnemonic, read_by}
+use Rattle.scf_text.proofs.Common.{◌≡◌, ℕ, Bool, ◌||◌, true, arith, nat_tests, List, [], ◌∷◌, Option, unwrap_or, AllByRecursion, list_any, find, cases_Bool, Insn, known_encodings, encodings, raw, tells_all, encoding_for, has_mnemonic, read_by}
 use Rattle.scf_text.specs.Encodings as spec
+use Rattle.std.proofs.lemmas.Grind.{common_steps}
 
 -- what holds of each form, and of the first one that passes or of another one, if it passes
 found_one : (p : spec.Encoding → Bool) (P Q : spec.Encoding → Type 0) (fs : List spec.Encoding) (f : spec.Encoding)
     → AllByRecursion P fs → ((g : spec.Encoding) → P g → p g ≡ true → Q g) → Q f → Q (unwrap_or (find p fs) f)
 found_one p P Q [] f all first other = other
 found_one p P Q (g ∷ fs) f all first other =
-    elim (cases_Bool (p g)) [
-      | inl here ↦ rw here (first g all.0 here)
-      | inr later ↦ rw later (found_one p P Q fs f all.1 first other)
-    ]
+    grind (arith, common_steps, nat_tests, cases_Bool, found_one p P Q fs f all.1 first other)
 
 -- of the form in which an instruction is listed
 pub listed_one : (P Q : spec.Encoding → Type 0) (i : Insn) → AllByRecursion P encodings

@@ -1,5 +1,5 @@
 -- Where the parts of a line stand in the text.
-use Rattle.scf_text.proofs.Common.{◌≡◌, ℕ, ◌+◌, ◌-◌, ◌<◌, ◌≤◌, false, List, [], ◌∷◌, ◌++◌, length, take, drop, Option, Some, None, Result, Ok, Err, IfOk, refl, sym, ap, ◌∙◌, append_assoc, append-nil, arith, inl, inr, filter-append, take_while, take_rest, drop-append-add, cases_Bool, MatchOption, Bor, drop-drop, drop-append-le, take-add, take-append-le, take-append-add, take-append-drop, length-append, length-drop, length-filter, is_word_byte, count_ends, begins_in_word, before_comment, IsLinePart, IsBehind, FollowsBehind, LiesBehind, name_at, line_at, index_after, nat_tests}
+use Rattle.scf_text.proofs.Common.{◌≡◌, ℕ, ◌+◌, ◌-◌, ◌<◌, ◌≤◌, false, List, [], ◌∷◌, ◌++◌, length, take, drop, Option, Some, None, Result, IfOk, refl, sym, ap, ◌∙◌, append_assoc, append-nil, arith, inl, inr, filter-append, take_while, take_rest, drop-append-add, cases_Bool, MatchOption, Bor, drop-drop, drop-append-le, take-add, take-append-le, take-append-add, take-append-drop, length-append, length-drop, length-filter, is_word_byte, count_ends, begins_in_word, before_comment, IsLinePart, IsBehind, FollowsBehind, LiesBehind, name_at, line_at, index_after, nat_tests}
 use Rattle.scf_text.specs.declared.part.Next.{Next}
 use Rattle.scf_text.proofs.TokenLemmas.{prefix_more, comment_of}
 use Rattle.std.proofs.lemmas.Grind.{common_steps}
@@ -146,7 +146,4 @@ pub instruction_behind : {E : Type 0} (r : Result (Option (Bor (List ℕ))) E) (
     → IfOk r (λ after. (part : List ℕ) (index : ℕ) → LiesBehind part index next → FollowsBehind part index after)
     → IfOk r (λ after. start + index + 1 ≤ index_after start bytes after)
     × IfOk r (λ after. FollowsBehind bytes 0 after)
-instruction_behind (Ok after) bytes start index next lies h =
-    let behind = h bytes index lies in
-    (after_index bytes start index after behind, follows_part bytes index after behind)
-instruction_behind (Err e) bytes start index next lies h = (tt, tt)
+instruction_behind r bytes start index next lies h = grind (arith, common_steps, nat_tests, after_index, follows_part)

@@ -1,5 +1,5 @@
 -- A text spells a list exactly where it has no fault, and then only one.
-use Rattle.scf_text.proofs.Common.{◌≡◌, ◌≢◌, ℕ, Bool, false, bytes_eq, map, IsDistinct, ◌+◌, ◌<◌, ◌≤◌, true, cond, eqb, List, [], ◌∷◌, ◌++◌, length, Option, Some, None, refl, sym, ◌∙◌, zero-add, arith, inl, inr, IsSome, option_or, option_map, option_to_list, AllByRecursion, list_any, flat_map, cases_Bool, lt-ltb, le-ltb, lt-leb, nat_tests, length-append, IsInsn, bpf_maxinsns, Insn, encodings, FieldValue, ParsedInsn, has_mnemonic, read_by, parsed_of, is_below, is_in_range, field_number, Statement, Labels, SymbolTable, index_of, symbols_in, label_in, instruction_in, label_at, labels_from, parsed_insns_by, parsed_insns_in, statements_of, parsed_insns_of, Says, SaysInsn, SaysEach, AreNew, Spells, ascii_fault, label_fault, operands_fault, instruction_fault, statement_fault, statements_fault, target_fault, targets_fault, insn_fault, fault_in, fault_of}
+use Rattle.scf_text.proofs.Common.{◌≡◌, ◌≢◌, ℕ, Bool, false, bytes_eq, map, IsDistinct, ◌+◌, ◌<◌, ◌≤◌, true, cond, eqb, List, [], ◌∷◌, ◌++◌, length, Option, Some, None, refl, zero-add, arith, IsSome, option_or, option_map, option_to_list, AllByRecursion, list_any, flat_map, cases_Bool, lt-ltb, le-ltb, lt-leb, nat_tests, length-append, IsInsn, bpf_maxinsns, Insn, encodings, FieldValue, ParsedInsn, has_mnemonic, read_by, parsed_of, is_below, is_in_range, field_number, Statement, Labels, SymbolTable, index_of, symbols_in, label_in, instruction_in, label_at, labels_from, parsed_insns_by, parsed_insns_in, statements_of, parsed_insns_of, Says, SaysInsn, SaysEach, AreNew, Spells, ascii_fault, label_fault, operands_fault, instruction_fault, statement_fault, statements_fault, target_fault, targets_fault, insn_fault, fault_in, fault_of}
 use Rattle.scf_text.specs.Encodings.{Encoding}
 use Rattle.std.proofs.lemmas.List.{append-nil}
 use Rattle.scf_text.proofs.ReadLemmas.{bytes_eq_sym, count_more, labels_more, lookup_push, is_none}
@@ -18,8 +18,7 @@ none_both h k = rw h k
 
 pub ascii_from : (text : List ℕ) (line : ℕ) → ascii_fault line text ≡ None → AllByRecursion (λ b. b < 128) text
 ascii_from [] line h = tt
-ascii_from (b ∷ bs) line h =
-    (grind (arith, nat_tests), ascii_from bs (cond (eqb b 10) (line + 1) line) (grind (arith, nat_tests)))
+ascii_from (b ∷ bs) line h = grind (arith, common_steps, nat_tests, ascii_from bs)
 
 pub ascii_to : (text : List ℕ) (line : ℕ) → AllByRecursion (λ b. b < 128) text → ascii_fault line text ≡ None
 ascii_to [] line h = refl
@@ -56,10 +55,7 @@ besides_more : (earlier : Labels) (l : List ℕ × ℕ) (ls : Labels) → AreBes
     → AreBesides earlier ls × AreOthers l.0 ls
 besides_more earlier l [] h = (tt, tt)
 besides_more earlier l (m ∷ ls) h =
-    let pushed = sym (lookup_push (bytes_eq m.0) earlier l) ∙ h.0 in
-    let here = other_name (bytes_eq m.0 l.0) (index_of earlier m.0) l.1 pushed in
-    let remaining = besides_more earlier l ls h.1 in
-    ((here.0, remaining.0), (bytes_eq_sym l.0 m.0 ∙ here.1, remaining.1))
+    grind (arith, common_steps, nat_tests, lookup_push, other_name, bytes_eq_sym, besides_more earlier l ls h.1)
 
 besides_less : (earlier : Labels) (l : List ℕ × ℕ) (ls : Labels) → AreBesides earlier ls → AreOthers l.0 ls
     → AreBesides (earlier ++ l ∷ []) ls
@@ -75,7 +71,7 @@ distinct_new : (earlier ls : Labels) → AreBesides earlier ls → IsDistinct by
 unfolding IsDistinct
 distinct_new earlier [] h k = tt
 distinct_new earlier (l ∷ ls) h k =
-    (h.0, distinct_new (earlier ++ l ∷ []) ls (besides_less earlier l ls h.1 k.0) k.1)
+    grind (arith, common_steps, nat_tests, besides_less, distinct_new (earlier ++ l ∷ []) ls)
 
 besides_none : (ls : Labels) → AreBesides [] ls
 besides_none [] = tt
@@ -128,11 +124,7 @@ statements_from_none (s ∷ ss) before le h =
 chosen_form : (fs : List Encoding) (t : List ℕ) (ts : List (List ℕ)) → IsSome (read_by field_number fs t ts)
     → list_any (has_mnemonic t) fs ≡ true
 chosen_form [] t ts h = absurd cc
-chosen_form (f ∷ fs) t ts h =
-    elim (cases_Bool (has_mnemonic t f)) [
-      | inl here ↦ rw here refl
-      | inr other ↦ rw other (chosen_form fs t ts (rw other at h))
-    ]
+chosen_form (f ∷ fs) t ts h = grind (arith, common_steps, nat_tests, cases_Bool, chosen_form fs t ts)
 
 has_form : (t : List ℕ) (ts : List (List ℕ)) → IsSome (parsed_of t ts) → list_any (has_mnemonic t) encodings ≡ true
 unfolding parsed_of
@@ -143,7 +135,7 @@ InRange ds = AllByRecursion (λ (d : ℕ × ParsedInsn). is_in_range d.1 ≡ tru
 
 front_in_range : (ds es : List (ℕ × ParsedInsn)) → InRange (ds ++ es) → InRange ds × InRange es
 front_in_range [] es h = (tt, h)
-front_in_range (d ∷ ds) es h = let remaining = front_in_range ds es h.1 in ((h.0, remaining.0), remaining.1)
+front_in_range (d ∷ ds) es h = grind (arith, common_steps, nat_tests, front_in_range ds es h.1)
 
 read_some : (line : ℕ) (o : Option ParsedInsn) → (numbered line o ≡ [] → ⊥) → IsSome o
 read_some line o h = grind (arith, common_steps, nat_tests)
@@ -156,22 +148,15 @@ instruction_to : (at line : ℕ) (body : List (List ℕ)) → IsRead line body �
     → at + length (parsed_insns_by line body) ≤ bpf_maxinsns → instruction_fault at line body ≡ None
 instruction_to at line body h h2 h3 = grind (arith, common_steps, nat_tests, read_some, has_form, draft_to)
 
+ruleset one_more = (front_in_range, length-append, instruction_to, new_to, none_both, labels_more, zero-add, count_more)
+
 statements_to_none : (ss before : List Statement)
     → AreNew (labels_from 0 before) (labels_from (count before) ss)
     → AllByRecursion (λ (s : Statement). IsRead s.line (instruction_in s.tokens)) ss → InRange (flat_map parsed_insns_in ss)
     → count before + length (flat_map parsed_insns_in ss) ≤ bpf_maxinsns → statements_fault before ss ≡ None
 statements_to_none [] before new read range few = refl
 statements_to_none (s ∷ ss) before new read range few =
-    let at = count before in
-    let body = instruction_in s.tokens in
-    let parts = front_in_range (parsed_insns_by s.line body) (flat_map parsed_insns_in ss) range in
-    let long = length-append (parsed_insns_by s.line body) (flat_map parsed_insns_in ss) in
-    let one = instruction_to at s.line body read.0 parts.0 (omega (arith, long)) in
-    let label =
-    new_to (labels_from 0 before) at s.line (label_in s.tokens) (labels_from (at + length (parsed_insns_in s)) ss) new in
-    none_both (none_both label.0 one)
-    (statements_to_none ss (before ++ s ∷ []) (rw (labels_more, zero-add, count_more) label.1) read.1 parts.1
-    (rw count_more (omega (arith, long))))
+    grind (arith, common_steps, nat_tests, one_more, statements_to_none ss (before ++ s ∷ []))
 
 -- what is said
 

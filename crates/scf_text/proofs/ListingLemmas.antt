@@ -1,5 +1,5 @@
 -- The lines of a listing: their tokens, and that no byte or token of them ends a line, a statement or a label.
-use Rattle.scf_text.proofs.Common.{◌≡◌, ℕ, ◌-◌, ◌/◌, ◌%◌, ◌<◌, ◌^◌, true, false, ◌&&◌, eqb, List, [], ◌∷◌, ◌++◌, length, map, min, Some, refl, ap, arith, ◌≤◌, Bool, ltb, None, not, list_all, flat_map, AllByRecursion, is_digit, digit_value, decimal, digits, digit_glyph, digits_value, AllDigits, IsNumeral, eqb-true, ne_eqb, lt-ltb, agree_below_at, and_parts, and_right, ltb-true, digits_is_IsNumeral, digit_from_value, is_word_byte, begins_in_word, before_comment, field_number, number_of, numeral, has_hex_prefix, is_name, nat_tests, number_text, operands_text, piece_text, words_of_part, codes, cases_Bool, inl, inr, IsInsn, Insn, Piece, Field, Code, Jt, Jf, K, Style, Decimal, Hexadecimal, FourDigits, field_of, encodings, known_encodings, encoding_for, bytes_eq, is_semicolon, label_in, list_all-append}
+use Rattle.scf_text.proofs.Common.{◌≡◌, ℕ, ◌-◌, ◌/◌, ◌%◌, ◌<◌, ◌^◌, true, false, ◌&&◌, eqb, List, [], ◌∷◌, ◌++◌, length, map, min, Some, refl, arith, ◌≤◌, Bool, ltb, None, not, list_all, flat_map, AllByRecursion, is_digit, digit_value, decimal, digits, digit_glyph, digits_value, AllDigits, IsNumeral, eqb-true, ne_eqb, lt-ltb, agree_below_at, and_parts, and_right, ltb-true, digits_is_IsNumeral, digit_from_value, is_word_byte, begins_in_word, before_comment, field_number, number_of, numeral, has_hex_prefix, is_name, nat_tests, number_text, operands_text, piece_text, words_of_part, codes, cases_Bool, inl, inr, IsInsn, Insn, Piece, Field, Code, Jt, Jf, K, Style, Decimal, Hexadecimal, FourDigits, field_of, encodings, known_encodings, encoding_for, bytes_eq, is_semicolon, label_in, list_all-append}
 use Rattle.scf_text.proofs.TokenLemmas.{words_nil, words_blank, words_mark, words_word, words_one, words_more, onto_word}
 use Rattle.scf_text.specs.declared.encoding.Piece.TheVariants as p
 use Rattle.scf_text.specs.Encodings.{Encoding}
@@ -64,8 +64,7 @@ pub record IsWordy (t : List ℕ) : Type 0 where
 words_wordy : (t remaining : List ℕ) → IsWordy t → begins_in_word remaining ≡ false
     → words_of_part (t ++ remaining) ≡ t ∷ words_of_part remaining
 words_wordy [] remaining w h = absurd (omega (arith, w.some))
-words_wordy (b ∷ t) remaining w h = let both = and_parts (is_word_byte b) (list_all is_word_byte t) w.each in
-    words_word b t remaining both.0 both.1 h
+words_wordy (b ∷ t) remaining w h = grind (arith, common_steps, nat_tests, and_parts, words_word)
 
 -- digits
 
@@ -186,18 +185,11 @@ is_plain t = not (bytes_eq t (59 ∷ [])) && not (bytes_eq t (58 ∷ []))
 
 words_line : (t : List ℕ) → list_all is_word_byte t ≡ true → list_all is_line_byte t ≡ true
 words_line [] h = refl
-words_line (b ∷ t) h = let both = and_parts (is_word_byte b) (list_all is_word_byte t) h in
-    let word = both.0 in
-    let here : is_line_byte b ≡ true = grind (arith, nat_tests) in
-    rw (here, words_line t both.1) refl
+words_line (b ∷ t) h = grind (arith, common_steps, nat_tests, and_parts, words_line t)
 
 pub wordy_plain : (t : List ℕ) → IsWordy t → is_plain t ≡ true
 wordy_plain [] w = absurd (omega (arith, w.some))
-wordy_plain (b ∷ t) w =
-    let word = (and_parts (is_word_byte b) (list_all is_word_byte t) w.each).0 in
-    let semicolon : eqb b 59 ≡ false = grind (arith, nat_tests) in
-    let colon : eqb b 58 ≡ false = grind (arith, nat_tests) in
-    rw (semicolon, colon) refl
+wordy_plain (b ∷ t) w = grind (arith, common_steps, nat_tests, and_parts)
 
 number_line : (i : Insn) (f : Field) (style : Style) → IsInsn i
     → (list_all is_line_byte (number_text style (field_of i f)) ≡ true)
@@ -265,11 +257,7 @@ each_byte P f (b ∷ t) h = let a = and_parts (is_line_byte b) (list_all is_line
 
 pub no_comment : (t : List ℕ) → list_all is_line_byte t ≡ true → before_comment t ≡ t
 no_comment [] h = refl
-no_comment (b ∷ t) h =
-    let a = and_parts (is_line_byte b) (list_all is_line_byte t) h in
-    let byte = a.0 in
-    let no_slash : eqb b 47 ≡ false = grind (arith, nat_tests) in
-    rw no_slash (ap (λ (u : List ℕ). b ∷ u) (no_comment t a.1))
+no_comment (b ∷ t) h = grind (arith, common_steps, nat_tests, and_parts, no_comment t)
 
 pub no_end : (t : List ℕ) → list_all is_line_byte t ≡ true → AllByRecursion (λ b. eqb b 10 ≡ false) t
 no_end t h = each_byte (λ b. eqb b 10 ≡ false) (λ b byte. grind (arith, nat_tests)) t h
@@ -279,9 +267,7 @@ small_bytes t h = each_byte (λ b. b < 128) (λ b byte. grind (arith, nat_tests)
 
 pub no_semicolon : (ts : List (List ℕ)) → list_all is_plain ts ≡ true → AllByRecursion (λ t. is_semicolon t ≡ false) ts
 no_semicolon [] h = tt
-no_semicolon (t ∷ ts) h =
-    let a = and_parts (is_plain t) (list_all is_plain ts) h in
-    let plain = a.0 in (grind (arith, nat_tests), no_semicolon ts a.1)
+no_semicolon (t ∷ ts) h = grind (arith, common_steps, nat_tests, and_parts, no_semicolon ts)
 
 pub no_label : (t : List ℕ) (ts : List (List ℕ)) → list_all is_plain ts ≡ true → label_in (t ∷ ts) ≡ None
 no_label t ts h = grind (arith, common_steps, nat_tests, and_parts, and_right)

@@ -60,10 +60,7 @@ moved_found es fs q v moved apart found =
 
 moved_same : (es fs : Labels) (q : List ℕ) (o p : Option ℕ) → IsPermutation es fs → IsDistinct bytes_eq (keys_of es)
     → IsDistinct bytes_eq (keys_of fs) → lookup (bytes_eq q) es ≡ o → lookup (bytes_eq q) fs ≡ p → o ≡ p
-moved_same es fs q (Some v) p moved apart also e f = sym (moved_found es fs q v moved also e) ∙ f
-moved_same es fs q None None moved apart also e f = refl
-moved_same es fs q None (Some v) moved apart also e f =
-    let g = moved_found fs es q v (IsPermutation-sym es fs moved) apart f in cc
+moved_same es fs q o p moved apart also e f = grind (arith, common_steps, nat_tests, moved_found, IsPermutation-sym)
 
 pub indices_moved : (text begins xs ys : List ℕ) → IsPermutation xs ys
     → IsDistinct bytes_eq (map (name_at text) ys)

@@ -51,15 +51,8 @@ is_none (Some x) h = absurd cc
 count_kept : (k : ℕ) (bs zs : List ℕ) → All (λ z. k ≤ z) zs
     → prefix_len (λ b. ltb b k) (bs ++ zs) ≡ prefix_len (λ b. ltb b k) bs
 count_kept k [] [] behind = refl
-count_kept k [] (z ∷ zs) behind =
-    let le : k ≤ z = All-head (λ z. k ≤ z) z zs behind in
-    let f : ltb z k ≡ false = grind (arith, nat_tests) in
-    rw f refl
-count_kept k (b ∷ bs) zs behind =
-    elim (cases_Bool (ltb b k)) [
-      | inl less ↦ rw less (omega (arith, count_kept k bs zs behind))
-      | inr other ↦ rw other refl
-    ]
+count_kept k [] (z ∷ zs) behind = grind (arith, common_steps, nat_tests, All-head)
+count_kept k (b ∷ bs) zs behind = grind (arith, common_steps, nat_tests, cases_Bool, count_kept k bs zs behind)
 
 count_all : (k : ℕ) (bs : List ℕ) → All (λ b. b < k) bs → prefix_len (λ b. ltb b k) bs ≡ length bs
 count_all k [] below = refl
@@ -314,15 +307,13 @@ label_mapped o r b h = grind (arith, common_steps, nat_tests)
 
 pub some_refused : {T E : Type 0} (r : Result T E) (ts us : List (List ℕ)) → us ≡ instruction_in ts → OnErr r (us ≢ [])
     → OnErr r (ts ≢ [])
-some_refused (Ok x) ts us e some = tt
-some_refused (Err x) ts us e some = λ none. some (e ∙ rw none refl)
+some_refused r ts us e some = grind (arith, common_steps, nat_tests)
 
 -- the label is kept, and the labels were searched for repeats
 pub label_checked : {T : Type 0} (text old : List ℕ) (label : Option ℕ) (r : Result T TextFault) (new : List ℕ)
     → IsPermutation (old ++ option_to_list label) new → (IsDistinct nat_eq new → TellsRepeat text new r)
     → AddsLabel text old label r new
-label_checked text old label (Ok x) new kept tells = kept
-label_checked text old label (Err e) new kept tells = inr (kept, tells)
+label_checked text old label r new kept tells = grind (arith, common_steps, nat_tests)
 
 -- a line is read before the lines behind it
 pub next_line : (n : ℕ) (text line bytes : List ℕ) (lines : List (List ℕ)) → lines_of text ≡ line ∷ lines

@@ -74,11 +74,7 @@ line_ends text n e lt = grind (arith, common_steps, nat_tests, index_of_end, tak
 
 last_line : (text : List ℕ) → length text ≤ prefix_len (λ b. not (eqb b 10)) text → lines_of text ≡ text ∷ []
 last_line [] le = refl
-last_line (b ∷ bs) le =
-    elim (cases_Bool (eqb b 10)) [
-      | inl here ↦ let none = rw here at le in absurd (omega arith)
-      | inr differs ↦ let more = rw differs at le in rw (differs, last_line bs (omega arith)) refl
-    ]
+last_line (b ∷ bs) le = grind (arith, common_steps, nat_tests, cases_Bool, last_line bs)
 
 -- the last line
 pub line_lasts : (text : List ℕ) (n : ℕ) → n ≡ prefix_len (λ b. not (eqb b 10)) text → length text ≤ n
@@ -208,11 +204,9 @@ words_more b c bs h k = ap (map (λ (l : Lexeme). l.text)) (more_in_front 0 b (c
 pub words_word : (b : ℕ) (w remaining : List ℕ) → is_word_byte b ≡ true → list_all is_word_byte w ≡ true
     → begins_in_word remaining ≡ false → words_of_part (b ∷ (w ++ remaining)) ≡ (b ∷ w) ∷ words_of_part remaining
 unfolding onto_word
-words_word b [] remaining h all k =
-    words_one b remaining (word_not_blank b h) (and_right (is_word_byte b) (begins_in_word remaining) k)
+words_word b [] remaining h all k = grind (arith, common_steps, nat_tests, words_one, word_not_blank, and_right)
 words_word b (c ∷ w) remaining h all k =
-    let both = and_parts (is_word_byte c) (list_all is_word_byte w) all in
-    words_more b c (w ++ remaining) h both.0 ∙ ap (onto_word b) (words_word c w remaining both.0 both.1 k)
+    grind (arith, common_steps, nat_tests, and_parts, words_more, words_word c w remaining)
 
 pub words_nil : words_of_part [] ≡ []
 unfolding lexemes_from
