@@ -8,8 +8,7 @@ ghost use Rattle.scf_tool.specs.Commands.{IsFilterOfEach};
 ghost use Rattle.scf_tool.specs.Reports.{left_out_front};
 
 use crate::buffer::encoding_of;
-use crate::left_out::LeftOut;
-use crate::reporting::LeftOutFront;
+use crate::left_out::{LeftOut, LeftOutFront};
 use scf_compile::{CallCount, CompileFault, compile_by_counts};
 use scf_insn::Memory;
 use scf_profile::{Profile, Profiles};

@@ -7,22 +7,7 @@ ghost use Rattle.scf_tool.specs.Faults.{fault_line, number_of, number_text, row_
 use crate::fault_row::{FaultNumber, FaultRow};
 use std::fmt;
 
-/// A number behind its name, if it has one.
-#[derive(Clone, Copy)]
-struct NumberText(FaultNumber);
-
-impl fmt::Display for NumberText {
-    ghost output = { λ text. Some (number_text (number_of text.0)) };
-
-    fn fmt<W: fmt::Write>(&self, f: &mut fmt::Formatter<W>) -> fmt::Result {
-        match self.0 {
-            (Some(name), value) => write!(f, " {name} {value}"),
-            (None, _) => Ok(()),
-        }
-    }
-}
-
-/// Numbers behind their names.
+/// Numbers, each behind its name if it has one.
 #[derive(Clone, Copy)]
 struct Numbers<'a>(&'a [FaultNumber]);
 
@@ -31,7 +16,9 @@ impl fmt::Display for Numbers<'_> {
 
     fn fmt<W: fmt::Write>(&self, f: &mut fmt::Formatter<W>) -> fmt::Result {
         for number in self.0 {
-            f.write(NumberText(*number))?;
+            if let (Some(name), value) = *number {
+                write!(f, " {name} {value}")?;
+            }
         }
         Ok(())
     }

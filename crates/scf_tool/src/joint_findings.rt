@@ -1,8 +1,9 @@
 //! The finding that speaks for several.
 
-ghost use Rattle.std.specs.Prelude.{◌≡◌, find, not};
+ghost use Rattle.std.specs.Prelude.{◌≡◌, find, map, not};
 ghost use Rattle.scf_tool.specs.JointFindings as spec;
 
+use crate::findings::CallFinding;
 use scf_compare::Finding;
 
 pub(crate) fn fails(finding: &Finding) -> bool
@@ -30,11 +31,9 @@ fn steps_of(finding: &Finding) -> u64
 fn most_steps(findings: &[Finding]) -> u64
     ensures { result ≡ spec.most_steps findings.now }
 {
-    let mut most = 0;
-    for finding in findings {
-        most = steps_of(finding).max(most);
-    }
-    most
+    findings
+        .iter()
+        .fold(0, |most, finding| steps_of(finding).max(most))
 }
 
 /// The first that fails.
@@ -56,6 +55,29 @@ pub fn worst_of(findings: &[Finding]) -> Option<Finding>
     ensures { result ≡ spec.worst_of findings.now }
 {
     first_failure(findings).or(first_other(findings))
+}
+
+/// The first finding on calls that fails.
+fn first_failure_of_calls(calls: &[CallFinding]) -> Option<Finding>
+    ensures { result ≡ find spec.is_failure (map (λ call. call.finding) calls.now) }
+{
+    let mut findings = calls.iter().map(|call| call.finding);
+    findings.find(|finding| fails(finding))
+}
+
+/// The first finding on calls that doesn't hold.
+fn first_other_of_calls(calls: &[CallFinding]) -> Option<Finding>
+    ensures { result ≡ find (λ finding. not (spec.is_holding finding)) (map (λ call. call.finding) calls.now) }
+{
+    let mut findings = calls.iter().map(|call| call.finding);
+    findings.find(|finding| !holds(finding))
+}
+
+/// The worst finding on the calls of a table.
+pub(crate) fn worst_of_calls(calls: &[CallFinding]) -> Option<Finding>
+    ensures { result ≡ spec.worst_of_calls calls.now }
+{
+    first_failure_of_calls(calls).or(first_other_of_calls(calls))
 }
 
 /// The finding that speaks for several: the worst, else `Holds` in the most steps that one of them took.

@@ -3,7 +3,6 @@
 
 mod architecture_scope;
 mod buffer;
-mod call_reporting;
 mod command_line;
 mod commands;
 mod compilation;

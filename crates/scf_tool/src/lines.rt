@@ -2,7 +2,6 @@
 
 ghost use Rattle.std.specs.Prelude.{◌≡◌, ◌++◌, ℕ, Some, codes, IfSome, IfNone};
 ghost use Rattle.std.specs.Fmt.{decimal};
-ghost use Rattle.std.specs.List.{flat_map};
 ghost use Rattle.scf_insn.specs.Answers.{data_half};
 ghost use Rattle.scf_tool.specs.Lines.{answer_text, decision_text, insn_text, reason_words, text_by, traced_text};
 ghost use Rattle.scf_tool.specs.Numerals.{eight_digits};
@@ -86,21 +85,6 @@ impl fmt::Display for DecisionLine {
     }
 }
 
-/// Indices, each behind a blank.
-#[derive(Clone, Copy)]
-struct Indices<'a>(&'a [usize]);
-
-impl fmt::Display for Indices<'_> {
-    ghost output = { λ indices. Some (flat_map (λ index. codes " " ++ decimal index) indices.0.now) };
-
-    fn fmt<W: fmt::Write>(&self, f: &mut fmt::Formatter<W>) -> fmt::Result {
-        for index in self.0 {
-            write!(f, " {}", *index)?;
-        }
-        Ok(())
-    }
-}
-
 /// The answer of a run, its steps and its path.
 #[derive(Clone, Copy)]
 pub(crate) struct TraceLines<'a>(pub &'a Trace);
@@ -110,8 +94,12 @@ impl fmt::Display for TraceLines<'_> {
 
     fn fmt<W: fmt::Write>(&self, f: &mut fmt::Formatter<W>) -> fmt::Result {
         let indices = self.0.indices.as_slice();
-        write!(f, "{} steps {}\n", AnswerText(self.0.answer), indices.len())?;
-        write!(f, "path{}\n", Indices(indices))
+        let answer = AnswerText(self.0.answer);
+        write!(f, "{answer} steps {}\npath", indices.len())?;
+        for index in indices {
+            write!(f, " {}", *index)?;
+        }
+        f.write_str("\n")
     }
 }
 

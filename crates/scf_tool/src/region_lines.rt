@@ -1,6 +1,6 @@
 //! Lines about regions, as values that display.
 
-ghost use Rattle.std.specs.Prelude.{◌≡◌, [], Some, IfOk, codes, length, string_bytes};
+ghost use Rattle.std.specs.Prelude.{◌≡◌, [], Some, IfOk, length, string_bytes};
 ghost use Rattle.std.specs.List.{flat_map};
 ghost use Rattle.scf_tool.specs.RegionLines.{bits_text, interval_text, intervals_text, leaf_text, listing_text};
 ghost use Rattle.scf_tool.specs.RegionLines.{region_line, region_text, regions_text, side_text, total_of};
@@ -86,21 +86,6 @@ impl fmt::Display for BitsText {
     }
 }
 
-/// Refuted bits.
-#[derive(Clone, Copy)]
-struct RefutedText<'a>(&'a [Bits]);
-
-impl fmt::Display for RefutedText<'_> {
-    ghost output = { λ refuted. Some (flat_map (bits_text (codes "!")) refuted.0.now) };
-
-    fn fmt<W: fmt::Write>(&self, f: &mut fmt::Formatter<W>) -> fmt::Result {
-        for bits in self.0 {
-            write!(f, "!{}", BitsText(*bits))?;
-        }
-        Ok(())
-    }
-}
-
 /// Whether nothing is known of a word.
 fn is_free(word: &WordSet) -> bool
     ensures { result ≡ spec.is_free word.now }
@@ -126,7 +111,10 @@ impl fmt::Display for WordText<'_> {
         if known.mask != 0 {
             write!(f, "&{}", BitsText(known))?;
         }
-        f.write(RefutedText(word.refuted()))
+        for bits in word.refuted() {
+            write!(f, "!{}", BitsText(*bits))?;
+        }
+        Ok(())
     }
 }
 
@@ -211,56 +199,35 @@ impl fmt::Display for RegionLines<'_> {
     }
 }
 
-/// The lines of regions.
-#[derive(Clone, Copy)]
-struct RegionList<'a>(RegionFormat, &'a [Region]);
-
-impl fmt::Display for RegionList<'_> {
-    ghost output = { λ list. Some (flat_map (region_text list.0) list.1.now) };
-
-    fn fmt<W: fmt::Write>(&self, f: &mut fmt::Formatter<W>) -> fmt::Result {
-        for region in self.1 {
-            f.write(RegionLines(self.0, region))?;
-        }
-        Ok(())
-    }
-}
-
 /// The lines of the regions of walks, one walk after another.
 #[derive(Clone, Copy)]
-struct WalkList<'a>(RegionFormat, &'a [Regions]);
+struct RegionList<'a>(RegionFormat, &'a [Regions]);
 
-impl fmt::Display for WalkList<'_> {
+impl fmt::Display for RegionList<'_> {
     ghost output = { λ list. Some (flat_map (regions_text list.0) list.1.now) };
 
     fn fmt<W: fmt::Write>(&self, f: &mut fmt::Formatter<W>) -> fmt::Result {
         for walk in self.1 {
-            f.write(RegionList(self.0, walk.list.as_slice()))?;
+            for region in walk.list.as_slice() {
+                f.write(RegionLines(self.0, region))?;
+            }
         }
         Ok(())
     }
 }
 
-/// How many regions walks list.
-fn count_of(listed: &[Regions]) -> u64
-    ensures { result ≡ total_of (λ regions. length regions.list.items) listed.now }
+/// How many regions walks list, and how many steps they took.
+fn totals_of(listed: &[Regions]) -> (u64, u64)
+    ensures count { result.0 ≡ total_of (λ regions. length regions.list.items) listed.now }
+    ensures steps { result.1 ≡ total_of (λ regions. regions.steps) listed.now }
 {
     let mut count: u64 = 0;
-    for regions in listed {
-        count = count.saturating_add(regions.list.len() as u64);
-    }
-    count
-}
-
-/// How many steps walks took.
-fn steps_of(listed: &[Regions]) -> u64
-    ensures { result ≡ total_of (λ regions. regions.steps) listed.now }
-{
     let mut steps: u64 = 0;
     for regions in listed {
+        count = count.saturating_add(regions.list.len() as u64);
         steps = steps.saturating_add(regions.steps);
     }
-    steps
+    (count, steps)
 }
 
 /// The lines of the regions that walks list, of how many they are, and of how many steps the walks took.
@@ -271,8 +238,7 @@ pub(crate) fn listing_of_regions(
 ) -> Result<String, AllocError>
     ensures { IfOk result (λ text. string_bytes text ≡ listing_text format (Some listed.now)) }
 {
-    let list = WalkList(format, listed);
-    let count = count_of(listed);
-    let steps = steps_of(listed);
+    let list = RegionList(format, listed);
+    let (count, steps) = totals_of(listed);
     format!(in alloc; "{list}regions {count} steps {steps}\n")
 }

@@ -1,28 +1,27 @@
-//! The report of a comparison.
+//! The report of a comparison, at once or syscall by syscall.
 
-ghost use Rattle.std.specs.Prelude.{◌≡◌, Some, map, string_bytes, true, IfOk};
-ghost use Rattle.std.specs.List.{flat_map};
+ghost use Rattle.std.specs.Prelude.{◌≡◌, IfOk, Some, codes, map, string_bytes};
+ghost use Rattle.std.specs.List.{flat_map, join_by};
 ghost use Rattle.scf_compare.specs.Verdicts.{finding_of};
-ghost use Rattle.scf_tool.specs.Reports.{answer_line, argument_text, call_line, finding_text, left_out_front};
-ghost use Rattle.scf_tool.specs.Reports.{left_out_text, length_text, name_line, outcome_of, report_text, said_of};
-ghost use Rattle.scf_tool.specs.Reports.{sides_text};
+ghost use Rattle.scf_tool.specs.Reports.{argument_text, call_line, finding_text, found_text, joint_text};
+ghost use Rattle.scf_tool.specs.Reports.{named_line, outcome_of, report_text, said_of, sides_text};
 ghost use Rattle.scf_tool.specs.Reports as spec;
 ghost use Rattle.scf_tool.specs.internal.Words.{names_in};
 
-use crate::call_reporting::{JointLine, NamedLines, worst_of_calls};
-use crate::findings::{ComparisonOutcome, Findings};
-use crate::left_out::LeftOut;
+use crate::findings::{CallFinding, ComparisonOutcome, Findings};
+use crate::joint_findings::{holds, worst_of_calls};
+use crate::left_out::{LeftOut, LeftOutLines, NameLines, words_of_left_out};
 use crate::lines::AnswerText;
 use crate::verification::Outcome;
 use scf_compare::{Finding, Verdict, Which};
-use scf_insn::{Answer, CallRecord, Memory};
+use scf_insn::{CallRecord, Memory};
 use scf_profile::Relation;
 use std::alloc::Global;
 use std::fmt;
 
 /// Arguments, each behind a blank.
 #[derive(Clone, Copy)]
-pub(crate) struct Arguments<'a>(pub &'a [u64]);
+struct Arguments<'a>(&'a [u64]);
 
 impl fmt::Display for Arguments<'_> {
     ghost output = { λ arguments. Some (flat_map argument_text arguments.0.now) };
@@ -55,24 +54,12 @@ impl fmt::Display for CallLine {
     }
 }
 
-/// Who answers, and the answer.
-#[derive(Clone, Copy)]
-pub(crate) struct AnswerLine(pub &'static str, pub Answer);
-
-impl fmt::Display for AnswerLine {
-    ghost output = { λ line. Some (answer_line line.0.now line.1.0) };
-
-    fn fmt<W: fmt::Write>(&self, f: &mut fmt::Formatter<W>) -> fmt::Result {
-        write!(f, "{} {}\n", self.0, AnswerText(self.1))
-    }
-}
-
 /// The words of a report: the relation that is compared by, and the names of both sides.
 #[derive(Clone, Copy)]
-pub(crate) struct Words {
-    pub relation: Relation,
-    pub left: &'static str,
-    pub right: &'static str,
+struct Words {
+    relation: Relation,
+    left: &'static str,
+    right: &'static str,
 }
 
 impl Words {
@@ -94,45 +81,37 @@ impl Words {
         }
     }
 
-    /// What is said if the relation holds.
-    pub(crate) fn holding(self) -> &'static str
-        ensures { result.now ≡ (said_of self.relation).0 }
+    /// What is said if the relation holds, and if it doesn't.
+    fn said(self) -> (&'static str, &'static str)
+        ensures { (result.0.now, result.1.now) ≡ said_of self.relation }
     {
         match self.relation {
-            Relation::Same => "same",
-            Relation::NoMore => "no more",
-            Relation::NoLess => "no less",
-            Relation::SameDisposition => "same disposition",
-        }
-    }
-
-    /// What is said if it doesn't hold.
-    pub(crate) fn failing(self) -> &'static str
-        ensures { result.now ≡ (said_of self.relation).1 }
-    {
-        match self.relation {
-            Relation::Same | Relation::SameDisposition => "differs",
-            Relation::NoMore => "more",
-            Relation::NoLess => "less",
+            Relation::Same => ("same", "differs"),
+            Relation::NoMore => ("no more", "more"),
+            Relation::NoLess => ("no less", "less"),
+            Relation::SameDisposition => ("same disposition", "differs"),
         }
     }
 }
 
 /// The lines of a finding.
 #[derive(Clone, Copy)]
-pub(crate) struct FindingLines(pub Words, pub Finding);
+struct FindingLines(Words, Finding);
 
 impl fmt::Display for FindingLines {
     ghost output = { λ lines. Some (finding_text lines.0.relation (names_in lines.0) lines.1) };
 
+    #[tactic(auto, using(std::proofs::Common::append_assoc))]
     fn fmt<W: fmt::Write>(&self, f: &mut fmt::Formatter<W>) -> fmt::Result {
         let words = self.0;
         match self.1 {
-            Finding::Holds { .. } => write!(f, "{}\n", words.holding()),
+            Finding::Holds { .. } => write!(f, "{}\n", words.said().0),
             Finding::Fails { call, left, right } => {
-                let left = AnswerLine(words.left, left);
-                let right = AnswerLine(words.right, right);
-                write!(f, "{}\n{}{left}{right}", words.failing(), CallLine(call))
+                let call = CallLine(call);
+                let left = AnswerText(left);
+                let right = AnswerText(right);
+                write!(f, "{}\n{call}", words.said().1)?;
+                write!(f, "{} {left}\n{} {right}\n", words.left, words.right)
             }
             Finding::Undecided { at, .. } => write!(f, "undecided at {at}\n"),
             Finding::Unfinished => f.write_str("unfinished\n"),
@@ -141,7 +120,7 @@ impl fmt::Display for FindingLines {
 }
 
 /// The finding that a verdict is.
-pub(crate) fn finding_of(verdict: &Verdict) -> Finding
+fn finding_of(verdict: &Verdict) -> Finding
     ensures { result ≡ finding_of verdict.now }
 {
     match verdict {
@@ -163,84 +142,80 @@ pub(crate) fn finding_of(verdict: &Verdict) -> Finding
     }
 }
 
-/// A line for each name, behind a word.
+/// The line of the worst finding on calls.
 #[derive(Clone, Copy)]
-struct NameLines<'a>(&'static str, &'a [String]);
+struct JointLine(Words, Option<Finding>);
 
-impl fmt::Display for NameLines<'_> {
-    ghost output = { λ lines. Some (flat_map (name_line lines.0.now) (map string_bytes lines.1.now)) };
+impl fmt::Display for JointLine {
+    ghost output = { λ line. Some (joint_text line.0.relation (names_in line.0) line.1) };
 
     fn fmt<W: fmt::Write>(&self, f: &mut fmt::Formatter<W>) -> fmt::Result {
-        let word = self.0;
-        for name in self.1 {
-            write!(f, "{word} {}\n", name.as_str())?;
+        match self.1 {
+            None => write!(f, "{}\n", self.0.said().0),
+            Some(Finding::Fails { .. }) => write!(f, "{}\n", self.0.said().1),
+            Some(finding) => f.write(FindingLines(self.0, finding)),
         }
-        Ok(())
     }
 }
 
-/// The length of each name, behind a blank.
+/// The names of a syscall, with commas between.
 #[derive(Clone, Copy)]
-struct Lengths<'a>(&'a [String]);
+struct Names<'a>(&'a [String]);
 
-impl fmt::Display for Lengths<'_> {
-    ghost output = { λ lengths. Some (flat_map length_text (map string_bytes lengths.0.now)) };
+impl fmt::Display for Names<'_> {
+    ghost output = { λ names. Some (join_by (λ name. name) (codes ",") (map string_bytes names.0.now)) };
 
     fn fmt<W: fmt::Write>(&self, f: &mut fmt::Formatter<W>) -> fmt::Result {
-        for name in self.0 {
-            write!(f, " {}", name.len())?;
-        }
-        Ok(())
-    }
-}
-
-/// What was left out of a profile, and a line that ends it.
-#[derive(Clone, Copy)]
-pub(crate) struct LeftOutFront<'a>(pub &'a LeftOut);
-
-impl fmt::Display for LeftOutFront<'_> {
-    ghost output = { λ front. Some (left_out_front true front.0.now) };
-
-    fn fmt<W: fmt::Write>(&self, f: &mut fmt::Formatter<W>) -> fmt::Result {
-        let skipped = self.0.skipped.as_slice();
-        let others = self.0.other_architectures.as_slice();
-        let skipped_lines = NameLines("skipped", skipped);
-        let other_lines = NameLines("other", others);
-        let skipped = Lengths(skipped);
-        let others = Lengths(others);
-        write!(
-            f,
-            "{skipped_lines}{other_lines}left-out skipped{skipped} other{others}\n"
-        )
-    }
-}
-
-/// What was left out of a side, if it is a profile, behind a word for skipped names and one for other architectures.
-#[derive(Clone, Copy)]
-struct LeftOutLines<'a>(&'static str, &'static str, &'a Option<LeftOut>);
-
-impl fmt::Display for LeftOutLines<'_> {
-    ghost output = { λ lines. Some (left_out_text (lines.0.now, lines.1.now) lines.2.now) };
-
-    fn fmt<W: fmt::Write>(&self, f: &mut fmt::Formatter<W>) -> fmt::Result {
-        match self.2 {
-            Some(left_out) => {
-                let skipped = NameLines(self.0, left_out.skipped.as_slice());
-                let others = NameLines(self.1, left_out.other_architectures.as_slice());
-                write!(f, "{skipped}{others}")
+        if let [first, later @ ..] = self.0 {
+            f.write(first.as_str())?;
+            for name in later {
+                write!(f, ",{}", name.as_str())?;
             }
-            None => Ok(()),
+        }
+        Ok(())
+    }
+}
+
+/// What the line of a syscall says behind its names.
+#[derive(Clone, Copy)]
+struct FoundText(Words, Finding);
+
+impl fmt::Display for FoundText {
+    ghost output = { λ text. Some (found_text text.0.relation (names_in text.0) text.1) };
+
+    #[tactic(auto, using(std::proofs::Common::append_assoc))]
+    fn fmt<W: fmt::Write>(&self, f: &mut fmt::Formatter<W>) -> fmt::Result {
+        let words = self.0;
+        match self.1 {
+            Finding::Fails { call, left, right } => {
+                let arguments = Arguments(&call.args);
+                let left = AnswerText(left);
+                let right = AnswerText(right);
+                write!(f, "{} args{arguments} ", words.said().1)?;
+                write!(f, "{} {left} {} {right}\n", words.left, words.right)
+            }
+            finding => f.write(FindingLines(words, finding)),
         }
     }
 }
 
-/// The words for what was left out of a profile, beside another one words of its own.
-fn words_of_left_out(left: &Option<LeftOut>) -> (&'static str, &'static str)
-    ensures { (result.0.now, result.1.now) ≡ spec.words_of_left_out left.now }
-{
-    match left {
-        Some(_) => ("beside-skipped", "beside-other"),
-        None => ("skipped", "other"),
+/// A line for each syscall of which the relation doesn't hold.
+#[derive(Clone, Copy)]
+struct NamedLines<'a>(Words, &'a [CallFinding]);
+
+impl fmt::Display for NamedLines<'_> {
+    ghost output = { λ lines. Some (flat_map (named_line lines.0.relation (names_in lines.0)) lines.1.now) };
+
+    fn fmt<W: fmt::Write>(&self, f: &mut fmt::Formatter<W>) -> fmt::Result {
+        for call in self.1 {
+            if holds(&call.finding) {
+                continue;
+            }
+            let names = Names(call.names.as_slice());
+            let found = FoundText(self.0, call.finding);
+            write!(f, "{} {names} {found}", call.number)?;
+        }
+        Ok(())
     }
 }
 

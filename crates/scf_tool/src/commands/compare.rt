@@ -5,9 +5,9 @@ ghost use Rattle.scf_request.specs.declared.request.Command.TheVariants as comma
 ghost use Rattle.scf_tool.specs.Commands.{IsReport, Replies, memory_fault_of};
 ghost use Rattle.scf_tool.specs.Reports.{finding_status, findings_status};
 
-use crate::call_reporting::worst_of_calls;
 use crate::fault::Fault;
 use crate::findings::{ComparisonOutcome, Findings, findings_of};
+use crate::joint_findings::worst_of_calls;
 use crate::reply::Reply;
 use crate::reporting::report_sides;
 use crate::sides::SidesInput;

@@ -1,7 +1,7 @@
 use Rattle.std.specs.Fmt.{HasWritten, IsPlainFormatter}
 use Rattle.scf_tool.proofs.Common.{string_bytes, take, flat_map, map}
 use Rattle.scf_tool.specs.Reports.{length_text}
-use Rattle.scf_tool.proofs.reporting.LengthsDisplay.fmt.Given as goal
+use Rattle.scf_tool.proofs.left_out.LengthsDisplay.fmt.Given as goal
 
 abbrev pub invariant-loop-name : goal.invariant-loop-name
 invariant-loop-name g l =

@@ -1,6 +1,6 @@
 use Rattle.std.specs.Fmt.{HasWritten, IsPlainFormatter}
 use Rattle.scf_tool.proofs.Common.{name_line, string_bytes, take, flat_map, map}
-use Rattle.scf_tool.proofs.reporting.NameLinesDisplay.fmt.Given as goal
+use Rattle.scf_tool.proofs.left_out.NameLinesDisplay.fmt.Given as goal
 
 abbrev pub invariant-loop-name : goal.invariant-loop-name
 invariant-loop-name g l =

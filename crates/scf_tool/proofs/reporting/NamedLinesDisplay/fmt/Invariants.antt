@@ -1,7 +1,7 @@
 use Rattle.std.specs.Fmt.{HasWritten, IsPlainFormatter}
 use Rattle.scf_tool.proofs.Common.{named_line, take, flat_map}
 use Rattle.scf_tool.specs.internal.Words.{names_in}
-use Rattle.scf_tool.proofs.call_reporting.NamedLinesDisplay.fmt.Given as goal
+use Rattle.scf_tool.proofs.reporting.NamedLinesDisplay.fmt.Given as goal
 
 abbrev pub invariant-loop-call : goal.invariant-loop-call
 invariant-loop-call g l =
