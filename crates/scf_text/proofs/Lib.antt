@@ -10,4 +10,3 @@ pub mod RoundTrip
 pub mod TextLemmas
 pub mod TokenLemmas
 pub mod WantedLemmas
-pub mod WriteLemmas

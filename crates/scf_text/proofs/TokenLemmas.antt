@@ -1,5 +1,5 @@
 -- The tokens of a text: reading them from the front, their slices, and the parts of a line between them.
-use Rattle.scf_text.proofs.Common.{◌≡◌, ℕ, zero, suc, ◌+◌, ◌-◌, ◌<◌, ◌≤◌, Bool, true, false, ◌&&◌, eqb, List, [], ◌∷◌, ◌++◌, length, get_or, take, drop, refl, sym, ap, subst, ◌∙◌, append_assoc, append-nil, arith, inl, inr, max, map, not, prefix_len, position_or_len, list_all, All, AllByRecursion, take_while, flat_map, join_with_byte, cases_Bool, cases_lt, and_left, and_right, and_parts, nat_tests, drop_more, drop_all, take_all, filter, length-filter, is_line_end, take_more, take_rest, drop-drop, map-append, drop-take, take-take, length-take-le, length-drop, take-append_seam, take-append-drop, drop-append-add, prefix_len_stops, prefix_len-le-length, slice_split_first, length-slice_split, join_with_byte-slice_split, is_semicolon, Token, is_blank, is_word_byte, count_ends, is_name, Lexeme, begins_comment, before_comment, begins_in_word, joined, lexemes_from, lexemes, IsSliceOf, lines_of, lexemes_of_lines, tokens_of, words_of_line, words_of_part, words_in, others_in, statements_in, first_statement, All-from_recursion}
+use Rattle.scf_text.proofs.Common.{◌≡◌, ℕ, zero, suc, ◌+◌, ◌-◌, ◌<◌, ◌≤◌, Bool, true, false, ◌&&◌, eqb, List, [], ◌∷◌, ◌++◌, length, get_or, take, drop, refl, sym, ap, subst, ◌∙◌, append_assoc, append-nil, arith, inl, inr, max, map, not, prefix_len, list_all, All, AllByRecursion, take_while, flat_map, join_with_byte, cases_Bool, cases_lt, and_left, and_right, and_parts, nat_tests, drop_more, drop_all, take_all, filter, length-filter, is_line_end, take_more, take_rest, drop-drop, map-append, drop-take, take-take, length-take-le, length-drop, take-append_seam, take-append-drop, drop-append-add, prefix_len_stops, prefix_len-le-length, slice_split_first, length-slice_split, join_with_byte-slice_split, is_semicolon, Token, is_blank, is_word_byte, count_ends, is_name, Lexeme, begins_comment, before_comment, begins_in_word, joined, lexemes_from, lexemes, IsSliceOf, lines_of, lexemes_of_lines, tokens_of, words_of_line, words_of_part, words_in, others_in, statements_in, first_statement, All-from_recursion}
 use Rattle.std.proofs.lemmas.Grind.{common_steps}
 
 pub word_not_blank : (b : ℕ) → is_word_byte b ≡ true → is_blank b ≡ false
@@ -62,15 +62,10 @@ pub no_comment_here : (xs : List ℕ) (i : ℕ) → i < length xs → begins_com
     → before_comment (drop i xs) ≡ get_or xs i 0 ∷ before_comment (drop (i + 1) xs)
 no_comment_here xs i lt h = grind (arith, common_steps, nat_tests, drop_more)
 
-index_of_end : (text : List ℕ)
-    → prefix_len (λ b. not (eqb b 10)) text ≡ position_or_len (λ b. eqb b 10) text
-index_of_end [] = refl
-index_of_end (b ∷ bs) = grind (arith, common_steps, nat_tests, cases_Bool, index_of_end bs)
-
 -- a line that ends
 pub line_ends : (text : List ℕ) (n : ℕ) → n ≡ prefix_len (λ b. not (eqb b 10)) text → n < length text
     → lines_of text ≡ take n text ∷ lines_of (take (length text - (n + 1)) (drop (n + 1) text))
-line_ends text n e lt = grind (arith, common_steps, nat_tests, index_of_end, take_rest, slice_split_first)
+line_ends text n e lt = grind (arith, common_steps, nat_tests, take_rest, slice_split_first)
 
 last_line : (text : List ℕ) → length text ≤ prefix_len (λ b. not (eqb b 10)) text → lines_of text ≡ text ∷ []
 last_line [] le = refl

@@ -164,8 +164,8 @@ fn fill<'a>(
     }
 }
 
-/// Parses a mnemonic and its operands by the first encoding of the mnemonic whose format they have, and returns the text
-/// behind the statement.
+/// Parses a mnemonic and its operands by the first encoding of the mnemonic whose format they have, and returns the
+/// text behind the statement.
 pub(crate) fn read<'a>(
     parsed: &mut ParsedInsn<'a>,
     mnemonic: &[u8],

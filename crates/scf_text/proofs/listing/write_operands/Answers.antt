@@ -1,6 +1,10 @@
-use Rattle.scf_text.proofs.Common.{sym, ◌∙◌, [], ◌∷◌, flat_map, err_from_is_err_and, piece_text, fails_first, writes_then}
-use Rattle.scf_text.proofs.WriteLemmas.{operands_some}
+use Rattle.scf_text.proofs.Common.{sym, ◌∙◌, ◌≡◌, false, [], ◌∷◌, List, Insn, Piece, arith, eqb, flat_map, length, nat_tests, err_from_is_err_and, operands_text, piece_text, fails_first, writes_then}
+use Rattle.std.proofs.lemmas.Grind.{common_steps}
 use Rattle.scf_text.proofs.listing.write_operands.Goals as goal
+
+operands_some : (i : Insn) (ps : List Piece) → eqb (length ps) 0 ≡ false
+    → operands_text i ps ≡ 32 ∷ flat_map (piece_text i) ps
+operands_some i ps h = grind (arith, common_steps, nat_tests)
 
 pub returns-in_err-write_whole : goal.returns-in_err-write_whole
 returns-in_err-write_whole g c =

@@ -1,6 +1,6 @@
-use Rattle.scf_text.proofs.Common.{◌≡◌, ◌+◌, ℕ, Option, Err, IsSome, subst, AddsLabel, rules, err_from_is_err_and, option_map, unwrap_or, words_in, index_after, arith, nat_tests}
+use Rattle.scf_text.proofs.Common.{◌≡◌, ◌+◌, ℕ, Option, Err, IsSome, subst, AddsLabel, err_from_is_err_and, option_map, unwrap_or, words_in, index_after, arith, nat_tests}
 use Rattle.scf_text.proofs.IndexLemmas.{index_within, instruction_behind}
-use Rattle.scf_text.proofs.ReadLemmas.{label_mapped, label_refused, some_refused, statement_leaves}
+use Rattle.scf_text.proofs.ReadLemmas.{label_refused, statement_leaves}
 use Rattle.scf_text.proofs.statement.add_statement.Goals as goal
 use Rattle.std.proofs.lemmas.Grind.{common_steps}
 
@@ -11,7 +11,7 @@ returns-clause-leaves c = λ all remaining left.
     let bytes = c.args.part.bytes.now in
     let start = c.args.part.start in
     let mapped : c.and.result ≡ option_map (λ _. start + unwrap_or label 0) label =
-    label_mapped label c.and.result (start + unwrap_or label 0) (search rules) in
+    grind (arith, common_steps, nat_tests) in
     let lies = c.split_label-label.ensures.behind in
     statement_leaves (record { line = c.args.part.line; tokens = words_in bytes }) label
     c.add_label.new.labels.items left c.requires c.split_label-label.ensures.label
@@ -21,7 +21,7 @@ returns-clause-leaves c = λ all remaining left.
     (rw (c.unwrap_or.ensures, c.split_label-label.ensures.rest) at c.add_instruction.ensures.adds)
     (instruction_behind c.add_instruction.result bytes start (unwrap_or label 0) next lies
     c.add_instruction.ensures.behind).0
-    (some_refused c.add_instruction.result _ _ c.split_label-label.ensures.rest c.add_instruction.ensures.some)
+    (grind (arith, common_steps, nat_tests, c.split_label-label.ensures.rest, c.add_instruction.ensures.some))
 
 pub returns-clause-behind : goal.returns-clause-behind
 returns-clause-behind c = grind (arith, common_steps, nat_tests, instruction_behind, c.split_label-label.ensures.behind, c.add_instruction.ensures.behind)
@@ -33,7 +33,7 @@ returns-in_err-add_label-clause-leaves c = λ all remaining left.
     let bytes = c.args.part.bytes.now in
     let start = c.args.part.start in
     let mapped : c.and.result ≡ option_map (λ _. start + unwrap_or label 0) label =
-    label_mapped label c.and.result (start + unwrap_or label 0) (search rules) in
+    grind (arith, common_steps, nat_tests) in
     rw (p.1, p.2)
     (label_refused (record { line = c.args.part.line; tokens = words_in bytes }) label
     c.add_label.new.labels.items left c.requires c.split_label-label.ensures.label
