@@ -169,12 +169,4 @@ impl Conditions {
     {
         &self.list
     }
-
-    /// The conditions as a vector. Never allocates.
-    pub fn into_vec(self) -> Vec<Condition>
-        ensures { result.items ≡ self }
-    {
-        let Conditions { list } = self;
-        list
-    }
 }

@@ -51,14 +51,6 @@ impl Texts {
     {
         &self.list
     }
-
-    /// The texts as a vector. Never allocates.
-    pub fn into_vec(self) -> Vec<String>
-        ensures { map string_bytes result.items ≡ self }
-    {
-        let Texts { list } = self;
-        list
-    }
 }
 
 /// A list of borrowed texts.
