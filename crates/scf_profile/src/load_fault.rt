@@ -10,7 +10,7 @@ use thiserror::Error;
 
 /// The first test that fails. `entry` is the index of the entry of `syscalls` in which it stands, `None` outside of
 /// them.
-#[derive(Clone, Copy, Error)]
+#[derive(Clone, Copy, Debug, Error)]
 pub enum LoadFault {
     /// The text isn't UTF-8, isn't JSON, or is nested more than 127 deep (serde_json, `max_depth`).
     Json,
@@ -110,12 +110,6 @@ impl fmt::Display for LoadFault {
             Some(entry) => write!(f, "entry {entry}: {text}"),
             None => f.write_str(text),
         }
-    }
-}
-
-impl fmt::Debug for LoadFault {
-    fn fmt<W: fmt::Write>(&self, f: &mut fmt::Formatter<W>) -> fmt::Result {
-        fmt::Display::fmt(self, f)
     }
 }
 

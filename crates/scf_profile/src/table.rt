@@ -129,10 +129,11 @@ fn add_line<'t>(
     let Some((name, number)) = entry_on(line, text)? else {
         return Ok(());
     };
-    if numbers.insert(Name::new(name), number)?.is_some() {
-        return Err(TableFault::Repeated { line });
+    match numbers.insert(Name::new(name), number) {
+        Ok(None) => Ok(()),
+        Ok(Some(_)) => Err(TableFault::Repeated { line }),
+        Err(_) => Err(TableFault::Memory),
     }
-    Ok(())
 }
 
 /// The entries of a map from names to syscall numbers.

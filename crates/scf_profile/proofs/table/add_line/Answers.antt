@@ -1,7 +1,7 @@
 use Rattle.scf_profile.proofs.NamesOf.{call_numbers_updated}
 use Rattle.scf_profile.proofs.table.add_line.Goals as goal
 
-pub returns-clause-range : goal.returns-clause-range
-returns-clause-range c = λ each.
+pub returns-in-Ok-None-clause-range : goal.returns-in-Ok-None-clause-range
+returns-in-Ok-None-clause-range c = λ each.
     call_numbers_updated c.args.numbers.now c.insert.new.self c.new.result c.in-Some.number
-    c.in_ok-insert.ensures.updates each (rw c.in-Some.is at c.in_ok-name.ensures.range)
+    c.in-Ok-None.ensures.updates each (rw c.in-Some.is at c.in_ok-name.ensures.range)
