@@ -1,13 +1,12 @@
 //! From the names of entries to rules with syscall numbers.
 
-ghost use Rattle.std.specs.Prelude.{◌==◌, false, ◌≡◌, ◌≢◌, ◌≤◌, ◌^◌, ◌++◌, ◌∷◌, [], length, map, vec_len, IfOk, IfErr, OnOk, is_none};
+ghost use Rattle.std.specs.Prelude.{◌≡◌, ◌≤◌, ◌^◌, ◌++◌, ◌∷◌, [], length, map, vec_len, IfOk, IfErr, OnOk, is_none};
 ghost use Rattle.std.specs.List.{filter, flat_map, list_all, list_any};
 ghost use Rattle.std.specs.FinMap.{get};
-ghost use Rattle.std.specs.Option.{option_map_or};
 ghost use Rattle.scf_profile.specs.internal.EntryRanges.{TellsTooMany};
 ghost use Rattle.scf_profile.specs.Limits.{max_rules};
 ghost use Rattle.scf_profile.specs.References.{texts_at};
-ghost use Rattle.scf_profile.specs.StatedProfile.{rules_by_each, rules_named, rules_of_entry, rules_from, skipped_names, other_names, tables_of, is_named as named};
+ghost use Rattle.scf_profile.specs.StatedProfile.{rules_named, rules_of_entry, rules_from, skipped_names, other_names, tables_of, is_named as named};
 
 use crate::architecture_table::{ArchitectureTable, table_named};
 use crate::args::has_repeated_index;
@@ -56,16 +55,6 @@ fn add_name(
     Ok(())
 }
 
-/// Whether entries with an answer are left out.
-fn is_left_out(left_out: Option<Answer>, answer: Answer) -> bool
-    ensures { result ≡ option_map_or (λ out. out.0 == answer.0) left_out false }
-{
-    match left_out {
-        Some(out) => out == answer,
-        None => false,
-    }
-}
-
 /// Adds the rules of an entry by conditions for all its names.
 #[tactic(auto, using(std::proofs::lemmas::Grind::common_steps, crate::proofs::StatedRules::names_first))]
 fn add_names(
@@ -89,31 +78,8 @@ fn add_names(
     Ok(())
 }
 
-/// Adds the rules of an entry by each of its conditions alone.
-#[tactic(auto, using(std::proofs::lemmas::Grind::common_steps, crate::proofs::StatedRules::conditions_first))]
-fn add_alternatives(
-    rules: &mut Vec<Rule>,
-    alloc: Global,
-    table: &ArchitectureTable,
-    index: u32,
-    entry: &Entry,
-) -> Result<(), LoadFault>
-    requires { vec_len rules.old ≤ max_rules }
-    ensures rules { OnOk result (rules.new.items ≡ rules.old.items
-        ++ rules_by_each table.now.architecture table.now.table.now index
-        (map (λ c. c ∷ []) entry.now.conditions) entry.now.answer entry.now.names) }
-    ensures few { OnOk result (vec_len rules.new ≤ max_rules) }
-    ensures err { IfErr result (TellsTooMany (rules.old.items
-        ++ rules_by_each table.now.architecture table.now.table.now index
-        (map (λ c. c ∷ []) entry.now.conditions) entry.now.answer entry.now.names)) }
-{
-    for condition in entry.conditions.as_slice() {
-        add_names(rules, alloc, table, index, &[*condition], entry)?;
-    }
-    Ok(())
-}
-
-/// Adds the rules of an entry; none if entries with its answer are left out.
+/// Adds the rules of an entry, by each of its conditions alone if two are on one argument; none if entries with its
+/// answer are left out.
 #[tactic(auto, using(std::proofs::lemmas::Grind::common_steps, crate::proofs::StatedRules::conditions_first))]
 fn add_entry(
     rules: &mut Vec<Rule>,
@@ -130,14 +96,17 @@ fn add_entry(
     ensures err { IfErr result (TellsTooMany (rules.old.items
         ++ rules_of_entry left_out table.now.architecture table.now.table.now index entry.now)) }
 {
-    if is_left_out(left_out, entry.answer) {
+    if matches!(left_out, Some(answer) if answer == entry.answer) {
         return Ok(());
     }
     let conditions = entry.conditions.as_slice();
-    if has_repeated_index(conditions) {
-        return add_alternatives(rules, alloc, table, index, entry);
+    if !has_repeated_index(conditions) {
+        return add_names(rules, alloc, table, index, conditions, entry);
     }
-    add_names(rules, alloc, table, index, conditions, entry)
+    for condition in conditions {
+        add_names(rules, alloc, table, index, &[*condition], entry)?;
+    }
+    Ok(())
 }
 
 /// The rules of entries under the table of an architecture, at most `MAX_RULES`; none of entries with the answer that
