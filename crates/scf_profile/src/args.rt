@@ -113,27 +113,8 @@ fn condition_of(
     })
 }
 
-/// Parses the conditions of `args`, one after another.
-fn conditions_of(
-    alloc: Global,
-    reading: Reading,
-    entry: Option<u32>,
-    members: &[Value],
-) -> Result<Vec<Condition>, LoadFault>
-    ensures value { Gives faults.Memory (result_map (λ v. v.items) result)
-        (each (condition_stated reading entry) [] (items_view members.now)) }
-    ensures range { IfOk result (λ v. All IsCondition v.items) }
-{
-    let mut conditions = Vec::new(alloc);
-    for member in members {
-        let condition = condition_of(reading, entry, &conditions, member)?;
-        conditions.push(condition)?;
-    }
-    Ok(conditions)
-}
-
 /// The conditions of an entry that are read; none without `args`.
-#[tactic(auto, unfolding(crate::specs::JsonMembers::each))]
+#[tactic(auto, using(crate::proofs::Loops::items_left), unfolding(crate::specs::JsonMembers::each))]
 pub(crate) fn find_conditions(
     alloc: Global,
     reading: Reading,
@@ -145,8 +126,11 @@ pub(crate) fn find_conditions(
         (each (condition_stated reading entry) [])) (λ conditions. Ok (conditions_read reading conditions))) }
     ensures range { IfOk result (λ conditions. All IsCondition conditions) }
 {
-    let members = find_items(entry, "args", object)?;
-    let mut conditions = conditions_of(alloc, reading, entry, members)?;
+    let mut conditions = Vec::new(alloc);
+    for member in find_items(entry, "args", object)? {
+        let condition = condition_of(reading, entry, &conditions, member)?;
+        conditions.push(condition)?;
+    }
     if matches!(reading, Reading::Crun) {
         conditions.truncate(usize::from(ARGUMENTS));
     }

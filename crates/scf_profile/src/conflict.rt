@@ -1,6 +1,6 @@
 //! The first conflict among rules.
 
-ghost use Rattle.std.specs.Prelude.{◌≡◌, ◌⊎◌, IfSome, IsTrue, List, All, Any, Some};
+ghost use Rattle.std.specs.Prelude.{◌≡◌, ◌⊎◌, IfSome, List, All, Any, Some};
 ghost use Rattle.scf_profile.specs.declared.conflict.Clash.{Clash};
 ghost use Rattle.scf_profile.specs.declared.rule.Rule.{Rule};
 ghost use Rattle.scf_profile.specs.internal.Clashes.{IsBoundedBy, IsClashBounded, IsClashOf, IsLeastClash};
@@ -10,7 +10,7 @@ ghost use Rattle.scf_profile.specs.Rule.{IsRule};
 
 use crate::number_rules::NumberRules;
 use crate::rule::Rule;
-use scf_insn::{Answer, Architecture};
+use scf_insn::Architecture;
 
 /// Two entries that conflict, and the syscall number on which they do.
 ///
@@ -74,13 +74,6 @@ fn least_with(
     least
 }
 
-/// Whether each rule has this answer.
-fn have_answer(rules: &[Rule], answer: Answer) -> bool
-    ensures { IsTrue result → All (λ rule. rule.answer ≡ answer) rules.now }
-{
-    rules.iter().all(|rule| rule.answer == answer)
-}
-
 /// The least of a clash and those among rules. Rules with one answer have none.
 fn least_among(architecture: Architecture, rules: &[Rule], clash: Option<Clash>) -> Option<Clash>
     requires { All (IsRule architecture) rules.now }
@@ -92,7 +85,7 @@ fn least_among(architecture: Architecture, rules: &[Rule], clash: Option<Clash>)
     let Some(first) = rules.first() else {
         return clash;
     };
-    if have_answer(rules, first.answer) {
+    if rules.iter().all(|rule| rule.answer == first.answer) {
         return clash;
     }
     let mut least = clash;

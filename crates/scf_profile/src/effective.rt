@@ -1,8 +1,7 @@
 //! The rules by which libseccomp's filter answers.
 
-ghost use Rattle.std.specs.Prelude.{◌≡◌, ◌==◌, ℕ, IfOk, true, option_map};
+ghost use Rattle.std.specs.Prelude.{◌≡◌, ℕ, IfOk, option_map};
 ghost use Rattle.std.specs.BTreeMap.{get};
-ghost use Rattle.std.specs.Option.{option_map_or};
 ghost use Rattle.std.specs.Ordering.{nat_cmp};
 ghost use Rattle.scf_profile.specs.Readings.{effective_rules as effective_by, first_unconditional};
 
@@ -30,17 +29,6 @@ fn first_answers(
     Ok(answers)
 }
 
-/// Whether a rule answers as the first one of its number without conditions, if there is one.
-fn is_effective(answers: &BTreeMap<u32, Answer>, rule: &Rule) -> bool
-    ensures { result ≡ option_map_or (λ first. first.0 == rule.now.answer.0)
-        (get nat_cmp answers.now rule.now.number) true }
-{
-    match answers.get(&rule.number) {
-        Some(first) => *first == rule.answer,
-        None => true,
-    }
-}
-
 /// The rules by which a filter answers: all of them, but for a runtime's reading. `Err`: an allocation failed.
 pub(crate) fn effective_rules(
     alloc: Global,
@@ -54,6 +42,9 @@ pub(crate) fn effective_rules(
         return Ok(rules);
     }
     let answers = first_answers(alloc, architecture, &rules)?;
-    rules.retain(|rule| is_effective(&answers, rule));
+    rules.retain(|rule| match answers.get(&rule.number) {
+        Some(first) => *first == rule.answer,
+        None => true,
+    });
     Ok(rules)
 }

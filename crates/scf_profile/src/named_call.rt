@@ -1,11 +1,11 @@
 //! The syscalls of a table by number.
 
-ghost use Rattle.std.specs.Prelude.{◌≡◌, ◌≢◌, ℕ, ◌++◌, ◌∷◌, [], is_some, map, true, IfOk, OnOk};
-ghost use Rattle.std.specs.BTreeMap.{get, IsOrdered};
+ghost use Rattle.std.specs.Prelude.{◌≡◌, ◌≢◌, ℕ, ◌++◌, ◌∷◌, [], is_some, true, IfOk, OnOk};
+ghost use Rattle.std.specs.BTreeMap.{get};
 ghost use Rattle.std.specs.Ordering.{nat_cmp};
 ghost use Rattle.scf_profile.specs.NamedCalls.{AreCallsOf};
 ghost use Rattle.scf_profile.specs.Names.{AreSorted, names_of};
-ghost use Rattle.scf_profile.specs.internal.NamesByNumber.{AreByNumber, named_call, names_under};
+ghost use Rattle.scf_profile.specs.internal.NamesByNumber.{AreByNumber, names_under};
 
 use crate::name::TableEntry;
 use std::alloc::{AllocError, Global};
@@ -47,21 +47,6 @@ fn names_by_number(
     Ok(named)
 }
 
-/// The entries of a map from syscall numbers to names.
-fn calls_of(
-    alloc: Global,
-    named: BTreeMap<u32, Vec<&str>>,
-) -> Result<Vec<NamedCall<'_>>, AllocError>
-    ensures calls { IfOk result (λ calls. calls.items ≡ map named_call named.entry.entries) }
-    ensures ordered { IsOrdered nat_cmp named.entry }
-{
-    let mut calls = Vec::new(alloc);
-    for (number, names) in named {
-        calls.push(NamedCall { number, names })?;
-    }
-    Ok(calls)
-}
-
 /// The entries of a table, by syscall number.
 #[tactic(auto, using(std::proofs::lemmas::Grind::common_steps, crate::proofs::NamedCalls::are_calls))]
 pub(crate) fn named_calls(
@@ -72,5 +57,9 @@ pub(crate) fn named_calls(
     ensures { IfOk result (λ calls. AreCallsOf (names_of entries.now) calls.items) }
 {
     let named = names_by_number(alloc, entries)?;
-    calls_of(alloc, named)
+    let mut calls = Vec::new(alloc);
+    for (number, names) in named {
+        calls.push(NamedCall { number, names })?;
+    }
+    Ok(calls)
 }

@@ -55,30 +55,16 @@ pub(crate) fn is_named(name: &str, architecture: Architecture) -> bool
     architecture.name() == name
 }
 
-/// Whether an architecture is among those of these names.
-fn is_listed(names: &[&str], architecture: Architecture) -> bool
-    ensures { result ≡ list_any (λ name. named name architecture) (texts_at names.now) }
+/// Whether an architecture is this one, if it is given, or among those of the names.
+fn is_listed(machine: Option<Architecture>, names: &[&str], architecture: Architecture) -> bool
+    ensures { result ≡ list_any (λ name. named name architecture) (with_machine machine (texts_at names.now)) }
 {
     for name in names {
         if is_named(name, architecture) {
             return true;
         }
     }
-    false
-}
-
-/// Whether an architecture is this one, or among those of these names.
-fn is_machine_or_listed(
-    machine: Option<Architecture>,
-    names: &[&str],
-    architecture: Architecture,
-) -> bool
-    ensures { result ≡ list_any (λ name. named name architecture) (with_machine machine (texts_at names.now)) }
-{
-    match machine {
-        Some(machine) => is_named(machine.name(), architecture) || is_listed(names, architecture),
-        None => is_listed(names, architecture),
-    }
+    matches!(machine, Some(machine) if is_named(machine.name(), architecture))
 }
 
 /// Refuses the first table whose architecture is neither this one nor among the names.
@@ -90,7 +76,7 @@ fn all_listed(
     ensures { result ≡ all_are_listed 0 (with_machine machine (texts_at names.now)) (tables_of tables.now) }
 {
     for (i, table) in tables.iter().enumerate() {
-        if !is_machine_or_listed(machine, names, table.architecture) {
+        if !is_listed(machine, names, table.architecture) {
             return Err(LoadFault::NotListed { table: i });
         }
     }
