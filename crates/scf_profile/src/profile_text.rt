@@ -4,7 +4,7 @@ ghost use Rattle.std.specs.Prelude.{◌≡◌, ◌<◌, ◌≤◌, ◌^◌, ◌�
 ghost use Rattle.serde_json.specs.View.{view};
 ghost use Rattle.scf_insn.specs.declared.answer.Answer.{Answer};
 ghost use Rattle.scf_profile.specs.declared.load_fault.LoadFault.TheVariants.{Memory, TooMany};
-ghost use Rattle.scf_profile.specs.internal.EntryRanges.{AreStatedRules, IsEntry, TellsOneTooMany, TellsTooMany};
+ghost use Rattle.scf_profile.specs.internal.EntryRanges.{AreStatedRules, IsEntry, TellsOneTooMany};
 ghost use Rattle.scf_profile.specs.Limits.{max_text_len};
 ghost use Rattle.scf_profile.specs.Loading.{IsText, Loads, LoadsEachAs, Refuses, RefusesEachAs};
 ghost use Rattle.scf_profile.specs.internal.Refusals.{NamesFirstConflict, NamesLeastConflict, ParseRefuses};
@@ -13,7 +13,7 @@ ghost use Rattle.scf_profile.specs.internal.Stated.{effective_of, head_stated, l
 ghost use Rattle.scf_profile.specs.Profile.{AreOfApart, HaveNoConflict};
 ghost use Rattle.scf_profile.specs.Readings.{effective_rules as effective_by};
 ghost use Rattle.scf_profile.specs.Steps.{Gives};
-ghost use Rattle.scf_profile.specs.StatedProfile.{entries_of as entries_stated, head_of, profile_for, profiles_from, profiles_of, rules_from, tables_of};
+ghost use Rattle.scf_profile.specs.StatedProfile.{entries_of as entries_stated, head_of, profile_for, profiles_from, profiles_of, tables_of};
 
 use crate::action::find_answer;
 use crate::architecture_table::{ArchitectureTable, table_for};
@@ -99,54 +99,6 @@ struct StatedRules {
     rules: Vec<Rule>,
 }
 
-/// The rules of entries under the table of an architecture.
-#[tactic(auto, using(crate::proofs::StatedRules::stated_rules))]
-fn stated_rules(
-    alloc: Global,
-    table: &ArchitectureTable,
-    left_out: Option<Answer>,
-    entries: &[Entry],
-) -> Result<StatedRules, LoadFault>
-    requires count { length entries.now ≤ 2 ^ 32 }
-    requires range { All IsEntry entries.now }
-    ensures rules { IfOk result (λ stated. stated.rules.items
-        ≡ rules_from left_out table.now.architecture table.now.table.now 0 entries.now) }
-    ensures architecture { IfOk result (λ stated. stated.architecture ≡ table.now.architecture) }
-    ensures range { IfOk result (λ stated. AreStatedRules stated.architecture stated.rules.items) }
-    ensures err { IfErr result (TellsTooMany
-        (rules_from left_out table.now.architecture table.now.table.now 0 entries.now)) }
-{
-    let rules = rules_under(alloc, table, left_out, entries)?;
-    table.table.within_range();
-    Ok(StatedRules {
-        architecture: table.architecture,
-        rules,
-    })
-}
-
-/// The profile of rules, unless two of them conflict or an allocation fails.
-fn without_conflict(
-    alloc: Global,
-    default_answer: Answer,
-    stated: StatedRules,
-) -> Result<Profile, LoadFault>
-    requires rules { AreStatedRules stated.architecture stated.rules.items }
-    requires default_answer { default_answer.0 < 2 ^ 32 }
-    ensures ok { IfOk result (λ profile. profile ≡ stated_profile default_answer stated) }
-    ensures no_conflict { IfOk result (λ profile. HaveNoConflict profile.architecture profile.rules) }
-    ensures err { IfErr result (NamesLeastConflict stated.architecture stated.rules.items) }
-{
-    let numbers = by_number(alloc, &stated.rules)?;
-    match least_conflict(stated.architecture, &numbers) {
-        Some(clash) => Err(LoadFault::Conflict {
-            number: clash.number,
-            first: clash.first,
-            second: clash.second,
-        }),
-        None => Ok(Profile::new(stated.architecture, default_answer, stated.rules, numbers)),
-    }
-}
-
 /// The profile of the rules that are effective by a reading, unless two of them conflict or an allocation fails.
 #[tactic(auto, using(crate::proofs::StatedRules::effective_stated))]
 fn effective_profile(
@@ -162,11 +114,17 @@ fn effective_profile(
     ensures err { IfErr result (NamesLeastConflict stated.architecture
         (effective_by reading stated.architecture stated.rules.items)) }
 {
-    let effective = StatedRules {
-        architecture: stated.architecture,
-        rules: effective_rules(alloc, reading, stated.architecture, stated.rules)?,
-    };
-    without_conflict(alloc, default_answer, effective)
+    let architecture = stated.architecture;
+    let rules = effective_rules(alloc, reading, architecture, stated.rules)?;
+    let numbers = by_number(alloc, &rules)?;
+    match least_conflict(architecture, &numbers) {
+        Some(clash) => Err(LoadFault::Conflict {
+            number: clash.number,
+            first: clash.first,
+            second: clash.second,
+        }),
+        None => Ok(Profile::new(architecture, default_answer, rules, numbers)),
+    }
 }
 
 /// Profiles of several architectures before the test for conflicts.
@@ -179,6 +137,7 @@ struct StatedProfiles {
 }
 
 /// The rules of entries for an architecture, if it has a table.
+#[tactic(auto, using(crate::proofs::StatedRules::stated_rules))]
 fn rules_for(
     alloc: Global,
     tables: &[ArchitectureTable],
@@ -201,7 +160,12 @@ fn rules_for(
         architecture,
         table,
     };
-    Ok(Some(stated_rules(alloc, &named_table, left_out, entries)?))
+    let rules = rules_under(alloc, &named_table, left_out, entries)?;
+    table.within_range();
+    Ok(Some(StatedRules {
+        architecture,
+        rules,
+    }))
 }
 
 /// The rules of entries for each architecture that has a table.
