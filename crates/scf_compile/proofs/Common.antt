@@ -4,6 +4,7 @@ pub use Rattle.std.proofs.Math.Seq.{drop-append-add}
 pub use Rattle.std.proofs.lemmas.List.{get_or-append-add, get_or_append_left, get_or_default, nil_from_length}
 pub use Rattle.std.proofs.lemmas.Fn.{filter_same}
 pub use Rattle.std.proofs.lemmas.List.Elements.{All-cons, All-head, All-tail}
+pub use Rattle.std.proofs.lemmas.List.Kept.{AllPairs-from_increasing}
 pub use Rattle.std.proofs.lemmas.List.Filters.{length-filter_both, sum_by-filter_both}
 pub use Rattle.std.proofs.lemmas.List.Sums.{sum_by-append, sum_by-cons, sum_by-le, sum_by_more}
 pub use Rattle.std.proofs.lemmas.Map.Steps.{length-le_from_distinct_below}
@@ -37,7 +38,7 @@ pub use Rattle.scf_machine.proofs.Chains.{answer_of_part, chain_of_part, part_be
 pub use Rattle.scf_machine.proofs.Common.{All-push, Goes, IsFine, IsFineAt, IsPart, IsPlainOperation, IsPlainProgram, IsReturn, IsRunFrom, IsValidList, KeepsScratchRule, RunAnswers, Stands, gets, holds, moved, slice_get_read, slice_get_within, step, take_more, test_holds}
 pub use Rattle.scf_machine.proofs.Meets.{run_once}
 pub use Rattle.scf_profile.proofs.Common.{All-contains, All-contains_itself, All-filter, All-from_recursion, All-map, AllByRecursion, AreConditions, AreNumbersOf, Contains-permutation, HaveDistinctIndices, IfOk-weaker, IsCondition, IsPlainCondition, IsPlainProfile, IsPlainRule, IsProfile, IsRule, Profile, ProfileAnswers, SameAnswers, all_hold, and_assoc, and_self, bit_at, cases_Bool, cases_eq, cases_lt, common_steps, eq-eqb, eqb-false, eqb-true, foreign, get_or-map, le-leb, length-drop, length-map, list_any, lt-ltb, meets, nat_tests, ne_eqb, numbers_of, recursion_from_All, rules_of, take_all}
-pub use Rattle.scf_profile.proofs.NumberLists.{count_of_numbers, each_number, number_in, own_some, rises, sum_of_rules}
+pub use Rattle.scf_profile.proofs.NumberLists.{count_of_numbers, each_number, number_in, own_some, sum_of_rules}
 pub use Rattle.scf_profile.proofs.Numbers.{number_there}
 pub use Rattle.scf_profile.specs.Profile.{AreOfApart}
 pub use Rattle.scf_profile.specs.ProfileAnswers.{ProfilesAnswer, by_stub}

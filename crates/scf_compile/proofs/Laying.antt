@@ -1,5 +1,5 @@
 -- Ranges are put one behind another until each number has its rules.
-use Rattle.scf_compile.proofs.Common.{◌≡◌, ℕ, get_or, take, ◌+◌, ◌-◌, ◌*◌, ◌<◌, ◌≤◌, All, List, [], ◌∷◌, ◌++◌, length, map, refl, sym, ap, ◌∙◌, arith, inl, inr, eqb, length-append, length-map, get_or-map, get_or_default, sum_by, Contains, cases_eq, cases_lt, take_all, take_more, All-contains_itself, All-filter, All-push, sum_by-cons, sum_by-append, Answer, Architecture, row_of, All-map, Rule, numbers_of, rules_of, NumberRules, AreNumbersOf, NrRange, AllRules, rule_bound, StandsFor, AreEffective, rules_bound, range_bound, IsServed, AreServed, IsLaid, begins, continues, AreRangesUpTo, AreRangesOfRules, Contains-permutation, sum_by_more, number_there, number_in, own_some, rises, count_of_numbers, sum_of_rules, nat_tests, common_steps}
+use Rattle.scf_compile.proofs.Common.{◌≡◌, ℕ, get_or, take, ◌+◌, ◌-◌, ◌*◌, ◌<◌, ◌≤◌, All, List, [], ◌∷◌, ◌++◌, length, map, refl, sym, ap, ◌∙◌, arith, inl, inr, eqb, length-append, length-map, get_or-map, get_or_default, sum_by, Contains, cases_eq, cases_lt, take_all, take_more, All-contains_itself, All-filter, All-push, sum_by-cons, sum_by-append, Answer, Architecture, row_of, All-map, Rule, numbers_of, rules_of, NumberRules, AreNumbersOf, NrRange, AllRules, rule_bound, StandsFor, AreEffective, rules_bound, range_bound, IsServed, AreServed, IsLaid, begins, continues, AreRangesUpTo, AreRangesOfRules, Contains-permutation, sum_by_more, number_there, number_in, own_some, count_of_numbers, AllPairs-from_increasing, sum_of_rules, nat_tests, common_steps}
 use Rattle.scf_insn.proofs.Architectures.{some_number}
 
 -- ---- one range more
@@ -156,7 +156,7 @@ module _ (numbers : List NumberRules) (rules : List Rule) (are : AreNumbersOf nu
   len = length-map numbers number_in
 
   rise : (i j : ℕ) → i < j → j < length numbers → get_or ns i 0 < get_or ns j 0
-  rise i j lt inside = rises ns are.rising i j lt (omega (arith, len))
+  rise i j lt inside = AllPairs-from_increasing ns are.rising i j 0 lt (omega (arith, len))
 
   module _ {a : Architecture} {default : Answer} {ss : List NrRange} {next k : ℕ}
       (laid : AreLaid a default numbers rules ss next k) where

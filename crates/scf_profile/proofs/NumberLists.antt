@@ -33,10 +33,6 @@ same_numbers (x ∷ xs) ys dx dy to from =
     IsPermutation-trans (x ∷ xs) (x ∷ others) ys (IsPermutation-cons x xs others tail)
     (IsPermutation-sym ys (x ∷ others) moved)
 
--- numbers that rise from each to the next rise from each to all later ones
-pub rises : (ns : List ℕ) → IsStrictlyIncreasing ns → (i j : ℕ) → i < j → j < length ns → get_or ns i 0 < get_or ns j 0
-rises ns up i j = AllPairs-from_increasing ns up i j 0
-
 risen_distinct : (ns : List ℕ) → IsStrictlyIncreasing ns → IsDistinct eqb ns
 risen_distinct ns up =
     grind (arith, common_steps, nat_tests, IsDistinct-from_AllPairs, Decides-eqb, AllPairs-from_increasing)
@@ -178,7 +174,7 @@ module _ (numbers : List NumberRules) (rules : List Rule) (are : AreNumbersOf nu
       → (get_or numbers i d).number < (get_or numbers j d).number
   numbers_rise i j d before inside =
       let len = length-map numbers number_in in
-      let up = rises (map number_in numbers) are.rising i j before (omega arith) in
+      let up = AllPairs-from_increasing (map number_in numbers) are.rising i j 0 before (omega arith) in
       rw (get_or-map number_in numbers i d 0 (omega arith), get_or-map number_in numbers j d 0 inside) at up
 
   -- a number has its rules there, or no rule has it
