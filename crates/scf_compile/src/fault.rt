@@ -1,7 +1,6 @@
 //! Why a profile isn't compiled.
 
 use scf_insn::Memory;
-use std::fmt;
 use thiserror::Error;
 
 /// Why a profile isn't compiled.
@@ -9,17 +8,10 @@ use thiserror::Error;
 pub enum CompileFault {
     /// The filter would have more than `BPF_MAXINSNS` (4096) instructions. This can happen only if `size_bound` exceeds
     /// that.
+    #[error("the filter would have more than 4096 instructions")]
     TooLarge,
+    #[error("out of memory")]
     Memory,
-}
-
-impl fmt::Display for CompileFault {
-    fn fmt<W: fmt::Write>(&self, f: &mut fmt::Formatter<W>) -> fmt::Result {
-        f.write_str(match self {
-            CompileFault::TooLarge => "the filter would have more than 4096 instructions",
-            CompileFault::Memory => "out of memory",
-        })
-    }
 }
 
 impl From<Memory> for CompileFault {
