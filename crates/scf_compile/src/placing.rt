@@ -1,8 +1,7 @@
 //! Emits code from its last instruction to its first, so that the target of each jump is already there.
 
-ghost use Rattle.std.specs.Prelude.{◌≡◌, ◌-◌, ◌^◌, ◌<◌, ◌≤◌, [], ◌∷◌, ◌++◌, IfNone, IfOk, IfSome, IsTrue, OnOk, length};
-ghost use Rattle.scf_compile.specs.internal.Placing.{branch_code, skip_code, IsFirst, IsNear, IsOutOfReach, IsPut};
-ghost use Rattle.scf_compile.specs.internal.Placing.{StandsBehind};
+ghost use Rattle.std.specs.Prelude.{◌≡◌, ◌-◌, ◌^◌, ◌<◌, ◌≤◌, ◌++◌, IfOk, IfSome, IsTrue, OnOk, length};
+ghost use Rattle.scf_compile.specs.internal.Placing.{branch_code, skip_code, IsFirst, IsNear, IsPut, StandsBehind};
 
 use crate::insns::{jump_if, jump_over};
 use scf_insn::{Insn, Test};
@@ -16,19 +15,6 @@ const MAX_SKIP: usize = 255;
 #[derive(Clone, Copy)]
 pub(crate) struct Position(pub(crate) usize);
 
-/// The nearest position of an instruction that a conditional jump, put in front of the code, can reach.
-fn find(code: &VecDeque<Insn>, wanted: Insn) -> Option<Position>
-    ensures some { IfSome result (IsPut (wanted ∷ []) code.now.items code.now.items) }
-    ensures none { IfNone result (IsOutOfReach wanted code.now.items) }
-{
-    for passed in 0..code.len().min(MAX_SKIP) {
-        if code.get(passed) == Some(&wanted) {
-            return Some(Position(code.len() - passed));
-        }
-    }
-    None
-}
-
 /// Puts instructions in front of the code.
 #[tactic(auto, using(crate::proofs::Common::drop_more))]
 pub(crate) fn put_front(code: &mut VecDeque<Insn>, block: &[Insn]) -> Result<(), AllocError>
@@ -38,19 +24,6 @@ pub(crate) fn put_front(code: &mut VecDeque<Insn>, block: &[Insn]) -> Result<(),
         code.push_front(block[i])?;
     }
     Ok(())
-}
-
-/// Puts a block in front of the code, unless it is a single instruction that is there within a jump's reach already.
-pub(crate) fn put_block(code: &mut VecDeque<Insn>, block: &[Insn]) -> Result<Position, AllocError>
-    ensures { IfOk result (IsPut block.now code.old.items code.new.items) }
-{
-    if block.len() == 1 {
-        if let Some(index) = find(code, block[0]) {
-            return Ok(index);
-        }
-    }
-    put_front(code, block)?;
-    Ok(Position(code.len()))
 }
 
 /// Whether a block stands in the code behind `passed` instructions.
@@ -79,6 +52,19 @@ fn find_block(code: &VecDeque<Insn>, block: &[Insn], earlier: Position) -> Optio
         }
     }
     None
+}
+
+/// Puts a block in front of the code, unless it is a single instruction that is there within a jump's reach already.
+pub(crate) fn put_block(code: &mut VecDeque<Insn>, block: &[Insn]) -> Result<Position, AllocError>
+    ensures { IfOk result (IsPut block.now code.old.items code.new.items) }
+{
+    if block.len() == 1 {
+        if let Some(index) = find_block(code, block, Position(code.len())) {
+            return Ok(index);
+        }
+    }
+    put_front(code, block)?;
+    Ok(Position(code.len()))
 }
 
 /// Puts a block in front of the code, unless it is there within a jump's reach: a single instruction anywhere, and a

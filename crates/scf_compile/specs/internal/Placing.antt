@@ -1,7 +1,5 @@
 -- Code that is put together from its last instruction to its first.
-use Rattle.std.specs.Prelude.{◌≡◌, ◌≢◌, ℕ, ◌+◌, ◌-◌, ◌<◌, ◌≤◌, ◌⊎◌, All, List, [], ◌∷◌, ◌++◌, drop, length, nat_le}
-use Rattle.std.specs.Prelude.{◌==◌, take}
-use Rattle.std.specs.Prelude.{if◌then◌else◌}
+use Rattle.std.specs.Prelude.{◌≡◌, ◌==◌, ℕ, ◌+◌, ◌-◌, ◌<◌, ◌≤◌, ◌⊎◌, List, [], ◌∷◌, ◌++◌, drop, length, nat_le, if◌then◌else◌}
 use Rattle.scf_insn.specs.declared.insn.Insn.{Insn}
 use Rattle.scf_insn.specs.declared.operation.Test.{Test}
 use Rattle.scf_compile.specs.declared.placing.Position.{Position}
@@ -22,12 +20,7 @@ pub record IsFirst (block before after : List Insn) (index : Position) : Type 0 
   pub first : index.0 ≡ length after
   pub few : length after ≤ 2 + length before
 
--- no jump to the instruction from two instructions before the code is near enough
-abbrev pub IsOutOfReach : Insn → List Insn → Type 0
-IsOutOfReach wanted code = All (λ insn. insn ≢ wanted) (take 255 code)
-
--- The block stands at an index of the code, which is as it was before or has the block more: if this is one
--- instruction, only where it was out of reach.
+-- The block stands at an index of the code, which is as it was before or has the block more.
 pub record IsPut (block before after : List Insn) (index : Position) : Type 0 where
   pub front : List Insn
   pub whole : after ≡ front ++ before
@@ -36,7 +29,6 @@ pub record IsPut (block before after : List Insn) (index : Position) : Type 0 wh
   pub behind : List Insn
   pub there : code_from index after ≡ block ++ behind
   pub near : IsNear index after
-  pub once : (insn : Insn) → block ≡ insn ∷ [] → (after ≡ before) ⊎ IsOutOfReach insn before
 
 -- the block stands in the code behind some instructions
 abbrev pub StandsBehind : ℕ → List Insn → List Insn → Type 0

@@ -20,5 +20,4 @@ returns-then-stands_behind c =
       behind = stands.0;
       there = ap (λ n. drop n code) same ∙ stands.1;
       near = record { stands = omega arith; near = omega arith };
-      once = λ insn is. inl refl;
     }
