@@ -3,7 +3,7 @@
 
 ghost use Rattle.std.specs.Prelude.{◌≡◌, ◌++◌, ◌+◌, ◌<◌, ◌≤◌, OnOk, length};
 ghost use Rattle.scf_insn.specs.Kernel.{seccomp_data_args};
-ghost use Rattle.scf_compile.specs.internal.Blocks.{order_code, half_code, masked_code, wide_code, narrow_code};
+ghost use Rattle.scf_compile.specs.internal.Blocks.{order_code, half_code, masked_code, narrow_code};
 ghost use Rattle.scf_compile.specs.internal.Blocks.{value_of, test_code, condition_code};
 
 use crate::insns::{and_with, jump_if, load_word};
@@ -98,29 +98,6 @@ fn put_masked(
     )
 }
 
-/// Tests an argument of 64 bits.
-fn put_wide(
-    code: &mut VecDeque<Insn>,
-    test: NumberTest,
-    word: u8,
-    hit: u8,
-    miss: u8,
-) -> Result<(), AllocError>
-    requires word { word < 15 }
-    requires hit { hit < 253 }
-    requires miss { miss < 253 }
-    ensures whole { OnOk result (code.new.items ≡ wide_code test word hit miss ++ code.old.items) }
-    ensures few { OnOk result (length code.new.items ≤ 6 + length code.old.items) }
-{
-    match test {
-        NumberTest::Masked { mask, value } => put_masked(code, word, mask, value, hit, miss),
-        NumberTest::Greater(value) => put_order(code, Test::Greater, word, value, hit, miss),
-        NumberTest::GreaterOrEqual(value) => {
-            put_order(code, Test::GreaterOrEqual, word, value, hit, miss)
-        }
-    }
-}
-
 /// Tests an argument of 32 bits, which is one word, against a value below 2^32.
 fn put_narrow(
     code: &mut VecDeque<Insn>,
@@ -170,12 +147,16 @@ fn put_test(
     ensures whole { OnOk result (code.new.items ≡ test_code bits test word hit miss ++ code.old.items) }
     ensures few { OnOk result (length code.new.items ≤ 6 + length code.old.items) }
 {
-    match bits {
-        ArgumentBits::Bits64 => put_wide(code, test, word, hit, miss),
-        ArgumentBits::Bits32 if high_half(value_of(test)) == 0 => {
+    match (bits, test) {
+        (ArgumentBits::Bits32, _) if high_half(value_of(test)) == 0 => {
             put_narrow(code, test, word, hit, miss)
         }
-        ArgumentBits::Bits32 => put_skip(code, u32::from(miss)),
+        (ArgumentBits::Bits32, _) => put_skip(code, u32::from(miss)),
+        (_, NumberTest::Masked { mask, value }) => put_masked(code, word, mask, value, hit, miss),
+        (_, NumberTest::Greater(value)) => put_order(code, Test::Greater, word, value, hit, miss),
+        (_, NumberTest::GreaterOrEqual(value)) => {
+            put_order(code, Test::GreaterOrEqual, word, value, hit, miss)
+        }
     }
 }
 

@@ -11,7 +11,7 @@ ghost use Rattle.scf_profile.specs.SameAnswers.{SameAnswers, SameAnswersAsEach};
 ghost use Rattle.scf_compile.specs.SearchBound.{AnswersWithin, search_bound_of, search_bound_of_each};
 ghost use Rattle.scf_compile.specs.SizeBound.{size_bound_of, size_bound_of_each};
 ghost use Rattle.scf_compile.specs.internal.Filters.{AreSearched, IsFilterOf, IsSearchPut, MayBePut, most_ranges};
-ghost use Rattle.scf_compile.specs.internal.NrRanges.{AreAllRanges, AreRangesOf, AreRangesOfRules, IsStubStart};
+ghost use Rattle.scf_compile.specs.internal.NrRanges.{AreAllRanges, AreRangesOf, IsStubStart};
 
 use crate::dispatch::{Search, put_dispatch, put_only_gate};
 use crate::fault::CompileFault;
@@ -28,20 +28,6 @@ use scf_machine::{CheckFault, Program, check};
 use scf_profile::{FOREIGN_ANSWER, Profile, Rule, STUB_ANSWER};
 use std::alloc::{AllocError, Global};
 use std::collections::VecDeque;
-
-/// The ranges of a profile's syscall numbers, by its rules.
-fn rule_ranges<'a>(alloc: Global, profile: &'a Profile) -> Result<Vec<NrRange<'a>>, AllocError>
-    ensures profile { IsProfile profile.now }
-    ensures ranges { IfOk result (λ ranges. AreRangesOfRules profile.now.architecture profile.now.default_answer
-        ranges.items profile.now.rules) }
-{
-    ranges_of(
-        alloc,
-        profile.architecture(),
-        profile.numbers(),
-        profile.default_answer(),
-    )
-}
 
 /// The first number of a profile's architecture that its stub answers; without one, the number behind the last.
 fn stub_start(profile: &Profile) -> u64
@@ -66,10 +52,12 @@ fn own_ranges<'a>(
     ensures profile { IsProfile profile.now }
     ensures ranges { IfOk result (λ ranges. AreRangesOf profile.now stub.now ranges.items) }
 {
-    let mut ranges = rule_ranges(alloc, profile)?;
+    let architecture = profile.architecture();
+    let default = profile.default_answer();
+    let mut ranges = ranges_of(alloc, architecture, profile.numbers(), default)?;
     let start = stub_start(profile);
     cut(&mut ranges, start);
-    let end = u64::from(profile.architecture().last()) + 1;
+    let end = u64::from(architecture.last()) + 1;
     fill(&mut ranges, start, end, stub)?;
     Ok(ranges)
 }

@@ -14,11 +14,9 @@ use std::collections::VecDeque;
 
 /// The sum of weights, or `u64::MAX` if that is less.
 fn sum_of(weights: &[u64]) -> u64 {
-    let mut sum = 0u64;
-    for weight in weights {
-        sum = sum.saturating_add(*weight);
-    }
-    sum
+    weights
+        .iter()
+        .fold(0u64, |sum, weight| sum.saturating_add(*weight))
 }
 
 /// Where to cut a search over ranges with these weights: the count of ranges below the cut. Of the cuts that leave at
