@@ -1,29 +1,23 @@
 //! Parses the seccomp object.
 
-ghost use Rattle.std.specs.Prelude.{◌≡◌, ◌≤◌, ◌^◌, ◌&&◌, not, nat_lt, [], IfOk, All, length, vec_len};
-ghost use Rattle.std.specs.Prelude.{Some, None, ok_or};
+ghost use Rattle.std.specs.Prelude.{◌≡◌, ◌&&◌, not, nat_lt, length};
+ghost use Rattle.std.specs.Prelude.{None, ok_or};
 ghost use Rattle.std.specs.List.{list_any};
-ghost use Rattle.serde_json.specs.View.{view, items_view};
+ghost use Rattle.serde_json.specs.View.{view};
 ghost use Rattle.scf_profile.specs.declared.load_fault.LoadFault.TheVariants as faults;
-ghost use Rattle.scf_profile.specs.internal.EntryRanges.{IsEntry};
-ghost use Rattle.scf_profile.specs.JsonMembers.{each};
 ghost use Rattle.scf_profile.specs.References.{texts_at};
-ghost use Rattle.scf_profile.specs.StatedProfile.{entry_of};
 ghost use Rattle.scf_profile.specs.StatedProfile.{object as object_stated, seccomp_of, is_named as named};
 ghost use Rattle.scf_profile.specs.StatedProfile.{all_listed as all_are_listed, listed_names, own_architecture as own_stated, tables_of};
 ghost use Rattle.scf_profile.specs.internal.Stated.{with_machine};
-ghost use Rattle.scf_profile.specs.Steps.{Gives};
 ghost use Rattle.scf_profile.specs.internal.Results.{result_map};
 
 use crate::architecture_table::{ArchitectureTable, table_for};
-use crate::entry::Entry;
 use crate::json_members::{member_of, required};
 use crate::load_fault::LoadFault;
 use crate::reading::Reading;
 use crate::texts::BorrowedTexts;
 use scf_insn::Architecture;
 use serde_json::Value;
-use std::alloc::Global;
 
 /// A value that must be an object.
 fn object_of(value: &Value) -> Result<&Value, LoadFault>
@@ -109,27 +103,4 @@ pub(crate) fn check_listed(
         return all_listed(None, names, tables);
     }
     all_listed(Some(own_architecture(tables)), names, tables)
-}
-
-/// Parses the entries of an array, each with its index.
-pub(crate) fn entries_of<'v>(
-    alloc: Global,
-    reading: Reading,
-    items: &'v [Value],
-) -> Result<Vec<Entry<'v>>, LoadFault>
-    ensures value { Gives faults.Memory (result_map (λ v. v.items) result)
-        (each (λ before. entry_of reading (Some (length before))) [] (items_view items.now)) }
-    ensures range { IfOk result (λ v. All IsEntry v.items) }
-    ensures count { IfOk result (λ v. vec_len v ≤ 2 ^ 32) }
-{
-    let mut entries = Vec::new(alloc);
-    for item in items {
-        // A text of `MAX_TEXT_LEN` bytes has fewer entries than `u32` has values.
-        let Ok(index) = u32::try_from(entries.len()) else {
-            return Err(LoadFault::Memory);
-        };
-        let entry = Entry::read(alloc, reading, index, item)?;
-        entries.push(entry)?;
-    }
-    Ok(entries)
 }

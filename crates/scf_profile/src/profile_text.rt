@@ -26,7 +26,7 @@ use crate::limits::MAX_TEXT_LEN;
 use crate::load_fault::LoadFault;
 use crate::loaded::{Loaded, LoadedProfiles};
 use crate::number_rules::by_number;
-use crate::object::{check_listed, entries_of, find_seccomp};
+use crate::object::{check_listed, find_seccomp};
 use crate::profile::Profile;
 use crate::profiles::Profiles;
 use crate::reading::Reading;
@@ -77,8 +77,8 @@ fn read_head(alloc: Global, reading: Reading, root: &Value) -> Result<Head<'_>, 
     })
 }
 
-/// Parses the entries.
-#[tactic(auto, unfolding(crate::specs::JsonMembers::each, crate::specs::StatedProfile::entries_of))]
+/// Parses the entries, each with its index.
+#[tactic(auto, using(crate::proofs::Loops::items_left), unfolding(crate::specs::JsonMembers::each, crate::specs::StatedProfile::entries_of))]
 fn read_entries(
     alloc: Global,
     reading: Reading,
@@ -89,7 +89,16 @@ fn read_entries(
     ensures count { IfOk result (λ v. vec_len v ≤ 2 ^ 32) }
 {
     check_no_engine_form(None, "archMap", object)?;
-    entries_of(alloc, reading, find_items(None, "syscalls", object)?)
+    let mut entries = Vec::new(alloc);
+    for item in find_items(None, "syscalls", object)? {
+        // A text of `MAX_TEXT_LEN` bytes has fewer entries than `u32` has values.
+        let Ok(index) = u32::try_from(entries.len()) else {
+            return Err(LoadFault::Memory);
+        };
+        let entry = Entry::read(alloc, reading, index, item)?;
+        entries.push(entry)?;
+    }
+    Ok(entries)
 }
 
 /// Rules of an architecture before the test for conflicts.
