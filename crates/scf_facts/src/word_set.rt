@@ -192,6 +192,9 @@ impl WordSet {
         ensures within { bit_and result.value result.mask ≡ result.value }
         ensures known { EachNumber self.now (HasBits result) }
     {
+        if let Some(only) = self.only_value() {
+            return Bits::of(only, u32::MAX);
+        }
         let known = Bits::of(self.known.value, self.known.mask);
         match hull(&self.intervals) {
             Some(hull) => known.union(Bits::between(hull.low, hull.high)),
