@@ -20,6 +20,9 @@ use scf_facts::WordFacts;
 use scf_insn::{Answer, Operand, Operation, Test};
 use scf_machine::{Program, holds_of};
 
+/// The code of a test whether the accumulator equals a constant.
+const EQUALS_CONSTANT: u16 = 0x15;
+
 /// An instruction index, or the leaf of a division by 0.
 #[derive(Clone, Copy)]
 pub(crate) enum FilterNode {
@@ -129,6 +132,20 @@ pub(crate) fn pass_in_filter<F: WordFacts>(
         let Some(number) = accumulator else {
             break;
         };
+        let (behind, tests) = pass_equalities(
+            program,
+            facts,
+            registers,
+            index,
+            number,
+            most - steps,
+        );
+        if tests > 0 {
+            index = behind;
+            steps += tests;
+            asked += tests;
+            continue;
+        }
         let Some((next, asks)) = pass_at(program, facts, registers, index, number) else {
             break;
         };
@@ -141,6 +158,42 @@ pub(crate) fn pass_in_filter<F: WordFacts>(
     }
     *node = FilterNode::At(index);
     Passed { steps, asked }
+}
+
+/// Passes tests whether the accumulator, which is this number, equals a constant, at most so many: the index behind
+/// them, and how many. Each has two successors, and takes few instructions here: lists of them are long.
+fn pass_equalities<F: WordFacts>(
+    program: &Program,
+    facts: &F,
+    registers: &KnownRegisters,
+    first: usize,
+    number: u32,
+    most: u64,
+) -> (usize, u64)
+    requires node { filter_is_node program.now registers.now (FilterNode.At first) }
+    requires number { (words : List ℕ) (x : ℕ) → IsWords words → F.allows facts.now (F.level facts.now) words
+        → Abstracts registers.now.a words x → x ≡ number }
+    ensures later { IsLaterNode (λ words. IsWords words × F.allows facts.now (F.level facts.now) words)
+        (filter_tree program.now registers.now) (FilterNode.At first)
+        (filter_tree program.now registers.now) (FilterNode.At result.0) }
+    ensures size { tree_size program.now result.0 + result.1 ≤ tree_size program.now first }
+    ensures most { result.1 ≤ most }
+{
+    let _ = facts;
+    let _ = registers;
+    let insns = program.insns();
+    let mut index = first;
+    let mut steps = 0;
+    while steps < most {
+        let insn = insns[index];
+        if insn.code != EQUALS_CONSTANT || insn.jt == insn.jf {
+            break;
+        }
+        let offset = if insn.k == number { insn.jt } else { insn.jf };
+        index += 1 + usize::from(offset);
+        steps += 1;
+    }
+    (index, steps)
 }
 
 /// The index after a jump, a load of a word, or a test of the accumulator, which is this number, against a constant;
