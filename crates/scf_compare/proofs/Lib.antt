@@ -8,6 +8,7 @@ pub mod ControlFlows
 pub mod Halves
 pub mod BitSlices
 pub mod KnownBits
+pub mod KnownTests
 pub mod MaskedSides
 pub mod Numbered
 pub mod Relations

@@ -1,6 +1,7 @@
 -- The instructions that are passed lead to where the runs that come to them go on.
-use Rattle.scf_compare.proofs.Common.{arith, rules}
+use Rattle.scf_compare.proofs.Common.{arith, false, rules, true}
 use Rattle.scf_compare.proofs.ControlFlows.{masked_at}
+use Rattle.scf_compare.proofs.KnownTests.{known_test}
 use Rattle.scf_compare.proofs.MaskedSides.{carried}
 use Rattle.scf_compare.proofs.Successors.{leads}
 use Rattle.scf_compare.proofs.filter.pass_at.Goals as goal
@@ -31,30 +32,12 @@ returns-in-LoadWord-clause-next g c =
 
 pub returns-then-holds_of-clause-next : goal.returns-then-holds_of-clause-next
 returns-then-holds_of-clause-next g c =
-    let here = rw (c.insns.ensures.same, c.in-ConditionalJump.is) at c.at-operation.ensures in
-    record {
-      proper = search rules;
-      leads = λ words w r.
-          let on = leads here.stands r (c.insns.ensures.safe words) _ here.control_flow in
-          let number = c.requires.number words r.state.a w.0 w.1 r.describes.a in
-          on.0 (grind (arith, number));
-      costs = omega (arith, here.size);
-      plain = λ masks plain.
-          let flow = rw here.control_flow at (masked_at masks plain.0 here.stands) in
-          (plain.0, carried masks _ _ _ flow.2 plain.1);
-    }
+    let here = rw (c.insns.ensures.same, c.in-ConditionalJump.is, c.in-Constant.is) at c.at-operation.ensures in
+    known_test c.insns.ensures.valid c.insns.ensures.safe here.stands here.control_flow c.requires.node.1
+    (λ words x w. c.requires.number words x w.0 w.1) true (grind (arith, c.holds_of.ensures, c.if-holds_of.true))
 
 pub returns-else-holds_of-clause-next : goal.returns-else-holds_of-clause-next
 returns-else-holds_of-clause-next g c =
-    let here = rw (c.insns.ensures.same, c.in-ConditionalJump.is) at c.at-operation.ensures in
-    record {
-      proper = search rules;
-      leads = λ words w r.
-          let on = leads here.stands r (c.insns.ensures.safe words) _ here.control_flow in
-          let number = c.requires.number words r.state.a w.0 w.1 r.describes.a in
-          on.1 (grind (arith, number));
-      costs = omega (arith, here.size);
-      plain = λ masks plain.
-          let flow = rw here.control_flow at (masked_at masks plain.0 here.stands) in
-          (plain.0, carried masks _ _ _ flow.3 plain.1);
-    }
+    let here = rw (c.insns.ensures.same, c.in-ConditionalJump.is, c.in-Constant.is) at c.at-operation.ensures in
+    known_test c.insns.ensures.valid c.insns.ensures.safe here.stands here.control_flow c.requires.node.1
+    (λ words x w. c.requires.number words x w.0 w.1) false (grind (arith, c.holds_of.ensures, c.if-holds_of.false))
