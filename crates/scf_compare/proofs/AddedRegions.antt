@@ -4,7 +4,7 @@ use Rattle.std.proofs.lemmas.List.Elements.{Contains-append_left, Contains-push}
 use Rattle.std.proofs.lemmas.List.Quantifiers.{all_pairs_push}
 use Rattle.scf_insn.proofs.Common.{words_of}
 use Rattle.scf_facts.specs.WordSets.{AllowsWords}
-use Rattle.scf_compare.proofs.Common.{[], ◌∷◌, ◌++◌, ◌≡◌, ℕ, List, Bool, Option, None, IsTrue, IfSome_then, inl, inr, length, All, All-push, AreWordsIn, CallRecord, Compared, Frontier, Store, Tree}
+use Rattle.scf_compare.proofs.Common.{[], ◌∷◌, ◌++◌, ◌≡◌, ℕ, List, Bool, Option, None, IsTrue, IfSome_then, inl, inr, length, All, All-push, AreWordsIn, CallRecord, Compared, Frontier, Store, Tree, common_steps, arith}
 use Rattle.scf_compare.specs.declared.comparison.PairLeaf.{PairLeaf}
 use Rattle.scf_compare.specs.declared.frontier.Stage.{Stage}
 use Rattle.scf_compare.specs.declared.frontier.Stage.TheVariants.{At, AllSeen, Found}
@@ -21,12 +21,7 @@ pub still_covered : (left right : Behavior) (allowed : List ℕ → Type 0) (lea
     (old new : List Region) → IsAdded allowed leaf is_whole old new
     → (words : List ℕ) → IsCovered left right old words → IsCovered left right new words
 still_covered left right allowed leaf is_whole old new (inl (same, none)) words covered = rw same covered
-still_covered left right allowed leaf is_whole old new (inr (region, is, more)) words covered = record {
-  region = covered.region;
-  listed = rw more (Contains-append_left old (region ∷ []) covered.region covered.listed);
-  inside = covered.inside;
-  answered = covered.answered;
-}
+still_covered left right allowed leaf is_whole old new (inr (region, is, more)) words covered = grind (arith, common_steps, Contains-append_left)
 
 -- and what is allowed at the leaf is, where its answers are told
 pub now_covered : (left right : Behavior) (allowed : List ℕ → Type 0) (leaf : PairLeaf) (is_whole : Bool)

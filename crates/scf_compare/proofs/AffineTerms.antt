@@ -4,10 +4,10 @@ use Rattle.std.specs.Int.Bits.{xor_add_and, xor_assoc, xor_disjoint, xor_zero_r}
 use Rattle.std.specs.Int.Count.{count_leading_zeros}
 use Rattle.std.proofs.Math.Pow.{mod-mod-pow}
 use Rattle.std.proofs.Math.Nat.{add-mul, div-div-eq-div-mul, div-le_self, mul-add, mul-mod_left, mul_assoc, mul-pos}
-use Rattle.std.proofs.lemmas.Nat.{div-mul-add, leading_top, mod-mul-add, mul-mod_first, mul-mod_second, xor_block, xor_mod}
+use Rattle.std.proofs.lemmas.Nat.{leading_top, mod-mul-add, mul-mod_first, mul-mod_second, xor_block, xor_mod}
 use Rattle.std.specs.Int.{trailing_zeros}
 use Rattle.std.proofs.lemmas.Nat.Bits.{bit_at-trailing_zeros, ones_shr}
-use Rattle.scf_compare.proofs.Common.{add-mod, and_assoc, and_le_r, and_mask, and_zero_r, mul-lt-mul_of_pos_right, one_shl, pow-add, shl-shr, bit_at_ones_above, div-add-mod', mul_comm, ◌≡◌, ◌≢◌, ℕ, ◌+◌, ◌-◌, ◌*◌, ◌/◌, ◌%◌, ◌<◌, ◌≤◌, ◌^◌, ◌↔◌, true, false, eqb, leb, nat_lt, refl, sym, ap, ◌∙◌, arith, bit_and, bit_or, bit_xor, add_comm, and_comm, and_le_l, at_bit, beyond_mask, bit_at, bit_at_not, bit_at_ones, cases_eq, div-eq_of_lt, div-lt_iff_lt-mul, div-mul-le_self, div-one, eq-eqb, eqb-true, le-div_iff_mul-le, mod-eq_of_lt, mod-lt, mul-le-mul_left, ne_eqb, cases_lt, of_multiple, one_more, or_comm, or_lt, pow_pos, same_from_bits, same_from_bits_below, same_from_xor, shr_mono, w32, xor_comm, xor_lt, xor_self, word_below, inl, inr}
+use Rattle.scf_compare.proofs.Common.{add-mod, and_assoc, and_le_r, and_mask, and_zero_r, mul-lt-mul_of_pos_right, one_shl, pow-add, shl-shr, bit_at_ones_above, div-add-mod', mul_comm, ◌≡◌, ◌≢◌, ℕ, ◌+◌, ◌-◌, ◌*◌, ◌/◌, ◌%◌, ◌<◌, ◌≤◌, ◌^◌, ◌↔◌, true, false, eqb, nat_lt, refl, sym, ap, ◌∙◌, arith, bit_and, bit_or, bit_xor, add_comm, and_comm, and_le_l, at_bit, beyond_mask, bit_at_not, bit_at_ones, cases_eq, div-eq_of_lt, div-lt_iff_lt-mul, div-one, eq-eqb, le-div_iff_mul-le, mod-lt, mul-le-mul_left, ne_eqb, cases_lt, of_multiple, one_more, or_comm, or_lt, pow_pos, same_from_bits, same_from_bits_below, w32, xor_comm, xor_lt, xor_self, word_below, inl, inr, common_steps}
 use Rattle.scf_compare.proofs.BitSlices.{number_fits}
 use Rattle.scf_compare.proofs.Bits.{each_bit, whole_word}
 use Rattle.scf_compare.proofs.KnownBits.{quotient_grows}
@@ -27,10 +27,7 @@ xor_complement x f fits fits_f =
 
 -- a constant under an XOR changes sides
 pub xor_moved : (x f v : ℕ) → (bit_xor x f ≡ v) ↔ (x ≡ bit_xor v f)
-xor_moved x f v = (
-  λ is. rw (← is, xor_assoc, xor_self, xor_zero_r) refl,
-  λ is. rw (is, xor_assoc, xor_self, xor_zero_r) refl,
-)
+xor_moved x f v = grind (arith, common_steps, xor_assoc, xor_self, xor_zero_r)
 
 pub xor_and : (x f v : ℕ) → bit_and (bit_xor x f) v ≡ bit_xor (bit_and x v) (bit_and f v)
 xor_and x f v = same_from_bits _ _ (λ i. grind (arith, each_bit))
@@ -84,10 +81,7 @@ pub and_xor : (y f k a d v : ℕ) → y < 2 ^ 32 → f < 2 ^ 32 → k ≡ 1 → 
     → bit_and ((bit_xor y f * k % 2 ^ 32 + a) % 2 ^ 32 / d) v
     ≡ (bit_xor (bit_and y v) (bit_and f v) * k % 2 ^ 32 + a) % 2 ^ 32 / d
 and_xor y f k a d v fits fits_f once none one =
-    let below : bit_and y v < 2 ^ 32 = omega (arith, and_le_l y v) in
-    let below_f : bit_and f v < 2 ^ 32 = omega (arith, and_le_l f v) in
-    rw (only_xor y f k a d fits fits_f once none one, only_xor (bit_and y v) (bit_and f v) k a d below below_f once none one)
-    (xor_and y f v)
+    grind (arith, common_steps, bit_and, and_le_l, only_xor, xor_and)
 
 pub scaled_sum : (x k a d v : ℕ) → d ≡ 1 → (x * k % 2 ^ 32 + a) % 2 ^ 32 / d * v % 2 ^ 32
     ≡ (x * (k * v % 2 ^ 32) % 2 ^ 32 + a * v % 2 ^ 32) % 2 ^ 32 / d
@@ -218,14 +212,7 @@ none_past n v fits most = grind arith
 pub quotient_within : (n d low high : ℕ) → 0 < d
     → is_within low high (n / d) ≡ is_within (low * d) (high * d + (d - 1)) n
 quotient_within n d low high some =
-    let least = le-div_iff_mul-le {k = d} {x = low} {y = n} some in
-    let most = div-lt_iff_lt-mul {k = d} {x = n} {y = high + 1} some in
-    let next = one_more high d in
-    same_within low high (n / d) (low * d) (high * d + (d - 1)) n
-    (λ lies. let below : n / d < high + 1 = omega (arith, lies.1) in
-    (least.0 lies.0, omega (arith, most.0 below, next, some)))
-    (λ lies. let below : n < (high + 1) * d = omega (arith, lies.1, next, some) in
-    (least.1 lies.0, omega (arith, most.1 below)))
+    grind (arith, common_steps, le-div_iff_mul-le, div-lt_iff_lt-mul, one_more, same_within)
 
 -- the sum's range is one of the number that is added to,
 pub sum_within : (y a low high : ℕ) → y < 2 ^ 32 → a < 2 ^ 32 → low ≤ high → high < 2 ^ 32
@@ -245,10 +232,7 @@ pub sum_beyond : (y a low high : ℕ) → y < 2 ^ 32 → a < 2 ^ 32 → low ≤ 
 sum_beyond y a low high fits fits_a some fits_high order =
     let first = (low + (2 ^ 32 - a)) % 2 ^ 32 in
     let last = (high + (2 ^ 32 - a)) % 2 ^ 32 in
-    beyond_within low high ((y + a) % 2 ^ 32) (last + 1) (first - 1) y
-    (λ lies out. omega (arith, lies.0, lies.1, out.0, out.1))
-    (λ out. (omega (arith, out), omega (arith, out)))
-    (λ out. (omega (arith, out), omega (arith, out)))
+    grind (arith, common_steps, beyond_within)
 
 -- ---- low masks
 
@@ -306,17 +290,7 @@ there_and_back n o i fits inverse =
 pub by_inverse : (x f i low high : ℕ) → f * i % 2 ^ 32 ≡ 1 → low ≡ high → low < 2 ^ 32 → x < 2 ^ 32
     → is_within low high (x * f % 2 ^ 32) ≡ is_within (low * i % 2 ^ 32) (low * i % 2 ^ 32) x
 by_inverse x f i low high inverse one fits fits_x =
-    let back = there_and_back x f i fits_x inverse in
-    let there = there_and_back low i f fits (ap (λ n. n % 2 ^ 32) (mul_comm i f) ∙ inverse) in
-    same_within low high (x * f % 2 ^ 32) (low * i % 2 ^ 32) (low * i % 2 ^ 32) x
-    (λ lies.
-    let is : x * f % 2 ^ 32 ≡ low = omega (arith, lies.0, lies.1, one) in
-    let same : low * i % 2 ^ 32 ≡ x = ap (λ n. n * i % 2 ^ 32) (sym is) ∙ back in
-    (omega (arith, same), omega (arith, same)))
-    (λ lies.
-    let is : low * i % 2 ^ 32 ≡ x = omega (arith, lies.0, lies.1) in
-    let same : x * f % 2 ^ 32 ≡ low = ap (λ n. n * f % 2 ^ 32) (sym is) ∙ there in
-    (omega (arith, same), omega (arith, same, one)))
+    grind (arith, common_steps, there_and_back, mul_comm, same_within)
 
 -- the sum of two terms, where what one multiplies is shifted to the left for the other
 pub plus_product : (x s f g a b c d e : ℕ) → x * 2 ^ c % 2 ^ 32 ≡ s → d ≡ 1 → e ≡ 1
@@ -362,12 +336,7 @@ xor_equal s f low high one =
 pub set_within : (s b f low high : ℕ) → bit_and s b ≡ s → bit_and b f ≡ 0 → f ≤ high
     → is_within low high (bit_xor s f) ≡ is_within (low - f) (high - f) s
 set_within s b f low high among apart most =
-    let none : bit_and s f ≡ 0 =
-    ap (λ n. bit_and n f) (sym among) ∙ and_assoc f s b ∙ ap (bit_and s) apart ∙ and_zero_r s in
-    rw (xor_disjoint s f none)
-    (same_within low high (s + f) (low - f) (high - f) s
-    (λ lies. (omega (arith, lies.0, lies.1), omega (arith, lies.0, lies.1)))
-    (λ lies. (omega (arith, lies.0, lies.1), omega (arith, lies.0, lies.1, most))))
+    grind (arith, common_steps, and_assoc, and_zero_r, xor_disjoint, same_within)
 
 -- or turns all bits round that it may have
 pub turned_within : (s b f low high : ℕ) → bit_and s b ≡ s → bit_and b f ≡ b → low ≤ f
@@ -385,13 +354,7 @@ turned_within s b f low high among all least =
 -- ---- multiples
 
 pub none_between : (n low high : ℕ) → (low ≤ n → n ≤ high → ⊥) → is_within low high n ≡ false
-none_between n low high none = elim (cases_lt n low) [
-  | inl below ↦ grind (arith, below)
-  | inr least ↦ elim (cases_lt high n) [
-    | inl above ↦ grind (arith, above)
-    | inr most ↦ absurd (none least most)
-  ]
-]
+none_between n low high none = grind (arith, common_steps, none, cases_lt)
 
 pub only_between : (n low high v : ℕ) → low ≤ v → v ≤ high → (low ≤ n → n ≤ high → n ≡ v) → is_within low high n ≡ eqb n v
 only_between n low high v least most only =
@@ -436,11 +399,7 @@ none_within n d low high some fits far =
 pub to_most : (n d low high : ℕ) → 0 < d → n < 2 ^ 32 → (2 ^ 32 - 1) / d ≤ high
     → is_within low high (n / d) ≡ is_within (low * d) (2 ^ 32 - 1) n
 to_most n d low high some fits far =
-    let most : n / d ≤ (2 ^ 32 - 1) / d = quotient_grows n d (2 ^ 32 - 1) d (omega arith) (omega arith) some in
-    let least = le-div_iff_mul-le {k = d} {x = low} {y = n} some in
-    same_within low high (n / d) (low * d) (2 ^ 32 - 1) n
-    (λ lies. (least.0 lies.0, omega arith))
-    (λ lies. (least.1 lies.0, omega (arith, most, far)))
+    grind (arith, common_steps, quotient_grows, le-div_iff_mul-le, same_within)
 
 pub least_fits : (d low : ℕ) → 0 < d → low ≤ (2 ^ 32 - 1) / d → low * d < 2 ^ 32
 least_fits d low some within = omega (arith, (le-div_iff_mul-le {k = d} {x = low} {y = 2 ^ 32 - 1} some).0 within)
@@ -456,12 +415,7 @@ pub gap : (a low high : ℕ) → a < 2 ^ 32 → low ≤ high → high < 2 ^ 32 �
     → (high + (2 ^ 32 - a)) % 2 ^ 32 < (low + (2 ^ 32 - a)) % 2 ^ 32
     → (high + (2 ^ 32 - a)) % 2 ^ 32 + 1 ≤ (low + (2 ^ 32 - a)) % 2 ^ 32 - 1
 gap a low high fits some fits_high part order =
-    elim (cases_eq low 0) [
-      | inl none ↦
-          let less : high ≢ 2 ^ 32 - 1 = part none in
-          omega (arith, less)
-      | inr more ↦ omega (arith, more)
-    ]
+    grind (arith, common_steps, cases_eq, part)
 
 -- ---- what functions cite
 

@@ -6,15 +6,12 @@ use Rattle.std.proofs.lemmas.List.Sums.{sum_by-set}
 use Rattle.scf_facts.proofs.Common.{IsPowerOfTwo, and_pow}
 use Rattle.scf_facts.proofs.MaskLaws.{under_power}
 use Rattle.scf_facts.proofs.Ones.{more_ones, one_more}
-use Rattle.scf_compare.proofs.Common.{Bits, HasBits, trailing_ones, bit_at-trailing_ones, one_shl, w32, ◌≡◌, ◌+◌, ◌*◌, ◌%◌, ◌<◌, ◌≤◌, ◌-◌, ◌^◌, ℕ, List, arith, bit_and, bit_or, common_steps, eq-eqb, eqb, false, inl, inr, length, refl, slice_index}
+use Rattle.scf_compare.proofs.Common.{Bits, HasBits, trailing_ones, bit_at-trailing_ones, one_shl, w32, ◌≡◌, ◌+◌, ◌*◌, ◌%◌, ◌<◌, ◌≤◌, ◌-◌, ◌^◌, ℕ, List, arith, bit_and, bit_or, common_steps, eq-eqb, eqb, false, length, refl, slice_index}
 use Rattle.scf_compare.specs.Splits.{HaveBits, bits_at, open_bits}
 
 -- a number that doesn't have a bit lacks it
 pub lacks_bit : (x m : ℕ) → IsPowerOfTwo m → eqb (bit_and x m) m ≡ false → bit_and x m ≡ 0
-lacks_bit x m one lacks = elim (under_power x m one) [
-  | inl none ↦ none
-  | inr some ↦ absurd (let has = eq-eqb _ _ some in cc)
-]
+lacks_bit x m one lacks = grind (arith, common_steps, under_power, eq-eqb)
 
 -- the bit of a word at an index
 pub power_at : (index : ℕ) → index < 32 → IsPowerOfTwo (1 * 2 ^ index % 2 ^ 32)

@@ -1,9 +1,8 @@
 -- Bit slices, bit by bit.
-use Rattle.scf_compare.proofs.Common.{word_below, ◌≡◌, ◌≢◌, ℕ, ◌+◌, ◌-◌, ◌*◌, ◌/◌, ◌%◌, ◌<◌, ◌≤◌, ◌^◌, ◌↔◌, true, false, eqb, refl, sym, ap, ◌∙◌, arith, bit_and, nat_lt, eq-eqb, eqb-true, and_zero_r, and_shr, and_block, and_comm, and_le_l, and_le_r, and_assoc, and_mask, shl-shr, shr-shr, shr_le, pow-add, pow_pos, div-add-mod', div-eq_of_lt, div-lt_iff_lt-mul, div-mul-le_self, div-one, le-div_iff_mul-le, le-ltb, lt_of_mul-lt-mul_right, mod-eq_of_lt, mod-le, mod-lt, mul-le-mul_left, mul-lt-mul_of_pos_right, mul-mod_left, pow_mono, shr_mono, ne_eqb, beyond_mask, of_multiple, one_more, cases_lt, inl, inr}
+use Rattle.scf_compare.proofs.Common.{word_below, ◌≡◌, ◌≢◌, ℕ, ◌+◌, ◌-◌, ◌*◌, ◌/◌, ◌%◌, ◌<◌, ◌≤◌, ◌^◌, ◌↔◌, true, false, eqb, refl, sym, ◌∙◌, arith, bit_and, nat_lt, eq-eqb, eqb-true, and_zero_r, and_shr, and_block, and_comm, and_le_r, and_assoc, and_mask, shl-shr, shr-shr, shr_le, pow-add, pow_pos, div-add-mod', div-eq_of_lt, div-lt_iff_lt-mul, div-mul-le_self, div-one, le-div_iff_mul-le, le-ltb, lt_of_mul-lt-mul_right, mod-eq_of_lt, mod-le, mod-lt, mul-le-mul_left, mul-lt-mul_of_pos_right, mul-mod_left, pow_mono, shr_mono, ne_eqb, beyond_mask, of_multiple, one_more, cases_lt, inl, inr, common_steps}
 use Rattle.scf_compare.proofs.Bits.{whole_word}
 use Rattle.scf_compare.proofs.Common.{and_twice}
 use Rattle.scf_facts.specs.HighMask.{IsHighMask}
-use Rattle.scf_compare.proofs.Common.{List, slice_index}
 
 -- ---- masks and shifts
 
@@ -87,14 +86,7 @@ pub slice_is : (w m r l v : ℕ) → m < 2 ^ 32 → m / 2 ^ r * 2 ^ r ≡ m → 
     → v / 2 ^ l * 2 ^ l % 2 ^ 32 ≡ v
     → (eqb (bit_and w m / 2 ^ r * 2 ^ l) v ≡ true) ↔ (eqb (bit_and w m) (v / 2 ^ l * 2 ^ r % 2 ^ 32) ≡ true)
 slice_is w m r l v fits whole least stays =
-    let y = bit_and w m / 2 ^ r in
-    let back : v / 2 ^ l * 2 ^ l ≡ v =
-    omega (arith, stays, div-mul-le_self v (2 ^ l), mod-le (v / 2 ^ l * 2 ^ l) (2 ^ 32)) in
-    let same = under_whole w m r whole in
-    rw (shifted_fits m (v / 2 ^ l) r fits whole least) (
-      λ is. eq-eqb _ _ (let number = eqb-true _ _ is in grind (arith, same, shl-shr y l)),
-      λ is. eq-eqb _ _ (let word = eqb-true _ _ is in grind (arith, same, back, shl-shr y r, shl-shr (v / 2 ^ l) r)),
-    )
+    grind (arith, common_steps, div-mul-le_self, mod-le, under_whole, shifted_fits, eq-eqb, eqb-true, shl-shr)
 
 -- no number that has a bit past the mask
 pub slice_isnt : (w m r l v : ℕ) → m / 2 ^ r < v / 2 ^ l → eqb (bit_and w m / 2 ^ r * 2 ^ l) v ≡ false
@@ -141,19 +133,12 @@ slice_not_above w m r l v past =
 pub bits_kept : (w m r l : ℕ) → m / 2 ^ r * 2 ^ l < 2 ^ 32
     → bit_and (bit_and w m / 2 ^ r * 2 ^ l) (m / 2 ^ r * 2 ^ l % 2 ^ 32) ≡ bit_and w m / 2 ^ r * 2 ^ l
 bits_kept w m r l fits =
-    let n = m / 2 ^ r in
-    let kept : bit_and (bit_and w m / 2 ^ r) n ≡ bit_and w m / 2 ^ r =
-    ap (λ x. bit_and x n) (and_shr w m r) ∙ and_twice (w / 2 ^ r) n ∙ sym (and_shr w m r) in
-    ap (bit_and (bit_and w m / 2 ^ r * 2 ^ l)) (mod-eq_of_lt fits)
-    ∙ sym (and_scaled (bit_and w m / 2 ^ r) n l) ∙ ap (λ x. x * 2 ^ l) kept
+    grind (arith, common_steps, and_shr, and_twice, mod-eq_of_lt, and_scaled)
 
 -- a multiple is at least a number where it has at least so many units
 pub first_unit : (z l low : ℕ) → low ≢ 0 → (low ≤ z * 2 ^ l) ↔ ((low - 1) / 2 ^ l + 1 ≤ z)
 first_unit z l low some =
-    let past = div-lt_iff_lt-mul {k = 2 ^ l} {x = low - 1} {y = z} (pow_pos l) in (
-      λ least. let lies : low - 1 < z * 2 ^ l = omega (arith, least, some) in omega (arith, past.1 lies),
-      λ least. let lies : (low - 1) / 2 ^ l < z = omega (arith, least) in omega (arith, past.0 lies),
-    )
+    grind (arith, common_steps, div-lt_iff_lt-mul, pow_pos)
 
 -- ---- what functions cite
 

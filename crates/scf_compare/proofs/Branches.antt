@@ -1,5 +1,5 @@
 -- Open branches, as one is opened and one is taken.
-use Rattle.scf_compare.proofs.Common.{◌≡◌, Bool, ℕ, ◌+◌, ◌<◌, ◌≤◌, ◌↔◌, ◌⊎◌, inl, inr, List, [], ◌∷◌, ◌++◌, length, refl, ap, ◌∙◌, arith, length-append, Option, None, Some, true, false, if◌then◌else◌, cases_Bool, cases_lt, Atom, Branch, GoesOver, atom_answer, slice_get, slice_get_within, sum_by-append, AreWordsIn, Store, IsSameLevel, Frontier, Compared, GivesAnswer, LearnsAmong, IsFrontier, open_size, Tree}
+use Rattle.scf_compare.proofs.Common.{◌≡◌, Bool, ℕ, ◌+◌, ◌<◌, ◌≤◌, ◌↔◌, ◌⊎◌, inl, inr, List, [], ◌∷◌, ◌++◌, length, refl, ap, ◌∙◌, arith, length-append, Option, None, Some, true, false, if◌then◌else◌, cases_Bool, cases_lt, Atom, Branch, GoesOver, atom_answer, slice_get, slice_get_within, sum_by-append, AreWordsIn, Store, IsSameLevel, Frontier, Compared, GivesAnswer, LearnsAmong, IsFrontier, open_size, Tree, common_steps}
 use Rattle.scf_machine.proofs.Indices.{index_before, index_cases, index_last}
 use Rattle.scf_compare.specs.declared.frontier.OpenBranch.{OpenBranch}
 use Rattle.scf_compare.specs.internal.Trees.{GoesEither, IsLaterNode, IsStep, KeepsAsked, Leaves}
@@ -110,14 +110,7 @@ pub after_undo : {F : Type 0} (store : Store F) (asked : Option Atom) (old undon
     × ((masks : ℕ) → LearnsAmong masks asked false → store.refutes_among old (store.level new) masks
     → store.refutes_among new (store.level new) masks)
 after_undo store asked old undone new closed law marks learned among =
-    let same = law (store.level undone) (omega arith) in
-    rw marks (
-      λ words. (
-        λ now. let was = (learned words).0 now in ((same.0 words).0 was.0, was.1),
-        λ was. (learned words).1 ((same.0 words).1 was.0, was.1),
-      ),
-      λ masks keeps was. among masks keeps ((same.2 masks).1 was),
-    )
+    grind (arith, common_steps, law, learned, among)
 
 pub taken : {F K N : Type 0} (store : Store F) (compared : Compared) (tree : K → Tree N) (old new : Frontier F K N)
     (b : OpenBranch K N)
@@ -301,13 +294,7 @@ pub goes_on : {F K N : Type 0} {store : Store F} {tree : K → Tree N} {frontier
     {comes_on on : List ℕ → Type 0} → IsWhole store tree frontier first comes_on
     → ((words : List ℕ) → store.allows frontier.facts (store.level frontier.facts) words → comes_on words → on words)
     → IsWhole store tree frontier first on
-goes_on whole goes = record {
-  few = whole.few;
-  asked = whole.asked;
-  branches = whole.branches;
-  answered = whole.answered;
-  here = λ is words allowed. goes words allowed (whole.here is words allowed);
-}
+goes_on whole goes = grind (arith, common_steps, goes, whole.here)
 
 -- an answer that the facts know changes nothing
 pub decided_whole : {F K N : Type 0} (store : Store F) (tree : K → Tree N) (frontier : Frontier F K N)
@@ -325,15 +312,7 @@ pub known_step : {N E : Type 0} (leaves : Leaves E) (given : List ℕ → Type 0
     → IsStep leaves given here from there (Branch (Some atom) if_true if_false)
     → let next = if answer then if_true else if_false in
     IsLaterNode given here from there next × (there.size next + 1 ≤ here.size from)
-known_step leaves given here from there atom if_true if_false true known step = (
-  record {
-    node = step.proper.1;
-    reached = λ words allowed reached. (step.leads words allowed reached).0 (known words allowed);
-    size = omega (arith, step.costs);
-    plain = λ masks plain. (step.plain masks plain).1;
-  },
-  omega (arith, step.costs),
-)
+known_step leaves given here from there atom if_true if_false true known step = grind (arith, common_steps, step.leads, known, step.plain)
 known_step leaves given here from there atom if_true if_false false known step = (
   record {
     node = step.proper.2;
@@ -466,13 +445,7 @@ pub weaken : {F K N : Type 0} {store : Store F} {compared : Compared} {tree : K 
     → ((words : List ℕ) → was words → more words)
     → GoesOver store compared tree old new here from there was next
     → GoesOver store compared tree old new here from there more next
-weaken follows over = record {
-  frontier = over.frontier;
-  node = over.node;
-  words = λ words ahead. elim (over.words words ahead) [ inl seen ↦ inl (follows words seen) | inr left ↦ inr left ];
-  size = over.size;
-  exact = over.exact;
-}
+weaken follows over = grind (arith, common_steps, follows)
 
 pub weaken_stage : (F K N : Type 0) (store : Store F) (compared : Compared) (tree : K → Tree N) (old new : Frontier F K N)
     (here : Tree N) (from : N) (there : Tree N) (was more : List ℕ → Type 0) (stage : Stage N)

@@ -10,7 +10,7 @@ use Rattle.scf_compare.specs.declared.origin.Origin.{Origin}
 use Rattle.scf_compare.specs.declared.origin.Origin.TheVariants.{Filter, Profile as OfReason}
 use Rattle.scf_compare.specs.Leaves.{SideTells}
 use Rattle.scf_compare.specs.internal.Stacks.{FirstAnswer, IsEndAt, NextAnswers}
-use Rattle.scf_compare.proofs.Common.{Bool, EndsAt, EndsWith, Contains, StackAnswers, false, true, FilterLeaf, None, Some, IsSideLeaf, Operation, SideLeaf, control_flow_at, refl, stack_behavior, ◌≡◌, ◌⊎◌, ℕ, ◌+◌, ◌*◌, ◌-◌, ◌<◌, ◌≤◌, List, [], ◌∷◌, length, drop, arith, Option, IfSome, slice_get-get_or, Answer, Insn, RunAnswers, stack_paths, tree_size, IsFilterEnd, IsStackLeaf, filter_at}
+use Rattle.scf_compare.proofs.Common.{EndsAt, EndsWith, Contains, StackAnswers, false, true, FilterLeaf, None, Some, IsSideLeaf, Operation, SideLeaf, control_flow_at, refl, stack_behavior, ◌≡◌, ◌⊎◌, ℕ, ◌+◌, ◌*◌, ◌-◌, ◌<◌, ◌≤◌, List, [], ◌∷◌, length, drop, arith, Option, IfSome, slice_get-get_or, Answer, Insn, RunAnswers, stack_paths, tree_size, IsFilterEnd, IsStackLeaf, filter_at, common_steps}
 use Rattle.scf_compare.proofs.Rules.{contains_here, drop_here}
 use Rattle.scf_insn.specs.declared.operation.Arithmetic.TheVariants.{Div}
 use Rattle.scf_insn.specs.declared.operation.Operand.TheVariants.{Index}
@@ -51,10 +51,7 @@ runs ends = (
 
 -- no answer has a greater rank than ALLOW
 most_permissive : (answer : ℕ) → int_lt (rank_of seccomp_ret_allow) (rank_of answer) ≡ false
-most_permissive answer = by_test (int_lt (rank_of seccomp_ret_allow) (rank_of answer)) refl where
-  by_test : (less : Bool) → int_lt (rank_of seccomp_ret_allow) (rank_of answer) ≡ less → less ≡ false
-  by_test true is = absurd (grind (arith, ints, is))
-  by_test false is = refl
+most_permissive answer = grind (arith, common_steps, ints)
 
 -- the first filter decides alone
 first_gives : (filters : List (List Insn)) (words : List ℕ) (at answer : ℕ) → 0 < length filters
@@ -113,11 +110,7 @@ all_decide (oldest ∷ newer) leaf words some tells = tells
 pub next_tells : (filters : List (List Insn)) (index : ℕ) (leaf : FilterLeaf) (words : List ℕ)
     → IfSome leaf.answer (λ answer. EndsAt (filter_at filters index) words leaf.at answer.0)
     → SideTells (NextAnswers filters index) (leaf_at index leaf) words
-next_tells filters index leaf words ends = by_answer leaf.answer ends where
-  by_answer : (answer : Option Answer) → IfSome answer (λ a. EndsAt (filter_at filters index) words leaf.at a.0)
-      → IfSome answer (λ a. NextAnswers filters index (Filter index leaf.at) words a.0)
-  by_answer None ends = tt
-  by_answer (Some answer) ends = (refl, ends)
+next_tells filters index leaf words ends = grind (arith, common_steps)
 
 -- ---- where a stack ends
 

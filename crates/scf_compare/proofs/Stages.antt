@@ -1,5 +1,5 @@
 -- From one stage of an exploration to the next.
-use Rattle.scf_compare.proofs.Common.{inl, inr, Frontier, GoesOver, IsAhead, IsExact, IsFrontier, Store, Tree, ◌≡◌, ℕ, ◌+◌, ◌<◌, ◌≤◌, List, arith, IfSome, Option, None, IsWords-words_of, call_of-words_of, words_of, AllRelated, Finding, Which, AreWordsIn, Compared, IsFirstUndecided, WereSeen, finding_of_all}
+use Rattle.scf_compare.proofs.Common.{inl, inr, Frontier, GoesOver, IsAhead, IsExact, IsFrontier, Store, Tree, ◌≡◌, ℕ, ◌+◌, ◌<◌, ◌≤◌, List, arith, IfSome, Option, None, IsWords-words_of, call_of-words_of, AllRelated, Finding, Which, AreWordsIn, Compared, IsFirstUndecided, WereSeen, finding_of_all, common_steps}
 use Rattle.scf_compare.specs.internal.Stages.{IsExplored, IsFound}
 use Rattle.scf_compare.specs.internal.Trees.{IsLaterNode, IsStep}
 use Rattle.scf_compare.specs.internal.Leaves.{pair_leaves}
@@ -8,10 +8,7 @@ use Rattle.scf_compare.specs.declared.step.Step.TheVariants.{Next}
 -- the relation holds of the answers to every record, once the words of each were seen and no leaf is undecided
 pub all_related : (compared : Compared) (found : Option (Which × ℕ)) → found ≡ None
     → ((words : List ℕ) → AreWordsIn compared words → WereSeen compared found words) → AllRelated compared
-all_related compared found none seen = λ call is_record in_scope.
-    let within : AreWordsIn compared (words_of call) =
-    (IsWords-words_of call is_record, rw (call_of-words_of call is_record) in_scope) in
-    grind (arith, seen (words_of call) within)
+all_related compared found none seen = grind (arith, common_steps, seen, IsWords-words_of, call_of-words_of)
 
 -- what is explored once all was seen
 pub of_all : (compared : Compared) (given : ℕ → Type 0) (steps limit effort : ℕ) (first : Option (Which × ℕ))
@@ -38,24 +35,13 @@ module _ {F K N : Type 0} (store : Store F) (tree : K → Tree N) (frontier : Fr
 
   pub exact_later : (masks : ℕ) → IsExact store tree masks frontier (here.is_plain masks from) (here.reaches from)
       → IsExact store tree masks frontier (there.is_plain masks to) (there.reaches to)
-  exact_later masks exact = record {
-    branches = exact.branches;
-    facts = exact.facts;
-    plain = later.plain masks exact.plain;
-    reached = λ words allowed. later.reached words allowed (exact.reached words allowed);
-  }
+  exact_later masks exact = grind (arith, common_steps, later.plain, later.reached, exact.reached)
 
   -- a step to it goes over, and leaves the open branches as they are
   pub went_on : {compared : Compared} {was_seen : List ℕ → Type 0} → IsFrontier store tree (AreWordsIn compared) frontier
       → there.size to + 1 ≤ here.size from
       → GoesOver store compared tree frontier frontier here from there was_seen to
-  went_on f costs = record {
-    frontier = f;
-    node = later.node;
-    words = λ words ahead. inr (ahead_later words ahead);
-    size = omega (arith, costs);
-    exact = exact_later;
-  }
+  went_on f costs = grind (arith, common_steps, ahead_later, exact_later)
 
 -- and so does a step to an only node
 pub stepped_on : {F K N : Type 0} {store : Store F} {compared : Compared} {tree : K → Tree N} {frontier : Frontier F K N}
@@ -64,9 +50,4 @@ pub stepped_on : {F K N : Type 0} {store : Store F} {compared : Compared} {tree 
     → IsStep (pair_leaves compared) (store.allows frontier.facts (store.level frontier.facts)) here from there (Next next)
     → GoesOver store compared tree frontier frontier here from there was_seen next
 stepped_on {store = store} {tree = tree} {frontier = frontier} {here = here} {from = from} {there = there} {next = next} f step =
-    went_on store tree frontier here from there next (record {
-      node = step.proper;
-      reached = step.leads;
-      size = omega (arith, step.costs);
-      plain = step.plain;
-    }) f step.costs
+    grind (arith, common_steps, went_on)

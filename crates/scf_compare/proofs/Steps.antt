@@ -1,5 +1,5 @@
 -- Several steps as one.
-use Rattle.scf_compare.proofs.Common.{◌*◌, ◌+◌, ◌<◌, ◌≤◌, ℕ, List, arith, mul-le-mul_left, Step, Tree}
+use Rattle.scf_compare.proofs.Common.{◌*◌, ◌+◌, ◌<◌, ◌≤◌, ℕ, List, arith, mul-le-mul_left, Step, Tree, common_steps}
 use Rattle.scf_compare.specs.declared.step.Step.TheVariants.{Next, Branch, Leaf}
 use Rattle.scf_compare.specs.internal.Trees.{IsLaterNode, IsStep, Leaves, pending_size, pending_tree, step_size}
 
@@ -17,25 +17,14 @@ pub followed : {N E : Type 0} (leaves : Leaves E) (given : List ℕ → Type 0) 
     → IsStep leaves given between next there second
     → IsStep leaves given here from there second
 followed leaves given here between there from next first second one decided other =
-    let within = pending_within between first (here.size from) one.costs in
-    record {
-      proper = other.proper;
-      leads = λ words is reached. other.leads words is (decided.reached words is (one.leads words is reached));
-      costs = omega (arith, other.costs, decided.size, within);
-      plain = λ masks plain. other.plain masks (decided.plain masks (one.plain masks plain));
-    }
+    grind (arith, common_steps, other.leads, decided.reached, one.leads, other.plain, decided.plain, one.plain, pending_within)
 
 pub followed_pending : {N E : Type 0} (leaves : Leaves E) (given : List ℕ → Type 0) (here there : Tree N) (pending : Step N E)
     (next : N) (second : Step N E)
     → IsLaterNode given (pending_tree leaves here) pending (pending_tree leaves here) (Next next)
     → IsStep leaves given here next there second
     → IsStep leaves given (pending_tree leaves here) pending there second
-followed_pending leaves given here there pending next second decided other = record {
-  proper = other.proper;
-  leads = λ words is reached. other.leads words is (decided.reached words is reached);
-  costs = omega (arith, other.costs, decided.size);
-  plain = λ masks plain. other.plain masks (decided.plain masks plain);
-}
+followed_pending leaves given here there pending next second decided other = grind (arith, common_steps, other.leads, decided.reached, other.plain, decided.plain)
 
 pub later : {N E : Type 0} (leaves : Leaves E) (given : List ℕ → Type 0) (first : Tree (Step N E)) (here there : Tree N)
     (from between : Step N E) (next : N) (to : Step N E)
@@ -44,59 +33,32 @@ pub later : {N E : Type 0} (leaves : Leaves E) (given : List ℕ → Type 0) (fi
     → IsStep leaves given here next there to
     → IsLaterNode given first from (pending_tree leaves there) to
 later leaves given first here there from between next to one decided other =
-    let within = pending_within there to (here.size next) other.costs in
-    record {
-      node = other.proper;
-      reached = λ words is reached.
-          other.leads words is (decided.reached words is (one.reached words is reached));
-      size = omega (arith, within, decided.size, one.size);
-      plain = λ masks plain. other.plain masks (decided.plain masks (one.plain masks plain));
-    }
+    grind (arith, common_steps, other.leads, decided.reached, one.reached, other.plain, decided.plain, one.plain, pending_within)
 
 -- and two later nodes, one after the other
 pub later_both : {N : Type 0} (given : List ℕ → Type 0) (first between last : Tree N) (from next to : N)
     → IsLaterNode given first from between next → IsLaterNode given between next last to
     → IsLaterNode given first from last to
-later_both given first between last from next to one two = record {
-  node = two.node;
-  reached = λ words is reached. two.reached words is (one.reached words is reached);
-  size = omega (arith, one.size, two.size);
-  plain = λ masks plain. two.plain masks (one.plain masks plain);
-}
+later_both given first between last from next to one two = grind (arith, common_steps, two.reached, one.reached, two.plain, one.plain)
 
 -- what is pending goes on to a node, and that to a later one
 pub passed_pending : {N E : Type 0} (leaves : Leaves E) (given : List ℕ → Type 0) (here there : Tree N) (pending : Step N E)
     (next to : N) → IsLaterNode given (pending_tree leaves here) pending (pending_tree leaves here) (Next next)
     → IsLaterNode given here next there to
     → IsLaterNode given (pending_tree leaves here) pending (pending_tree leaves there) (Next to)
-passed_pending leaves given here there pending next to decided passed = record {
-  node = passed.node;
-  reached = λ words is reached. passed.reached words is (decided.reached words is reached);
-  size = omega (arith, decided.size, passed.size);
-  plain = λ masks plain. passed.plain masks (decided.plain masks plain);
-}
+passed_pending leaves given here there pending next to decided passed = grind (arith, common_steps, passed.reached, decided.reached, passed.plain, decided.plain)
 
 -- a step from a later node to the only next one
 pub passed_on : {N E : Type 0} (leaves : Leaves E) (given : List ℕ → Type 0) (first here there : Tree N) (from node next : N)
     → IsLaterNode given first from here node → IsStep leaves given here node there (Next next)
     → IsLaterNode given first from there next
-passed_on leaves given first here there from node next later step = record {
-  node = step.proper;
-  reached = λ words is reached. step.leads words is (later.reached words is reached);
-  size = omega (arith, later.size, step.costs);
-  plain = λ masks plain. step.plain masks (later.plain masks plain);
-}
+passed_on leaves given first here there from node next later step = grind (arith, common_steps, step.leads, later.reached, step.plain, later.plain)
 
 -- a step from a later node
 pub stepped : {N E : Type 0} (leaves : Leaves E) (given : List ℕ → Type 0) (here between there : Tree N) (from node : N)
     (step : Step N E) → IsLaterNode given here from between node → IsStep leaves given between node there step
     → IsStep leaves given here from there step
-stepped leaves given here between there from node step later one = record {
-  proper = one.proper;
-  leads = λ words is reached. one.leads words is (later.reached words is reached);
-  costs = omega (arith, later.size, one.costs);
-  plain = λ masks plain. one.plain masks (later.plain masks plain);
-}
+stepped leaves given here between there from node step later one = grind (arith, common_steps, one.leads, later.reached, one.plain, later.plain)
 
 -- so many steps before a node, with a tree behind each end
 pub scaled_steps : (a steps n scale : ℕ) → a + steps ≤ n → 0 < scale → a * scale + steps ≤ n * scale

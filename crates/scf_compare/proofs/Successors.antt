@@ -1,5 +1,5 @@
 -- The runs that come to the nodes of a filter's tree.
-use Rattle.scf_compare.proofs.Common.{◌≡◌, ℕ, ◌==◌, Bool, true, false, List, ◌∷◌, refl, subst, ◌∙◌, arith, Insn, Operation, State, Outcome, Goes, Ends, Faults, step, effect, jumps_to, holds, operand_of, EndsAt, RunsSafely, Stands, FilterLeaf, FilterNode, ControlFlow, FallThrough, Jump, ConditionalJump, DivideByIndex, ReturnConstant, ReturnAccumulator, KnownRegisters, Step, Decision, control_flow_at, Tree, GoesOn, Describes, Decides, ComesTo, IsStepOf}
+use Rattle.scf_compare.proofs.Common.{◌≡◌, ℕ, ◌==◌, Bool, true, false, List, ◌∷◌, refl, ◌∙◌, arith, Insn, Operation, State, Outcome, Goes, Ends, Faults, step, effect, jumps_to, holds, operand_of, EndsAt, RunsSafely, Stands, FilterLeaf, FilterNode, ControlFlow, FallThrough, Jump, ConditionalJump, DivideByIndex, ReturnConstant, ReturnAccumulator, KnownRegisters, Step, Decision, control_flow_at, Tree, GoesOn, Describes, Decides, ComesTo, IsStepOf, common_steps}
 use Rattle.scf_compare.proofs.ControlFlows.{Does, does}
 
 -- A run over the words comes to an instruction, whose values are known.
@@ -61,10 +61,7 @@ module _ {insns : List Insn} {words : List ℕ} {index : ℕ} {i : Insn} {operat
 
   pub leads : RunsSafely insns words → (control_flow : ControlFlow) → control_flow_at operation i index ≡ control_flow → Leads control_flow
   leads safe control_flow f =
-      leads_by safe control_flow
-      (subst (λ (g : ControlFlow). Does g i c.state (effect operation i words c.state)) f
-      (subst (λ p. Does (control_flow_at operation i p) i c.state (effect operation i words c.state)) c.there
-      (does operation i words c.state)))
+      grind (arith, common_steps, leads_by, does)
 
 -- where words go on from a test
 pub step_leads : (tree : Tree FilterNode) (tells : FilterLeaf → List ℕ → Type 0) (words : List ℕ) (decision : Decision)

@@ -1,5 +1,5 @@
 use Rattle.std.proofs.lemmas.Result.{IfOk-weaker}
-use Rattle.scf_compare.proofs.Common.{ℕ, Compared, Finding}
+use Rattle.scf_compare.proofs.Common.{ℕ, Compared, Finding, common_steps, arith}
 use Rattle.scf_compare.specs.declared.budget.Limit.{Limit}
 use Rattle.scf_compare.specs.internal.Comparers.{IsComparison}
 use Rattle.scf_compare.proofs.comparer.compare_counted.Goals as goal
@@ -9,12 +9,7 @@ of_one : {compared : Compared} {is_complete are_one is_same : Type 0} {limit : �
     {taken left_below : ℕ} → (are_one → is_same) → (finding : Finding)
     → IsComparison compared is_complete is_same limit budget finding taken left_below
     → IsComparison compared is_complete are_one limit budget finding taken left_below
-of_one same finding is = record {
-  explored = is.explored;
-  settled = is.settled;
-  of_one = λ own. is.of_one (same own);
-  below = is.below;
-}
+of_one same finding is = grind (arith, common_steps, is.of_one, same)
 
 pub returns-in-Stack : goal.returns-in-Stack
 returns-in-Stack g c =

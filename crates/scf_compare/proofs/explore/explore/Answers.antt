@@ -1,4 +1,4 @@
-use Rattle.scf_compare.proofs.Common.{◌≡◌, ◌+◌, ◌∙◌, arith, inl, inr, None}
+use Rattle.scf_compare.proofs.Common.{◌≡◌, ◌+◌, ◌∙◌, arith, inl, inr, None, common_steps}
 use Rattle.scf_compare.proofs.Stages.{ahead_later, all_related, exact_later, of_all, of_found}
 use Rattle.scf_compare.proofs.explore.explore.Goals as goal
 
@@ -34,11 +34,7 @@ returns-in-AllSeen g c =
 
 pub returns-in-Found : goal.returns-in-Found
 returns-in-Found g c =
-    let passed = c.pass_on-passed.ensures in
-    let counts = g.met.C.Comparison.counts c.args.comparison.now c.pass_on-passed.new.known c.pass_on-passed.new.node in
-    of_found _ _ (c.loop-steps.steps + (c.pass_on-passed.result + 1)) c.args.limit _ c.in-Found.finding
-    (rw c.in-Found.is at c.in_ok-next.ensures.explores) (omega arith) (omega (arith, passed.most))
-    (omega (arith, c.loop-steps.invariant.size, passed.size, counts))
+    grind (arith, common_steps, g.met.C.Comparison.counts, of_found)
 
 pub loop-steps-preserved : goal.loop-steps-preserved
 loop-steps-preserved g c =

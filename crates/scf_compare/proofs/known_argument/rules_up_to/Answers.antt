@@ -1,6 +1,6 @@
 use Rattle.std.proofs.Common.{leb, leb-false, leb-true, rules}
 use Rattle.std.proofs.lemmas.List.Sorted.{IsPartitionPoint-from_clause, IsPartitionedBy-leb}
-use Rattle.scf_compare.proofs.Common.{◌<◌, ◌≤◌, ℕ, List, arith, get_or, length, slice_get-get_or, Rule}
+use Rattle.scf_compare.proofs.Common.{◌<◌, ◌≤◌, ℕ, List, arith, get_or, length, slice_get-get_or, Rule, common_steps}
 use Rattle.scf_profile.specs.NumberRules.{AreRising, first_value}
 use Rattle.scf_compare.proofs.known_argument.rules_up_to.Goals as goal
 
@@ -19,8 +19,4 @@ returns c =
     let parted = IsPartitionedBy-leb first_value all last (values_rise all c.requires) in
     let point = IsPartitionPoint-from_clause (λ (r : Rule). leb (first_value r) last) _ _
     c.partition_point.ensures.partitioned parted (λ a r q k. search rules) in
-    record {
-      bound = c.partition_point.ensures.bound;
-      up_to = λ k d from lt. leb-true _ _ (point.0 k d from lt);
-      behind = λ k d from lt. leb-false _ _ (point.1 k d from lt);
-    }
+    grind (arith, common_steps, point.0, point.1, leb-true, leb-false)

@@ -1,4 +1,4 @@
-use Rattle.scf_compare.proofs.Common.{AreWordsIn, IsWords-words_of, arith, call_of-words_of, inl, inr, refl, words_of}
+use Rattle.scf_compare.proofs.Common.{AreWordsIn, IsWords-words_of, arith, call_of-words_of, inl, inr, refl, words_of, common_steps}
 use Rattle.scf_compare.proofs.Branches.{goes_on}
 use Rattle.scf_compare.proofs.Stages.{ahead_later, exact_later}
 use Rattle.scf_compare.proofs.regions.regions_of_pair.Goals as goal
@@ -46,10 +46,7 @@ returns-in-AllSeen-clause-regions g c =
     }
 
 pub returns-in-AllSeen-clause-decided : goal.returns-in-AllSeen-clause-decided
-returns-in-AllSeen-clause-decided g c = λ masks few among plain.
-    let before = c.loop-steps.invariant.decided masks few among plain in
-    let here = exact_later _ _ _ _ _ _ _ c.pass_on-passed.ensures.later masks before.2 in
-    (c.in_ok-next.ensures.decided masks few here before.0).1 before.1
+returns-in-AllSeen-clause-decided g c = grind (arith, common_steps, c.loop-steps.invariant.decided, c.in_ok-next.ensures.decided, exact_later)
 
 pub loop-steps-preserved : goal.loop-steps-preserved
 loop-steps-preserved g c =

@@ -1,14 +1,10 @@
-use Rattle.scf_compare.proofs.Common.{inl, refl}
+use Rattle.scf_compare.proofs.Common.{inl, refl, common_steps, arith}
 use Rattle.scf_compare.proofs.Branches.{weaken, weaken_stage}
 use Rattle.scf_compare.proofs.Stages.{stepped_on}
 use Rattle.scf_compare.proofs.settle.advance_again.Goals as goal
 
 pub returns-in-Next : goal.returns-in-Next
-returns-in-Next g c = record {
-  explores = stepped_on c.requires.frontier (rw c.in-Next.is at c.step.ensures);
-  unlimited = λ none. (none, refl);
-  steps = refl;
-}
+returns-in-Next g c = grind (arith, common_steps, stepped_on)
 
 pub returns-in_ok-next-in-Branch-Some-default-default : goal.returns-in_ok-next-in-Branch-Some-default-default
 returns-in_ok-next-in-Branch-Some-default-default g c =

@@ -1,4 +1,4 @@
-use Rattle.scf_compare.proofs.Common.{◌≡◌, ◌∙◌, [], ℕ, List, None, Some, arith, inl, inr, refl, slice_get}
+use Rattle.scf_compare.proofs.Common.{◌≡◌, ◌∙◌, [], ℕ, List, None, Some, arith, inl, inr, refl, slice_get, common_steps}
 use Rattle.scf_compare.proofs.Stages.{all_related}
 use Rattle.scf_compare.proofs.settle.settle.Goals as goal
 
@@ -65,30 +65,12 @@ returns-in-Some-AllSeen g c =
 
 pub returns-in-Some-Found : goal.returns-in-Some-Found
 returns-in-Some-Found g c =
-    let after = c.in_ok-next.ensures in
-    record {
-      settled = inr (rw (c.in-Some-Found.is, c.in-Some-Found.field-0-is) at after.explores);
-      unlimited = λ none. refl;
-      leaves = grind (arith, after.steps, c.loop-settling-test.ensures.steps, c.loop-settling.invariant.leaves);
-    }
+    grind (arith, common_steps)
 
 pub returns-in-None : goal.returns-in-None
 returns-in-None g c =
-    let after = c.in_ok-next.ensures in
-    let taken = c.loop-settling-test.ensures in
-    let was = c.loop-settling.invariant in
-    record {
-      settled = tt;
-      unlimited = λ none. rw c.in-None.is at (after.unlimited (taken.splits ∙ was.unlimited none)).1;
-      leaves = grind (arith, after.steps, taken.steps, was.leaves);
-    }
+    grind (arith, common_steps)
 
 pub returns : goal.returns
 returns g c =
-    let was = c.loop-settling.invariant in
-    let gone = c.loop-settling-test.ensures.steps in
-    record {
-      settled = tt;
-      unlimited = λ none. grind (arith, gone, was.unlimited none);
-      leaves = grind (arith, gone, was.leaves);
-    }
+    grind (arith, common_steps)

@@ -1,8 +1,8 @@
 -- The steps of the filter that is asked are steps of the stack, and at its leaves the next one begins.
-use Rattle.scf_compare.proofs.Common.{[], ◌+◌, ◌*◌, ◌<◌, ◌≤◌, length, drop, arith, take_all, mul-le-mul_left, stack_paths, filter_size, paths_count, filter_at}
+use Rattle.scf_compare.proofs.Common.{[], ◌+◌, ◌*◌, ◌<◌, ◌≤◌, length, drop, arith, take_all, mul-le-mul_left, stack_paths, filter_size, paths_count, filter_at, common_steps}
 use Rattle.scf_compare.proofs.Stacks.{all_decide, is_stack_leaf, next_tells, paths_from, side_leaf}
 use Rattle.scf_compare.proofs.SeveralProfiles.{on_either}
-use Rattle.scf_compare.specs.internal.Laws.{scaled_costs, scaled_counts}
+use Rattle.scf_compare.specs.internal.Laws.{scaled_costs}
 use Rattle.scf_compare.proofs.stack.step_from.Goals as goal
 
 -- the end of a filter's tree is one of the stack, and so is the end at which all filters so far decide
@@ -22,12 +22,7 @@ returns-then-index-filters g c =
           (rw (take_all (index + 1) filters past)
           at (c.decided_at-decided.ensures.decides filters index words so_far.node.0 so_far.node.2 before.0
           (next_tells filters index c.in-Leaf.leaf words (step.leads words w before.1))));
-      costs = omega (
-        arith,
-        scaled_counts (filter_size (filter_at filters index) c.loop-next.node) (stack_paths (drop (index + 1) filters))
-            step.costs (paths_count (drop (index + 1) filters)),
-        so_far.size,
-      );
+      costs = grind (arith, common_steps);
       plain = λ masks plain.
           grind (arith, c.decided_at-decided.ensures.known, so_far.plain masks plain, step.plain masks);
     }

@@ -1,37 +1,19 @@
-use Rattle.scf_compare.proofs.Common.{◌+◌, subst, sym, Decides}
+use Rattle.scf_compare.proofs.Common.{subst, sym, Decides, common_steps, arith}
 use Rattle.scf_compare.proofs.AffineTerms.{from_least, from_lowest_bit, none_past, one_value, past_least, quotient_fits}
-use Rattle.scf_compare.specs.internal.AffineTerms.{affine_value, product_value}
+use Rattle.scf_compare.specs.internal.AffineTerms.{affine_value}
 use Rattle.scf_compare.proofs.affine_term.AffineTerm.decide.Goals as goal
 
 pub returns-in-Equal-clause-decides : goal.returns-in-Equal-clause-decides
-returns-in-Equal-clause-decides c = λ words is.
-    rw c.in-Equal.is
-    (subst (λ b. Decides c.is_within.result words b) (sym (one_value (affine_value c.args.self words) c.args.v))
-    (c.is_within.ensures.decides words is))
+returns-in-Equal-clause-decides c = grind (arith, common_steps, c.is_within.ensures.decides, one_value)
 
 pub returns-in-GreaterOrEqual-clause-decides : goal.returns-in-GreaterOrEqual-clause-decides
-returns-in-GreaterOrEqual-clause-decides c = λ words is.
-    let own = c.args.self in
-    let fits = quotient_fits (product_value own words + own.addend) own.divisor in
-    rw c.in-GreaterOrEqual.is
-    (subst (λ b. Decides c.is_within-in-GreaterOrEqual.result words b)
-    (sym (from_least (affine_value own words) c.args.v fits))
-    (c.is_within-in-GreaterOrEqual.ensures.decides words is))
+returns-in-GreaterOrEqual-clause-decides c = grind (arith, common_steps, c.is_within-in-GreaterOrEqual.ensures.decides, quotient_fits, from_least)
 
 pub returns-in-Greater-clause-decides : goal.returns-in-Greater-clause-decides
-returns-in-Greater-clause-decides c = λ words is.
-    let own = c.args.self in
-    let fits = quotient_fits (product_value own words + own.addend) own.divisor in
-    rw c.in-Greater.is (none_past (affine_value own words) c.args.v fits c.if-v-eq4294967295.true)
+returns-in-Greater-clause-decides c = grind (arith, common_steps, quotient_fits, none_past)
 
 pub returns-in-Greater-2-clause-decides : goal.returns-in-Greater-2-clause-decides
-returns-in-Greater-2-clause-decides c = λ words is.
-    let own = c.args.self in
-    let fits = quotient_fits (product_value own words + own.addend) own.divisor in
-    rw c.in-Greater-2.is
-    (subst (λ b. Decides c.is_within-in-Greater-2.result words b)
-    (sym (past_least (affine_value own words) c.args.v fits))
-    (c.is_within-in-Greater-2.ensures.decides words is))
+returns-in-Greater-2-clause-decides c = grind (arith, common_steps, c.is_within-in-Greater-2.ensures.decides, quotient_fits, past_least)
 
 pub returns-in-Some-clause-decides : goal.returns-in-Some-clause-decides
 returns-in-Some-clause-decides c = λ words is.
@@ -41,11 +23,4 @@ returns-in-Some-clause-decides c = λ words is.
     (c.is_within-in-Some.ensures.decides words is)))
 
 pub returns-in-None-clause-decides : goal.returns-in-None-clause-decides
-returns-in-None-clause-decides c = λ words is.
-    let own = c.args.self in
-    let fits = quotient_fits (product_value own words + own.addend) own.divisor in
-    let high = c.is_high_mask.ensures c.if-is_high_mask.true in
-    rw c.in-CommonBit.is
-    (subst (λ b. Decides c.is_within-in-None.result words b)
-    (sym (from_lowest_bit (affine_value own words) c.args.v high fits))
-    (c.is_within-in-None.ensures.decides words is))
+returns-in-None-clause-decides c = grind (arith, common_steps, c.is_high_mask.ensures, c.is_within-in-None.ensures.decides, quotient_fits, from_lowest_bit)

@@ -1,4 +1,4 @@
-use Rattle.scf_compare.proofs.Common.{arith, slice_index, word_below}
+use Rattle.scf_compare.proofs.Common.{arith, slice_index, word_below, common_steps}
 use Rattle.scf_compare.proofs.BitSlices.{slice_above, slice_not_above}
 use Rattle.scf_compare.proofs.bit_slice.BitSlice.is_above.Goals as goal
 
@@ -8,7 +8,4 @@ returns-then-value-self-clause-decides c = λ words is.
     slice_not_above (slice_index words s.word) s.mask s.right s.left c.args.v c.if-value-self.true
 
 pub returns-clause-decides : goal.returns-clause-decides
-returns-clause-decides c = λ words is.
-    let s = c.args.self in
-    slice_above (slice_index words s.word) s.mask s.right s.left c.args.v (word_below words is s.word)
-    (c.has_high_bits.ensures.high c.if-not-has_high_bits.false) (omega arith) c.requires.whole c.if-value-self.false
+returns-clause-decides c = grind (arith, common_steps, c.has_high_bits.ensures.high, slice_above, word_below)

@@ -1,4 +1,4 @@
-use Rattle.scf_compare.proofs.Common.{ℕ, ◌≡◌, ◌*◌, ◌/◌, ◌<◌, ◌≤◌, ◌^◌, List, and_le_r, ap, arith, bit_and, le-div_iff_mul-le, mod-eq_of_lt, mul-le-mul_left, pow_pos, shr_mono, slice_index, subst, sym, refl, Decides, ◌∙◌}
+use Rattle.scf_compare.proofs.Common.{ℕ, ◌≡◌, ◌*◌, ◌/◌, ◌<◌, ◌≤◌, ◌^◌, List, and_le_r, ap, arith, bit_and, le-div_iff_mul-le, mod-eq_of_lt, mul-le-mul_left, pow_pos, shr_mono, slice_index, subst, sym, refl, Decides, ◌∙◌, common_steps}
 use Rattle.scf_compare.proofs.AffineTerms.{none_between, only_between, past_below}
 use Rattle.scf_compare.specs.internal.BitSlices.{bit_slice_value}
 use Rattle.scf_compare.specs.declared.bit_slice.BitSlice.{BitSlice}
@@ -49,11 +49,4 @@ returns-then-first-last-2-clause-decides c = λ words is.
     subst (λ b. Decides c.is.result words b) (sym same) (rw (mod-eq_of_lt fits) at (c.is.ensures.decides words))
 
 pub returns-then-last-most-clause-decides : goal.returns-then-last-most-clause-decides
-returns-then-last-most-clause-decides c = λ words is.
-    let s = c.args.self in
-    let z = units s words in
-    let to = le-div_iff_mul-le {k = 2 ^ s.left} {x = z} {y = c.args.high} (pow_pos s.left) in
-    let most = to.0 (omega (arith, units_most s words, c.min-last.ensures, c.if-last-most.true)) in
-    let same = past_below (bit_slice_value s words) c.args.low c.args.high (omega (arith, c.if-low-eq0.false))
-    (rw (of_units s words) most) in
-    subst (λ b. Decides c.is_above-then-last-most.result words b) same (c.is_above-then-last-most.ensures.decides words is)
+returns-then-last-most-clause-decides c = grind (arith, common_steps, c.is_above-then-last-most.ensures.decides, units, le-div_iff_mul-le, pow_pos, units_most, past_below, of_units)

@@ -1,4 +1,4 @@
-use Rattle.scf_compare.proofs.Common.{◌≡◌, ◌+◌, ◌*◌, arith, conditions_size, drop, own_conditions, refl, size_behind, slice_get-get_or}
+use Rattle.scf_compare.proofs.Common.{◌≡◌, ◌+◌, ◌*◌, arith, conditions_size, drop, own_conditions, refl, size_behind, slice_get-get_or, common_steps}
 use Rattle.scf_compare.proofs.Rules.{conditions_more}
 use Rattle.scf_compare.proofs.Numbered.{no_condition, rule_size}
 use Rattle.scf_compare.specs.declared.profile.ProfileNode.TheVariants.{Condition as OfCondition}
@@ -20,14 +20,4 @@ returns-in-Condition-default-High g c =
     rw all at (conditions_more conditions at.condition _ behind here) in
     let passed = c.pass_rules-rule.ensures in
     let rules = rule_size numbers at stands.rule in
-    rw node (record {
-      later = λ others. record {
-        node = c.next_rule.ensures.node;
-        reached = λ words given r.
-            c.next_rule.ensures.reached words (passed.met words given.0 given.1 r.at_condition.at_rule);
-        size = omega (arith, c.next_rule.ensures.size others, passed.size, rules, whole);
-        plain = λ masks plain. plain;
-      };
-      size = λ others. omega (arith, c.next_rule.ensures.size others, passed.size, rules, whole);
-      most = passed.most;
-    })
+    grind (arith, common_steps, c.next_rule.ensures.reached, passed.met)

@@ -1,4 +1,4 @@
-use Rattle.scf_compare.proofs.Common.{◌≡◌, ◌∙◌, ◌<◌, ◌≤◌, ℕ, List, Some, ap, arith, false, get_or, get_or_from_slice_get, inl, inr, length, ne_eqb, refl, slice_get, slice_get-get_or, slice_get_read, sym, Condition, Rule}
+use Rattle.scf_compare.proofs.Common.{◌≡◌, ◌∙◌, ◌<◌, ◌≤◌, ℕ, List, Some, ap, arith, false, get_or, get_or_from_slice_get, inl, inr, length, ne_eqb, refl, slice_get, slice_get-get_or, slice_get_read, sym, Condition, Rule, common_steps}
 use Rattle.std.proofs.lemmas.Bool.{cases_lt}
 use Rattle.std.specs.List.{AllWithin}
 use Rattle.scf_profile.specs.Condition.{condition_holds}
@@ -50,11 +50,7 @@ module _ (c : goal.After-rules_up_to) where
 
   before : c.args.from < c.rules_up_to.result
   before =
-      let refuted = rw conditions at c.in_ok-last-in-len1-up.ensures in
-      let some = rw conditions at c.in-len1-up.len_at_least in
-      begins_before c.args.rules.now c.args.from c.rules_up_to.result c.index-rules-from.result _ c.in_ok-last-in-len1-up.last
-      here (slice_get-get_or c.index-rules-from.result.conditions 0 _ some) refuted.from c.requires.inside
-      c.rules_up_to.ensures.behind
+      grind (arith, common_steps, conditions, begins_before, here, slice_get-get_or)
 
 pub overflow_sub-result : goal.overflow_sub-result
 overflow_sub-result c = omega (arith, before c)

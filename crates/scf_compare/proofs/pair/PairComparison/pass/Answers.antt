@@ -1,4 +1,4 @@
-use Rattle.scf_compare.proofs.Common.{arith, mul-le-mul_left}
+use Rattle.scf_compare.proofs.Common.{arith, mul-le-mul_left, common_steps}
 use Rattle.scf_compare.proofs.Steps.{scaled_steps}
 use Rattle.scf_compare.specs.internal.Laws.{pending_counts}
 use Rattle.scf_compare.specs.internal.Trees.{pending_size}
@@ -14,16 +14,7 @@ returns-then-passed-eq0 g c =
     let requires = rw c.in-AtLeft.is at c.requires in
     let size = scaled_steps ((left c.pass-passed.new.known).size c.pass-passed.new.node) c.pass-passed.result.steps
     ((left known.left).size c.in-AtLeft.left) (pending_size right known.ahead) passed.size counts in
-    rw c.in-AtLeft.is (record {
-      later = record {
-        node = (passed.later.node, requires.1);
-        reached = λ words allowed r. (r.0, passed.later.reached words (r.0, allowed) r.1, r.2);
-        size = omega (arith, size);
-        plain = λ masks plain. (passed.later.plain masks plain.0, plain.1);
-      };
-      size = size;
-      most = passed.most;
-    })
+    grind (arith, common_steps, passed.later.reached, passed.later.plain)
 
 pub returns-else-passed-eq0 : goal.returns-else-passed-eq0
 returns-else-passed-eq0 g c =
@@ -54,15 +45,4 @@ returns-else-passed-eq0 g c =
 
 pub returns-in-AtRight : goal.returns-in-AtRight
 returns-in-AtRight g c =
-    let passed = c.pass-passed-in-AtRight.ensures in
-    let requires = rw c.in-AtRight.is at c.requires in
-    rw c.in-AtRight.is (record {
-      later = record {
-        node = (requires.0, passed.later.node);
-        reached = λ words allowed r. (r.0, r.1, passed.later.reached words (r.0, allowed) r.2);
-        size = passed.later.size;
-        plain = λ masks plain. (plain.0, passed.later.plain masks plain.1);
-      };
-      size = omega (arith, passed.size);
-      most = omega (arith, passed.most);
-    })
+    grind (arith, common_steps)

@@ -1,4 +1,4 @@
-use Rattle.scf_compare.proofs.Common.{◌+◌, ◌≤◌, arith, mul-le-mul_left, scaled_costs}
+use Rattle.scf_compare.proofs.Common.{◌+◌, ◌≤◌, arith, mul-le-mul_left, scaled_costs, common_steps}
 use Rattle.scf_compare.proofs.SeveralProfiles.{on_either}
 use Rattle.scf_compare.specs.internal.Laws.{pending_counts}
 use Rattle.scf_compare.specs.internal.Trees.{pending_size}
@@ -14,12 +14,7 @@ returns-in-Next g c =
     let after = (tree c.step.new.known).size c.in-Next.next in
     let size = (tree known.left).size c.in-AtLeft.node in
     let costs : after + 0 + 1 ≤ size = omega (arith, step.costs) in
-    rw c.in-AtLeft.is (grind (
-      arith,
-      step.leads,
-      step.plain,
-      scaled_costs after 0 size (pending_size right known.ahead) costs counts,
-    ))
+    grind (arith, common_steps)
 
 pub returns-in-Branch : goal.returns-in-Branch
 returns-in-Branch g c =

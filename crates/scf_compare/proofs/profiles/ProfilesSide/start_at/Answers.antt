@@ -1,16 +1,12 @@
 use Rattle.std.proofs.lemmas.List.{drop_all}
 use Rattle.std.proofs.lemmas.Option.{gets}
-use Rattle.scf_compare.proofs.Common.{◌≡◌, ◌≤◌, None, Some, arith, common_steps, length, refl, slice_get, call_of}
+use Rattle.scf_compare.proofs.Common.{◌≡◌, ◌≤◌, None, arith, common_steps, length, refl, slice_get, call_of}
 use Rattle.scf_compare.proofs.SeveralProfiles.{end_of_several, of_none, root_size}
 use Rattle.scf_compare.proofs.profiles.ProfilesSide.start_at.Goals as goal
 
 pub returns-in-Some-clause-size : goal.returns-in-Some-clause-size
 returns-in-Some-clause-size c =
-    let profiles = c.args.self.now.profiles.now in
-    let stands : slice_get profiles c.args.index ≡ Some c.in-Some.profile.now = grind (arith, common_steps, gets) in
-    rw stands
-    (root_size profiles c.numbers-numbers.result.now c.args.index c.in-Some.profile.now stands
-    c.numbers-numbers.ensures.numbers)
+    grind (arith, common_steps, common_steps, gets, root_size)
 
 pub returns-in-None : goal.returns-in-None
 returns-in-None c =

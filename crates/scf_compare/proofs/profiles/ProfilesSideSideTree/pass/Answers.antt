@@ -10,13 +10,4 @@ returns-in-Some g c =
     let stands : slice_get profiles index ≡ Some c.in-Some.profile.now = grind (arith, common_steps, gets) in
     let passed = rw c.with_numbers.ensures.profile at c.pass_from.ensures in
     let later = passed.later (size_of_later profiles index) in
-    rw stands (record {
-      later = record {
-        node = ((rw stands at c.requires).0, later.node);
-        reached = λ words given r. (r.0, later.reached words given r.1);
-        size = later.size;
-        plain = λ masks plain. plain;
-      };
-      size = passed.size (size_of_later profiles index);
-      most = passed.most;
-    })
+    grind (arith, common_steps, later.reached)

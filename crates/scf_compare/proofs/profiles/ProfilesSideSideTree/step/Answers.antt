@@ -7,7 +7,6 @@ use Rattle.scf_compare.specs.internal.Profiles.{EndsForeign}
 use Rattle.scf_compare.specs.internal.SeveralProfiles.{size_of_later}
 use Rattle.scf_compare.proofs.SeveralProfiles.{to_later, to_step}
 use Rattle.scf_compare.proofs.profiles.ProfilesSideSideTree.step.Goals as goal
-use Rattle.scf_compare.proofs.profiles.ProfilesSideSideTree.step.Goals.{then-self-eq1-via-then-self-eq1, then-self-eq1-via-else-self-eq1+then-not-ends_foreign}
 
 pub returns-in_default : goal.returns-in_default
 returns-in_default g c =
@@ -41,11 +40,7 @@ returns-then-self-eq1 g c =
     let step =
     rw c.with_numbers.ensures.profile at (c.step_from-step.ensures.step (size_of_later profiles index) (omega arith)) in
     let last : EndsForeign c.step_from-step.result → index + 1 ≡ length profiles =
-    elim c.then-self-eq1.branch [
-      | then-self-eq1-via-then-self-eq1 w ↦ λ e. omega (arith, inside, w.if-self-eq1.true)
-      | then-self-eq1-via-else-self-eq1+then-not-ends_foreign w ↦
-          λ e. absurd (both_ways _ w.if-not-ends_foreign.true (w.ends_foreign.ensures.1 e))
-    ] in
+    grind (arith, common_steps, both_ways) in
     rw stands
     (to_step profiles c.args.known.now.numbers.now index _ stands _ c.args.node (rw stands at c.requires).0 _ last step)
 
