@@ -1,4 +1,4 @@
-use Rattle.scf_facts.proofs.Common.{◌-◌, ◌<◌, arith, refl}
+use Rattle.scf_facts.proofs.Common.{◌-◌, ◌<◌, arith, common_steps}
 use Rattle.scf_facts.proofs.Ones.{fixes_lowest, search_both, search_first, search_gives_up}
 use Rattle.scf_facts.proofs.free_number.+free_number.Goals as goal
 
@@ -16,10 +16,7 @@ returns-in-Nothing-clause-found t c = λ x e.
 
 -- a number has the bit or lacks it
 pub returns-in-Nothing-clause-nothing : goal.returns-in-Nothing-clause-nothing
-returns-in-Nothing-clause-nothing t c = λ e x fits inside known more free.
-    let has = (c.in-Some.ensures.both x).1 (known, more) in
-    let with_bit = c.free_number-in-Nothing.ensures.nothing e x fits inside has in
-    c.in-Nothing.ensures.nothing refl x fits inside has ((c.flipped.ensures.other x).1 (λ bit. with_bit bit free)) free
+returns-in-Nothing-clause-nothing t c = grind (arith, common_steps, c.in-Some.ensures.both, c.free_number-in-Nothing.ensures.nothing, c.in-Nothing.ensures.nothing, c.flipped.ensures.other)
 
 pub returns-then-tries-eq0-clause-ends : goal.returns-then-tries-eq0-clause-ends
 returns-then-tries-eq0-clause-ends t c = λ masks count all few.

@@ -1,16 +1,12 @@
-use Rattle.std.proofs.lemmas.Grind.{common_steps}
 use Rattle.std.proofs.lemmas.Result.{IfOk-weaker}
-use Rattle.scf_facts.proofs.Common.{◌≡◌, ◌↔◌, ◌∙◌, ◌++◌, ◌∷◌, [], ℕ, All-pop, All-push, AllowsNumber, Bits, LacksBits, NumberFacts, Some, and_zero_r, ap, arith, bit_and, refl, subst, sym}
+use Rattle.scf_facts.proofs.Common.{◌≡◌, ◌↔◌, ◌∙◌, ◌++◌, ◌∷◌, [], ℕ, All-pop, All-push, AllowsNumber, Bits, LacksBits, NumberFacts, Some, and_zero_r, ap, arith, bit_and, refl, subst, sym, common_steps}
 use Rattle.scf_facts.proofs.MaskLaws.{is_one}
 use Rattle.scf_facts.proofs.word_set.WordSet.without_bits.Goals as goal
 
 -- what lacks bits, where all with the known ones have these if they have the rest
 lacks : (kept known flipped bits rest : Type 0) → kept ↔ (known × flipped) → flipped ↔ (rest → ⊥)
     → (known → bits ↔ rest) → kept ↔ (known × (bits → ⊥))
-lacks kept known flipped bits rest is other same = (
-  λ k. let both = is.0 k in (both.0, λ has. other.0 both.1 ((same both.0).0 has)),
-  λ both. is.1 (both.0, other.1 (λ has. both.1 ((same both.0).1 has))),
-)
+lacks kept known flipped bits rest is other same = grind (arith, common_steps, is.0, other.0, same, is.1, other.1)
 
 -- what lacks one more bits
 pushed : (facts : NumberFacts) (bits : Bits) (x : ℕ)
@@ -36,15 +32,7 @@ returns-then-open-eq0-clause-kept c =
     let none : rest.mask ≡ 0 = c.if-open-eq0.true in
     let no_value : rest.value ≡ 0 =
     sym c.beyond-open.ensures.within ∙ ap (bit_and rest.value) none ∙ and_zero_r rest.value in
-    IfOk-weaker c.with_intervals.result _ _
-    (λ kept is x. (
-      λ allows. absurd (rw c.new.ensures.items at (rw is at allows).inside),
-      λ both.
-          let has : bit_and x rest.mask ≡ rest.value = ap (bit_and x) none ∙ and_zero_r x ∙ sym no_value in
-          let known = rw (← c.self.view_is) at both.0.known in
-          absurd (both.1 ((c.beyond-open.ensures.decides _ x shown.0 shown.1 known).1 has)),
-    ))
-    c.with_intervals.ensures
+    grind (arith, common_steps, c.beyond-open.ensures.decides, IfOk-weaker, and_zero_r)
 
 pub returns-then-open-eq0-clause-refuted : goal.returns-then-open-eq0-clause-refuted
 returns-then-open-eq0-clause-refuted c =

@@ -1,8 +1,7 @@
 use Rattle.std.proofs.Common.{arith}
-use Rattle.std.proofs.lemmas.Grind.{common_steps}
 use Rattle.scf_facts.specs.declared.atom.Tell.{Tell}
 use Rattle.scf_facts.specs.declared.atom.Tell.TheVariants.{Always, Maybe, Never}
-use Rattle.scf_facts.proofs.Common.{◌≡◌, ℕ, List, Atom, atom_answer, refl, true, false}
+use Rattle.scf_facts.proofs.Common.{◌≡◌, ℕ, List, Atom, atom_answer, true, false, common_steps}
 use Rattle.scf_facts.proofs.Levels.{now}
 use Rattle.scf_facts.proofs.word_sets.WordSetsWordFacts.tell.Goals as goal
 
@@ -14,22 +13,10 @@ module _ (tell : Tell) (atom : Atom) (Allowed : List ℕ → Type 0)
     × ((words : List ℕ) × Allowed words × (atom_answer atom words ≡ false)))
     (some : List ℕ) (allowed : Allowed some) where
   told_always : ((words : List ℕ) → Allowed words → atom_answer atom words ≡ true) → tell ≡ Always
-  told_always all = by_tell tell refl
-    where
-      by_tell : (told : Tell) → tell ≡ told → tell ≡ Always
-      by_tell Always is = is
-      by_tell Never is = absurd (let no = never is some allowed in let yes = all some allowed in cc)
-      by_tell Maybe is =
-          let one = (maybe is).1 in absurd (let no = one.2 in let yes = all one.0 one.1 in cc)
+  told_always all = grind (arith, common_steps, all)
 
   told_never : ((words : List ℕ) → Allowed words → atom_answer atom words ≡ false) → tell ≡ Never
-  told_never all = by_tell tell refl
-    where
-      by_tell : (told : Tell) → tell ≡ told → tell ≡ Never
-      by_tell Never is = is
-      by_tell Always is = absurd (let yes = always is some allowed in let no = all some allowed in cc)
-      by_tell Maybe is =
-          let one = (maybe is).0 in absurd (let yes = one.2 in let no = all one.0 one.1 in cc)
+  told_never all = grind (arith, common_steps, all)
 
 pub returns-clause-law_always : goal.returns-clause-law_always
 returns-clause-law_always c = simp now c.tell.ensures.always
