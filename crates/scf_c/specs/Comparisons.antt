@@ -1,5 +1,5 @@
 -- Comparisons of sides in the caller's bytes, and their findings as numbers.
-use Rattle.std.specs.Prelude.{◌≡◌, ◌⊎◌, ℕ, List, [], ◌∷◌, Some}
+use Rattle.std.specs.Prelude.{◌≡◌, ◌⊎◌, ℕ, List, [], ◌∷◌, Some, false}
 use Rattle.scf_profile.specs.declared.relation.Relation.{Relation}
 use Rattle.scf_profile.specs.declared.scope.Scope.{Scope}
 use Rattle.scf_profile.specs.declared.scope.Scope.TheVariants.{Numbers}
@@ -15,8 +15,7 @@ use Rattle.scf_tool.specs.Reports.{report_text}
 use Rattle.scf_tool.specs.declared.findings.Findings.TheVariants.{AtOnce}
 use Rattle.scf_tool.specs.declared.plan.Pairing.{Pairing}
 use Rattle.scf_tool.specs.declared.sides.SideInput.{SideInput as ReadSide}
-use Rattle.scf_tool.specs.declared.verify_fault.BesideFault.{BesideFault}
-use Rattle.scf_tool.specs.declared.verify_fault.BesideFault.TheVariants.{Verify}
+use Rattle.scf_tool.specs.declared.verify_fault.SideFault.{SideFault}
 use Rattle.scf_tool.specs.declared.verify_fault.VerifyFault.{VerifyFault}
 use Rattle.scf_tool.specs.declared.verify_fault.VerifyFault.TheVariants.{Memory}
 use Rattle.scf_c.specs.declared.comparing.Compared.{Compared}
@@ -124,13 +123,13 @@ pub record IsOverNone (left right : SideInput) (tables : List Table) (asked : As
 
 -- Why they aren't compared: the first fault of the left side, of the right one, or of a table; or out of memory, which
 -- may come at any time.
-abbrev pub IsComparisonRefused : SideInput → SideInput → List Table → Asked → BesideFault → Type 0
+abbrev pub IsComparisonRefused : SideInput → SideInput → List Table → Asked → SideFault → Type 0
 IsComparisonRefused left right tables asked why =
-    (why ≡ Verify Memory)
-    ⊎ (((of_left : VerifyFault) × IsSideRefused left asked.left tables of_left × (why ≡ Verify of_left))
+    (why ≡ record { beside = false; why = Memory })
+    ⊎ (((of_left : VerifyFault) × IsSideRefused left asked.left tables of_left × (why ≡ record { beside = false; why = of_left }))
     ⊎ ((left_side : ReadSide) × IsRead left asked.left tables left_side
     × (((of_right : VerifyFault) × IsSideRefused right asked.right tables of_right
     × (why ≡ fault_of_right asked.left asked.right of_right))
     ⊎ ((right_side : ReadSide) × IsRead right asked.right tables right_side
     × ((of_table : VerifyFault) × AreScopesRefused (tables_in_scope left_side right_side tables) of_table
-    × (why ≡ Verify of_table))))))
+    × (why ≡ record { beside = false; why = of_table }))))))

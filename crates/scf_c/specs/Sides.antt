@@ -1,5 +1,5 @@
 -- The sides of comparisons.
-use Rattle.std.specs.Prelude.{◌≡◌, List, map}
+use Rattle.std.specs.Prelude.{◌≡◌, List, false, map, true}
 use Rattle.scf_compare.specs.declared.side.Side.{Side}
 use Rattle.scf_profile.specs.declared.scope.Scope.{Scope}
 use Rattle.scf_tool.specs.FilterStacks.{HasStack}
@@ -7,8 +7,7 @@ use Rattle.scf_tool.specs.Inputs.{IsSideOf}
 use Rattle.scf_tool.specs.declared.plan.Pairing.{Pairing}
 use Rattle.scf_tool.specs.declared.sides.SideInput.{SideInput as ReadSide}
 use Rattle.scf_tool.specs.declared.sides.SideInput.TheVariants.{Profiles, Stack}
-use Rattle.scf_tool.specs.declared.verify_fault.BesideFault.{BesideFault}
-use Rattle.scf_tool.specs.declared.verify_fault.BesideFault.TheVariants.{Beside, Verify}
+use Rattle.scf_tool.specs.declared.verify_fault.SideFault.{SideFault}
 use Rattle.scf_tool.specs.declared.verify_fault.VerifyFault.{VerifyFault}
 use Rattle.scf_c.specs.declared.layout.LeftOutCounts.{LeftOutCounts}
 use Rattle.scf_c.specs.declared.layout.SideInput.{SideInput}
@@ -45,10 +44,10 @@ IsSideRefused side (Profile reading) tables why = IsProfileRefused side.profile 
 IsSideRefused side Filters tables why = IsStackRefused side.filters.now why
 
 -- The fault of the right side: if the left one is of the same kind, it says which side it is.
-abbrev pub fault_of_right : SideKind → SideKind → VerifyFault → BesideFault
-fault_of_right (Profile left) (Profile right) why = Beside why
-fault_of_right Filters Filters why = Beside why
-fault_of_right left right why = Verify why
+abbrev pub fault_of_right : SideKind → SideKind → VerifyFault → SideFault
+fault_of_right (Profile left) (Profile right) why = record { beside = true; why = why }
+fault_of_right Filters Filters why = record { beside = true; why = why }
+fault_of_right left right why = record { beside = false; why = why }
 
 -- how much of a side's profile has no table
 abbrev pub left_out_of_side : ReadSide → LeftOutCounts

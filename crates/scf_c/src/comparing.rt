@@ -25,7 +25,7 @@ use scf_compare::{Finding, Limit, Which};
 use scf_insn::Memory;
 use scf_profile::{Relation, Scope};
 use scf_tool::{
-    BesideFault, ComparisonOutcome, Findings, SideInput as ReadSide, compare_each, joint_finding,
+    ComparisonOutcome, Findings, SideFault, SideInput as ReadSide, compare_each, joint_finding,
     report_by,
 };
 use std::alloc::Global;
@@ -186,7 +186,7 @@ pub(crate) fn compare_inputs(
     tables: &[Table],
     question: &Question,
     asked: Asked,
-) -> Result<Option<Compared>, BesideFault>
+) -> Result<Option<Compared>, SideFault>
     ensures compared { IfOk result (λ compared. MatchOption compared
         (IsOverNone left.now right.now tables.now asked)
         (IsCompared question.now left.now right.now tables.now asked)) }

@@ -1,7 +1,7 @@
 //! The call that compares two sides.
 
 ghost use Rattle.std.specs.Prelude.{◌≡◌, ◌≢◌, ◌⊎◌, ℕ, List};
-ghost use Rattle.scf_tool.specs.Faults.{beside_row};
+ghost use Rattle.scf_tool.specs.Faults.{side_row};
 ghost use Rattle.scf_c.specs.Comparisons.{IsComparisonRefused, IsCompared, IsOverNone, no_comparison};
 ghost use Rattle.scf_c.specs.Faults.{IsRefusal, no_fault};
 ghost use Rattle.scf_c.specs.HandingOut.{IsHandedOut, IsNothingHandedOut};
@@ -17,7 +17,7 @@ use crate::layout::{Comparison, Fault, Question, RecordsComparison, SideInput, T
 use crate::profile::NOTHING_LEFT_OUT;
 use crate::question::asked_of;
 use crate::status::{OK, WRONG_ARGUMENT};
-use scf_tool::beside_row;
+use scf_tool::side_row;
 use std::alloc::Global;
 
 /// The comparison where nothing is compared: its numbers are 0.
@@ -54,7 +54,7 @@ pub extern "C" fn scf_compare(
         × IsOverNone left.now right.now tables.now asked)) × (fault.new ≡ no_fault) }
     ensures refused { result ≢ ok → result ≢ wrong_argument → (asked : Asked)
         × IsAsked question.now left.now right.now tables.now asked
-        × IsRefusal beside_row (IsComparisonRefused left.now right.now tables.now asked) result fault.new }
+        × IsRefusal side_row (IsComparisonRefused left.now right.now tables.now asked) result fault.new }
     ensures nothing { result ≢ ok → (comparison.new ≡ no_comparison)
         × IsNothingHandedOut each.old each.new each_needed.new × IsNothingHandedOut text.old text.new needed.new }
 {
@@ -73,6 +73,6 @@ pub extern "C" fn scf_compare(
             OK
         }
         Ok(None) => WRONG_ARGUMENT,
-        Err(why) => refuse(beside_row(why), fault),
+        Err(why) => refuse(side_row(why), fault),
     }
 }

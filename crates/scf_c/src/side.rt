@@ -20,7 +20,7 @@ use crate::tables::tables_of;
 use scf_compare::Side;
 use scf_insn::Memory;
 use scf_profile::{Reading, Scope};
-use scf_tool::{BesideFault, Pairing, SideInput as ReadSide, VerifyFault};
+use scf_tool::{Pairing, SideFault, SideInput as ReadSide, VerifyFault};
 use std::alloc::Global;
 
 /// Of which kind a side is, and how its profile is read.
@@ -64,15 +64,16 @@ pub(crate) fn read_side(
 }
 
 /// The fault of the right side: its own, if both sides are of the same kind.
-pub(crate) fn fault_of_right(left: SideKind, right: SideKind, why: VerifyFault) -> BesideFault
+pub(crate) fn fault_of_right(left: SideKind, right: SideKind, why: VerifyFault) -> SideFault
     ensures { result ≡ fault_of_right left right why }
 {
-    match (left, right) {
+    let beside = match (left, right) {
         (SideKind::Profile(_), SideKind::Profile(_)) | (SideKind::Filters, SideKind::Filters) => {
-            BesideFault::Beside(why)
+            true
         }
-        _ => BesideFault::Verify(why),
-    }
+        _ => false,
+    };
+    SideFault { beside, why }
 }
 
 /// How much of a side's profile has no table.

@@ -21,7 +21,8 @@ use Rattle.scf_profile.specs.StatedProfile.{Tables}
 use Rattle.scf_tool.proofs.Common.{AllZip}
 use Rattle.scf_tool.specs.Inputs.{SpellsTable}
 use Rattle.scf_tool.specs.Commands.{AreCounts, GoesOver, GoesOverNone}
-use Rattle.scf_tool.specs.declared.fault.Fault.TheVariants.{Range}
+use Rattle.scf_request.specs.declared.request_fault.RequestFault.TheVariants.{Range}
+use Rattle.scf_tool.specs.declared.fault.Fault.TheVariants.{Request}
 
 -- ---- architectures
 
@@ -106,6 +107,6 @@ not_valid texts invalid (only, is, names) = invalid ((only.0, names.0) ∷ [], r
 
 -- a scope without a record under the tables
 pub none_under : (of_each : Bool) (scope : Scope) (tables : List (Architecture × List ℕ))
-    → (GoesOver of_each (AtOnce scope) tables → ⊥) → GoesOverNone of_each (AtOnce scope) tables Range
+    → (GoesOver of_each (AtOnce scope) tables → ⊥) → GoesOverNone of_each (AtOnce scope) tables (Request Range)
 none_under true scope tables none = none
 none_under false scope tables none = absurd (none tt)

@@ -1,6 +1,7 @@
 -- The replies and faults of each command, by the bytes of standard input. These count where its reader tells them.
 use Rattle.std.specs.Prelude.{◌≡◌, ◌≢◌, ◌⊎◌, ◌+◌, ◌<◌, ◌≤◌, ◌++◌, ℕ, Bool, true, false, List, [], ◌∷◌, length, map, All, Option, None, Some, Result, Ok, Err}
 use Rattle.std.specs.List.{AllZip, flat_map}
+use Rattle.scf_insn.specs.declared.encoding.ReadFault.{ReadFault}
 use Rattle.scf_insn.specs.declared.input.InputFault.{InputFault}
 use Rattle.scf_insn.specs.declared.insn.Insn.{Insn}
 use Rattle.scf_insn.specs.declared.record.CallRecord.{CallRecord}
@@ -50,10 +51,10 @@ use Rattle.scf_request.specs.declared.request.Command.TheVariants as commands
 use Rattle.scf_request.specs.declared.request.Detail.{Detail}
 use Rattle.scf_request.specs.declared.request.Detail.TheVariants as details
 use Rattle.scf_request.specs.declared.request.Request.{Request}
+use Rattle.scf_request.specs.declared.request_fault.RequestFault.TheVariants as requests
 use Rattle.scf_request.specs.declared.request.Scopes.{Scopes}
 use Rattle.scf_request.specs.declared.request.Scopes.TheVariants.{AtOnce, EachCall}
-use Rattle.scf_tool.specs.declared.verify_fault.BesideFault.{BesideFault}
-use Rattle.scf_tool.specs.declared.verify_fault.BesideFault.TheVariants as besides
+use Rattle.scf_tool.specs.declared.verify_fault.SideFault.{SideFault}
 use Rattle.scf_tool.specs.declared.verify_fault.VerifyFault.{VerifyFault}
 use Rattle.scf_tool.specs.declared.verify_fault.VerifyFault.TheVariants as verifies
 use Rattle.scf_request.specs.Bundle.{AreNoParts, Held, IsBundle, kinds_of}
@@ -94,14 +95,15 @@ IsReplyOn command insns reply = ⊥
 abbrev pub EndsOnFilter : Command → Option (List ℕ) → Result Reply Fault → Type 0
 EndsOnFilter command input (Ok reply) =
     (insns : List Insn) × IsAcceptedFilter input insns × IsReplyOn command insns reply
-EndsOnFilter command input (Err (faults.Sides (besides.Verify fault))) = IsNoFilter input fault
+EndsOnFilter command input (Err (faults.Sides fault)) = (fault.beside ≡ false) × IsNoFilter input fault.why
 EndsOnFilter command input (Err fault) = ⊥
 
 -- `dis`: the listing of the instructions whose bytes the input is
 abbrev pub Lists : Option (List ℕ) → Result Reply Fault → Type 0
 Lists input (Ok (Bytes bytes)) =
     (insns : List Insn) × ReadsFilter input (Ok insns) × (bytes.items ≡ text_of insns)
-Lists input (Err (faults.Sides (besides.Verify (verifies.FilterRead fault)))) = ReadsFilter input (Err fault)
+Lists input (Err (faults.Sides fault)) = (why : ReadFault)
+    × (fault ≡ record { beside = false; why = verifies.FilterRead why }) × ReadsFilter input (Err why)
 Lists input ending = ⊥
 
 -- ---- a text
@@ -216,7 +218,7 @@ GoesOver false (AtOnce scope) tables = Unit {0}
 -- it has none
 abbrev pub GoesOverNone : Bool → Scopes → List (Architecture × List ℕ) → Fault → Type 0
 GoesOverNone of_each EachCall tables faults.Calls = NameNoCall tables
-GoesOverNone true (AtOnce scope) tables faults.Range = HasRecordAmong tables scope → ⊥
+GoesOverNone true (AtOnce scope) tables (faults.Request requests.Range) = HasRecordAmong tables scope → ⊥
 GoesOverNone of_each over tables fault = ⊥
 
 -- why a command doesn't look at its sides: it goes over no record, or memory runs out, or they are refused
@@ -224,14 +226,14 @@ abbrev pub IsRefused : Scopes → Inputs → Fault → Type 0
 IsRefused over inputs fault = GoesOverNone inputs.rules.of_each over inputs.tables fault
     ⊎ ((fault ≡ faults.Bundle bundles.Memory)
     ⊎ (GoesOver inputs.rules.of_each over inputs.tables
-    × (why : BesideFault) × (fault ≡ faults.Sides why) × AreRefused inputs why))
+    × (of_sides : SideFault) × (fault ≡ faults.Sides of_sides) × AreRefused inputs of_sides.beside of_sides.why))
 
 -- ---- the replies
 
 -- the fault of a command where memory runs out for its reply; `ask`, and `decide` without paths, need none for it
 abbrev pub memory_fault_of : Command → Option Fault
 memory_fault_of (commands.Answers comparison has_examples has_differences) = Some faults.Answers
-memory_fault_of (commands.Compare comparison) = Some (faults.Sides (besides.Verify verifies.Memory))
+memory_fault_of (commands.Compare comparison) = Some (faults.Sides (record { beside = false; why = verifies.Memory }))
 memory_fault_of (commands.Compile has_left_out) = Some (faults.Compile compiles.Memory)
 memory_fault_of (commands.Decide call details.Paths) = Some faults.Answers
 memory_fault_of command = None

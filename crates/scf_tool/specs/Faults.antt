@@ -1,6 +1,6 @@
 -- The row of each fault: what is refused and why, each by its name in the printed line and its number in scf.h, the
 -- numbers that say where, and the program's exit status. Numbers of scf.h never change; new kinds come behind them.
-use Rattle.std.specs.Prelude.{ℕ, List, [], ◌∷◌, ◌++◌, ◌-◌, ◌^◌, codes, map, Option, Some, None}
+use Rattle.std.specs.Prelude.{ℕ, List, [], ◌∷◌, ◌++◌, ◌-◌, ◌^◌, codes, map, Option, Some, None, if◌then◌else◌}
 use Rattle.std.specs.Borrow.{Bor}
 use Rattle.std.specs.List.{flat_map}
 use Rattle.std.specs.Fmt.{decimal}
@@ -24,8 +24,7 @@ use Rattle.scf_request.specs.declared.bundle.BundleFault.{BundleFault}
 use Rattle.scf_request.specs.declared.bundle.BundleFault.TheVariants as bundles
 use Rattle.scf_request.specs.declared.request_fault.RequestFault.{RequestFault}
 use Rattle.scf_request.specs.declared.request_fault.RequestFault.TheVariants as requests
-use Rattle.scf_tool.specs.declared.verify_fault.BesideFault.{BesideFault}
-use Rattle.scf_tool.specs.declared.verify_fault.BesideFault.TheVariants as besides
+use Rattle.scf_tool.specs.declared.verify_fault.SideFault.{SideFault}
 use Rattle.scf_tool.specs.declared.verify_fault.VerifyFault.{VerifyFault}
 use Rattle.scf_tool.specs.declared.verify_fault.VerifyFault.TheVariants as verifies
 use Rattle.scf_tool.specs.declared.status.Status.{Status}
@@ -193,9 +192,8 @@ verify_row (verifies.Profile fault) = (of_profile, load_kind fault)
 verify_row verifies.Memory = ((codes "compare", 8), (Failed, memory, none))
 
 -- of two sides: those of the filters or the profile beside others are told apart
-abbrev pub beside_row : BesideFault → Row
-beside_row (besides.Verify fault) = verify_row fault
-beside_row (besides.Beside fault) = ((codes "beside", 2), (verify_row fault).1)
+abbrev pub side_row : SideFault → Row
+side_row fault = (if fault.beside then (codes "beside", 2) else (verify_row fault.why).0, (verify_row fault.why).1)
 
 -- the name of an option stands in place of a kind
 abbrev pub request_row : RequestFault → Row
@@ -213,9 +211,8 @@ fault_row (faults.Bundle fault) = ((codes "bundle", 0), bundle_kind fault)
 fault_row faults.Parts = ((codes "bundle", 0), (Failed, (codes "Parts", 0), none))
 fault_row (faults.Text fault) = text_row fault
 fault_row (faults.Compile fault) = compile_row fault
-fault_row (faults.Sides fault) = beside_row fault
+fault_row (faults.Sides fault) = side_row fault
 fault_row faults.Answers = ((codes "answers", 0), (Failed, memory, none))
-fault_row faults.Range = ((codes "command", 0), (CommandLine, (codes "Range", 0), none))
 fault_row faults.Calls = ((codes "command", 0), (CommandLine, (codes "Calls", 0), none))
 
 -- ---- the status and the line of a row

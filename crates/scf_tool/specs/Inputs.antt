@@ -23,8 +23,6 @@ use Rattle.scf_tool.specs.declared.owned_table.OwnedTable.{OwnedTable}
 use Rattle.scf_tool.specs.declared.sides.SideInput.{SideInput}
 use Rattle.scf_tool.specs.declared.sides.SideInput.TheVariants.{Stack, Profile, Profiles}
 use Rattle.scf_tool.specs.declared.sides.SidesInput.{SidesInput}
-use Rattle.scf_tool.specs.declared.verify_fault.BesideFault.{BesideFault}
-use Rattle.scf_tool.specs.declared.verify_fault.BesideFault.TheVariants.{Verify, Beside}
 use Rattle.scf_tool.specs.declared.verify_fault.VerifyFault.{VerifyFault}
 use Rattle.scf_tool.specs.declared.verify_fault.VerifyFault.TheVariants.{Profile as ProfileFault, ProfileRead, Table, TableRead}
 
@@ -127,11 +125,6 @@ abbrev pub is_profile : SideBytes → Bool
 is_profile (OfFilters filters) = false
 is_profile (OfProfile profile) = true
 
--- the fault of a profile on the right: its own where another profile is on the left
-abbrev pub fault_of_right : Bool → VerifyFault → BesideFault
-fault_of_right false fault = Verify fault
-fault_of_right true fault = Beside fault
-
 -- The inputs are read as this.
 pub record AreRead (inputs : Inputs) (sides : SidesInput) : Type 0 where
   pub are_tables : AllZip (IsTableOf inputs.rules.is_limited) inputs.tables (map named_of sides.tables.items)
@@ -139,19 +132,19 @@ pub record AreRead (inputs : Inputs) (sides : SidesInput) : Type 0 where
   pub is_right : IsSide inputs.rules (map named_of sides.tables.items) inputs.right sides.right
 
 -- Why they aren't, the first of these: the filters on the left, those on the right, the tables, the profile on the
--- left, the one on the right.
-pub data AreRefused (inputs : Inputs) : BesideFault → Type 0 where
-  by_left_filters : (fault : VerifyFault) → HasNoStackOf inputs.left fault → AreRefused inputs (Verify fault)
-  by_right_filters : (fault : VerifyFault) → HasStackOf inputs.left → HasNoStackOf inputs.right fault
-      → AreRefused inputs (Beside fault)
-  by_tables : (fault : VerifyFault) → HasStackOf inputs.left → HasStackOf inputs.right
-      → HasNoTable inputs.rules.is_limited inputs.tables fault → AreRefused inputs (Verify fault)
-  by_left_profile : (fault : VerifyFault) (tables : Tables) → HasStackOf inputs.left → HasStackOf inputs.right
-      → AllZip (IsTableOf inputs.rules.is_limited) inputs.tables tables → IsNoSide inputs.rules tables inputs.left fault
-      → AreRefused inputs (Verify fault)
-  by_right_profile : (fault : VerifyFault) (tables : Tables) (input : SideInput) → HasStackOf inputs.right
+-- left, the one on the right. It is said of the right side where that stands beside another one of its kind.
+pub data AreRefused (inputs : Inputs) : Bool → VerifyFault → Type 0 where
+  by_left_filters : (why : VerifyFault) → HasNoStackOf inputs.left why → AreRefused inputs false why
+  by_right_filters : (why : VerifyFault) → HasStackOf inputs.left → HasNoStackOf inputs.right why
+      → AreRefused inputs true why
+  by_tables : (why : VerifyFault) → HasStackOf inputs.left → HasStackOf inputs.right
+      → HasNoTable inputs.rules.is_limited inputs.tables why → AreRefused inputs false why
+  by_left_profile : (why : VerifyFault) (tables : Tables) → HasStackOf inputs.left → HasStackOf inputs.right
+      → AllZip (IsTableOf inputs.rules.is_limited) inputs.tables tables → IsNoSide inputs.rules tables inputs.left why
+      → AreRefused inputs false why
+  by_right_profile : (why : VerifyFault) (tables : Tables) (input : SideInput) → HasStackOf inputs.right
       → AllZip (IsTableOf inputs.rules.is_limited) inputs.tables tables → IsSide inputs.rules tables inputs.left input
-      → IsNoSide inputs.rules tables inputs.right fault → AreRefused inputs (fault_of_right (is_profile inputs.left) fault)
+      → IsNoSide inputs.rules tables inputs.right why → AreRefused inputs (is_profile inputs.left) why
 
 -- ---- what sides that are read answer
 

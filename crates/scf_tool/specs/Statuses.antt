@@ -3,7 +3,6 @@ use Rattle.std.specs.Prelude.{◌≡◌, ℕ, List, Option, Result, Err}
 use Rattle.scf_insn.specs.declared.input.InputFault.TheVariants as inputs
 use Rattle.scf_tool.specs.declared.fault.Fault.{Fault}
 use Rattle.scf_tool.specs.declared.fault.Fault.TheVariants.{Input, Sides}
-use Rattle.scf_tool.specs.declared.verify_fault.BesideFault.TheVariants.{Verify}
 use Rattle.scf_request.specs.declared.request.Command.{Command}
 use Rattle.scf_request.specs.declared.request.Command.TheVariants as commands
 use Rattle.scf_tool.specs.declared.status.Status.{Status}
@@ -20,8 +19,8 @@ status_code Unknown = 4
 
 -- How a command leaves standard input that is one filter: it came to its end, or the filter isn't read.
 abbrev pub LeavesFilter : {R T : Type 0} → (R → Option (List ℕ)) → (R → ℕ) → R → Result T Fault → R → Type 0
-LeavesFilter {T} remaining failures old (Err (Sides (Verify fault))) new =
-    LeavesFilterReader {T = T} remaining failures old (Err fault) new
+LeavesFilter {T} remaining failures old (Err (Sides fault)) new =
+    LeavesFilterReader {T = T} remaining failures old (Err fault.why) new
 LeavesFilter remaining failures old ending new = HasEnded remaining failures old new
 
 -- And one that is read whole: it came to its end, and failed only where that is the fault.

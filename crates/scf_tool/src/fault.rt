@@ -1,11 +1,11 @@
 //! Why a command has no result.
 
-ghost use Rattle.std.specs.Prelude.{◌≡◌};
+ghost use Rattle.std.specs.Prelude.{◌≡◌, false};
 ghost use Rattle.scf_tool.specs.declared.fault.Fault.TheVariants as faults;
 
-use crate::verify_fault::{BesideFault, VerifyFault};
+use crate::verify_fault::{SideFault, VerifyFault};
 use scf_compile::CompileFault;
-use scf_insn::{InputFault, Memory, ReadFault};
+use scf_insn::{InputFault, Memory};
 use scf_request::{BundleFault, RequestFault};
 use scf_text::TextFault;
 
@@ -24,11 +24,9 @@ pub(crate) enum Fault {
     Text(TextFault),
     Compile(CompileFault),
     /// A filter, a stack, a table or a profile is refused, or memory ran out during a comparison.
-    Sides(BesideFault),
+    Sides(SideFault),
     /// Out of memory for what is printed of answers.
     Answers,
-    /// No architecture that has a table has a syscall with a number in the range.
-    Range,
     /// The table has no syscall to compare by itself.
     Calls,
 }
@@ -57,25 +55,6 @@ impl From<BundleFault> for Fault {
     }
 }
 
-impl From<ReadFault> for Fault {
-    ghost use Rattle.scf_tool.specs.declared.verify_fault.BesideFault.TheVariants as besides;
-    ghost use Rattle.scf_tool.specs.declared.verify_fault.VerifyFault.TheVariants as verifies;
-
-    ghost from_gives = { λ fault e. e ≡ faults.Sides (besides.Verify (verifies.FilterRead fault)) };
-
-    fn from(fault: ReadFault) -> Fault {
-        Fault::Sides(BesideFault::Verify(VerifyFault::FilterRead(fault)))
-    }
-}
-
-impl From<TextFault> for Fault {
-    ghost from_gives = { λ fault e. e ≡ faults.Text fault };
-
-    fn from(fault: TextFault) -> Fault {
-        Fault::Text(fault)
-    }
-}
-
 impl From<CompileFault> for Fault {
     ghost from_gives = { λ fault e. e ≡ faults.Compile fault };
 
@@ -85,20 +64,10 @@ impl From<CompileFault> for Fault {
 }
 
 impl From<VerifyFault> for Fault {
-    ghost use Rattle.scf_tool.specs.declared.verify_fault.BesideFault.TheVariants as besides;
+    ghost from_gives = { λ why e. e ≡ faults.Sides (record { beside = false; why = why }) };
 
-    ghost from_gives = { λ fault e. e ≡ faults.Sides (besides.Verify fault) };
-
-    fn from(fault: VerifyFault) -> Fault {
-        Fault::Sides(BesideFault::Verify(fault))
-    }
-}
-
-impl From<BesideFault> for Fault {
-    ghost from_gives = { λ fault e. e ≡ faults.Sides fault };
-
-    fn from(fault: BesideFault) -> Fault {
-        Fault::Sides(fault)
+    fn from(why: VerifyFault) -> Fault {
+        Fault::Sides(SideFault::from(why))
     }
 }
 

@@ -7,7 +7,7 @@ ghost use Rattle.scf_tool.specs.Faults as table;
 use crate::fault::Fault;
 use crate::status::Status;
 use crate::status::Status::{CommandLine, Failed, Refused};
-use crate::verify_fault::{BesideFault, VerifyFault};
+use crate::verify_fault::{SideFault, VerifyFault};
 use scf_compile::CompileFault;
 use scf_insn::{InputFault, ReadFault};
 use scf_machine::{CheckFault, PushFault};
@@ -268,12 +268,14 @@ pub fn verify_row(fault: VerifyFault) -> FaultRow
 }
 
 /// The row of what stops a comparison of two sides.
-pub fn beside_row(fault: BesideFault) -> FaultRow
-    ensures { table.row_of result ≡ table.beside_row fault }
+pub fn side_row(fault: SideFault) -> FaultRow
+    ensures { table.row_of result ≡ table.side_row fault }
 {
-    match fault {
-        BesideFault::Verify(fault) => verify_row(fault),
-        BesideFault::Beside(fault) => row(("beside", 2), verify_row(fault).kind),
+    let alone = verify_row(fault.why);
+    if fault.beside {
+        row(("beside", 2), alone.kind)
+    } else {
+        alone
     }
 }
 
@@ -302,9 +304,8 @@ impl Fault {
             Fault::Parts => ("bundle", kind(Failed, ("Parts", 0), NONE)),
             Fault::Text(fault) => return text_row(fault),
             Fault::Compile(fault) => return compile_row(fault),
-            Fault::Sides(fault) => return beside_row(fault),
+            Fault::Sides(fault) => return side_row(fault),
             Fault::Answers => ("answers", kind(Failed, MEMORY, NONE)),
-            Fault::Range => ("command", kind(CommandLine, ("Range", 0), NONE)),
             Fault::Calls => ("command", kind(CommandLine, ("Calls", 0), NONE)),
         };
         row((source, 0), kind)

@@ -37,7 +37,7 @@ pub use commands::run_command;
 pub use compilation::filter_of_each;
 pub use compiled_filter::compiled_is_same;
 pub use exploration::none_differ;
-pub use fault_row::{FaultRow, MEMORY, beside_row, compile_row, text_row, verify_row};
+pub use fault_row::{FaultRow, MEMORY, compile_row, side_row, text_row, verify_row};
 pub use filter::read_filter;
 pub use filter_stack::{read_stack, stack_of};
 pub use findings::{CallFinding, ComparisonOutcome, Findings, number_in};
@@ -55,4 +55,4 @@ pub use scf_request::{
 pub use sides::SideInput;
 pub use stack_verification::verify_stack;
 pub use verification::{Outcome, verify};
-pub use verify_fault::{BesideFault, VerifyFault};
+pub use verify_fault::{SideFault, VerifyFault};

@@ -41,7 +41,10 @@ fn table_of(alloc: Global, is_limited: bool, text: &[u8]) -> Result<CallTable, V
     if is_too_long(is_limited, text) {
         return Err(VerifyFault::TableRead(InputFault::TooLong));
     }
-    Ok(CallTable::read(alloc, text)?)
+    match CallTable::read(alloc, text) {
+        Ok(table) => Ok(table),
+        Err(fault) => Err(VerifyFault::Table(fault)),
+    }
 }
 
 /// The tables of several architectures that texts spell, in order.

@@ -25,7 +25,7 @@ use crate::filter_stack::stack_of;
 use crate::inputs::{Inputs, SideParts, TextRules};
 use crate::left_out::LeftOut;
 use crate::owned_table::{OwnedTable, is_too_long, load_under, tables_once};
-use crate::verify_fault::{BesideFault, VerifyFault};
+use crate::verify_fault::{SideFault, VerifyFault};
 use scf_compare::Side;
 use scf_insn::InputFault;
 use scf_machine::FilterStack;
@@ -174,28 +174,17 @@ fn is_profile(side: &SideParts<'_>) -> bool
     matches!(side, SideParts::Profile(_))
 }
 
-/// The fault of a profile on the right, by whether another is on the left.
-fn fault_of_right(is_beside: bool, fault: VerifyFault) -> BesideFault
-    ensures { result ≡ spec.fault_of_right is_beside fault }
-{
-    if is_beside {
-        BesideFault::Beside(fault)
-    } else {
-        BesideFault::Verify(fault)
-    }
-}
-
 /// Reads inputs: the filters on the left, those on the right, the tables, the profile on the left, the one on the
 /// right. The error is the first fault. Tables that are read of the inputs aren't read again.
 pub(crate) fn read_sides(
     alloc: Global,
     inputs: Inputs<'_>,
     read: Option<Vec<OwnedTable>>,
-) -> Result<SidesInput, BesideFault>
+) -> Result<SidesInput, SideFault>
     requires { IfSome read (λ read.
         AllZip SpellsTable (map rest_of_table inputs.tables.items) (map named_of read.items)) }
     ensures sides { IfOk result (AreRead (inputs_of inputs.entry)) }
-    ensures refused { IfErr result (AreRefused (inputs_of inputs.entry)) }
+    ensures refused { IfErr result (λ fault. AreRefused (inputs_of inputs.entry) fault.beside fault.why) }
 {
     let is_beside = is_profile(&inputs.left);
     let rules = inputs.rules;
@@ -204,13 +193,18 @@ pub(crate) fn read_sides(
     let open_left = read_filters(alloc, inputs.left)?;
     let open_right = match read_filters(alloc, inputs.right) {
         Ok(side) => side,
-        Err(fault) => return Err(BesideFault::Beside(fault)),
+        Err(why) => return Err(SideFault { beside: true, why }),
     };
     let tables = tables_once(alloc, rules.is_limited, &parts, read)?;
     let left = read_side(alloc, &rules, &tables, open_left)?;
     let right = match read_side(alloc, &rules, &tables, open_right) {
         Ok(side) => side,
-        Err(fault) => return Err(fault_of_right(is_beside, fault)),
+        Err(why) => {
+            return Err(SideFault {
+                beside: is_beside,
+                why,
+            });
+        }
     };
     Ok(SidesInput {
         left,

@@ -38,7 +38,10 @@ pub(crate) fn read_table<R: Source>(alloc: Global, reader: &mut R) -> Result<Cal
     ensures reader { LeavesTableReader R.remaining R.failures reader.old result reader.new }
 {
     match read_input(alloc, reader, MAX_TEXT_LEN) {
-        Ok(text) => Ok(CallTable::read(alloc, &text)?),
+        Ok(text) => match CallTable::read(alloc, &text) {
+            Ok(table) => Ok(table),
+            Err(fault) => Err(VerifyFault::Table(fault)),
+        },
         Err(fault) => Err(VerifyFault::TableRead(fault)),
     }
 }

@@ -1,7 +1,6 @@
 //! Why inputs weren't compared.
 
-ghost use Rattle.std.specs.Prelude.{◌≡◌};
-ghost use Rattle.scf_tool.specs.declared.verify_fault.BesideFault.TheVariants as besides;
+ghost use Rattle.std.specs.Prelude.{◌≡◌, false};
 ghost use Rattle.scf_tool.specs.declared.verify_fault.VerifyFault.TheVariants as verifies;
 
 use scf_insn::{InputFault, Memory, ReadFault};
@@ -46,14 +45,6 @@ impl From<ReadFault> for VerifyFault {
     }
 }
 
-impl From<TableFault> for VerifyFault {
-    ghost from_gives = { λ fault e. e ≡ verifies.Table fault };
-
-    fn from(fault: TableFault) -> VerifyFault {
-        VerifyFault::Table(fault)
-    }
-}
-
 impl From<LoadFault> for VerifyFault {
     ghost from_gives = { λ fault e. e ≡ verifies.Profile fault };
 
@@ -71,34 +62,25 @@ impl From<Memory> for VerifyFault {
 }
 
 /// Why two sides weren't compared.
-#[derive(Clone, Copy, Error)]
-pub enum BesideFault {
-    /// A filter on the left is refused, or a table, or the first profile, or memory ran out during the comparison.
-    #[error("{0}")]
-    Verify(VerifyFault),
-    /// A filter or a profile of the side beside it is refused.
-    #[error("beside: {0}")]
-    Beside(VerifyFault),
+#[derive(Clone, Copy)]
+pub struct SideFault {
+    /// Whether a filter or a profile is refused that stands beside those of the left side.
+    pub beside: bool,
+    pub why: VerifyFault,
 }
 
-impl fmt::Debug for BesideFault {
-    fn fmt<W: fmt::Write>(&self, f: &mut fmt::Formatter<W>) -> fmt::Result {
-        fmt::Display::fmt(self, f)
+impl From<VerifyFault> for SideFault {
+    ghost from_gives = { λ why e. e ≡ record { beside = false; why = why } };
+
+    fn from(why: VerifyFault) -> SideFault {
+        SideFault { beside: false, why }
     }
 }
 
-impl From<VerifyFault> for BesideFault {
-    ghost from_gives = { λ fault e. e ≡ besides.Verify fault };
+impl From<Memory> for SideFault {
+    ghost from_gives = { λ _ e. e ≡ record { beside = false; why = verifies.Memory } };
 
-    fn from(fault: VerifyFault) -> BesideFault {
-        BesideFault::Verify(fault)
-    }
-}
-
-impl From<Memory> for BesideFault {
-    ghost from_gives = { λ _ e. e ≡ besides.Verify verifies.Memory };
-
-    fn from(_: Memory) -> BesideFault {
-        BesideFault::Verify(VerifyFault::Memory)
+    fn from(_: Memory) -> SideFault {
+        SideFault::from(VerifyFault::Memory)
     }
 }

@@ -27,7 +27,7 @@ def fault_rows():
     for word, name in re.findall(r'^(\w+) = (\(codes "\w+", \d+\))$', text, re.M):
         text = re.sub(rf"\b{word}\b", name, text)
     kinds, actual = re.findall(rf"^(\w+_kind) [^=]+=\s+{KIND}$", text, re.M), {}
-    beside = re.search(rf"Beside fault\) = \({NAME}", text).groups()
+    beside = re.search(rf"fault.beside then {NAME}", text).groups()
     for of, *source, function, status, kind, number, numbers in re.findall(
             rf"^(\w+)_row [^=]+= \({NAME}, (?:(\w+) fault|{KIND})\)$", text, re.M):
         own = [row[1:] for row in kinds if row[0] == function] or [(status, kind, number, numbers)]

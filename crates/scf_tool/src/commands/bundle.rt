@@ -21,7 +21,9 @@ use crate::owned_table::{OwnedTable, valid_tables};
 use crate::reply::Reply;
 use crate::sides::{SidesInput, read_sides};
 use scf_profile::Scope;
-use scf_request::{BundleFault, BundleForm, Command, PartReader, Request, Scopes, TableReader};
+use scf_request::{
+    BundleFault, BundleForm, Command, PartReader, Request, RequestFault, Scopes, TableReader,
+};
 use std::alloc::Global;
 
 /// The sides that a command takes from a bundle of a form.
@@ -132,7 +134,7 @@ fn check_records(
         Scopes::EachCall => check_calls(alloc, tables),
         Scopes::AtOnce(scope) => {
             if !has_record_under(of_each, scope, tables) {
-                return Err(Fault::Range);
+                return Err(Fault::Request(RequestFault::Range));
             }
             Ok(None)
         }
@@ -147,7 +149,10 @@ fn read_over(alloc: Global, over: Scopes, inputs: Inputs<'_>) -> Result<SidesInp
     ensures refused { IfErr result (IsRefused over (inputs_of inputs.entry)) }
 {
     let read = check_records(alloc, inputs.rules.of_each, over, &inputs.tables)?;
-    Ok(read_sides(alloc, inputs, read)?)
+    match read_sides(alloc, inputs, read) {
+        Ok(sides) => Ok(sides),
+        Err(fault) => Err(Fault::Sides(fault)),
+    }
 }
 
 /// Replies to the sides of a command.

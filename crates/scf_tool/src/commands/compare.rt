@@ -12,7 +12,7 @@ use crate::reply::Reply;
 use crate::reporting::report_sides;
 use crate::sides::SidesInput;
 use crate::status::Status;
-use crate::verify_fault::{BesideFault, VerifyFault};
+use crate::verify_fault::VerifyFault;
 use scf_compare::Finding;
 use scf_insn::Memory;
 use scf_request::Comparison;
@@ -67,6 +67,6 @@ pub(super) fn compare_sides(
 {
     match report_of(alloc, sides, comparison) {
         Ok(reply) => Ok(reply),
-        Err(_) => Err(Fault::Sides(BesideFault::Verify(VerifyFault::Memory))),
+        Err(_) => Err(Fault::from(VerifyFault::Memory)),
     }
 }

@@ -13,6 +13,7 @@ use crate::fault::Fault;
 use crate::filter::read_filter;
 use crate::lines::TraceLines;
 use crate::reply::Reply;
+use crate::verify_fault::VerifyFault;
 use scf_insn::{CallRecord, Memory, ReadFault, Source, read_program};
 use scf_machine::{Program, run, trace};
 use std::alloc::Global;
@@ -60,7 +61,7 @@ pub(super) fn trace_filter<R: Source>(
     let program = read_filter(alloc, input)?;
     match traced(alloc, &program, call) {
         Ok(lines) => Ok(Reply::Bytes(lines)),
-        Err(_) => Err(Fault::from(ReadFault::Memory)),
+        Err(_) => Err(Fault::from(VerifyFault::FilterRead(ReadFault::Memory))),
     }
 }
 
@@ -69,9 +70,12 @@ pub(super) fn list_filter<R: Source>(alloc: Global, input: &mut R) -> Result<Rep
     ensures answer { Lists (R.remaining input.old) result }
     ensures input { LeavesFilter R.remaining R.failures input.old result input.new }
 {
-    let insns = read_program(alloc, input)?;
+    let insns = match read_program(alloc, input) {
+        Ok(insns) => insns,
+        Err(fault) => return Err(Fault::from(VerifyFault::FilterRead(fault))),
+    };
     match listing_of(alloc, &insns) {
         Ok(text) => Ok(Reply::Bytes(text)),
-        Err(_) => Err(Fault::from(ReadFault::Memory)),
+        Err(_) => Err(Fault::from(VerifyFault::FilterRead(ReadFault::Memory))),
     }
 }
