@@ -15,12 +15,13 @@ use Rattle.scf_request.specs.declared.request.Comparison.{Comparison}
 use Rattle.scf_request.specs.declared.request.Scopes.TheVariants.{AtOnce}
 use Rattle.scf_tool.proofs.ArchitectureLemmas.{joint_is_true}
 use Rattle.scf_tool.proofs.CallLemmas.{next_found}
-use Rattle.scf_tool.proofs.Common.{◌≡◌, ◌+◌, ◌<◌, ◌++◌, ℕ, AllZip, Fails, Finding, Holds, Insn, List, None, Option, Some, Undecided, Unfinished, [], ap, arith, get_or, length, map-append, refl, subst, take, take_more, ◌∷◌}
+use Rattle.scf_tool.proofs.Common.{◌≡◌, ◌+◌, ◌<◌, ◌++◌, ℕ, AllZip, Bool, Fails, Finding, Holds, Insn, List, None, Option, Some, Undecided, Unfinished, [], ap, arith, false, get_or, length, map-append, refl, subst, take, take_more, true, ◌∷◌}
 use Rattle.std.specs.Prelude.{◌*◌, map, max}
 use Rattle.scf_tool.proofs.SideLemmas.{of_side}
 use Rattle.scf_tool.specs.ArchitectureScopes.{scope_of}
 use Rattle.scf_tool.specs.Comparisons.{AreFound, AreFoundEach, IsFound, IsFoundOf, IsFoundOfInTurn, limit_of}
 use Rattle.scf_tool.specs.Explorations.{AreListed, AreListedOf, Explores, ExploresEach}
+use Rattle.scf_tool.specs.Inputs.{behavior_of_input}
 use Rattle.scf_tool.specs.JointFindings.{AreFindings, joint_finding}
 use Rattle.scf_tool.specs.declared.findings.CallFinding.{CallFinding}
 use Rattle.scf_tool.specs.declared.findings.Findings.TheVariants as Findings
@@ -151,12 +152,25 @@ module _ (comparison : Comparison) (scope : Scope) (left : Side) where
   each_beside (p ∷ profiles) (pairing ∷ pairings) (finding ∷ findings) are found =
       (beside_one p pairing finding are.0 found.0, each_beside profiles pairings findings are.1 found.1)
 
-  -- what speaks for the pairings of two sides is what is asked for
-  pub found_at_once : (right : SideInput) (tables : Tables) (pairings : List Pairing) (findings : List Finding)
-      → ArePaired left right scope pairings
+  -- the finding beside a side that isn't taken apart
+  beside_whole : (right : SideInput) (pairings : List Pairing) (findings : List Finding)
+      → ArePaired false left right scope pairings
       → AllZip (IsFoundOf comparison.relation (limit_of comparison.limits)) pairings findings
-      → AreFindings comparison (AtOnce scope) (behavior_of left) right tables (Findings.AtOnce (joint_finding findings))
-  found_at_once (inputs.Profiles loaded) tables pairings findings are found =
+      → IsFound comparison.relation (behavior_of left) (behavior_of_input right) scope (limit_of comparison.limits)
+      (joint_finding findings)
+  beside_whole right pairings findings (side, is, single) found =
+      of_side
+      (λ (behavior : Behavior). IsFound comparison.relation (behavior_of left) behavior scope (limit_of comparison.limits)
+      (joint_finding findings))
+      right side is (of_only_one (IsFoundOf comparison.relation (limit_of comparison.limits)) _ findings (rw single at found))
+
+  -- what speaks for the pairings of two sides is what is asked for
+  pub found_at_once : (of_each : Bool) (right : SideInput) (tables : Tables) (pairings : List Pairing)
+      (findings : List Finding) → ArePaired of_each left right scope pairings
+      → AllZip (IsFoundOf comparison.relation (limit_of comparison.limits)) pairings findings
+      → AreFindings comparison (AtOnce scope) of_each (behavior_of left) right tables
+      (Findings.AtOnce (joint_finding findings))
+  found_at_once true (inputs.Profiles loaded) tables pairings findings are found =
       let each = each_beside loaded.profiles pairings findings are.1 found in (
         findings,
         each,
@@ -164,16 +178,9 @@ module _ (comparison : Comparison) (scope : Scope) (left : Side) where
         joint_is_true comparison.relation scope (behavior_of left) loaded.profiles are.0 (limit_of comparison.limits) findings
             each,
       )
-  found_at_once (inputs.Stack stack) tables pairings findings (side, is, single) found =
-      of_side
-      (λ (right : Behavior). IsFound comparison.relation (behavior_of left) right scope (limit_of comparison.limits) (joint_finding findings))
-      (inputs.Stack stack) side is
-      (of_only_one (IsFoundOf comparison.relation (limit_of comparison.limits)) _ findings (rw single at found))
-  found_at_once (inputs.Profile loaded) tables pairings findings (side, is, single) found =
-      of_side
-      (λ (right : Behavior). IsFound comparison.relation (behavior_of left) right scope (limit_of comparison.limits) (joint_finding findings))
-      (inputs.Profile loaded) side is
-      (of_only_one (IsFoundOf comparison.relation (limit_of comparison.limits)) _ findings (rw single at found))
+  found_at_once true (inputs.Stack stack) tables pairings findings are found =
+      beside_whole (inputs.Stack stack) pairings findings are found
+  found_at_once false right tables pairings findings are found = beside_whole right pairings findings are found
 
 -- ---- profiles by themselves
 

@@ -179,9 +179,9 @@ only_named (table ∷ []) default count = refl
 only_named (table ∷ second ∷ tables) default count = absurd (omega (arith, count))
 
 -- several tables, or none, have no calls that are compared
-pub of_others : (comparison : Comparison) (left : Behavior) (right : SideInput) (tables : List OwnedTable)
+pub of_others : (comparison : Comparison) (of_each : Bool) (left : Behavior) (right : SideInput) (tables : List OwnedTable)
     (calls : Vec CallFinding) → length tables ≢ 1 → calls.items ≡ []
-    → AreFindings comparison EachCall left right (map named_of tables) (Findings.EachCall calls)
-of_others comparison left right [] calls several none = none
-of_others comparison left right (table ∷ []) calls several none = absurd (several refl)
-of_others comparison left right (table ∷ second ∷ tables) calls several none = none
+    → AreFindings comparison EachCall of_each left right (map named_of tables) (Findings.EachCall calls)
+of_others comparison of_each left right [] calls several none = none
+of_others comparison of_each left right (table ∷ []) calls several none = absurd (several refl)
+of_others comparison of_each left right (table ∷ second ∷ tables) calls several none = none

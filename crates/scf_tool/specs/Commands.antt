@@ -21,8 +21,8 @@ use Rattle.scf_profile.specs.declared.loaded.LoadedProfiles.{LoadedProfiles}
 use Rattle.scf_profile.specs.declared.table_fault.TableFault.TheVariants as tables
 use Rattle.scf_profile.specs.Loading.{RefusesEachAs}
 use Rattle.scf_profile.specs.Profile.{Profile as StatedProfile}
-use Rattle.scf_profile.specs.ProfileAnswers.{ProfileAnswers, ProfilesAnswer}
-use Rattle.scf_profile.specs.Reasons.{IsReason, IsReasonAmong}
+use Rattle.scf_profile.specs.ProfileAnswers.{ProfilesAnswer}
+use Rattle.scf_profile.specs.Reasons.{IsReasonAmong}
 use Rattle.scf_profile.specs.SameAnswers.{SameAnswersAsEach}
 use Rattle.scf_profile.specs.StatedProfile.{Tables}
 use Rattle.scf_profile.specs.Table.{table_of}
@@ -40,7 +40,7 @@ use Rattle.scf_profile.specs.declared.reading.Reading.{Reading}
 use Rattle.scf_tool.specs.declared.reply.Reply.{Reply}
 use Rattle.scf_tool.specs.declared.reply.Reply.TheVariants.{Accepted, Ran, Decided, DecidedBy, Asked, Bytes, Compared}
 use Rattle.scf_tool.specs.declared.sides.SideInput.{SideInput}
-use Rattle.scf_tool.specs.declared.sides.SideInput.TheVariants.{Stack, Profile, Profiles}
+use Rattle.scf_tool.specs.declared.sides.SideInput.TheVariants.{Stack, Profiles}
 use Rattle.scf_tool.specs.declared.sides.SidesInput.{SidesInput}
 use Rattle.scf_request.specs.declared.request.Comparison.{Comparison}
 use Rattle.scf_tool.specs.ArchitectureScopes.{HasRecordAmong, NameNoCall}
@@ -290,8 +290,6 @@ Compiles has_left_out side ending =
 
 -- `ask`: the answer of a profile to the call, or of that of its architecture, and why
 abbrev pub GivesReason : CallRecord → SideInput → Reply → Type 0
-GivesReason call (Profile loaded) (Asked answer reason) =
-    ProfileAnswers loaded.profile call answer.0 × IsReason loaded.profile call reason
 GivesReason call (Profiles loaded) (Asked answer reason) =
     ProfilesAnswer loaded.profiles call answer.0 × IsReasonAmong loaded.profiles call reason
 GivesReason call side reply = ⊥
@@ -299,7 +297,7 @@ GivesReason call side reply = ⊥
 -- `compare`: findings that are true of both sides, compared as is asked, and their report with its status
 abbrev pub IsReport : Comparison → SidesInput → Reply → Type 0
 IsReport comparison sides (Compared text status) = (findings : Findings)
-    × AreFindings comparison comparison.scopes (behavior_of_input sides.left) sides.right
+    × AreFindings comparison comparison.scopes sides.of_each (behavior_of_input sides.left) sides.right
     (map named_of sides.tables.items) findings
     × (text.items ≡ sides_text comparison.relation (left_out_of_input sides.left)
     (record { findings = findings; left_out = left_out_of_input sides.right }))
@@ -309,7 +307,7 @@ IsReport comparison sides reply = ⊥
 -- what a command's reply says of its sides
 abbrev pub IsReplyTo : Command → SidesInput → Reply → Type 0
 IsReplyTo (commands.Answers comparison has_examples false) sides =
-    ListsSide (exploration_of comparison has_examples) sides.left
+    ListsSide sides.of_each (exploration_of comparison has_examples) sides.left
 IsReplyTo (commands.Answers comparison has_examples true) sides = ListsDiffering
     (exploration_of comparison has_examples) (behavior_of_input sides.left) (behavior_of_input sides.right)
 IsReplyTo (commands.Ask call) sides = GivesReason call sides.left

@@ -126,14 +126,14 @@ abbrev pub ListsWalks : Exploration → (Option (List Regions) → Type 0) → R
 ListsWalks exploration explores reply =
     (listed : Option (List Regions)) × explores listed × IsListing (format_of false exploration) listed reply
 
--- what walks over a side come to: over profiles each over the records of its architecture
-abbrev pub ExploresSide : SideInput → Scope → ℕ → Option (List Regions) → Type 0
-ExploresSide (Profiles loaded) scope limit = ExploresEach (scope_of scope) loaded.profiles limit
-ExploresSide side scope limit = ExploresSides (behavior_of_input side) no_side scope limit
+-- what walks over a side come to: over profiles of several architectures each over the records of its own
+abbrev pub ExploresSide : Bool → SideInput → Scope → ℕ → Option (List Regions) → Type 0
+ExploresSide true (Profiles loaded) scope limit = ExploresEach (scope_of scope) loaded.profiles limit
+ExploresSide of_each side scope limit = ExploresSides (behavior_of_input side) no_side scope limit
 
-abbrev pub ListsSide : Exploration → SideInput → Reply → Type 0
-ListsSide exploration side reply =
-    ListsWalks exploration (ExploresSide side exploration.scope exploration.limit) reply
+abbrev pub ListsSide : Bool → Exploration → SideInput → Reply → Type 0
+ListsSide of_each exploration side reply =
+    ListsWalks exploration (ExploresSide of_each side exploration.scope exploration.limit) reply
 
 -- The reply of a walk over two sides.
 abbrev pub ListsDiffering : Exploration → Behavior → Behavior → Reply → Type 0

@@ -1,12 +1,12 @@
 -- The inputs of a command: two sides, each filters or a profile, and tables, from their bytes.
-use Rattle.std.specs.Prelude.{◌≡◌, ◌≢◌, ◌≤◌, ◌<◌, ◌++◌, ℕ, Bool, true, false, List, [], ◌∷◌, length, map, Option, None, Some, Ok, Err}
+use Rattle.std.specs.Prelude.{◌≡◌, ◌≢◌, ◌≤◌, ◌<◌, ◌++◌, ℕ, Bool, true, false, List, [], ◌∷◌, length, map, Option, None, Some, Ok, Err, if◌then◌else◌}
 use Rattle.std.specs.List.{AllZip}
 use Rattle.scf_insn.specs.declared.architecture.Architecture.{Architecture}
 use Rattle.scf_insn.specs.declared.input.InputFault.{InputFault}
 use Rattle.scf_insn.specs.declared.input.InputFault.TheVariants.{TooLong}
 use Rattle.scf_insn.specs.declared.insn.Insn.{Insn}
 use Rattle.scf_profile.specs.Limits.{max_text_len}
-use Rattle.scf_profile.specs.Loading.{RefusesAs, RefusesEachAs}
+use Rattle.scf_profile.specs.Loading.{RefusesEachAs, fault_of_only}
 use Rattle.scf_profile.specs.Profile.{Profile as StatedProfile}
 use Rattle.scf_profile.specs.StatedProfile.{Tables}
 use Rattle.scf_profile.specs.Table.{Names, table_of}
@@ -15,13 +15,13 @@ use Rattle.scf_profile.specs.declared.table_fault.TableFault.TheVariants as tabl
 use Rattle.scf_compare.specs.declared.side.Side.{Side}
 use Rattle.scf_compare.specs.declared.side.Side.TheVariants as sides
 use Rattle.scf_compare.specs.Sides.{Behavior, profiles_behavior, stack_behavior}
-use Rattle.scf_request.specs.Interpretations.{Interpretation, LoadsBy, LoadsEachBy}
+use Rattle.scf_request.specs.Interpretations.{LoadsEachBy}
 use Rattle.scf_tool.specs.FilterStacks.{HasStack, HasNoStack, NoReadFailed}
 use Rattle.scf_tool.specs.declared.inputs.TextRules.{TextRules}
 use Rattle.scf_tool.specs.declared.left_out.LeftOut.{LeftOut}
 use Rattle.scf_tool.specs.declared.owned_table.OwnedTable.{OwnedTable}
 use Rattle.scf_tool.specs.declared.sides.SideInput.{SideInput}
-use Rattle.scf_tool.specs.declared.sides.SideInput.TheVariants.{Stack, Profile, Profiles}
+use Rattle.scf_tool.specs.declared.sides.SideInput.TheVariants.{Stack, Profiles}
 use Rattle.scf_tool.specs.declared.sides.SidesInput.{SidesInput}
 use Rattle.scf_tool.specs.declared.verify_fault.VerifyFault.{VerifyFault}
 use Rattle.scf_tool.specs.declared.verify_fault.VerifyFault.TheVariants.{Profile as ProfileFault, ProfileRead, Table, TableRead}
@@ -92,33 +92,18 @@ abbrev pub HasNoStackOf : SideBytes → VerifyFault → Type 0
 HasNoStackOf (OfFilters filters) fault = NoReadFailed fault × HasNoStack (map Some filters) fault
 HasNoStackOf (OfProfile profile) fault = ⊥
 
--- the only table, where a profile is for x86-64 alone
-abbrev pub native_table : Bool → Tables → Option Names
-native_table false (table ∷ []) = Some table.1
-native_table of_each tables = None
-
--- what the text of a profile states: for x86-64 alone under the table, else for each architecture that has a table
-abbrev pub States : Option Names → Interpretation → Tables → List ℕ → SideInput → Type 0
-States (Some names) by tables text (Profile loaded) = LoadsBy by text names loaded
-States None by tables text (Profiles loaded) = LoadsEachBy by text tables loaded
-States native by tables text input = ⊥
-
--- why it states nothing
-abbrev pub StatesNone : Option Names → Interpretation → Tables → List ℕ → LoadFault → Type 0
-StatesNone (Some names) by tables text fault = RefusesAs by.reading text names fault
-StatesNone None by tables text fault = RefusesEachAs by.reading text tables fault
-
--- the bytes of a side are read as this
+-- the bytes of a side are read as this: a profile states one for each architecture that has a table
 abbrev pub IsSide : TextRules → Tables → SideBytes → SideInput → Type 0
 IsSide rules tables (OfFilters filters) (Stack stack) = HasStack (map Some filters) stack
-IsSide rules tables (OfFilters filters) input = ⊥
-IsSide rules tables (OfProfile text) input = States (native_table rules.of_each tables) rules.by tables text input
+IsSide rules tables (OfProfile text) (Profiles loaded) = LoadsEachBy rules.by text tables loaded
+IsSide rules tables bytes input = ⊥
 
--- why the profile of a side is refused under tables
+-- Why the profile of a side is refused under tables. Under that of x86-64 alone the fault says if this isn't listed.
 abbrev pub IsNoSide : TextRules → Tables → SideBytes → VerifyFault → Type 0
 IsNoSide rules tables (OfProfile text) (ProfileRead fault) = IsTooLong rules.is_limited text fault
-IsNoSide rules tables (OfProfile text) (ProfileFault fault) =
-    IsShort rules.is_limited text × StatesNone (native_table rules.of_each tables) rules.by tables text fault
+IsNoSide rules tables (OfProfile text) (ProfileFault fault) = IsShort rules.is_limited text
+    × (of_each : LoadFault) × RefusesEachAs rules.by.reading text tables of_each
+    × (fault ≡ (if rules.of_each then of_each else fault_of_only of_each))
 IsNoSide rules tables bytes fault = ⊥
 
 abbrev pub is_profile : SideBytes → Bool
@@ -130,6 +115,7 @@ pub record AreRead (inputs : Inputs) (sides : SidesInput) : Type 0 where
   pub are_tables : AllZip (IsTableOf inputs.rules.is_limited) inputs.tables (map named_of sides.tables.items)
   pub is_left : IsSide inputs.rules (map named_of sides.tables.items) inputs.left sides.left
   pub is_right : IsSide inputs.rules (map named_of sides.tables.items) inputs.right sides.right
+  pub of_each : sides.of_each ≡ inputs.rules.of_each
 
 -- Why they aren't, the first of these: the filters on the left, those on the right, the tables, the profile on the
 -- left, the one on the right. It is said of the right side where that stands beside another one of its kind.
@@ -151,24 +137,20 @@ pub data AreRefused (inputs : Inputs) : Bool → VerifyFault → Type 0 where
 -- the profiles of a side
 abbrev pub profiles_of : SideInput → List StatedProfile
 profiles_of (Stack stack) = []
-profiles_of (Profile loaded) = loaded.profile ∷ []
 profiles_of (Profiles loaded) = loaded.profiles
 
 abbrev pub behavior_of_input : SideInput → Behavior
 behavior_of_input (Stack stack) = stack_behavior stack
-behavior_of_input input = profiles_behavior (profiles_of input)
+behavior_of_input (Profiles loaded) = profiles_behavior loaded.profiles
 
 -- a side that is read, as it is compared
 abbrev pub IsSideOf : SideInput → Side → Type 0
 IsSideOf (Stack stack) (sides.Stack filters) = filters.now ≡ stack
-IsSideOf (Stack stack) side = ⊥
-IsSideOf input (sides.Profiles profiles) = profiles.now ≡ profiles_of input
+IsSideOf (Profiles loaded) (sides.Profiles profiles) = profiles.now ≡ loaded.profiles
 IsSideOf input side = ⊥
 
 -- what was left out of the profile of a side, if it is one
 abbrev pub left_out_of_input : SideInput → Option LeftOut
 left_out_of_input (Stack stack) = None
-left_out_of_input (Profile loaded) =
-    Some (record { skipped = loaded.skipped; other_architectures = loaded.other_architectures })
 left_out_of_input (Profiles loaded) =
     Some (record { skipped = loaded.skipped; other_architectures = loaded.other_architectures })

@@ -74,18 +74,18 @@ IsNamedAs of_table call = (call.number ≡ of_table.number) × (call.names ≡ t
 -- The findings on two sides and tables, compared as is asked. At once it is one; beside the profiles of several
 -- architectures the one that speaks for each over its own records, and it is true of all of them. Call by call each
 -- call of the only table has its own, in no more steps than remain of the total.
-abbrev pub AreFindings : Comparison → Scopes → Behavior → SideInput → Tables → Findings → Type 0
-AreFindings comparison (scopes.AtOnce scope) left (Profiles loaded) tables (AtOnce finding) = (findings : List Finding)
-    × AllZip (λ p. IsFound comparison.relation left (profiles_behavior (p ∷ [])) (scope_of scope p.architecture)
-    (limit_of comparison.limits)) loaded.profiles findings
+abbrev pub AreFindings : Comparison → Scopes → Bool → Behavior → SideInput → Tables → Findings → Type 0
+AreFindings comparison (scopes.AtOnce scope) true left (Profiles loaded) tables (AtOnce finding) =
+    (findings : List Finding) × AllZip (λ p. IsFound comparison.relation left (profiles_behavior (p ∷ []))
+    (scope_of scope p.architecture) (limit_of comparison.limits)) loaded.profiles findings
     × (finding ≡ joint_finding findings)
     × IsTrueFinding (compared_with_each comparison.relation scope left loaded.profiles) finding
-AreFindings comparison (scopes.AtOnce scope) left right tables (AtOnce finding) =
+AreFindings comparison (scopes.AtOnce scope) of_each left right tables (AtOnce finding) =
     IsFound comparison.relation left (behavior_of_input right) scope (limit_of comparison.limits) finding
-AreFindings comparison scopes.EachCall left right (table ∷ []) (EachCall calls) =
+AreFindings comparison scopes.EachCall of_each left right (table ∷ []) (EachCall calls) =
     (of_table : List NamedCall) × AreCallsOf table.1 of_table × AllZip IsNamedAs of_table calls.items × (after : ℕ)
     × AreFound (λ remaining call. IsFoundInTurn comparison.relation left (behavior_of_input right)
     (scope_of_call table.0 call.number) (limit_of comparison.limits) remaining)
     comparison.limits.total of_table (map (λ call. call.finding) calls.items) after
-AreFindings comparison scopes.EachCall left right tables (EachCall calls) = calls.items ≡ []
-AreFindings comparison over left right tables findings = ⊥
+AreFindings comparison scopes.EachCall of_each left right tables (EachCall calls) = calls.items ≡ []
+AreFindings comparison over of_each left right tables findings = ⊥

@@ -114,12 +114,13 @@ fn pairings_of<'a>(
     alloc: Global,
     left: Side<'a>,
     right: &'a SideInput,
+    of_each: bool,
     scope: Scope,
 ) -> Result<Vec<Pairing<'a>>, AllocError>
-    ensures { IfOk result (λ pairings. ArePaired left.entry right.now scope pairings.items) }
+    ensures { IfOk result (λ pairings. ArePaired of_each left.entry right.now scope pairings.items) }
 {
     match right {
-        SideInput::Profiles(loaded) => {
+        SideInput::Profiles(loaded) if of_each => {
             beside_each(alloc, left, loaded.profiles.as_slice(), scope)
         }
         _ => {
@@ -185,10 +186,11 @@ fn compare_at_once(
     scope: Scope,
     comparison: Comparison,
 ) -> Result<Finding, Memory>
-    ensures { IfOk result (λ finding. AreFindings comparison (Scopes.AtOnce scope) (behavior_of_input sides.now.left)
-        sides.now.right (map named_of sides.now.tables.items) (Findings.AtOnce finding)) }
+    ensures { IfOk result (λ finding. AreFindings comparison (Scopes.AtOnce scope) sides.now.of_each
+        (behavior_of_input sides.now.left) sides.now.right (map named_of sides.now.tables.items)
+        (Findings.AtOnce finding)) }
 {
-    let pairings = pairings_of(alloc, sides.left.side(), &sides.right, scope)?;
+    let pairings = pairings_of(alloc, sides.left.side(), &sides.right, sides.of_each, scope)?;
     let limit = limit_of(comparison.limits);
     let findings = compare_each(alloc, &pairings, comparison.relation, limit, None)?;
     Ok(joint_finding(&findings))
@@ -201,8 +203,8 @@ fn compare_calls(
     table: &OwnedTable,
     comparison: Comparison,
 ) -> Result<Vec<CallFinding>, Memory>
-    ensures { IfOk result (λ calls. AreFindings comparison Scopes.EachCall (behavior_of_input sides.now.left)
-        sides.now.right (named_of table.now ∷ []) (Findings.EachCall calls)) }
+    ensures { IfOk result (λ calls. AreFindings comparison Scopes.EachCall sides.now.of_each
+        (behavior_of_input sides.now.left) sides.now.right (named_of table.now ∷ []) (Findings.EachCall calls)) }
 {
     let calls = table.table.calls(alloc)?;
     let left = sides.left.side();
@@ -236,8 +238,8 @@ pub(crate) fn findings_of(
     sides: &SidesInput,
     comparison: Comparison,
 ) -> Result<Findings, Memory>
-    ensures { IfOk result (AreFindings comparison comparison.scopes (behavior_of_input sides.now.left) sides.now.right
-        (map named_of sides.now.tables.items)) }
+    ensures { IfOk result (AreFindings comparison comparison.scopes sides.now.of_each (behavior_of_input sides.now.left)
+        sides.now.right (map named_of sides.now.tables.items)) }
 {
     match comparison.scopes {
         Scopes::AtOnce(scope) => {

@@ -60,7 +60,7 @@ pub(crate) enum SideParts<'a> {
 #[derive(Drop)]
 pub(crate) struct TextRules {
     pub by: Interpretation,
-    /// Whether a profile is read for each architecture that has a table, or for x86-64 alone under the only one.
+    /// Whether there may be tables of several architectures, or that of x86-64 alone.
     pub of_each: bool,
     /// Whether tables and profiles have at most `MAX_TEXT_LEN` bytes each.
     pub is_limited: bool,

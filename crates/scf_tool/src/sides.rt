@@ -1,6 +1,6 @@
 //! The sides of a command: filters or a profile, read from its inputs.
 
-ghost use Rattle.std.specs.Prelude.{◌≡◌, IfErr, IfOk, IfNone, IfSome, None, Some, map};
+ghost use Rattle.std.specs.Prelude.{◌≡◌, IfErr, IfOk, IfSome, map};
 ghost use Rattle.std.specs.List.{AllZip};
 ghost use Rattle.scf_profile.specs.Profile.{AreOfApart};
 ghost use Rattle.scf_request.specs.Contents.{rest_of_table};
@@ -15,7 +15,6 @@ ghost use Rattle.scf_tool.specs.Inputs.{
   SpellsTable,
   left_out_of_input,
   named_of,
-  native_table,
   profiles_of,
 };
 ghost use Rattle.scf_tool.specs.Inputs as spec;
@@ -29,7 +28,7 @@ use crate::verify_fault::{SideFault, VerifyFault};
 use scf_compare::Side;
 use scf_insn::InputFault;
 use scf_machine::FilterStack;
-use scf_profile::{CallTable, Loaded, LoadedProfiles, Profile};
+use scf_profile::{LoadedProfiles, Profile};
 use scf_request::PartReader;
 use std::alloc::Global;
 
@@ -44,8 +43,6 @@ pub(crate) enum OpenSide<'a> {
 #[derive(Drop)]
 pub enum SideInput {
     Stack(FilterStack),
-    /// A profile for x86-64 alone.
-    Profile(Loaded),
     /// The profiles for the architectures that have a table.
     Profiles(LoadedProfiles),
 }
@@ -55,6 +52,8 @@ pub enum SideInput {
 pub(crate) struct SidesInput {
     pub left: SideInput,
     pub right: SideInput,
+    /// Whether profiles are each compared and walked over the records of their architecture.
+    pub of_each: bool,
     pub tables: Vec<OwnedTable>,
     /// Counts of calls by name.
     pub counts: Vec<OwnedTable>,
@@ -67,7 +66,7 @@ impl SideInput {
     {
         match self {
             SideInput::Stack(stack) => Side::Stack(stack.filters()),
-            _ => Side::Profiles(self.profiles()),
+            SideInput::Profiles(loaded) => Side::Profiles(loaded.profiles.as_slice()),
         }
     }
 
@@ -78,7 +77,6 @@ impl SideInput {
     {
         match self {
             SideInput::Stack(_) => &[],
-            SideInput::Profile(loaded) => std::slice::from_ref(&loaded.profile),
             SideInput::Profiles(loaded) => loaded.profiles.as_slice(),
         }
     }
@@ -89,10 +87,6 @@ impl SideInput {
     {
         match self {
             SideInput::Stack(_) => None,
-            SideInput::Profile(loaded) => Some(LeftOut {
-                skipped: loaded.skipped,
-                other_architectures: loaded.other_architectures,
-            }),
             SideInput::Profiles(loaded) => Some(LeftOut {
                 skipped: loaded.skipped,
                 other_architectures: loaded.other_architectures,
@@ -115,22 +109,7 @@ fn read_filters<'a>(alloc: Global, side: SideParts<'a>) -> Result<OpenSide<'a>, 
     }
 }
 
-/// The only table, if a profile is read for x86-64 alone.
-#[tactic(auto, using(crate::proofs::SideLemmas::native_only, crate::proofs::SideLemmas::not_native))]
-fn native_table(of_each: bool, tables: &[OwnedTable]) -> Option<&CallTable>
-    ensures some { IfSome result (λ table. native_table of_each (map named_of tables.now) ≡ Some table.now) }
-    ensures none { IfNone result (native_table of_each (map named_of tables.now) ≡ None) }
-{
-    if of_each {
-        return None;
-    }
-    if tables.len() != 1 {
-        return None;
-    }
-    Some(&tables[0].table)
-}
-
-/// Loads a profile: for x86-64 alone under the only table, or for each architecture that has one.
+/// Loads a profile for each architecture that has a table.
 fn load(
     alloc: Global,
     rules: &TextRules,
@@ -143,9 +122,10 @@ fn load(
     if is_too_long(rules.is_limited, text) {
         return Err(VerifyFault::ProfileRead(InputFault::TooLong));
     }
-    match native_table(rules.of_each, tables) {
-        Some(table) => Ok(SideInput::Profile(rules.by.load(alloc, text, table)?)),
-        None => Ok(SideInput::Profiles(load_under(alloc, &rules.by, text, tables)?)),
+    match load_under(alloc, &rules.by, text, tables) {
+        Ok(loaded) => Ok(SideInput::Profiles(loaded)),
+        Err(fault) if rules.of_each => Err(VerifyFault::Profile(fault)),
+        Err(fault) => Err(VerifyFault::Profile(fault.of_only())),
     }
 }
 
@@ -209,6 +189,7 @@ pub(crate) fn read_sides(
     Ok(SidesInput {
         left,
         right,
+        of_each: rules.of_each,
         tables,
         counts,
     })

@@ -1,5 +1,5 @@
 -- Pairings of the sides of a command, and what is found of several so far.
-use Rattle.std.specs.Prelude.{◌≡◌, ◌∷◌, [], ℕ, List, Option, None, Some}
+use Rattle.std.specs.Prelude.{◌≡◌, ◌∷◌, [], ℕ, Bool, true, List, Option, None, Some}
 use Rattle.std.specs.List.{AllZip}
 use Rattle.scf_compare.specs.declared.budget.Limit.{Limit}
 use Rattle.scf_compare.specs.declared.finding.Finding.{Finding}
@@ -59,10 +59,10 @@ pub record IsProfileAlone (scope : Scope) (p : Profile) (pairing : Pairing) : Ty
   pub over_is : pairing.over ≡ scope_of scope p.architecture
 
 -- a side beside one that is read: several profiles stand each by itself
-abbrev pub ArePaired : Side → SideInput → Scope → List Pairing → Type 0
-ArePaired left (inputs.Profiles loaded) scope pairings =
+abbrev pub ArePaired : Bool → Side → SideInput → Scope → List Pairing → Type 0
+ArePaired true left (inputs.Profiles loaded) scope pairings =
     AreOfApart loaded.profiles × AllZip (IsBesideProfile left scope) loaded.profiles pairings
-ArePaired left right scope pairings = (side : Side) × IsSideOf right side
+ArePaired of_each left right scope pairings = (side : Side) × IsSideOf right side
     × (pairings ≡ record { left = left; right = side; over = scope } ∷ [])
 
 -- two sides over the records of a call

@@ -9,34 +9,30 @@ use crate::exploration::{Exploration, list_differing, list_each, list_side};
 use crate::fault::Fault;
 use crate::reply::Reply;
 use crate::sides::{SideInput, SidesInput};
-use scf_compare::Side;
 use scf_insn::Memory;
 use std::alloc::Global;
-use std::slice;
 
-/// Lists what a side answers: profiles each to the records of its architecture.
-fn listed(alloc: Global, side: &SideInput, exploration: Exploration) -> Result<Reply, Memory>
-    ensures { IfOk result (ListsSide exploration side.now) }
+/// Lists what the left side answers; profiles each to the records of its architecture, if they are several.
+fn listed(alloc: Global, sides: &SidesInput, exploration: Exploration) -> Result<Reply, Memory>
+    ensures { IfOk result (ListsSide sides.now.of_each exploration sides.now.left) }
 {
-    match side {
-        SideInput::Stack(stack) => list_side(alloc, Side::Stack(stack.filters()), exploration),
-        SideInput::Profile(loaded) => {
-            let profiles = slice::from_ref(&loaded.profile);
-            list_side(alloc, Side::Profiles(profiles), exploration)
+    match &sides.left {
+        SideInput::Profiles(loaded) if sides.of_each => {
+            list_each(alloc, loaded.profiles.as_slice(), exploration)
         }
-        SideInput::Profiles(loaded) => list_each(alloc, loaded.profiles.as_slice(), exploration),
+        side => list_side(alloc, side.side(), exploration),
     }
 }
 
 /// `answers`: what filters or a profile answer to the records of a scope.
 pub(super) fn list_answers(
     alloc: Global,
-    side: &SideInput,
+    sides: &SidesInput,
     exploration: Exploration,
 ) -> Result<Reply, Fault>
-    ensures { Replies (Some Fault.Answers) (ListsSide exploration side.now) result }
+    ensures { Replies (Some Fault.Answers) (ListsSide sides.now.of_each exploration sides.now.left) result }
 {
-    Ok(listed(alloc, side, exploration)?)
+    Ok(listed(alloc, sides, exploration)?)
 }
 
 /// `answers --differences`: what two sides aren't known to answer alike.

@@ -169,7 +169,7 @@ fn reply_to(alloc: Global, command: &Command, sides: SidesInput) -> Result<Reply
             if *has_differences {
                 list_differences(alloc, &sides, exploration)
             } else {
-                list_answers(alloc, &sides.left, exploration)
+                list_answers(alloc, &sides, exploration)
             }
         }
         Command::Ask(call) => ask_profile(&sides.left, call),

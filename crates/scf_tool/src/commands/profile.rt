@@ -38,10 +38,6 @@ pub(super) fn ask_profile(side: &SideInput, call: &CallRecord) -> Result<Reply, 
     ensures { Replies None (GivesReason call.now side.now) result }
 {
     match side {
-        SideInput::Profile(loaded) => Ok(Reply::Asked {
-            answer: loaded.profile.answer(call),
-            reason: loaded.profile.reason(call),
-        }),
         SideInput::Profiles(loaded) => Ok(Reply::Asked {
             answer: loaded.profiles.answer(call),
             reason: loaded.profiles.reason(call),

@@ -14,9 +14,10 @@ returns c =
     let tables = map named_of sides.tables.items in
     let findings = c.in_ok-findings.findings.items in
     let found = rw (c.limit_of-limit.ensures, c.deref.ensures.value) at c.in_ok-findings.ensures in
-    let at_once = found_at_once c.args.comparison c.args.scope c.side.result sides.right tables
+    let at_once = found_at_once c.args.comparison c.args.scope c.side.result sides.of_each sides.right tables
     c.in_ok-pairings.pairings.items findings c.in_ok-pairings.ensures found in
     rw (c.joint_finding.ensures, c.deref-2.ensures.value)
     (of_side
-    (λ (left : Behavior). AreFindings c.args.comparison (AtOnce c.args.scope) left sides.right tables (Findings.AtOnce (joint_finding findings)))
+    (λ (left : Behavior). AreFindings c.args.comparison (AtOnce c.args.scope) sides.of_each left sides.right tables
+    (Findings.AtOnce (joint_finding findings)))
     sides.left c.side.result c.side.ensures at_once)

@@ -16,6 +16,6 @@ returns-in_ok-calls-in-EachCall c =
     let counted = sides.tables.ok.0 in
     let is_one = rw c.len.ensures at c.if-len-ne1.false in
     let one : length sides.tables.items ≡ 1 = omega (arith, counted, is_one) in
-    rw c.in-EachCall.is (of_only (λ (tables : Tables). AreFindings c.args.comparison EachCall (behavior_of_input sides.left)
-    sides.right tables (Findings.EachCall c.in_ok-calls-in-EachCall.calls))
+    rw c.in-EachCall.is (of_only (λ (tables : Tables). AreFindings c.args.comparison EachCall sides.of_each
+    (behavior_of_input sides.left) sides.right tables (Findings.EachCall c.in_ok-calls-in-EachCall.calls))
     sides.tables.items c.index.result.now one c.index.ensures c.in_ok-calls-in-EachCall.ensures)
