@@ -63,7 +63,7 @@ use Rattle.scf_request.specs.declared.bundle.BundleForm.{BundleForm}
 use Rattle.scf_request.specs.declared.bundle.BundleForm.TheVariants as forms
 use Rattle.scf_request.specs.Interpretations.{Interpretation, LoadsEachBy, interpretation_of, stubs_of}
 pub use Rattle.scf_tool.specs.FilterStacks.{NoReadFailed}
-use Rattle.scf_tool.specs.Inputs.{AreRead, AreRefused, Inputs, SideBytes, SpellsTable, behavior_of_input, left_out_of_input, named_of, profiles_of}
+use Rattle.scf_tool.specs.Inputs.{AreRead, AreRefused, Inputs, SideBytes, SpellsTable, behavior_of_input, left_out_of_each, left_out_of_input, named_of}
 use Rattle.scf_tool.specs.Inputs.SideBytes.{OfFilters, OfProfile}
 use Rattle.scf_tool.specs.JointFindings.{AreFindings}
 use Rattle.scf_tool.specs.Lines.{decision_text, traced_text}
@@ -122,20 +122,15 @@ abbrev pub is_of_each : BundleForm → Bool
 is_of_each forms.Architectures = true
 is_of_each form = false
 
--- whether it has filters beside others
-abbrev pub is_beside : BundleForm → Bool
-is_beside (forms.Beside has_table) = true
-is_beside form = false
-
 -- whether a command takes two sides, whose texts are limited
 abbrev pub takes_sides : Takes → Bool
 takes_sides takes.Sides = true
 takes_sides takes = false
 
--- one table, or one or more, by whether there has to be just one
-abbrev pub IsTableCount : Bool → ℕ → Type 0
-IsTableCount true count = count ≡ 1
-IsTableCount false count = 1 ≤ count
+-- With a profile there are one or more tables; just one where it is for x86-64 alone, and call by call.
+abbrev pub IsTableCount : BundleForm → Scopes → ℕ → Type 0
+IsTableCount forms.Architectures (AtOnce scope) count = 1 ≤ count
+IsTableCount form over count = count ≡ 1
 
 -- at most one table of an architecture, and no stub without it
 abbrev pub ArePartsOfOne : List (Architecture × List ℕ) → List (Architecture × List ℕ) → Architecture → Type 0
@@ -143,29 +138,22 @@ ArePartsOfOne tables stubs architecture =
     (length (texts_for architecture tables) ≤ 1)
     × (length (texts_for architecture stubs) ≤ length (texts_for architecture tables))
 
--- so many tables, each with a part for its stub or without one
-pub record HasTables (only_one : Bool) (held : Held) : Type 0 where
-  pub table_count : IsTableCount only_one (length held.tables)
-  pub each_once : All (ArePartsOfOne held.tables held.stubs) architectures
-
 -- each list of counts of calls, by name, is written as a table is
 abbrev pub AreCounts : List (Architecture × List ℕ) → Type 0
 AreCounts texts = (counts : Tables) × AllZip SpellsTable texts counts
 
--- tables with a profile, else none
-abbrev pub HasTablesWith : List (List ℕ) → Bool → Held → Type 0
-HasTablesWith [] only_one held = (held.tables ≡ []) × (held.stubs ≡ []) × (held.counts ≡ [])
-HasTablesWith (profile ∷ profiles) only_one held = HasTables only_one held
+-- tables with a profile, each with a part for its stub or without one; else none
+abbrev pub HasTables : List (List ℕ) → BundleForm → Scopes → Held → Type 0
+HasTables [] form over held = (held.tables ≡ []) × (held.stubs ≡ []) × (held.counts ≡ [])
+HasTables (profile ∷ profiles) form over held =
+    IsTableCount form over (length held.tables) × All (ArePartsOfOne held.tables held.stubs) architectures
 
--- Of filters beside others: no input at all isn't two empty stacks, and call by call there is one table.
-abbrev pub HasTablesBeside : Scopes → Held → Type 0
-HasTablesBeside (AtOnce scope) held = 1 ≤ length held.filters + length held.beside
-HasTablesBeside EachCall held = length held.tables ≡ 1
-
--- whether just one table is taken: with a profile for x86-64 alone, and call by call
-abbrev pub is_one_table : BundleForm → Scopes → Bool
-is_one_table forms.Architectures (AtOnce scope) = false
-is_one_table form over = true
+-- The tables that a command takes. Of filters beside others: no input at all isn't two empty stacks, and call by call
+-- there is one table.
+abbrev pub TakesTables : BundleForm → Scopes → Held → Type 0
+TakesTables (forms.Beside has_table) (AtOnce scope) held = 1 ≤ length held.filters + length held.beside
+TakesTables (forms.Beside has_table) EachCall held = length held.tables ≡ 1
+TakesTables form over held = HasTables held.profiles form over held
 
 -- the sides that filters, profiles and profiles beside the first are, if a command takes them
 abbrev pub sides_among : Takes → List (List ℕ) → List (List ℕ) → List (List ℕ) → Option (SideBytes × SideBytes)
@@ -177,21 +165,16 @@ sides_among takes.Sides (oldest ∷ newer) (profile ∷ []) [] = Some (OfFilters
 sides_among takes.Sides [] (profile ∷ []) (beside ∷ []) = Some (OfProfile profile, OfProfile beside)
 sides_among takes filters profiles beside = None
 
--- the tables that a command takes, by whether the form has filters beside others
-abbrev pub TakesTables : Bool → Shape → Held → Type 0
-TakesTables true shape held = HasTablesBeside shape.over held
-TakesTables false shape held = HasTablesWith held.profiles (is_one_table shape.form shape.over) held
-
--- the sides, likewise
-abbrev pub sides_of : Bool → Shape → Held → Option (SideBytes × SideBytes)
-sides_of true shape held = Some (OfFilters held.filters, OfFilters held.beside)
-sides_of false shape held = sides_among shape.takes held.filters held.profiles held.beside_profiles
+-- those of a bundle of a form
+abbrev pub sides_of : BundleForm → Takes → Held → Option (SideBytes × SideBytes)
+sides_of (forms.Beside has_table) takes held = Some (OfFilters held.filters, OfFilters held.beside)
+sides_of form takes held = sides_among takes held.filters held.profiles held.beside_profiles
 
 -- What a command takes of a bundle: two sides and tables, each of the stubs' parts has the number of one, and those of
 -- counts have counts. The reading and the stubs are how a profile is read.
 pub record AreInputs (shape : Shape) (reading : Reading) (held : Held) (inputs : Inputs) : Type 0 where
-  pub are_sides : sides_of (is_beside shape.form) shape held ≡ Some (inputs.left, inputs.right)
-  pub takes_tables : TakesTables (is_beside shape.form) shape held
+  pub are_sides : sides_of shape.form shape.takes held ≡ Some (inputs.left, inputs.right)
+  pub takes_tables : TakesTables shape.form shape.over held
   pub are_stubs : length (stubs_of held.stubs) ≡ length held.stubs
   pub are_counts : AreCounts held.counts
   pub tables : inputs.tables ≡ held.tables
@@ -252,23 +235,14 @@ ShowsRuns stack words text = (runs : List (ℕ × List ℕ))
 
 -- The reply on a stack: of `decide` its answer to the call; of `decide --at` also the instruction that gives it; of
 -- `decide --path` also the run of each filter with the instructions on its path.
-abbrev pub IsReplyOnStack : CallRecord → Detail → List (List Insn) → Reply → Type 0
-IsReplyOnStack call details.Answer stack (Decided answer) = StackAnswers stack (words_of call) answer.0
-IsReplyOnStack call details.Instruction stack (DecidedBy decision) =
+abbrev pub Decides : CallRecord → Detail → SideInput → Reply → Type 0
+Decides call details.Answer (Stack stack) (Decided answer) = StackAnswers stack (words_of call) answer.0
+Decides call details.Instruction (Stack stack) (DecidedBy decision) =
     IsDecidedBy stack (words_of call) decision.by decision.answer.0
-IsReplyOnStack call details.Paths stack (Bytes bytes) = (decision : Decision) × (runs : List ℕ)
+Decides call details.Paths (Stack stack) (Bytes bytes) = (decision : Decision) × (runs : List ℕ)
     × IsDecidedBy stack (words_of call) decision.by decision.answer.0 × ShowsRuns stack (words_of call) runs
     × (bytes.items ≡ decision_text decision.by decision.answer.0 ++ runs)
-IsReplyOnStack call detail stack reply = ⊥
-
--- that on a side
-abbrev pub Decides : CallRecord → Detail → SideInput → Reply → Type 0
-Decides call detail (Stack stack) reply = IsReplyOnStack call detail stack reply
 Decides call detail side reply = ⊥
-
--- The text is that of which this holds, behind a front.
-abbrev pub IsBehind : List ℕ → (List ℕ → Type 0) → List ℕ → Type 0
-IsBehind front Holds text = (behind : List ℕ) × Holds behind × (text ≡ front ++ behind)
 
 -- the bytes of an accepted filter that answers every call record as the profiles do
 abbrev pub IsFilterOfEach : List StatedProfile → List ℕ → Type 0
@@ -277,14 +251,14 @@ IsFilterOfEach profiles bytes =
 
 -- `compile`: the filter of the profiles, and in front of it what is left out of them, if it is asked for
 abbrev pub IsCompiled : Bool → SideInput → Reply → Type 0
-IsCompiled has_left_out side (Bytes bytes) = (left_out : LeftOut) × (left_out_of_input side ≡ Some left_out)
-    × IsBehind (left_out_front has_left_out left_out) (IsFilterOfEach (profiles_of side)) bytes.items
+IsCompiled has_left_out (Profiles loaded) (Bytes bytes) = (filter : List ℕ) × IsFilterOfEach loaded.profiles filter
+    × (bytes.items ≡ left_out_front has_left_out (left_out_of_each loaded) ++ filter)
 IsCompiled has_left_out side reply = ⊥
 
 -- or it would be too large, or memory runs out for it
 abbrev pub Compiles : Bool → SideInput → Result Reply Fault → Type 0
-Compiles has_left_out side (Err (faults.Compile compiles.TooLarge)) =
-    bpf_maxinsns < size_bound_of_each (profiles_of side)
+Compiles has_left_out (Profiles loaded) (Err (faults.Compile compiles.TooLarge)) =
+    bpf_maxinsns < size_bound_of_each loaded.profiles
 Compiles has_left_out side ending =
     Replies (memory_fault_of (commands.Compile has_left_out)) (IsCompiled has_left_out side) ending
 
@@ -343,19 +317,15 @@ scopes_of command = AtOnce AllRecords
 abbrev pub shape_of : BundleForm → Command → Shape
 shape_of form command = record { form = form; takes = takes_of form command; over = scopes_of command }
 
--- they are refused, or this is replied to them
-abbrev pub EndsOnInputs : Command → Inputs → Result Reply Fault → Type 0
-EndsOnInputs command inputs ending =
-    ((fault : Fault) × (ending ≡ Err fault) × IsRefused (scopes_of command) inputs fault)
-    ⊎ (GoesOver inputs.rules.of_each (scopes_of command) inputs.tables
-    × (sides : SidesInput) × AreRead inputs sides × RepliesTo command sides ending)
-
 -- What a command on a bundle ends with: it has no inputs, or they are refused, or this is replied to them.
 abbrev pub EndsOnBundle : Reading → BundleForm → Command → List ℕ → Result Reply Fault → Type 0
 EndsOnBundle reading form command bytes ending =
     ((fault : Fault) × (ending ≡ Err fault) × HasNoInputs (shape_of form command) reading bytes fault)
     ⊎ ((held : Held) × IsBundle form bytes held
-    × (inputs : Inputs) × AreInputs (shape_of form command) reading held inputs × EndsOnInputs command inputs ending)
+    × (inputs : Inputs) × AreInputs (shape_of form command) reading held inputs
+    × (((fault : Fault) × (ending ≡ Err fault) × IsRefused (scopes_of command) inputs fault)
+    ⊎ (GoesOver inputs.rules.of_each (scopes_of command) inputs.tables
+    × (sides : SidesInput) × AreRead inputs sides × RepliesTo command sides ending)))
 
 -- by whether all of the input is a text or a bundle
 abbrev pub EndsOnBytes : Reading → BundleForm → Command → List ℕ → Result Reply Fault → Type 0
@@ -370,10 +340,6 @@ IsTrueOf reading form (commands.Run call has_path) input = EndsOnFilter (command
 IsTrueOf reading form command input = λ ending.
     ((fault : InputFault) × (ending ≡ Err (faults.Input fault)) × ReadsInput input (Err fault))
     ⊎ ((bytes : List ℕ) × ReadsInput input (Ok bytes) × EndsOnBytes reading form command bytes ending)
-
--- so is what a request ends with
-abbrev pub IsTrueReply : Request → Option (List ℕ) → Result Reply Fault → Type 0
-IsTrueReply request = IsTrueOf request.reading request.form request.command
 
 -- ---- tables and a profile of any length
 

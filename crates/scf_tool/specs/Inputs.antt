@@ -7,10 +7,10 @@ use Rattle.scf_insn.specs.declared.input.InputFault.TheVariants.{TooLong}
 use Rattle.scf_insn.specs.declared.insn.Insn.{Insn}
 use Rattle.scf_profile.specs.Limits.{max_text_len}
 use Rattle.scf_profile.specs.Loading.{RefusesEachAs, fault_of_only}
-use Rattle.scf_profile.specs.Profile.{Profile as StatedProfile}
 use Rattle.scf_profile.specs.StatedProfile.{Tables}
 use Rattle.scf_profile.specs.Table.{Names, table_of}
 use Rattle.scf_profile.specs.declared.load_fault.LoadFault.{LoadFault}
+use Rattle.scf_profile.specs.declared.loaded.LoadedProfiles.{LoadedProfiles}
 use Rattle.scf_profile.specs.declared.table_fault.TableFault.TheVariants as tables
 use Rattle.scf_compare.specs.declared.side.Side.{Side}
 use Rattle.scf_compare.specs.declared.side.Side.TheVariants as sides
@@ -134,11 +134,6 @@ pub data AreRefused (inputs : Inputs) : Bool → VerifyFault → Type 0 where
 
 -- ---- what sides that are read answer
 
--- the profiles of a side
-abbrev pub profiles_of : SideInput → List StatedProfile
-profiles_of (Stack stack) = []
-profiles_of (Profiles loaded) = loaded.profiles
-
 abbrev pub behavior_of_input : SideInput → Behavior
 behavior_of_input (Stack stack) = stack_behavior stack
 behavior_of_input (Profiles loaded) = profiles_behavior loaded.profiles
@@ -149,8 +144,11 @@ IsSideOf (Stack stack) (sides.Stack filters) = filters.now ≡ stack
 IsSideOf (Profiles loaded) (sides.Profiles profiles) = profiles.now ≡ loaded.profiles
 IsSideOf input side = ⊥
 
+-- what was left out of a profile
+abbrev pub left_out_of_each : LoadedProfiles → LeftOut
+left_out_of_each loaded = record { skipped = loaded.skipped; other_architectures = loaded.other_architectures }
+
 -- what was left out of the profile of a side, if it is one
 abbrev pub left_out_of_input : SideInput → Option LeftOut
 left_out_of_input (Stack stack) = None
-left_out_of_input (Profiles loaded) =
-    Some (record { skipped = loaded.skipped; other_architectures = loaded.other_architectures })
+left_out_of_input (Profiles loaded) = Some (left_out_of_each loaded)

@@ -13,7 +13,7 @@ use Rattle.scf_tool.specs.declared.reply.Reply.{Reply}
 use Rattle.scf_tool.specs.declared.reply.Reply.TheVariants as replies
 use Rattle.scf_tool.specs.declared.status.Status.{Status}
 use Rattle.scf_tool.specs.declared.status.Status.TheVariants.{Success, CommandLine}
-use Rattle.scf_tool.specs.Commands.{IsTrueReply}
+use Rattle.scf_tool.specs.Commands.{IsTrueOf}
 use Rattle.scf_tool.specs.Replies.{printed}
 use Rattle.scf_tool.specs.Statuses.{LeavesInput, status_code}
 
@@ -40,7 +40,7 @@ pub record IsAnswered {R : Type 0} (words : List Text) (remaining : R → Option
   pub taken : fault_of scf words ≡ []
   pub request : Request
   pub asked : AsksFor (subcommand_of scf words) (Ok request)
-  pub answered : IsTrueReply request (remaining old) ending
+  pub answered : IsTrueOf request.reading request.form request.command (remaining old) ending
   pub input : LeavesInput request.command remaining failures old ending new
 
 -- How a run ends: it speaks of its words, before it reads any input, or answers what they ask for.

@@ -1,7 +1,7 @@
 //! The program's commands.
 
 ghost use Rattle.std.specs.Prelude.{◌≡◌, map, Ok, Err, IfErr, IfOk, OnOk};
-ghost use Rattle.scf_tool.specs.Commands.{EndsOnBytes, IsTrueReply, ReadsInput};
+ghost use Rattle.scf_tool.specs.Commands.{EndsOnBytes, IsTrueOf, ReadsInput};
 ghost use Rattle.scf_tool.specs.Runs.{Ends, IsRunOfProgram};
 ghost use Rattle.scf_tool.specs.Statuses.{LeavesInput};
 ghost use Rattle.scf_tool.specs.Verifying.{HasEnded, HasFailedWhere};
@@ -52,7 +52,7 @@ fn answer_bytes(alloc: Global, request: &Request, bytes: &[u8]) -> Result<Reply,
 
 /// Runs a request on standard input, of which the commands on one filter read no more than that.
 fn answer<R: Source>(alloc: Global, request: &Request, input: &mut R) -> Result<Reply, Fault>
-    ensures answer { IsTrueReply request.now (R.remaining input.old) result }
+    ensures answer { IsTrueOf request.now.reading request.now.form request.now.command (R.remaining input.old) result }
     ensures input { LeavesInput request.now.command R.remaining R.failures input.old result input.new }
 {
     match &request.command {

@@ -3,7 +3,6 @@
 ghost use Rattle.std.specs.Prelude.{◌≡◌, ◌<◌, ◌++◌, IfErr, IfOk};
 ghost use Rattle.scf_compile.specs.SizeBound.{size_bound_of_each};
 ghost use Rattle.scf_insn.specs.Kernel.{bpf_maxinsns};
-ghost use Rattle.scf_profile.specs.Profile.{AreOfApart};
 ghost use Rattle.scf_tool.specs.Commands.{IsFilterOfEach};
 ghost use Rattle.scf_tool.specs.Reports.{left_out_front};
 
@@ -11,26 +10,11 @@ use crate::buffer::encoding_of;
 use crate::left_out::{LeftOut, LeftOutFront};
 use scf_compile::{CallCount, CompileFault, compile_by_counts};
 use scf_insn::Memory;
-use scf_profile::{Profile, Profiles};
+use scf_profile::Profiles;
 use std::alloc::Global;
 
 /// The bytes of the filter that answers as the profiles of several architectures do. The errors are those of
 /// `compile_by_counts`.
-pub(crate) fn filter_of(
-    alloc: Global,
-    profiles: &[Profile],
-    counts: &[CallCount],
-) -> Result<Vec<u8>, CompileFault>
-    requires { AreOfApart profiles.now }
-    ensures filter { IfOk result (λ bytes. IsFilterOfEach profiles.now bytes.items) }
-    ensures large { IfErr result
-        (λ fault. fault ≡ CompileFault.TooLarge → bpf_maxinsns < size_bound_of_each profiles.now) }
-{
-    let program = compile_by_counts(alloc, profiles, counts)?;
-    Ok(encoding_of(alloc, program.insns())?)
-}
-
-/// The same of profiles that are loaded together.
 pub fn filter_of_each(
     alloc: Global,
     profiles: &Profiles,
@@ -40,7 +24,8 @@ pub fn filter_of_each(
     ensures large { IfErr result
         (λ fault. fault ≡ CompileFault.TooLarge → bpf_maxinsns < size_bound_of_each profiles.now) }
 {
-    filter_of(alloc, profiles.as_slice(), counts)
+    let program = compile_by_counts(alloc, profiles.as_slice(), counts)?;
+    Ok(encoding_of(alloc, program.insns())?)
 }
 
 /// The bytes of a filter behind what was left out of its profile, if that is asked for.

@@ -1,6 +1,6 @@
 //! The inputs of a command: what it takes from a bundle.
 
-ghost use Rattle.std.specs.Prelude.{◌≡◌, ◌≢◌, ◌↔◌, ◌∷◌, [], All, Some, length, map, option_map, true, IfOk, IfErr, IsTrue, MatchOption};
+ghost use Rattle.std.specs.Prelude.{◌≡◌, ◌<◌, ◌↔◌, ◌∷◌, [], All, Some, length, map, option_map, true, IfOk, IfErr, IsTrue, MatchOption};
 ghost use Rattle.scf_insn.specs.Architectures.{architectures, row_of};
 ghost use Rattle.scf_profile.specs.StatedProfile.{is_named};
 ghost use Rattle.scf_request.specs.Bundle.{Held, IsBundle};
@@ -11,11 +11,8 @@ ghost use Rattle.scf_tool.specs.Commands.{
   ArePartsOfOne,
   HasNoInputs,
   HasTables,
-  HasTablesBeside,
-  HasTablesWith,
   IsTableCount,
   TakesTables,
-  sides_among,
 };
 ghost use Rattle.scf_tool.specs.Inputs as spec_inputs;
 ghost use Rattle.scf_tool.specs.internal.Sides.{inputs_of, side_bytes, sides_bytes};
@@ -113,148 +110,62 @@ fn are_distinct(
     true
 }
 
-/// Whether there are as many tables as a command takes: just one, or one or more.
-fn is_table_count(count: usize, only_one: bool) -> bool
-    ensures { IsTrue result ↔ IsTableCount only_one count }
+/// Whether there are as many tables as a command takes with a profile: one or more, or just one for x86-64 alone, and
+/// call by call.
+fn is_table_count(form: BundleForm, over: Scopes, count: usize) -> bool
+    ensures { IsTrue result ↔ IsTableCount form over count }
 {
-    if only_one { count == 1 } else { count >= 1 }
+    match (form, over) {
+        (BundleForm::Architectures, Scopes::AtOnce(_)) => count >= 1,
+        _ => count == 1,
+    }
 }
 
-/// Whether a bundle holds so many tables, no two of one architecture, each with a stub or without one, whatever text
-/// that has.
-fn has_tables(contents: &Contents<'_>, only_one: bool) -> bool
-    ensures { IsTrue result ↔ HasTables only_one (held_by contents.now) }
+/// Whether there are the tables that go with a profile, no two of one architecture, each with a stub or without one,
+/// whatever text that has.
+fn are_tables(form: BundleForm, over: Scopes, contents: &Contents<'_>) -> bool
+    ensures { IsTrue result ↔ (IsTableCount form over (length (map rest_of_table contents.now.tables.items))
+        × All (ArePartsOfOne (map rest_of_table contents.now.tables.items)
+        (map rest_of_table contents.now.stubs.items)) architectures) }
 {
-    is_table_count(contents.tables.len(), only_one)
+    is_table_count(form, over, contents.tables.len())
         && are_distinct(&contents.tables, &contents.stubs)
 }
 
-/// The only reader, if there is exactly one.
-fn only(mut readers: Vec<PartReader<'_>>) -> Option<PartReader<'_>>
-    ensures { MatchOption result (length readers.entry.items ≢ 1) (λ one. readers.entry.items ≡ one ∷ []) }
-{
-    if readers.len() == 1 {
-        readers.pop()
-    } else {
-        None
-    }
-}
-
-/// Whether no part is of an architecture.
-fn has_no_tables(contents: &Contents<'_>) -> bool
-    ensures { IsTrue result ↔ HasTablesWith [] true (held_by contents.now) }
-{
-    contents.tables.is_empty() && contents.stubs.is_empty() && contents.counts.is_empty()
-}
-
-/// Whether just one table is taken.
-fn is_one_table(form: BundleForm, over: Scopes) -> bool
-    ensures { result ≡ spec.is_one_table form over }
-{
-    match form {
-        BundleForm::Architectures => matches!(over, Scopes::EachCall),
-        BundleForm::Profile | BundleForm::Beside { .. } => true,
-    }
-}
-
-fn is_of_each(form: BundleForm) -> bool
-    ensures { result ≡ spec.is_of_each form }
-{
-    matches!(form, BundleForm::Architectures)
-}
-
-fn is_beside(form: BundleForm) -> bool
-    ensures { result ≡ spec.is_beside form }
-{
-    matches!(form, BundleForm::Beside { .. })
-}
-
-fn takes_sides(takes: Takes) -> bool
-    ensures { result ≡ spec.takes_sides takes }
-{
-    matches!(takes, Takes::Sides)
-}
-
-/// Whether filters and others beside them have the tables that a comparison takes.
-fn has_tables_beside(over: Scopes, contents: &Contents<'_>) -> bool
-    ensures { IsTrue result ↔ HasTablesBeside over (held_by contents.now) }
-{
-    match over {
-        Scopes::EachCall => contents.tables.len() == 1,
-        Scopes::AtOnce(_) => !contents.filters.is_empty() || !contents.beside.is_empty(),
-    }
-}
-
 /// Whether there are the tables that go with a profile, or none without one.
-fn has_tables_with(only_one: bool, contents: &Contents<'_>) -> bool
-    ensures { IsTrue result ↔ HasTablesWith (map rest_of contents.now.profiles.items) only_one (held_by contents.now) }
+fn has_tables(form: BundleForm, over: Scopes, contents: &Contents<'_>) -> bool
+    ensures { IsTrue result ↔ HasTables (map rest_of contents.now.profiles.items) form over (held_by contents.now) }
 {
     if contents.profiles.is_empty() {
-        has_no_tables(contents)
+        contents.tables.is_empty() && contents.stubs.is_empty() && contents.counts.is_empty()
     } else {
-        has_tables(contents, only_one)
+        are_tables(form, over, contents)
     }
 }
 
-/// Whether there are the tables that a command takes.
-fn takes_tables(shape: Shape, contents: &Contents<'_>) -> bool
-    ensures { IsTrue result ↔ TakesTables (spec.is_beside shape.form) shape (held_by contents.now) }
+/// Whether there are the tables that a command takes. Of filters beside others it takes one call by call, and else not
+/// two empty stacks.
+fn takes_tables(form: BundleForm, over: Scopes, contents: &Contents<'_>) -> bool
+    ensures { IsTrue result ↔ TakesTables form over (held_by contents.now) }
 {
-    if is_beside(shape.form) {
-        has_tables_beside(shape.over, contents)
-    } else {
-        has_tables_with(is_one_table(shape.form, shape.over), contents)
-    }
-}
-
-/// Filters and a profile, or a profile and one beside it.
-fn two_sides<'a>(
-    filters: Vec<PartReader<'a>>,
-    profile: PartReader<'a>,
-    beside: Vec<PartReader<'a>>,
-) -> Option<(SideParts<'a>, SideParts<'a>)>
-    ensures { option_map sides_bytes result
-        ≡ sides_among Takes.Sides (map rest_of filters.entry.items) (rest_of profile.entry ∷ [])
-        (map rest_of beside.entry.items) }
-{
-    if beside.is_empty() {
-        if filters.is_empty() {
-            return None;
+    match (form, over) {
+        (BundleForm::Beside { .. }, Scopes::AtOnce(_)) => {
+            !contents.filters.is_empty() || !contents.beside.is_empty()
         }
-        return Some((SideParts::Filters(filters), SideParts::Profile(profile)));
-    }
-    if !filters.is_empty() {
-        return None;
-    }
-    match only(beside) {
-        Some(beside) => Some((SideParts::Profile(profile), SideParts::Profile(beside))),
-        None => None,
+        (BundleForm::Beside { .. }, Scopes::EachCall) => contents.tables.len() == 1,
+        _ => has_tables(form, over, contents),
     }
 }
 
-/// The sides that a profile is, with filters and profiles beside it, if a command takes them.
-fn sides_with<'a>(
-    alloc: Global,
-    takes: Takes,
-    filters: Vec<PartReader<'a>>,
-    profile: PartReader<'a>,
-    beside: Vec<PartReader<'a>>,
-) -> Option<(SideParts<'a>, SideParts<'a>)>
-    ensures { option_map sides_bytes result
-        ≡ sides_among takes (map rest_of filters.entry.items) (rest_of profile.entry ∷ [])
-        (map rest_of beside.entry.items) }
+/// The only reader, if there is one. None if there are more.
+fn at_most_one(mut readers: Vec<PartReader<'_>>) -> Option<Option<PartReader<'_>>>
+    ensures { MatchOption result (1 < length readers.entry.items)
+        (λ only. MatchOption only (readers.entry.items ≡ []) (λ one. readers.entry.items ≡ one ∷ [])) }
 {
-    match takes {
-        Takes::Filters => None,
-        Takes::Profile | Takes::Either => {
-            if filters.is_empty() && beside.is_empty() {
-                let none = SideParts::Filters(Vec::new(alloc));
-                Some((SideParts::Profile(profile), none))
-            } else {
-                None
-            }
-        }
-        Takes::Sides => two_sides(filters, profile, beside),
+    match readers.len() {
+        0 => Some(None),
+        1 => Some(readers.pop()),
+        _ => None,
     }
 }
 
@@ -270,18 +181,27 @@ fn sides_among<'a>(
         ≡ spec.sides_among takes (map rest_of filters.entry.items) (map rest_of profiles.entry.items)
         (map rest_of beside.entry.items) }
 {
-    if profiles.is_empty() && beside.is_empty() {
-        return match takes {
-            Takes::Filters | Takes::Either => {
-                let none = SideParts::Filters(Vec::new(alloc));
-                Some((SideParts::Filters(filters), none))
-            }
-            Takes::Profile | Takes::Sides => None,
-        };
-    }
-    match only(profiles) {
-        Some(profile) => sides_with(alloc, takes, filters, profile, beside),
-        None => None,
+    let none = SideParts::Filters(Vec::new(alloc));
+    let has_filters = !filters.is_empty();
+    match (
+        takes,
+        has_filters,
+        at_most_one(profiles)?,
+        at_most_one(beside)?,
+    ) {
+        (Takes::Filters | Takes::Either, _, None, None) => {
+            Some((SideParts::Filters(filters), none))
+        }
+        (Takes::Profile | Takes::Either, false, Some(profile), None) => {
+            Some((SideParts::Profile(profile), none))
+        }
+        (Takes::Sides, true, Some(profile), None) => {
+            Some((SideParts::Filters(filters), SideParts::Profile(profile)))
+        }
+        (Takes::Sides, false, Some(profile), Some(beside)) => {
+            Some((SideParts::Profile(profile), SideParts::Profile(beside)))
+        }
+        _ => None,
     }
 }
 
@@ -297,7 +217,7 @@ fn inputs_among<'a>(
         (λ inputs. AreInputs shape reading (held_by contents.entry) (inputs_of inputs))) }
     ensures fault { IfErr result (λ fault. fault ≡ BundleFault.Memory) }
 {
-    if !takes_tables(shape, &contents) {
+    if !takes_tables(shape.form, shape.over, &contents) {
         return Ok(None);
     }
     let by = Interpretation::of_parts(alloc, reading, &contents.stubs)?;
@@ -312,10 +232,11 @@ fn inputs_among<'a>(
     let beside = contents.beside;
     let beside_profiles = contents.beside_profiles;
     let tables = contents.tables;
-    let sides = if is_beside(shape.form) {
-        Some((SideParts::Filters(filters), SideParts::Filters(beside)))
-    } else {
-        sides_among(alloc, shape.takes, filters, profiles, beside_profiles)
+    let sides = match shape.form {
+        BundleForm::Beside { .. } => {
+            Some((SideParts::Filters(filters), SideParts::Filters(beside)))
+        }
+        _ => sides_among(alloc, shape.takes, filters, profiles, beside_profiles),
     };
     match sides {
         Some((left, right)) => Ok(Some(Inputs {
@@ -324,8 +245,8 @@ fn inputs_among<'a>(
             tables,
             rules: TextRules {
                 by,
-                of_each: is_of_each(shape.form),
-                is_limited: takes_sides(shape.takes),
+                of_each: matches!(shape.form, BundleForm::Architectures),
+                is_limited: matches!(shape.takes, Takes::Sides),
             },
             counts,
         })),

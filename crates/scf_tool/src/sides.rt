@@ -2,7 +2,6 @@
 
 ghost use Rattle.std.specs.Prelude.{◌≡◌, IfErr, IfOk, IfSome, map};
 ghost use Rattle.std.specs.List.{AllZip};
-ghost use Rattle.scf_profile.specs.Profile.{AreOfApart};
 ghost use Rattle.scf_request.specs.Contents.{rest_of_table};
 ghost use Rattle.scf_tool.specs.Inputs.{
   AreRead,
@@ -15,7 +14,6 @@ ghost use Rattle.scf_tool.specs.Inputs.{
   SpellsTable,
   left_out_of_input,
   named_of,
-  profiles_of,
 };
 ghost use Rattle.scf_tool.specs.Inputs as spec;
 ghost use Rattle.scf_tool.specs.internal.Sides.{IsOpen, inputs_of, side_bytes};
@@ -28,7 +26,7 @@ use crate::verify_fault::{SideFault, VerifyFault};
 use scf_compare::Side;
 use scf_insn::InputFault;
 use scf_machine::FilterStack;
-use scf_profile::{LoadedProfiles, Profile};
+use scf_profile::LoadedProfiles;
 use scf_request::PartReader;
 use std::alloc::Global;
 
@@ -67,17 +65,6 @@ impl SideInput {
         match self {
             SideInput::Stack(stack) => Side::Stack(stack.filters()),
             SideInput::Profiles(loaded) => Side::Profiles(loaded.profiles.as_slice()),
-        }
-    }
-
-    /// Its profiles.
-    pub(crate) fn profiles(&self) -> &[Profile]
-        ensures profiles { result.now ≡ profiles_of self.now }
-        ensures apart { AreOfApart result.now }
-    {
-        match self {
-            SideInput::Stack(_) => &[],
-            SideInput::Profiles(loaded) => loaded.profiles.as_slice(),
         }
     }
 

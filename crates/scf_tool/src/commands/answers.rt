@@ -1,6 +1,6 @@
 //! What sides answer to the records of a scope.
 
-ghost use Rattle.std.specs.Prelude.{IfOk, Some};
+ghost use Rattle.std.specs.Prelude.{Some};
 ghost use Rattle.scf_tool.specs.Commands.{Replies};
 ghost use Rattle.scf_tool.specs.Explorations.{ListsDiffering, ListsSide};
 ghost use Rattle.scf_tool.specs.Inputs.{behavior_of_input};
@@ -9,22 +9,10 @@ use crate::exploration::{Exploration, list_differing, list_each, list_side};
 use crate::fault::Fault;
 use crate::reply::Reply;
 use crate::sides::{SideInput, SidesInput};
-use scf_insn::Memory;
 use std::alloc::Global;
 
-/// Lists what the left side answers; profiles each to the records of its architecture, if they are several.
-fn listed(alloc: Global, sides: &SidesInput, exploration: Exploration) -> Result<Reply, Memory>
-    ensures { IfOk result (ListsSide sides.now.of_each exploration sides.now.left) }
-{
-    match &sides.left {
-        SideInput::Profiles(loaded) if sides.of_each => {
-            list_each(alloc, loaded.profiles.as_slice(), exploration)
-        }
-        side => list_side(alloc, side.side(), exploration),
-    }
-}
-
-/// `answers`: what filters or a profile answer to the records of a scope.
+/// `answers`: what filters or a profile answer to the records of a scope; profiles of several architectures each to
+/// those of its own.
 pub(super) fn list_answers(
     alloc: Global,
     sides: &SidesInput,
@@ -32,7 +20,12 @@ pub(super) fn list_answers(
 ) -> Result<Reply, Fault>
     ensures { Replies (Some Fault.Answers) (ListsSide sides.now.of_each exploration sides.now.left) result }
 {
-    Ok(listed(alloc, sides, exploration)?)
+    match &sides.left {
+        SideInput::Profiles(loaded) if sides.of_each => {
+            Ok(list_each(alloc, loaded.profiles.as_slice(), exploration)?)
+        }
+        side => Ok(list_side(alloc, side.side(), exploration)?),
+    }
 }
 
 /// `answers --differences`: what two sides aren't known to answer alike.

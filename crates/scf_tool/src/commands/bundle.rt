@@ -26,70 +26,29 @@ use scf_request::{
 };
 use std::alloc::Global;
 
-/// The sides that a command takes from a bundle of a form.
-fn takes_of(form: BundleForm, command: &Command) -> Takes
-    ensures { result ≡ spec.takes_of form command.now }
-{
-    match command {
-        Command::Answers {
-            has_differences,
-            ..
-        } => {
-            if *has_differences {
-                Takes::Sides
-            } else if matches!(form, BundleForm::Architectures) {
-                Takes::Profile
-            } else {
-                Takes::Either
-            }
-        }
-        Command::Compare(_) => Takes::Sides,
-        Command::Ask(_) | Command::Compile { .. } => Takes::Profile,
-        Command::Assemble
-        | Command::Check
-        | Command::Decide { .. }
-        | Command::List
-        | Command::Run { .. } => Takes::Filters,
-    }
-}
-
-/// Over which records it goes.
-fn scopes_of(command: &Command) -> Scopes
-    ensures { result ≡ spec.scopes_of command.now }
-{
-    match command {
-        Command::Answers { comparison, .. } => comparison.scopes,
-        Command::Compare(comparison) => comparison.scopes,
-        Command::Ask(_)
-        | Command::Assemble
-        | Command::Check
-        | Command::Compile { .. }
-        | Command::Decide { .. }
-        | Command::List
-        | Command::Run { .. } => Scopes::AtOnce(Scope::All),
-    }
-}
-
 /// What a request takes, and over which records it goes.
 fn shape_of(request: &Request) -> Shape
     ensures { result ≡ spec.shape_of request.now.form request.now.command }
 {
-    Shape {
-        form: request.form,
-        takes: takes_of(request.form, &request.command),
-        over: scopes_of(&request.command),
-    }
-}
-
-/// Whether a scope has a record under the tables of a command.
-fn has_record_under(of_each: bool, scope: Scope, tables: &[TableReader<PartReader<'_>>]) -> bool
-    ensures { IsTrue result ↔ GoesOver of_each (Scopes.AtOnce scope) (map rest_of_table tables.now) }
-{
-    if of_each {
-        has_record_among(tables, scope)
-    } else {
-        true
-    }
+    let form = request.form;
+    let (takes, over) = match request.command {
+        Command::Answers {
+            comparison,
+            has_differences,
+            ..
+        } => {
+            let takes = match (has_differences, form) {
+                (true, _) => Takes::Sides,
+                (false, BundleForm::Architectures) => Takes::Profile,
+                (false, _) => Takes::Either,
+            };
+            (takes, comparison.scopes)
+        }
+        Command::Compare(comparison) => (Takes::Sides, comparison.scopes),
+        Command::Ask(_) | Command::Compile { .. } => (Takes::Profile, Scopes::AtOnce(Scope::All)),
+        _ => (Takes::Filters, Scopes::AtOnce(Scope::All)),
+    };
+    Shape { form, takes, over }
 }
 
 /// Checks that the only table, if there is one, names a call. Returns the tables, if each of them is one. The error:
@@ -117,7 +76,6 @@ fn check_calls(
 
 /// Checks that a command goes over a record under its tables. Returns the tables, if they are read for this. The error:
 /// it goes over none, or out of memory.
-#[tactic(auto, using(crate::proofs::ScopeLemmas::none_under))]
 fn check_records(
     alloc: Global,
     of_each: bool,
@@ -133,7 +91,7 @@ fn check_records(
     match over {
         Scopes::EachCall => check_calls(alloc, tables),
         Scopes::AtOnce(scope) => {
-            if !has_record_under(of_each, scope, tables) {
+            if of_each && !has_record_among(tables, scope) {
                 return Err(Fault::Request(RequestFault::Range));
             }
             Ok(None)

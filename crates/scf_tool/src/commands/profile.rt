@@ -3,8 +3,9 @@
 ghost use Rattle.std.specs.Prelude.{None};
 ghost use Rattle.scf_tool.specs.Commands.{Compiles, GivesReason, Replies};
 
-use crate::compilation::{behind_left_out, filter_of};
+use crate::compilation::{behind_left_out, filter_of_each};
 use crate::fault::Fault;
+use crate::left_out::LeftOut;
 use crate::loading::call_counts;
 use crate::reply::Reply;
 use crate::sides::{SideInput, SidesInput};
@@ -20,16 +21,25 @@ pub(super) fn compile_profile(
 ) -> Result<Reply, Fault>
     ensures { Compiles has_left_out sides.left result }
 {
-    let calls = call_counts(alloc, &sides.tables, &sides.counts)?;
-    let filter = filter_of(alloc, sides.left.profiles(), &calls)?;
-    match sides.left.left_out() {
-        Some(left_out) => Ok(Reply::Bytes(behind_left_out(
-            alloc,
-            has_left_out,
-            &left_out,
-            filter,
-        )?)),
-        None => Err(Fault::Parts),
+    let SidesInput {
+        left,
+        right: _right,
+        of_each: _of_each,
+        tables,
+        counts,
+    } = sides;
+    let calls = call_counts(alloc, &tables, &counts)?;
+    match left {
+        SideInput::Profiles(loaded) => {
+            let filter = filter_of_each(alloc, &loaded.profiles, &calls)?;
+            let left_out = LeftOut {
+                skipped: loaded.skipped,
+                other_architectures: loaded.other_architectures,
+            };
+            let bytes = behind_left_out(alloc, has_left_out, &left_out, filter)?;
+            Ok(Reply::Bytes(bytes))
+        }
+        SideInput::Stack(_stack) => Err(Fault::Parts),
     }
 }
 
@@ -37,11 +47,11 @@ pub(super) fn compile_profile(
 pub(super) fn ask_profile(side: &SideInput, call: &CallRecord) -> Result<Reply, Fault>
     ensures { Replies None (GivesReason call.now side.now) result }
 {
-    match side {
-        SideInput::Profiles(loaded) => Ok(Reply::Asked {
-            answer: loaded.profiles.answer(call),
-            reason: loaded.profiles.reason(call),
-        }),
-        SideInput::Stack(_) => Err(Fault::Parts),
-    }
+    let SideInput::Profiles(loaded) = side else {
+        return Err(Fault::Parts);
+    };
+    Ok(Reply::Asked {
+        answer: loaded.profiles.answer(call),
+        reason: loaded.profiles.reason(call),
+    })
 }
