@@ -21,7 +21,8 @@ pub still_covered : (left right : Behavior) (allowed : List ℕ → Type 0) (lea
     (old new : List Region) → IsAdded allowed leaf is_whole old new
     → (words : List ℕ) → IsCovered left right old words → IsCovered left right new words
 still_covered left right allowed leaf is_whole old new (inl (same, none)) words covered = rw same covered
-still_covered left right allowed leaf is_whole old new (inr (region, is, more)) words covered = grind (arith, common_steps, Contains-append_left)
+still_covered left right allowed leaf is_whole old new (inr (region, is, more)) words covered =
+    grind (arith, common_steps, Contains-append_left)
 
 -- and what is allowed at the leaf is, where its answers are told
 pub now_covered : (left right : Behavior) (allowed : List ℕ → Type 0) (leaf : PairLeaf) (is_whole : Bool)

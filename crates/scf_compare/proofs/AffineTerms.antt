@@ -166,7 +166,8 @@ reduced_sum y b z f k a l d fits fits_b fits_f within among is =
 
 pub same_within : (low high n first last m : ℕ) → ((low ≤ n) × (n ≤ high) → (first ≤ m) × (m ≤ last))
     → ((first ≤ m) × (m ≤ last) → (low ≤ n) × (n ≤ high)) → is_within low high n ≡ is_within first last m
-same_within low high n first last m to from = grind (arith, cases_lt n low, cases_lt high n, cases_lt m first, cases_lt last m)
+same_within low high n first last m to from =
+    grind (arith, cases_lt n low, cases_lt high n, cases_lt m first, cases_lt last m)
 
 -- a number lies in a range where another doesn't lie in one
 pub beyond_within : (low high n first last m : ℕ) → ((low ≤ n) × (n ≤ high) → (first ≤ m) × (m ≤ last) → ⊥)

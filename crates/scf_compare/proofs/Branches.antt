@@ -312,7 +312,8 @@ pub known_step : {N E : Type 0} (leaves : Leaves E) (given : List ℕ → Type 0
     → IsStep leaves given here from there (Branch (Some atom) if_true if_false)
     → let next = if answer then if_true else if_false in
     IsLaterNode given here from there next × (there.size next + 1 ≤ here.size from)
-known_step leaves given here from there atom if_true if_false true known step = grind (arith, common_steps, step.leads, known, step.plain)
+known_step leaves given here from there atom if_true if_false true known step =
+    grind (arith, common_steps, step.leads, known, step.plain)
 known_step leaves given here from there atom if_true if_false false known step = (
   record {
     node = step.proper.2;

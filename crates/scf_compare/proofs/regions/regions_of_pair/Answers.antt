@@ -46,7 +46,8 @@ returns-in-AllSeen-clause-regions g c =
     }
 
 pub returns-in-AllSeen-clause-decided : goal.returns-in-AllSeen-clause-decided
-returns-in-AllSeen-clause-decided g c = grind (arith, common_steps, c.loop-steps.invariant.decided, c.in_ok-next.ensures.decided, exact_later)
+returns-in-AllSeen-clause-decided g c =
+    grind (arith, common_steps, c.loop-steps.invariant.decided, c.in_ok-next.ensures.decided, exact_later)
 
 pub loop-steps-preserved : goal.loop-steps-preserved
 loop-steps-preserved g c =

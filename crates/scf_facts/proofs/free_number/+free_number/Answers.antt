@@ -16,7 +16,8 @@ returns-in-Nothing-clause-found t c = λ x e.
 
 -- a number has the bit or lacks it
 pub returns-in-Nothing-clause-nothing : goal.returns-in-Nothing-clause-nothing
-returns-in-Nothing-clause-nothing t c = grind (arith, common_steps, c.in-Some.ensures.both, c.free_number-in-Nothing.ensures.nothing, c.in-Nothing.ensures.nothing, c.flipped.ensures.other)
+returns-in-Nothing-clause-nothing t c =
+    grind (arith, common_steps, c.in-Some.ensures.both, c.free_number-in-Nothing.ensures.nothing, c.in-Nothing.ensures.nothing, c.flipped.ensures.other)
 
 pub returns-then-tries-eq0-clause-ends : goal.returns-then-tries-eq0-clause-ends
 returns-then-tries-eq0-clause-ends t c = λ masks count all few.

@@ -7,13 +7,15 @@ pub returns-in-Equal-clause-decides : goal.returns-in-Equal-clause-decides
 returns-in-Equal-clause-decides c = grind (arith, common_steps, c.is_within.ensures.decides, one_value)
 
 pub returns-in-GreaterOrEqual-clause-decides : goal.returns-in-GreaterOrEqual-clause-decides
-returns-in-GreaterOrEqual-clause-decides c = grind (arith, common_steps, c.is_within-in-GreaterOrEqual.ensures.decides, quotient_fits, from_least)
+returns-in-GreaterOrEqual-clause-decides c =
+    grind (arith, common_steps, c.is_within-in-GreaterOrEqual.ensures.decides, quotient_fits, from_least)
 
 pub returns-in-Greater-clause-decides : goal.returns-in-Greater-clause-decides
 returns-in-Greater-clause-decides c = grind (arith, common_steps, quotient_fits, none_past)
 
 pub returns-in-Greater-2-clause-decides : goal.returns-in-Greater-2-clause-decides
-returns-in-Greater-2-clause-decides c = grind (arith, common_steps, c.is_within-in-Greater-2.ensures.decides, quotient_fits, past_least)
+returns-in-Greater-2-clause-decides c =
+    grind (arith, common_steps, c.is_within-in-Greater-2.ensures.decides, quotient_fits, past_least)
 
 pub returns-in-Some-clause-decides : goal.returns-in-Some-clause-decides
 returns-in-Some-clause-decides c = λ words is.
@@ -23,4 +25,5 @@ returns-in-Some-clause-decides c = λ words is.
     (c.is_within-in-Some.ensures.decides words is)))
 
 pub returns-in-None-clause-decides : goal.returns-in-None-clause-decides
-returns-in-None-clause-decides c = grind (arith, common_steps, c.is_high_mask.ensures, c.is_within-in-None.ensures.decides, quotient_fits, from_lowest_bit)
+returns-in-None-clause-decides c =
+    grind (arith, common_steps, c.is_high_mask.ensures, c.is_within-in-None.ensures.decides, quotient_fits, from_lowest_bit)

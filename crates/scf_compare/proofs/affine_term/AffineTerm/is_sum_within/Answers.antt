@@ -6,4 +6,5 @@ pub returns-then-first-last-clause-decides : goal.returns-then-first-last-clause
 returns-then-first-last-clause-decides c = grind (arith, common_steps, c.is_product_within.ensures.decides, sum_within)
 
 pub returns-else-first-last-clause-decides : goal.returns-else-first-last-clause-decides
-returns-else-first-last-clause-decides c = grind (arith, common_steps, c.negated.ensures.decides, c.is_product_within-else-first-last.ensures.decides, sum_beyond)
+returns-else-first-last-clause-decides c =
+    grind (arith, common_steps, c.negated.ensures.decides, c.is_product_within-else-first-last.ensures.decides, sum_beyond)

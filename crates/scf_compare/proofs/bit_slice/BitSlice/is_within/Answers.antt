@@ -49,4 +49,5 @@ returns-then-first-last-2-clause-decides c = λ words is.
     subst (λ b. Decides c.is.result words b) (sym same) (rw (mod-eq_of_lt fits) at (c.is.ensures.decides words))
 
 pub returns-then-last-most-clause-decides : goal.returns-then-last-most-clause-decides
-returns-then-last-most-clause-decides c = grind (arith, common_steps, c.is_above-then-last-most.ensures.decides, units, le-div_iff_mul-le, pow_pos, units_most, past_below, of_units)
+returns-then-last-most-clause-decides c =
+    grind (arith, common_steps, c.is_above-then-last-most.ensures.decides, units, le-div_iff_mul-le, pow_pos, units_most, past_below, of_units)

@@ -7,7 +7,9 @@ returns-in_ok-affine_term-in_default-Known-clause-number c =
     grind (arith, common_steps, IfSome_then, c.in_ok-affine_term-in_default-Known.ensures.number)
 
 pub returns-in_ok-affine_term-in-Known-default : goal.returns-in_ok-affine_term-in-Known-default
-returns-in_ok-affine_term-in-Known-default c = grind (arith, common_steps, c.in_ok-affine_term-in-Known-default.ensures.number)
+returns-in_ok-affine_term-in-Known-default c =
+    grind (arith, common_steps, c.in_ok-affine_term-in-Known-default.ensures.number)
 
 pub returns-in_ok-affine_term-in_default-2 : goal.returns-in_ok-affine_term-in_default-2
-returns-in_ok-affine_term-in_default-2 c = grind (arith, common_steps, c.in_ok-affine_term-in_default.ensures.number, c.in_ok-affine_term-in_default-2.ensures.number)
+returns-in_ok-affine_term-in_default-2 c =
+    grind (arith, common_steps, c.in_ok-affine_term-in_default.ensures.number, c.in_ok-affine_term-in_default-2.ensures.number)

@@ -14,7 +14,8 @@ both_answers : (facts : NumberFacts) (atom : Atom) (range : Interval) (answer : 
     → ((x : ℕ) → x < 2 ^ 32 → LiesIn range x ↔ (answer_at atom x ≡ answer))
     → SomeNumber facts (LiesIn range) → SomeNumber facts (λ x. LiesIn range x → ⊥)
     → SomeNumber facts (λ x. answer_at atom x ≡ true) × SomeNumber facts (λ x. answer_at atom x ≡ false)
-both_answers facts atom range true says (x, fits, allowed, lies) (y, also, too, beyond) = grind (arith, common_steps, says, beyond, is_false)
+both_answers facts atom range true says (x, fits, allowed, lies) (y, also, too, beyond) =
+    grind (arith, common_steps, says, beyond, is_false)
 both_answers facts atom range false says (x, fits, allowed, lies) (y, also, too, beyond) = (
   (y, also, too, is_true _ (λ is. beyond ((says y also).1 is))),
   (x, fits, allowed, (says x fits).0 lies),
