@@ -1,15 +1,12 @@
 -- Why filters in memory, which can be read, are refused.
-use Rattle.std.proofs.Common.{List, Ok, Err, Result, Some, arith}
+use Rattle.std.proofs.Common.{Ok, Err, Result, Some, arith}
 use Rattle.std.specs.Prelude.{IfErr}
 use Rattle.scf_request.specs.Contents.{rest_of}
 use Rattle.scf_request.specs.declared.contents.PartReader.{PartReader}
 use Rattle.scf_tool.specs.Verifying.{IsNoFilter, LeavesFilterReader}
 use Rattle.scf_tool.specs.declared.verify_fault.VerifyFault.{VerifyFault}
-use Rattle.scf_tool.specs.declared.verify_fault.VerifyFault.TheVariants.{FilterRead, Memory, ProfileRead, TableRead}
-use Rattle.scf_tool.specs.FilterStacks.{HasNoStack, NoReadFailed}
-use Rattle.scf_c.specs.Filters.{IsFilterRefused, IsStackRefused}
-use Rattle.scf_c.specs.Layout.{known_bytes}
-use Rattle.scf_c.specs.declared.layout.Bytes.{Bytes}
+use Rattle.scf_tool.specs.declared.verify_fault.VerifyFault.TheVariants.{FilterRead, ProfileRead, TableRead}
+use Rattle.scf_c.specs.Filters.{IsFilterRefused}
 
 pub refused_well : {T : Type 0} (old new : PartReader) (result : Result T VerifyFault)
     → IfErr result (IsNoFilter (Some (rest_of old)))
@@ -20,8 +17,3 @@ refused_well old new (Err (FilterRead fault)) refused left = (refused, λ is. ab
 refused_well old new (Err (TableRead fault)) refused left = absurd refused
 refused_well old new (Err (ProfileRead fault)) refused left = absurd refused
 refused_well old new (Err fault) refused left = (refused, tt)
-
-pub stack_refused : (filters : List Bytes) (fault : VerifyFault)
-    → NoReadFailed fault × HasNoStack (known_bytes filters) fault → IsStackRefused filters fault
-stack_refused filters Memory refused = tt
-stack_refused filters fault refused = (refused.1, refused.0)

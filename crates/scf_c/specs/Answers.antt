@@ -1,5 +1,5 @@
 -- The answers of a side, by regions of records, as numbers.
-use Rattle.std.specs.Prelude.{◌≡◌, ◌==◌, ◌⊎◌, ◌++◌, ℕ, Bool, true, false, List, [], ◌∷◌, Option, Some, None}
+use Rattle.std.specs.Prelude.{◌≡◌, ◌==◌, ◌⊎◌, ◌++◌, ◌≤◌, ℕ, Bool, true, false, List, [], ◌∷◌, Option, Some, None}
 use Rattle.std.specs.Prelude.{flat_map, is_some, length, map, slice_get, if◌then◌else◌}
 use Rattle.std.specs.Option.{option_map_or}
 use Rattle.scf_insn.specs.declared.answer.Answer.{Answer}
@@ -17,7 +17,6 @@ use Rattle.scf_tool.specs.declared.sides.SideInput.{SideInput as ReadSide}
 use Rattle.scf_tool.specs.declared.sides.SideInput.TheVariants.{Stack}
 use Rattle.scf_tool.specs.declared.verify_fault.VerifyFault.{VerifyFault}
 use Rattle.scf_tool.specs.declared.verify_fault.VerifyFault.TheVariants.{Memory}
-use Rattle.scf_profile.specs.declared.scope.Scope.{Scope}
 use Rattle.scf_c.specs.declared.answers.Listed.{Listed}
 use Rattle.scf_c.specs.declared.layout.Listing.{Listing}
 use Rattle.scf_c.specs.declared.layout.Question.{Question}
@@ -28,8 +27,8 @@ use Rattle.scf_c.specs.declared.layout.WordFact.{WordFact}
 use Rattle.scf_c.specs.declared.question.Asked.{Asked}
 use Rattle.scf_c.specs.Layout.{call_of, no_call}
 use Rattle.scf_c.specs.Profiles.{entry_of, nothing_left_out, reason_number}
-use Rattle.scf_c.specs.Records.{AreScopes, AreScopesRefused, AreSomeScopes}
-use Rattle.scf_c.specs.Sides.{ArePaired, IsRead, IsSideRefused, left_out_of_side, used_by}
+use Rattle.scf_c.specs.Records.{ArePaired, AreRecordsRefused, tables_in_scope}
+use Rattle.scf_c.specs.Sides.{IsRead, IsSideRefused, left_out_of_side}
 
 -- ---- as numbers
 
@@ -111,16 +110,15 @@ abbrev pub facts_handed : Option (List Regions) → List WordFact
 facts_handed None = []
 facts_handed (Some listed) = flat_map facts_of (all_regions listed)
 
--- A side is read, and walked beside none over the records that are asked for; this is handed out.
+-- A side is read, and walked beside a stack without filters over the records that are asked for; this is handed out.
 pub record IsListed (question : Question) (side : SideInput) (tables : List Table) (asked : Asked) (listed : Listed)
     : Type 0 where
   pub read : ReadSide
-  pub scopes : List Scope
   pub pairings : List Pairing
   pub walks : Option (List Regions)
   pub is_side : IsRead side asked.left tables read
-  pub are_scopes : AreSomeScopes asked.over (used_by read tables) scopes
-  pub are_paired : ArePaired read (Stack []) scopes pairings
+  pub are_paired : ArePaired asked.over read (Stack []) tables pairings
+  pub some : 1 ≤ length pairings
   pub lists : Explores pairings question.total_limit walks
   pub listing_is : listed.listing
       ≡ record { is_finished = bit_of (is_some walks); unused = 0; left_out = left_out_of_side read }
@@ -130,11 +128,14 @@ pub record IsListed (question : Question) (side : SideInput) (tables : List Tabl
 -- It is read, and there is no record: no table counts, or none of those that count has a syscall.
 pub record IsListedOverNone (side : SideInput) (tables : List Table) (asked : Asked) : Type 0 where
   pub read : ReadSide
+  pub pairings : List Pairing
   pub is_side : IsRead side asked.left tables read
-  pub no_records : AreScopes asked.over (used_by read tables) []
+  pub are_paired : ArePaired asked.over read (Stack []) tables pairings
+  pub none : length pairings ≡ 0
 
 -- Why it isn't: the first fault of the side or of a table, or out of memory, which may come at any time.
 abbrev pub IsListingRefused : SideInput → List Table → Asked → VerifyFault → Type 0
 IsListingRefused side tables asked why =
     (why ≡ Memory) ⊎ (IsSideRefused side asked.left tables why
-    ⊎ ((read : ReadSide) × IsRead side asked.left tables read × AreScopesRefused (used_by read tables) why))
+    ⊎ ((read : ReadSide) × IsRead side asked.left tables read
+    × AreRecordsRefused (tables_in_scope read (Stack []) tables) why))

@@ -1,6 +1,6 @@
 -- The syscall tables of architectures, and the stubs of their syscalls.
 use Rattle.std.specs.Prelude.{◌≡◌, ◌==◌, ◌≤◌, ◌+◌, ◌||◌, ℕ, Bool, false, List, ◌∷◌, All, Option, None, IsSome}
-use Rattle.std.specs.Prelude.{count_by, length, option_map, if◌then◌else◌}
+use Rattle.std.specs.Prelude.{count_by, option_map, if◌then◌else◌}
 use Rattle.std.specs.List.{filter, filter_map, find, list_any, position_or_len}
 use Rattle.std.specs.Option.{option_map_or}
 use Rattle.scf_insn.specs.Architectures.{architectures, row_of}
@@ -34,11 +34,6 @@ count_for number tables = count_by (λ table. table.architecture == number) tabl
 -- The numbers of each table have a meaning, and no two tables are for one architecture.
 pub record AreMeant (tables : List Table) : Type 0 where
   pub each : All (λ table. IsMeant table × (count_for table.architecture tables ≤ 1)) tables
-
--- There is such a table.
-pub record HasTables (tables : List Table) : Type 0 where
-  pub some : 1 ≤ length tables
-  pub are_meant : AreMeant tables
 
 -- the architectures and the texts of tables whose numbers have a meaning, in their order
 abbrev pub texts_of : List Table → List (Architecture × List ℕ)

@@ -1,5 +1,6 @@
 -- Comparisons of sides in the caller's bytes, and their findings as numbers.
-use Rattle.std.specs.Prelude.{◌≡◌, ◌⊎◌, ℕ, List, [], ◌∷◌, Some, false}
+use Rattle.std.specs.Prelude.{◌≡◌, ◌⊎◌, ◌≤◌, ℕ, List, [], ◌∷◌, Some, false, length, map}
+use Rattle.std.specs.List.{zip}
 use Rattle.scf_profile.specs.declared.relation.Relation.{Relation}
 use Rattle.scf_profile.specs.declared.scope.Scope.{Scope}
 use Rattle.scf_profile.specs.declared.scope.Scope.TheVariants.{Numbers}
@@ -18,7 +19,7 @@ use Rattle.scf_tool.specs.declared.sides.SideInput.{SideInput as ReadSide}
 use Rattle.scf_tool.specs.declared.verify_fault.SideFault.{SideFault}
 use Rattle.scf_tool.specs.declared.verify_fault.VerifyFault.{VerifyFault}
 use Rattle.scf_tool.specs.declared.verify_fault.VerifyFault.TheVariants.{Memory}
-use Rattle.scf_c.specs.declared.comparing.Compared.{Compared}
+use Rattle.scf_c.specs.declared.comparison.Compared.{Compared}
 use Rattle.scf_c.specs.declared.layout.Comparison.{Comparison}
 use Rattle.scf_c.specs.declared.layout.FindingNumbers.{FindingNumbers}
 use Rattle.scf_c.specs.declared.layout.Question.{Question}
@@ -31,8 +32,8 @@ use Rattle.scf_c.specs.declared.question.Over.TheVariants.{EachCall}
 use Rattle.scf_c.specs.Architectures.{architecture_number}
 use Rattle.scf_c.specs.Layout.{call_of, no_call}
 use Rattle.scf_c.specs.Profiles.{nothing_left_out}
-use Rattle.scf_c.specs.Records.{AreScopes, AreScopesRefused, AreSomeScopes}
-use Rattle.scf_c.specs.Sides.{ArePaired, IsRead, IsSideRefused, fault_of_right, left_out_of_side, tables_in_scope}
+use Rattle.scf_c.specs.Records.{ArePaired, AreRecordsRefused, tables_in_scope}
+use Rattle.scf_c.specs.Sides.{IsRead, IsSideRefused, fault_of_right, left_out_of_side}
 
 -- ---- as numbers
 
@@ -72,9 +73,9 @@ of_scope over scope finding = record {
 }
 
 -- of each
-abbrev pub of_each : Over → List Scope → List Finding → List RecordsComparison
-of_each over (scope ∷ scopes) (finding ∷ findings) = of_scope over scope finding ∷ of_each over scopes findings
-of_each over scopes findings = []
+abbrev pub of_each : Over → List Pairing → List Finding → List RecordsComparison
+of_each over pairings findings =
+    map (λ (found : Pairing × Finding). of_scope over found.0.over found.1) (zip pairings findings)
 
 -- of all
 abbrev pub comparison_of : Finding → ReadSide → ReadSide → Comparison
@@ -100,36 +101,38 @@ pub record IsCompared (question : Question) (left right : SideInput) (tables : L
     (compared : Compared) : Type 0 where
   pub left_side : ReadSide
   pub right_side : ReadSide
-  pub scopes : List Scope
   pub pairings : List Pairing
   pub findings : List Finding
   pub is_left : IsRead left asked.left tables left_side
   pub is_right : IsRead right asked.right tables right_side
-  pub are_scopes : AreSomeScopes asked.over (tables_in_scope left_side right_side tables) scopes
-  pub are_paired : ArePaired left_side right_side scopes pairings
+  pub are_paired : ArePaired asked.over left_side right_side tables pairings
+  pub some : 1 ≤ length pairings
   pub are_found : AreFoundEach asked.relation (limit_of_steps question.limit) (Some question.total_limit) pairings
       findings
   pub comparison_is : compared.comparison ≡ comparison_of (joint_finding findings) left_side right_side
-  pub each_is : compared.each.items ≡ of_each asked.over scopes findings
+  pub each_is : compared.each.items ≡ of_each asked.over pairings findings
   pub text_is : compared.text.items ≡ text_of asked.relation right_side (joint_finding findings)
 
 -- Both sides are read, and there is no record: no table counts, or none of those that count has a syscall.
 pub record IsOverNone (left right : SideInput) (tables : List Table) (asked : Asked) : Type 0 where
   pub left_side : ReadSide
   pub right_side : ReadSide
+  pub pairings : List Pairing
   pub is_left : IsRead left asked.left tables left_side
   pub is_right : IsRead right asked.right tables right_side
-  pub no_records : AreScopes asked.over (tables_in_scope left_side right_side tables) []
+  pub are_paired : ArePaired asked.over left_side right_side tables pairings
+  pub none : length pairings ≡ 0
 
 -- Why they aren't compared: the first fault of the left side, of the right one, or of a table; or out of memory, which
 -- may come at any time.
 abbrev pub IsComparisonRefused : SideInput → SideInput → List Table → Asked → SideFault → Type 0
 IsComparisonRefused left right tables asked why =
     (why ≡ record { beside = false; why = Memory })
-    ⊎ (((of_left : VerifyFault) × IsSideRefused left asked.left tables of_left × (why ≡ record { beside = false; why = of_left }))
+    ⊎ (((of_left : VerifyFault) × IsSideRefused left asked.left tables of_left
+    × (why ≡ record { beside = false; why = of_left }))
     ⊎ ((left_side : ReadSide) × IsRead left asked.left tables left_side
     × (((of_right : VerifyFault) × IsSideRefused right asked.right tables of_right
     × (why ≡ fault_of_right asked.left asked.right of_right))
     ⊎ ((right_side : ReadSide) × IsRead right asked.right tables right_side
-    × ((of_table : VerifyFault) × AreScopesRefused (tables_in_scope left_side right_side tables) of_table
+    × ((of_table : VerifyFault) × AreRecordsRefused (tables_in_scope left_side right_side tables) of_table
     × (why ≡ record { beside = false; why = of_table }))))))

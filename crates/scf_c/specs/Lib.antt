@@ -1,12 +1,10 @@
 pub mod Answers
 pub mod Architectures
 pub mod Comparisons
-pub mod Faults
+pub mod Endings
 pub mod Filters
-pub mod HandingOut
 pub mod Layout
 pub mod Profiles
 pub mod Questions
 pub mod Records
 pub mod Sides
-pub mod Statuses

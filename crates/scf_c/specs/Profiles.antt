@@ -18,7 +18,7 @@ use Rattle.scf_c.specs.declared.layout.LeftOutCounts.{LeftOutCounts}
 use Rattle.scf_c.specs.declared.layout.ProfileAnswer.{ProfileAnswer}
 use Rattle.scf_c.specs.declared.layout.ProfileInput.{ProfileInput}
 use Rattle.scf_c.specs.declared.layout.Table.{Table}
-use Rattle.scf_c.specs.Architectures.{HasTables, listed_of, stubs_of, texts_of}
+use Rattle.scf_c.specs.Architectures.{AreMeant, listed_of, stubs_of, texts_of}
 
 -- ---- how a profile is read
 
@@ -28,18 +28,13 @@ reading_number Runc = 1
 reading_number Crun = 2
 reading_number Sandbox = 3
 
--- The numbers of a profile ask for this reading.
-pub record IsReadBy (profile : ProfileInput) (reading : Reading) : Type 0 where
+-- The numbers of a profile ask for this reading, and there are tables whose numbers have a meaning.
+pub record IsReadUnder (profile : ProfileInput) (tables : List Table) (reading : Reading) : Type 0 where
   pub reading_is : profile.reading ≡ reading_number reading
   pub flags : profile.flags ≤ 1
   pub reserved : profile.reserved ≡ 0 ∷ 0 ∷ []
-
--- and the tables are some
-abbrev pub IsReadUnder : ProfileInput → List Table → Reading → Type 0
-IsReadUnder profile tables reading = IsReadBy profile reading × HasTables tables
-
-abbrev pub IsNotRead : ProfileInput → List Table → Type 0
-IsNotRead profile tables = (reading : Reading) → IsReadUnder profile tables reading → ⊥
+  pub some : 1 ≤ length tables
+  pub tables_are : AreMeant tables
 
 -- a reading, with the stubs of tables
 abbrev pub interpretation_of : Reading → List Table → Interpretation

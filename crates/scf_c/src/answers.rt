@@ -1,6 +1,6 @@
 //! What a side answers, by regions of records.
 
-ghost use Rattle.std.specs.Prelude.{◌≡◌, ◌≢◌, ◌⊎◌, ◌++◌, ◌∷◌, ◌<◌, [], flat_map, map, IfErr, IfOk, MatchOption};
+ghost use Rattle.std.specs.Prelude.{◌≡◌, ◌++◌, ◌∷◌, ◌<◌, [], flat_map, map, IfErr, IfOk, MatchOption};
 ghost use Rattle.std.specs.Prelude.{OnOk, is_some, option_map};
 ghost use Rattle.std.specs.List.{AllByRecursion};
 ghost use Rattle.scf_tool.specs.Faults.{verify_row};
@@ -24,26 +24,23 @@ ghost use Rattle.scf_c.specs.Answers.{
   reason_of_origin,
   regions_handed,
 };
-ghost use Rattle.scf_c.specs.Faults.{IsRefusal, no_fault};
-ghost use Rattle.scf_c.specs.HandingOut.{IsHandedOut, IsNothingHandedOut};
-ghost use Rattle.scf_c.specs.Questions.{IsNoSideAsked, IsSideAsked};
-ghost use Rattle.scf_c.specs.Statuses.{ok, wrong_argument};
+ghost use Rattle.scf_c.specs.Endings.{EndsAsked, IsHandedOut, IsNothingHandedOut, IsRefusal};
+ghost use Rattle.scf_c.specs.Questions.{IsSideAsked};
 ghost use Rattle.scf_c.specs.declared.question.Asked.{Asked};
 
-use crate::fault::{NO_FAULT, refuse};
-use crate::handing_out::hand_out;
+use crate::ending::{NO_FAULT, OK, WRONG_ARGUMENT, hand_out, refuse};
 use crate::layout::{
     Call, Fault, LeftOutCounts, Listing, Question, RegionNumbers, SideInput, Table, WordFact,
 };
-use crate::profile::{NOTHING_LEFT_OUT, entry_of, reason_number};
+use crate::profile::{NOTHING_LEFT_OUT, numbers_of_reason};
 use crate::question::{Asked, asked_of_side};
-use crate::records::some_scopes;
-use crate::side::{left_out_of_side, pairings_of, read_side, used_by};
-use crate::status::{OK, WRONG_ARGUMENT};
-use scf_compare::{Origin, Region, Regions, Side};
+use crate::records::pairings_of;
+use crate::side::{left_out_of_side, read_side};
+use scf_compare::{Origin, Region, Regions};
 use scf_facts::{Bits, Interval, Snapshot, WordSet};
 use scf_insn::Memory;
-use scf_tool::{VerifyFault, are_whole, explore_each, verify_row};
+use scf_machine::FilterStack;
+use scf_tool::{SideInput as ReadSide, VerifyFault, are_whole, explore_each, verify_row};
 use std::alloc::{AllocError, Global};
 
 /// The indices of a record's words.
@@ -122,12 +119,6 @@ fn add_words(facts: &mut Vec<WordFact>, words: &Snapshot, indices: &[u8]) -> Res
     add_words(facts, words, later)
 }
 
-fn bit_of(is: bool) -> u32
-    ensures { result ≡ bit_of is }
-{
-    if is { 1 } else { 0 }
-}
-
 /// A region with so many facts.
 fn numbers_of_region(region: &Region, fact_count: usize) -> RegionNumbers
     ensures { result ≡ record (numbers_of_region region.now) { fact_count = fact_count } }
@@ -135,27 +126,22 @@ fn numbers_of_region(region: &Region, fact_count: usize) -> RegionNumbers
     let side = region.leaf.left;
     let (reason, entry, filter, index) = match side.origin {
         Origin::Filter { filter, index } => (0, 0, filter, index),
-        Origin::Profile(reason) => (reason_number(reason), entry_of(reason), 0, 0),
-    };
-    let answer = match side.answer {
-        Some(answer) => answer.0,
-        None => 0,
-    };
-    let example = match &region.example {
-        Some(call) => Call::of(call),
-        None => Call::NONE,
+        Origin::Profile(reason) => {
+            let (reason, entry) = numbers_of_reason(reason);
+            (reason, entry, 0, 0)
+        }
     };
     RegionNumbers {
-        answer,
-        is_known: bit_of(side.answer.is_some()),
-        is_exact: bit_of(region.is_exact),
-        has_example: bit_of(region.example.is_some()),
+        answer: side.answer.map_or(0, |answer| answer.0),
+        is_known: u32::from(side.answer.is_some()),
+        is_exact: u32::from(region.is_exact),
+        has_example: u32::from(region.example.is_some()),
         reason,
         entry,
         filter: filter as u64,
         index: index as u64,
         fact_count: fact_count as u64,
-        example,
+        example: region.example.map_or(Call::NONE, |call| Call::of(&call)),
         reserved: [0; 4],
     }
 }
@@ -191,43 +177,26 @@ fn add_regions(
     Ok(())
 }
 
-/// Adds the regions of walks.
-fn add_walks(
-    regions: &mut Vec<RegionNumbers>,
-    facts: &mut Vec<WordFact>,
-    walks: &[Regions],
-) -> Result<(), AllocError>
-    ensures regions { OnOk result (regions.new.items
-        ≡ regions.old.items ++ map numbers_of_region (all_regions walks.now)) }
-    ensures facts { OnOk result (facts.new.items ≡ facts.old.items ++ flat_map facts_of (all_regions walks.now)) }
-{
-    for walk in walks {
-        add_regions(regions, facts, &walk.list)?;
-    }
-    Ok(())
-}
-
-/// The regions of walks as numbers: none if they are unfinished.
+/// The regions of walks as numbers, and whether these are all.
 fn listed_of(
     alloc: Global,
-    walks: &Option<Vec<Regions>>,
+    walks: &[Regions],
+    is_finished: bool,
     left_out: LeftOutCounts,
 ) -> Result<Listed, Memory>
     ensures listing { IfOk result (λ listed. listed.listing
-        ≡ record { is_finished = bit_of (is_some walks.now); unused = 0; left_out = left_out }) }
-    ensures regions { IfOk result (λ listed. listed.regions.items
-        ≡ regions_handed (option_map (λ list. list.items) walks.now)) }
-    ensures facts { IfOk result (λ listed. listed.facts.items
-        ≡ facts_handed (option_map (λ list. list.items) walks.now)) }
+        ≡ record { is_finished = bit_of is_finished; unused = 0; left_out = left_out }) }
+    ensures regions { IfOk result (λ listed. listed.regions.items ≡ map numbers_of_region (all_regions walks.now)) }
+    ensures facts { IfOk result (λ listed. listed.facts.items ≡ flat_map facts_of (all_regions walks.now)) }
 {
     let mut regions = Vec::new(alloc);
     let mut facts = Vec::new(alloc);
-    if let Some(walks) = walks {
-        add_walks(&mut regions, &mut facts, walks)?;
+    for walk in walks {
+        add_regions(&mut regions, &mut facts, &walk.list)?;
     }
     Ok(Listed {
         listing: Listing {
-            is_finished: bit_of(walks.is_some()),
+            is_finished: u32::from(is_finished),
             unused: 0,
             left_out,
         },
@@ -249,14 +218,16 @@ fn list_answers(
     ensures refused { IfErr result (IsListingRefused side.now tables.now asked) }
 {
     let read = read_side(alloc, side, asked.left, tables)?;
-    let used = used_by(alloc, &read, tables)?;
-    let Some(scopes) = some_scopes(alloc, asked.over, &used)? else {
+    let none = ReadSide::Stack(FilterStack::new(alloc));
+    let pairings = pairings_of(alloc, asked.over, &read, &none, tables)?;
+    if pairings.is_empty() {
         return Ok(None);
-    };
-    let pairings = pairings_of(alloc, read.side(), Side::Stack(&[]), &scopes)?;
-    let walks = explore_each(alloc, &pairings, question.total_limit)?;
-    let listed = listed_of(alloc, &walks, left_out_of_side(&read))?;
-    Ok(Some(listed))
+    }
+    let left_out = left_out_of_side(&read);
+    match explore_each(alloc, &pairings, question.total_limit)? {
+        Some(walks) => Ok(Some(listed_of(alloc, &walks, true, left_out)?)),
+        None => Ok(Some(listed_of(alloc, &[], false, left_out)?)),
+    }
 }
 
 /// The listing where nothing is listed: its numbers are 0.
@@ -280,20 +251,15 @@ pub extern "C" fn scf_answers(
     facts_needed: &mut usize,
     fault: &mut Fault,
 ) -> u32
-    ensures listed { result ≡ ok → (asked : Asked) × IsSideAsked question.now side.now tables.now asked
-        × (listed : Listed) × IsListed question.now side.now tables.now asked listed
+    ensures { EndsAsked (IsSideAsked question.now side.now tables.now)
+        (λ asked. (listed : Listed) × IsListed question.now side.now tables.now asked listed
         × (listing.new ≡ listed.listing)
         × IsHandedOut listed.regions.items regions.old regions.new regions_needed.new
-        × IsHandedOut listed.facts.items facts.old facts.new facts_needed.new × (fault.new ≡ no_fault) }
-    ensures wrong { result ≡ wrong_argument → (IsNoSideAsked question.now side.now tables.now
-        ⊎ ((asked : Asked) × IsSideAsked question.now side.now tables.now asked
-        × IsListedOverNone side.now tables.now asked)) × (fault.new ≡ no_fault) }
-    ensures refused { result ≢ ok → result ≢ wrong_argument → (asked : Asked)
-        × IsSideAsked question.now side.now tables.now asked
-        × IsRefusal verify_row (IsListingRefused side.now tables.now asked) result fault.new }
-    ensures nothing { result ≢ ok → (listing.new ≡ no_listing)
-        × IsNothingHandedOut regions.old regions.new regions_needed.new
-        × IsNothingHandedOut facts.old facts.new facts_needed.new }
+        × IsHandedOut listed.facts.items facts.old facts.new facts_needed.new)
+        (IsListedOverNone side.now tables.now)
+        (λ asked. IsRefusal verify_row (IsListingRefused side.now tables.now asked))
+        ((listing.new ≡ no_listing) × IsNothingHandedOut regions.old regions.new regions_needed.new
+        × IsNothingHandedOut facts.old facts.new facts_needed.new) result fault.new }
 {
     *listing = NO_LISTING;
     *regions_needed = 0;

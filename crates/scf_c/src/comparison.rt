@@ -1,24 +1,183 @@
-//! The call that compares two sides.
+//! The comparison of two sides, at once or over several sets of records.
 
-ghost use Rattle.std.specs.Prelude.{◌≡◌, ◌≢◌, ◌⊎◌, ℕ, List};
+ghost use Rattle.std.specs.Prelude.{◌≡◌, IfErr, IfOk, MatchOption};
 ghost use Rattle.scf_tool.specs.Faults.{side_row};
-ghost use Rattle.scf_c.specs.Comparisons.{IsComparisonRefused, IsCompared, IsOverNone, no_comparison};
-ghost use Rattle.scf_c.specs.Faults.{IsRefusal, no_fault};
-ghost use Rattle.scf_c.specs.HandingOut.{IsHandedOut, IsNothingHandedOut};
-ghost use Rattle.scf_c.specs.Questions.{IsAsked, IsNothingAsked};
-ghost use Rattle.scf_c.specs.Statuses.{ok, wrong_argument};
-ghost use Rattle.scf_c.specs.declared.comparing.Compared.{Compared};
+ghost use Rattle.scf_c.specs.Comparisons.{
+  IsCompared,
+  IsComparisonRefused,
+  IsOverNone,
+  comparison_of,
+  no_comparison,
+  numbers_of,
+  of_each,
+  of_scope,
+  side_number,
+};
+ghost use Rattle.scf_c.specs.Endings.{EndsAsked, IsHandedOut, IsNothingHandedOut, IsRefusal};
+ghost use Rattle.scf_c.specs.Questions.{IsAsked};
+ghost use Rattle.scf_c.specs.declared.comparison.Compared.{Compared};
 ghost use Rattle.scf_c.specs.declared.question.Asked.{Asked};
 
-use crate::comparing::{NO_FINDING, compare_inputs};
-use crate::fault::{NO_FAULT, refuse};
-use crate::handing_out::hand_out;
-use crate::layout::{Comparison, Fault, Question, RecordsComparison, SideInput, Table};
+use crate::ending::{NO_FAULT, OK, WRONG_ARGUMENT, hand_out, refuse};
+use crate::layout::{
+    Call, Comparison, Fault, FindingNumbers, Question, RecordsComparison, SideInput, Table,
+};
 use crate::profile::NOTHING_LEFT_OUT;
-use crate::question::asked_of;
-use crate::status::{OK, WRONG_ARGUMENT};
-use scf_tool::side_row;
+use crate::question::{Asked, Over, asked_of};
+use crate::records::pairings_of;
+use crate::side::{fault_of_right, left_out_of_side, read_side};
+use crate::tables::architecture_number;
+use scf_compare::{Finding, Limit};
+use scf_insn::Memory;
+use scf_profile::Scope;
+use scf_tool::{
+    ComparisonOutcome, Findings, Pairing, SideFault, SideInput as ReadSide, compare_each,
+    joint_finding, report_by, side_row,
+};
 use std::alloc::Global;
+
+/// What comparisons come to together and each, and the lines that the program prints of them together.
+#[derive(Drop)]
+struct Compared {
+    pub comparison: Comparison,
+    pub each: Vec<RecordsComparison>,
+    pub text: Vec<u8>,
+}
+
+/// The finding where nothing is compared: its numbers are 0.
+const NO_FINDING: FindingNumbers = FindingNumbers {
+    verdict: 0,
+    left: 0,
+    right: 0,
+    side: 0,
+    at: 0,
+    call: Call::NONE,
+};
+
+/// A finding as numbers.
+fn numbers_of(finding: &Finding) -> FindingNumbers
+    ensures { result ≡ numbers_of finding.now }
+{
+    match finding {
+        Finding::Holds { .. } => FindingNumbers {
+            verdict: 1,
+            ..NO_FINDING
+        },
+        Finding::Fails { call, left, right } => FindingNumbers {
+            verdict: 2,
+            left: left.0,
+            right: right.0,
+            call: Call::of(call),
+            ..NO_FINDING
+        },
+        Finding::Undecided { side, at } => FindingNumbers {
+            verdict: 3,
+            side: *side as u32 + 1,
+            at: *at as u64,
+            ..NO_FINDING
+        },
+        Finding::Unfinished => FindingNumbers {
+            verdict: 4,
+            ..NO_FINDING
+        },
+    }
+}
+
+/// A scope with its finding as numbers: that of its architecture, 0 if it has more, and that of the only syscall, as a
+/// record has it, if syscalls are compared one by one, and else 0.
+fn of_scope(over: Over, scope: Scope, finding: &Finding) -> RecordsComparison
+    ensures { result ≡ of_scope over scope finding.now }
+{
+    let (architecture, nr) = match (over, scope) {
+        (
+            Over::EachCall,
+            Scope::Numbers {
+                architecture,
+                first,
+                ..
+            },
+        ) => { (architecture_number(architecture), first) }
+        (_, Scope::Numbers { architecture, .. }) => (architecture_number(architecture), 0),
+        _ => (0, 0),
+    };
+    RecordsComparison {
+        architecture,
+        nr,
+        finding: numbers_of(finding),
+        reserved: [0; 4],
+    }
+}
+
+/// Each scope with its finding as numbers.
+fn each_of(
+    alloc: Global,
+    over: Over,
+    pairings: &[Pairing<'_>],
+    findings: &[Finding],
+) -> Result<Vec<RecordsComparison>, Memory>
+    ensures { IfOk result (λ each. each.items ≡ of_each over pairings.now findings.now) }
+{
+    let found = pairings.iter().zip(findings);
+    Ok(
+        found
+            .map(|(pairing, finding)| of_scope(over, pairing.over, finding))
+            .collect(alloc)?,
+    )
+}
+
+/// The finding on all as numbers, and what was left out of the sides.
+fn comparison_of(finding: &Finding, left: &ReadSide, right: &ReadSide) -> Comparison
+    ensures { result ≡ comparison_of finding.now left.now right.now }
+{
+    Comparison {
+        finding: numbers_of(finding),
+        left_out_of_left: left_out_of_side(left),
+        left_out_of_right: left_out_of_side(right),
+    }
+}
+
+/// Compares two sides as is asked, if there is a record.
+fn compare_inputs(
+    alloc: Global,
+    left: &SideInput,
+    right: &SideInput,
+    tables: &[Table],
+    question: &Question,
+    asked: Asked,
+) -> Result<Option<Compared>, SideFault>
+    ensures compared { IfOk result (λ compared. MatchOption compared
+        (IsOverNone left.now right.now tables.now asked)
+        (IsCompared question.now left.now right.now tables.now asked)) }
+    ensures refused { IfErr result (IsComparisonRefused left.now right.now tables.now asked) }
+{
+    let left_side = read_side(alloc, left, asked.left, tables)?;
+    let right_side = match read_side(alloc, right, asked.right, tables) {
+        Ok(side) => side,
+        Err(why) => return Err(fault_of_right(asked.left, asked.right, why)),
+    };
+    let (each, finding) = {
+        let pairings = pairings_of(alloc, asked.over, &left_side, &right_side, tables)?;
+        if pairings.is_empty() {
+            return Ok(None);
+        }
+        let limit = Limit::of_steps(question.limit);
+        let shared = Some(question.total_limit);
+        let findings = compare_each(alloc, &pairings, asked.relation, limit, shared)?;
+        let each = each_of(alloc, asked.over, &pairings, &findings)?;
+        (each, joint_finding(&findings))
+    };
+    let comparison = comparison_of(&finding, &left_side, &right_side);
+    let outcome = ComparisonOutcome {
+        findings: Findings::AtOnce(finding),
+        left_out: right_side.left_out(),
+    };
+    let text = report_by(alloc, asked.relation, &outcome)?;
+    Ok(Some(Compared {
+        comparison,
+        each,
+        text,
+    }))
+}
 
 /// The comparison where nothing is compared: its numbers are 0.
 const NO_COMPARISON: Comparison = Comparison {
@@ -44,19 +203,15 @@ pub extern "C" fn scf_compare(
     fault: &mut Fault,
 ) -> u32
     // The verdicts, calls and answers are those of findings that are true of these bytes.
-    ensures compared { result ≡ ok → (asked : Asked) × IsAsked question.now left.now right.now tables.now asked
-        × (compared : Compared) × IsCompared question.now left.now right.now tables.now asked compared
+    ensures { EndsAsked (IsAsked question.now left.now right.now tables.now)
+        (λ asked. (compared : Compared) × IsCompared question.now left.now right.now tables.now asked compared
         × (comparison.new ≡ compared.comparison)
         × IsHandedOut compared.each.items each.old each.new each_needed.new
-        × IsHandedOut compared.text.items text.old text.new needed.new × (fault.new ≡ no_fault) }
-    ensures wrong { result ≡ wrong_argument → (IsNothingAsked question.now left.now right.now tables.now
-        ⊎ ((asked : Asked) × IsAsked question.now left.now right.now tables.now asked
-        × IsOverNone left.now right.now tables.now asked)) × (fault.new ≡ no_fault) }
-    ensures refused { result ≢ ok → result ≢ wrong_argument → (asked : Asked)
-        × IsAsked question.now left.now right.now tables.now asked
-        × IsRefusal side_row (IsComparisonRefused left.now right.now tables.now asked) result fault.new }
-    ensures nothing { result ≢ ok → (comparison.new ≡ no_comparison)
-        × IsNothingHandedOut each.old each.new each_needed.new × IsNothingHandedOut text.old text.new needed.new }
+        × IsHandedOut compared.text.items text.old text.new needed.new)
+        (IsOverNone left.now right.now tables.now)
+        (λ asked. IsRefusal side_row (IsComparisonRefused left.now right.now tables.now asked))
+        ((comparison.new ≡ no_comparison) × IsNothingHandedOut each.old each.new each_needed.new
+        × IsNothingHandedOut text.old text.new needed.new) result fault.new }
 {
     *comparison = NO_COMPARISON;
     *each_needed = 0;

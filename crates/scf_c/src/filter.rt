@@ -1,25 +1,27 @@
-//! A filter by itself.
+//! A filter by itself: its bytes, its runs, and the texts that spell it.
 
-ghost use Rattle.std.specs.Prelude.{◌≡◌, ◌≢◌, ℕ, List, Some, length, IfErr, IfOk};
+ghost use Rattle.std.specs.Prelude.{◌≡◌, ℕ, List, Ok, Some, length, IfErr, IfOk};
+ghost use Rattle.scf_insn.specs.Insn.{program_bytes};
 ghost use Rattle.scf_insn.specs.Words.{words_of};
 ghost use Rattle.scf_insn.specs.declared.insn.Insn.{Insn};
 ghost use Rattle.scf_machine.specs.Machine.{IsRun};
 ghost use Rattle.scf_machine.specs.Path.{IsPathOf};
-ghost use Rattle.scf_tool.specs.Faults.{verify_row};
-ghost use Rattle.scf_tool.specs.Verifying.{IsAcceptedFilter};
-ghost use Rattle.scf_c.specs.Faults.{IsRefusal, no_fault};
-ghost use Rattle.scf_c.specs.Filters.{IsFilterRefused};
+ghost use Rattle.scf_text.specs.Listing.{text_of};
+ghost use Rattle.scf_text.specs.Spelling as spelling;
+ghost use Rattle.scf_tool.specs.Faults.{text_row, verify_row};
+ghost use Rattle.scf_tool.specs.Verifying.{IsAcceptedFilter, ReadsFilter};
+ghost use Rattle.scf_c.specs.Endings.{Ends, IsHandedOut, IsNothingHandedOut, IsRefusal};
+ghost use Rattle.scf_c.specs.Filters.{IsFilterRefused, IsListRefused, IsTextRefused};
 ghost use Rattle.scf_c.specs.Layout.{record_of};
-ghost use Rattle.scf_c.specs.HandingOut.{IsHandedOut, IsNothingHandedOut};
-ghost use Rattle.scf_c.specs.Statuses.{ok};
 
-use crate::fault::{NO_FAULT, refuse};
-use crate::handing_out::hand_out;
+use crate::ending::{NO_FAULT, OK, hand_out, refuse};
 use crate::layout::{Call, Fault};
-use crate::status::OK;
-use scf_insn::{CallRecord, ReadFault};
+use scf_insn::{CallRecord, ReadFault, read_program};
 use scf_machine::{Program, Trace, run, trace};
-use scf_tool::{PartReader, VerifyFault, read_filter, verify_row};
+use scf_text::{TextFault, assemble};
+use scf_tool::{
+    PartReader, VerifyFault, encoding_of, listing_of, read_filter, text_row, verify_row,
+};
 use std::alloc::Global;
 
 /// The filter with these bytes.
@@ -39,10 +41,8 @@ pub extern "C" fn scf_check(
     count: &mut usize,
     fault: &mut Fault,
 ) -> u32
-    ensures accepted { result ≡ ok → (insns : List Insn) × IsAcceptedFilter (Some filter.now) insns
-        × (count.new ≡ length insns) × (fault.new ≡ no_fault) }
-    ensures refused { result ≢ ok → IsRefusal verify_row (IsFilterRefused filter.now) result fault.new
-        × (count.new ≡ 0) }
+    ensures { Ends ((insns : List Insn) × IsAcceptedFilter (Some filter.now) insns × (count.new ≡ length insns))
+        (IsRefusal verify_row (IsFilterRefused filter.now)) (count.new ≡ 0) result fault.new }
 {
     *count = 0;
     *fault = NO_FAULT;
@@ -65,10 +65,10 @@ pub extern "C" fn scf_run(
     steps: &mut u32,
     fault: &mut Fault,
 ) -> u32
-    ensures ran { result ≡ ok → (insns : List Insn) × IsAcceptedFilter (Some filter.now) insns
-        × IsRun insns (words_of (record_of call.now)) answer.new steps.new × (fault.new ≡ no_fault) }
-    ensures refused { result ≢ ok → IsRefusal verify_row (IsFilterRefused filter.now) result fault.new
-        × (answer.new ≡ 0) × (steps.new ≡ 0) }
+    ensures { Ends ((insns : List Insn) × IsAcceptedFilter (Some filter.now) insns
+        × IsRun insns (words_of (record_of call.now)) answer.new steps.new)
+        (IsRefusal verify_row (IsFilterRefused filter.now)) ((answer.new ≡ 0) × (steps.new ≡ 0))
+        result fault.new }
 {
     *answer = 0;
     *steps = 0;
@@ -91,10 +91,7 @@ fn traced(alloc: Global, filter: &[u8], call: &CallRecord) -> Result<Trace, Veri
     ensures refused { IfErr result (IsFilterRefused filter.now) }
 {
     let program = accepted(alloc, filter)?;
-    match trace(alloc, &program, call) {
-        Ok(path) => Ok(path),
-        Err(_) => Err(VerifyFault::FilterRead(ReadFault::Memory)),
-    }
+    trace(alloc, &program, call).map_err(|_| VerifyFault::FilterRead(ReadFault::Memory))
 }
 
 /// What a filter answers to a call, and the indices of the instructions on the way.
@@ -108,11 +105,10 @@ pub extern "C" fn scf_trace(
     needed: &mut usize,
     fault: &mut Fault,
 ) -> u32
-    ensures traced { result ≡ ok → (insns : List Insn) × IsAcceptedFilter (Some filter.now) insns × (indices : List ℕ)
+    ensures { Ends ((insns : List Insn) × IsAcceptedFilter (Some filter.now) insns × (indices : List ℕ)
         × IsPathOf insns (words_of (record_of call.now)) answer.new indices
-        × IsHandedOut indices path.old path.new needed.new × (fault.new ≡ no_fault) }
-    ensures refused { result ≢ ok → IsRefusal verify_row (IsFilterRefused filter.now) result fault.new
-        × (answer.new ≡ 0) × IsNothingHandedOut path.old path.new needed.new }
+        × IsHandedOut indices path.old path.new needed.new) (IsRefusal verify_row (IsFilterRefused filter.now))
+        ((answer.new ≡ 0) × IsNothingHandedOut path.old path.new needed.new) result fault.new }
 {
     *answer = 0;
     *needed = 0;
@@ -121,6 +117,76 @@ pub extern "C" fn scf_trace(
         Ok(trace) => {
             *answer = trace.answer.0;
             hand_out(trace.indices.as_slice(), path, needed);
+            OK
+        }
+        Err(why) => refuse(verify_row(why), fault),
+    }
+}
+
+/// The bytes of the instructions that a text spells.
+fn assembled(alloc: Global, text: &[u8]) -> Result<Vec<u8>, TextFault>
+    ensures spelled { IfOk result (λ bytes. (insns : List Insn)
+        × spelling.Spells text.now insns × (bytes.items ≡ program_bytes insns)) }
+    ensures refused { IfErr result (IsTextRefused text.now) }
+{
+    let insns = assemble(alloc, text)?;
+    encoding_of(alloc, &insns).map_err(|_| TextFault::Memory)
+}
+
+/// The filter that a text spells. It isn't checked.
+#[unsafe(no_mangle)]
+pub extern "C" fn scf_assemble(
+    alloc: Global,
+    text: &[u8],
+    filter: &mut [u8],
+    needed: &mut usize,
+    fault: &mut Fault,
+) -> u32
+    ensures { Ends ((insns : List Insn) × spelling.Spells text.now insns
+        × IsHandedOut (program_bytes insns) filter.old filter.new needed.new)
+        (IsRefusal text_row (IsTextRefused text.now)) (IsNothingHandedOut filter.old filter.new needed.new)
+        result fault.new }
+{
+    *needed = 0;
+    *fault = NO_FAULT;
+    match assembled(alloc, text) {
+        Ok(bytes) => {
+            hand_out(bytes.as_slice(), filter, needed);
+            OK
+        }
+        Err(why) => refuse(text_row(why), fault),
+    }
+}
+
+/// The listing of the instructions with these bytes.
+fn listed(alloc: Global, filter: &[u8]) -> Result<Vec<u8>, VerifyFault>
+    ensures listed { IfOk result (λ text. (insns : List Insn) × ReadsFilter (Some filter.now) (Ok insns)
+        × (text.items ≡ text_of insns)) }
+    ensures refused { IfErr result (IsListRefused filter.now) }
+{
+    let insns = read_program(alloc, &mut PartReader::new(filter))?;
+    listing_of(alloc, &insns).map_err(|_| VerifyFault::FilterRead(ReadFault::Memory))
+}
+
+/// The listing of a filter. It isn't checked.
+#[unsafe(no_mangle)]
+pub extern "C" fn scf_list(
+    alloc: Global,
+    filter: &[u8],
+    text: &mut [u8],
+    needed: &mut usize,
+    fault: &mut Fault,
+) -> u32
+    ensures { Ends ((insns : List Insn) × ReadsFilter (Some filter.now) (Ok insns)
+        × IsHandedOut (text_of insns) text.old text.new needed.new)
+        (IsRefusal verify_row (IsListRefused filter.now)) (IsNothingHandedOut text.old text.new needed.new)
+        result fault.new }
+{
+    *needed = 0;
+    *fault = NO_FAULT;
+    match listed(alloc, filter) {
+        Ok(lines) => {
+            hand_out(lines.as_slice(), text, needed);
             OK
         }
         Err(why) => refuse(verify_row(why), fault),

@@ -6,25 +6,21 @@
 #![tactic(auto)]
 
 mod answers;
-mod comparing;
 mod comparison;
-mod fault;
+mod ending;
 mod filter;
-mod handing_out;
 mod layout;
 mod profile;
 mod question;
 mod records;
 mod side;
 mod stack;
-mod status;
 mod tables;
-mod text;
 mod version;
 
 pub use answers::scf_answers;
 pub use comparison::scf_compare;
-pub use filter::{scf_check, scf_run, scf_trace};
+pub use filter::{scf_assemble, scf_check, scf_list, scf_run, scf_trace};
 pub use layout::{
     Bytes, Call, Comparison, DecisionNumbers, Fault, FindingNumbers, LeftOutCounts, Listing,
     ProfileAnswer, ProfileInput, Question, RecordsComparison, RegionNumbers, SideInput, Table,
@@ -32,5 +28,4 @@ pub use layout::{
 };
 pub use profile::{scf_ask, scf_compile};
 pub use stack::scf_decide;
-pub use text::{scf_assemble, scf_list};
 pub use version::scf_version;

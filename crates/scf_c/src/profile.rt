@@ -1,6 +1,6 @@
 //! A profile by itself.
 
-ghost use Rattle.std.specs.Prelude.{◌≡◌, ◌≢◌, ◌⊎◌, ℕ, List, MatchOption, IfErr, IfOk};
+ghost use Rattle.std.specs.Prelude.{◌≡◌, ◌⊎◌, ℕ, List, MatchOption, IfErr, IfOk};
 ghost use Rattle.scf_profile.specs.ProfileAnswers.{ProfilesAnswer};
 ghost use Rattle.scf_profile.specs.Reasons.{IsReasonAmong};
 ghost use Rattle.scf_profile.specs.declared.loaded.LoadedProfiles.{LoadedProfiles};
@@ -11,15 +11,12 @@ ghost use Rattle.scf_tool.specs.declared.verify_fault.VerifyFault.TheVariants as
 ghost use Rattle.scf_tool.specs.Commands.{AreStated, CantLoadEach, IsFilterOfEach};
 ghost use Rattle.scf_tool.specs.Faults.{compile_row, verify_row};
 ghost use Rattle.scf_c.specs.Architectures.{texts_of};
-ghost use Rattle.scf_c.specs.Faults.{IsRefusal, no_fault};
+ghost use Rattle.scf_c.specs.Endings.{EndsAsked, IsHandedOut, IsNothingHandedOut, IsRefusal};
 ghost use Rattle.scf_c.specs.Layout.{record_of};
-ghost use Rattle.scf_c.specs.HandingOut.{IsHandedOut, IsNothingHandedOut};
 ghost use Rattle.scf_c.specs.Profiles.{
   IsCompilationRefused,
   IsLoaded,
-  IsNotRead,
   IsProfileRefused,
-  IsReadBy,
   IsReadUnder,
   answer_of,
   entry_of,
@@ -29,13 +26,10 @@ ghost use Rattle.scf_c.specs.Profiles.{
   reading_number,
   reason_number,
 };
-ghost use Rattle.scf_c.specs.Statuses.{ok, wrong_argument};
 
-use crate::fault::{NO_FAULT, refuse};
-use crate::handing_out::hand_out;
+use crate::ending::{NO_FAULT, OK, WRONG_ARGUMENT, hand_out, refuse};
 use crate::layout::{Call, Fault, LeftOutCounts, ProfileAnswer, ProfileInput, Table};
-use crate::status::{OK, WRONG_ARGUMENT};
-use crate::tables::{has_tables, listed_of, stubs_of, table_readers_of};
+use crate::tables::{are_meant, listed_of, stubs_of, table_readers_of};
 use scf_insn::{CallRecord, Memory};
 use scf_profile::{LoadedProfiles, Reading, Reason, TableFault};
 use scf_tool::{
@@ -43,39 +37,21 @@ use scf_tool::{
 };
 use std::alloc::Global;
 
-/// The reading with this number.
-fn reading_numbered(number: u32) -> Option<Reading>
-    ensures { MatchOption result ((reading : Reading) → number ≢ reading_number reading)
-        (λ reading. number ≡ reading_number reading) }
+/// The reading that the numbers of a profile ask for, if each has a meaning, and there are tables, and theirs have one.
+pub(crate) fn reading_under(profile: &ProfileInput, tables: &[Table]) -> Option<Reading>
+    ensures { MatchOption result ((reading : Reading) → IsReadUnder profile.now tables.now reading → ⊥)
+        (IsReadUnder profile.now tables.now) }
 {
-    match number {
+    let [first, second] = profile.reserved;
+    if profile.flags > 1 || first != 0 || second != 0 || tables.is_empty() || !are_meant(tables) {
+        return None;
+    }
+    match profile.reading {
         0 => Some(Reading::Strict),
         1 => Some(Reading::Runc),
         2 => Some(Reading::Crun),
         3 => Some(Reading::Sandbox),
         _ => None,
-    }
-}
-
-/// The reading that the numbers of a profile ask for, if each has a meaning.
-pub(crate) fn reading_of(profile: &ProfileInput) -> Option<Reading>
-    ensures { MatchOption result ((reading : Reading) → IsReadBy profile.now reading → ⊥) (IsReadBy profile.now) }
-{
-    let [first, second] = profile.reserved;
-    if profile.flags > 1 || first != 0 || second != 0 {
-        return None;
-    }
-    reading_numbered(profile.reading)
-}
-
-/// The reading that the numbers of a profile ask for, if each has a meaning and a table's numbers have one.
-fn reading_under(profile: &ProfileInput, tables: &[Table]) -> Option<Reading>
-    ensures { MatchOption result (IsNotRead profile.now tables.now) (IsReadUnder profile.now tables.now) }
-{
-    if has_tables(tables) {
-        reading_of(profile)
-    } else {
-        None
     }
 }
 
@@ -150,18 +126,13 @@ pub extern "C" fn scf_compile(
     left_out: &mut LeftOutCounts,
     fault: &mut Fault,
 ) -> u32
-    ensures compiled { result ≡ ok → (reading : Reading) × IsReadUnder profile.now tables.now reading
-        × (loaded : LoadedProfiles) × IsLoaded profile.now tables.now reading loaded
+    ensures { EndsAsked (IsReadUnder profile.now tables.now)
+        (λ reading. (loaded : LoadedProfiles) × IsLoaded profile.now tables.now reading loaded
         × (bytes : List ℕ) × IsFilterOfEach loaded.profiles bytes
-        × IsHandedOut bytes filter.old filter.new needed.new × (left_out.new ≡ left_out_of loaded)
-        × (fault.new ≡ no_fault) }
-    ensures wrong { result ≡ wrong_argument → IsNotRead profile.now tables.now × (fault.new ≡ no_fault) }
-    ensures refused { result ≢ ok → result ≢ wrong_argument → (reading : Reading)
-        × IsReadUnder profile.now tables.now reading
-        × (IsRefusal verify_row (IsProfileRefused profile.now tables.now reading) result fault.new
-        ⊎ IsRefusal compile_row (IsCompilationRefused profile.now tables.now reading) result fault.new) }
-    ensures nothing { result ≢ ok → IsNothingHandedOut filter.old filter.new needed.new
-        × (left_out.new ≡ nothing_left_out) }
+        × IsHandedOut bytes filter.old filter.new needed.new × (left_out.new ≡ left_out_of loaded)) (λ _. ⊥)
+        (λ reading status fault. IsRefusal verify_row (IsProfileRefused profile.now tables.now reading) status fault
+        ⊎ IsRefusal compile_row (IsCompilationRefused profile.now tables.now reading) status fault)
+        (IsNothingHandedOut filter.old filter.new needed.new × (left_out.new ≡ nothing_left_out)) result fault.new }
 {
     *needed = 0;
     *left_out = NOTHING_LEFT_OUT;
@@ -183,23 +154,15 @@ pub extern "C" fn scf_compile(
     }
 }
 
-pub(crate) fn reason_number(reason: Reason) -> u32
-    ensures { result ≡ reason_number reason }
+/// A reason as a number, and the index of its entry.
+pub(crate) fn numbers_of_reason(reason: Reason) -> (u32, u32)
+    ensures { result ≡ (reason_number reason, entry_of reason) }
 {
     match reason {
-        Reason::Default => 1,
-        Reason::Entry(_) => 2,
-        Reason::Foreign => 3,
-        Reason::Stub => 4,
-    }
-}
-
-pub(crate) fn entry_of(reason: Reason) -> u32
-    ensures { result ≡ entry_of reason }
-{
-    match reason {
-        Reason::Entry(entry) => entry,
-        _ => 0,
+        Reason::Default => (1, 0),
+        Reason::Entry(entry) => (2, entry),
+        Reason::Foreign => (3, 0),
+        Reason::Stub => (4, 0),
     }
 }
 
@@ -218,11 +181,11 @@ fn answer_to(loaded: &LoadedProfiles, call: &CallRecord) -> ProfileAnswer
         × (reason : Reason) × IsReasonAmong loaded.now.profiles call.now reason
         × (result ≡ answer_of answer reason loaded.now) }
 {
-    let reason = loaded.profiles.reason(call);
+    let (reason, entry) = numbers_of_reason(loaded.profiles.reason(call));
     ProfileAnswer {
         answer: loaded.profiles.answer(call).0,
-        reason: reason_number(reason),
-        entry: entry_of(reason),
+        reason,
+        entry,
         unused: 0,
         left_out: left_out_of(loaded),
     }
@@ -239,16 +202,13 @@ pub extern "C" fn scf_ask(
     answer: &mut ProfileAnswer,
     fault: &mut Fault,
 ) -> u32
-    ensures answered { result ≡ ok → (reading : Reading) × IsReadUnder profile.now tables.now reading
-        × (loaded : LoadedProfiles) × IsLoaded profile.now tables.now reading loaded
+    ensures { EndsAsked (IsReadUnder profile.now tables.now)
+        (λ reading. (loaded : LoadedProfiles) × IsLoaded profile.now tables.now reading loaded
         × (value : ℕ) × ProfilesAnswer loaded.profiles (record_of call.now) value
         × (reason : Reason) × IsReasonAmong loaded.profiles (record_of call.now) reason
-        × (answer.new ≡ answer_of value reason loaded) × (fault.new ≡ no_fault) }
-    ensures wrong { result ≡ wrong_argument → IsNotRead profile.now tables.now × (fault.new ≡ no_fault) }
-    ensures refused { result ≢ ok → result ≢ wrong_argument → (reading : Reading)
-        × IsReadUnder profile.now tables.now reading
-        × IsRefusal verify_row (IsProfileRefused profile.now tables.now reading) result fault.new }
-    ensures nothing { result ≢ ok → answer.new ≡ no_answer }
+        × (answer.new ≡ answer_of value reason loaded)) (λ _. ⊥)
+        (λ reading. IsRefusal verify_row (IsProfileRefused profile.now tables.now reading))
+        (answer.new ≡ no_answer) result fault.new }
 {
     *answer = NO_ANSWER;
     *fault = NO_FAULT;

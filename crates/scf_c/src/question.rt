@@ -5,14 +5,12 @@ ghost use Rattle.scf_profile.specs.declared.relation.Relation.{Relation};
 ghost use Rattle.scf_profile.specs.declared.scope.Scope.{Scope};
 ghost use Rattle.scf_c.specs.Questions.{
   IsAsked,
-  IsNoSideAsked,
-  IsNothingAsked,
   IsOver,
   IsRange,
   IsSideAsked,
-  needs_tables,
   relation_number,
 };
+ghost use Rattle.scf_c.specs.declared.question.Asked.{Asked};
 ghost use Rattle.scf_c.specs.declared.question.Over.{Over};
 
 use crate::layout::{Question, SideInput, Table};
@@ -24,10 +22,8 @@ use scf_tool::has_record;
 /// Over which records sides are compared.
 #[derive(Clone, Copy)]
 pub(crate) enum Over {
-    /// All, at once.
-    All,
-    /// Those of an architecture with a number of a range, at once.
-    Numbers(Scope),
+    /// All, or those of an architecture with a number of a range, at once.
+    AtOnce(Scope),
     /// Those of each architecture that has a table.
     EachArchitecture,
     /// Those of each syscall of each table.
@@ -59,9 +55,9 @@ fn over_of(question: &Question) -> Option<Over>
     ensures { MatchOption result ((over : Over) → IsOver question.now over → ⊥) (IsOver question.now) }
 {
     match question.scope {
-        0 => Some(Over::All),
+        0 => Some(Over::AtOnce(Scope::All)),
         1 => match range_of(question) {
-            Some(scope) => Some(Over::Numbers(scope)),
+            Some(scope) => Some(Over::AtOnce(scope)),
             None => None,
         },
         2 => Some(Over::EachArchitecture),
@@ -84,16 +80,6 @@ fn relation_of(number: u32) -> Option<Relation>
     }
 }
 
-/// Whether one of the sides is a profile, which has to have a table.
-fn needs_tables(left: SideKind, right: SideKind) -> bool
-    ensures { result ≡ needs_tables left right }
-{
-    match (left, right) {
-        (SideKind::Filters, SideKind::Filters) => false,
-        _ => true,
-    }
-}
-
 /// What the numbers of a question, of both sides and of tables ask for, if each has a meaning.
 pub(crate) fn asked_of<'a>(
     question: &Question,
@@ -101,23 +87,18 @@ pub(crate) fn asked_of<'a>(
     right: &SideInput<'a>,
     tables: &[Table],
 ) -> Option<Asked>
-    ensures { MatchOption result (IsNothingAsked question.now left.now right.now tables.now)
+    ensures { MatchOption result ((asked : Asked) → IsAsked question.now left.now right.now tables.now asked → ⊥)
         (IsAsked question.now left.now right.now tables.now) }
 {
     let [first, second] = question.reserved;
     if question.unused != 0 || first != 0 || second != 0 || !are_meant(tables) {
         return None;
     }
-    let left = kind_of(left)?;
-    let right = kind_of(right)?;
-    if tables.is_empty() && needs_tables(left, right) {
-        return None;
-    }
     Some(Asked {
         over: over_of(question)?,
         relation: relation_of(question.relation)?,
-        left,
-        right,
+        left: kind_of(left, tables)?,
+        right: kind_of(right, tables)?,
     })
 }
 
@@ -127,7 +108,7 @@ pub(crate) fn asked_of_side<'a>(
     side: &SideInput<'a>,
     tables: &[Table],
 ) -> Option<Asked>
-    ensures { MatchOption result (IsNoSideAsked question.now side.now tables.now)
+    ensures { MatchOption result ((asked : Asked) → IsSideAsked question.now side.now tables.now asked → ⊥)
         (IsSideAsked question.now side.now tables.now) }
 {
     if question.relation != 0 {

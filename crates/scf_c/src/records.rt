@@ -1,111 +1,114 @@
-//! The records that are compared, taken apart as a question asks for.
+//! Two sides over the records that are compared, taken apart as a question asks for.
 
-ghost use Rattle.std.specs.Prelude.{◌≡◌, ◌++◌, ◌∷◌, [], map, IfErr, IfOk, MatchOption, OnOk};
-ghost use Rattle.scf_profile.specs.NamedCalls.{AreCallsOf};
-ghost use Rattle.scf_profile.specs.declared.scope.Scope.{Scope};
-ghost use Rattle.scf_tool.specs.ArchitectureScopes.{scope_of_call};
+ghost use Rattle.std.specs.Prelude.{◌≡◌, map, IfErr, IfOk};
 ghost use Rattle.scf_tool.specs.Inputs.{named_of};
-ghost use Rattle.scf_c.specs.Records.{AreOfCalls, AreScopes, AreScopesRefused, AreSomeScopes, HasCalls};
-ghost use Rattle.scf_c.specs.Records as spec;
+ghost use Rattle.scf_c.specs.Records.{AreOfCalls, AreOver, ArePaired, AreRecordsRefused, of_each, tables_in_scope};
 
 use crate::layout::Table;
 use crate::question::Over;
-use crate::tables::{architecture_of, table_readers_of};
-use scf_insn::{Architecture, Memory};
-use scf_profile::{CallTable, NamedCall, Scope};
-use scf_tool::{OwnedTable, VerifyFault, number_in, read_tables, scope_of, scope_of_call};
+use crate::tables::{architecture_of, table_readers_of, tables_of};
+use scf_compare::Side;
+use scf_insn::Memory;
+use scf_profile::Scope;
+use scf_tool::{
+    OwnedTable, Pairing, SideInput as ReadSide, VerifyFault, pairings_of_calls, read_tables,
+    scope_of,
+};
 use std::alloc::Global;
 
-fn of_one(alloc: Global, scope: Scope) -> Result<Vec<Scope>, Memory>
-    ensures { IfOk result (λ scopes. scopes.items ≡ scope ∷ []) }
+/// The tables of the architectures that are compared: those of the only profile, if one side is one, and else all.
+fn tables_in_scope<'a>(
+    alloc: Global,
+    left: &ReadSide,
+    right: &ReadSide,
+    tables: &[Table<'a>],
+) -> Result<Vec<Table<'a>>, Memory>
+    ensures { IfOk result (λ used. used.items ≡ tables_in_scope left.now right.now tables.now) }
 {
-    Ok(Vec::from_slice(alloc, &[scope])?)
+    match (left, right) {
+        (ReadSide::Profiles(only), ReadSide::Stack(_))
+        | (ReadSide::Stack(_), ReadSide::Profiles(only)) => {
+            tables_of(alloc, only.profiles.as_slice(), tables)
+        }
+        _ => Ok(Vec::from_slice(alloc, tables)?),
+    }
 }
 
-/// The records of each architecture that has a table.
-fn of_each(alloc: Global, tables: &[Table]) -> Result<Vec<Scope>, Memory>
-    ensures { IfOk result (λ scopes. scopes.items ≡ spec.of_each tables.now) }
+/// Two sides over the records of each architecture that has a table.
+fn of_each<'a>(
+    alloc: Global,
+    left: Side<'a>,
+    right: Side<'a>,
+    tables: &[Table],
+) -> Result<Vec<Pairing<'a>>, Memory>
+    ensures { IfOk result (λ pairings. pairings.items ≡ of_each left.entry right.entry tables.now) }
 {
     let architectures = tables
         .iter()
         .filter_map(|table| architecture_of(table.architecture));
-    Ok(
-        architectures
-            .map(|architecture| scope_of(Scope::All, architecture))
-            .collect(alloc)?,
-    )
+    let pairings = architectures.map(|architecture| Pairing {
+        left,
+        right,
+        over: scope_of(Scope::All, architecture),
+    });
+    Ok(pairings.collect(alloc)?)
 }
 
-/// Adds the records of each of these calls of a table.
-fn add_named(
-    scopes: &mut Vec<Scope>,
-    architecture: Architecture,
-    table: &CallTable,
-    calls: &[NamedCall<'_>],
-) -> Result<(), Memory>
-    requires { AreCallsOf table.now calls.now }
-    ensures { OnOk result (scopes.new.items ≡ scopes.old.items
-        ++ map (λ call. scope_of_call architecture call.number) calls.now) }
+/// Two sides over the records of each syscall of each table.
+fn of_calls<'a>(
+    alloc: Global,
+    left: Side<'a>,
+    right: Side<'a>,
+    tables: &[OwnedTable],
+) -> Result<Vec<Pairing<'a>>, Memory>
+    ensures { IfOk result (λ pairings.
+        AreOfCalls left.entry right.entry (map named_of tables.now) pairings.items) }
 {
-    for call in calls {
-        scopes.push(scope_of_call(architecture, number_in(table, call)))?;
-    }
-    Ok(())
-}
-
-/// Adds the records of each syscall of a table.
-fn add_calls(alloc: Global, scopes: &mut Vec<Scope>, owned: &OwnedTable) -> Result<(), Memory>
-    ensures { OnOk result ((added : _) × HasCalls (named_of owned.now) added
-        × (scopes.new.items ≡ scopes.old.items ++ added)) }
-{
-    let calls = owned.table.calls(alloc)?;
-    add_named(scopes, owned.architecture, &owned.table, &calls)?;
-    Ok(())
-}
-
-/// The records of each syscall of each table.
-fn of_calls(alloc: Global, tables: &[OwnedTable]) -> Result<Vec<Scope>, Memory>
-    ensures { IfOk result (λ scopes. AreOfCalls (map named_of tables.now) scopes.items) }
-{
-    let mut scopes = Vec::new(alloc);
+    let mut pairings = Vec::new(alloc);
     for owned in tables {
-        add_calls(alloc, &mut scopes, owned)?;
+        let calls = owned.table.calls(alloc)?;
+        let added = pairings_of_calls(alloc, left, right, owned, &calls)?;
+        pairings.extend_from_slice(&added)?;
     }
-    Ok(scopes)
+    Ok(pairings)
 }
 
-/// The scopes of the records that are asked for, in the order in which they are compared.
-fn scopes_of(alloc: Global, over: Over, tables: &[Table]) -> Result<Vec<Scope>, VerifyFault>
-    ensures scopes { IfOk result (λ scopes. AreScopes over tables.now scopes.items) }
-    ensures refused { IfErr result (AreScopesRefused tables.now) }
+/// Two sides over each set of records that is asked for, in the order in which they are compared.
+fn pairings_over<'a>(
+    alloc: Global,
+    over: Over,
+    left: Side<'a>,
+    right: Side<'a>,
+    tables: &[Table],
+) -> Result<Vec<Pairing<'a>>, VerifyFault>
+    ensures pairings { IfOk result (λ pairings. AreOver over left.entry right.entry tables.now pairings.items) }
+    ensures refused { IfErr result (AreRecordsRefused tables.now) }
 {
     match over {
-        Over::All => Ok(of_one(alloc, Scope::All)?),
-        Over::Numbers(scope) => Ok(of_one(alloc, scope)?),
-        Over::EachArchitecture => Ok(of_each(alloc, tables)?),
+        Over::AtOnce(over) => {
+            let pairing = Pairing { left, right, over };
+            Ok(Vec::from_slice(alloc, &[pairing]).map_err(Memory::from)?)
+        }
+        Over::EachArchitecture => Ok(of_each(alloc, left, right, tables)?),
         Over::EachCall => {
             let readers = table_readers_of(alloc, tables)?;
             let owned = read_tables(alloc, false, &readers)?;
-            Ok(of_calls(alloc, &owned)?)
+            Ok(of_calls(alloc, left, right, &owned)?)
         }
     }
 }
 
-/// The scopes that are asked for, if there are some.
-#[tactic(auto, using(crate::proofs::RecordLemmas::no_scopes, crate::proofs::RecordLemmas::some_scopes))]
-pub(crate) fn some_scopes(
+/// Two sides that are read, over each set of records that is asked for.
+pub(crate) fn pairings_of<'a>(
     alloc: Global,
     over: Over,
+    left: &'a ReadSide,
+    right: &'a ReadSide,
     tables: &[Table],
-) -> Result<Option<Vec<Scope>>, VerifyFault>
-    ensures scopes { IfOk result (λ scopes. MatchOption scopes (AreScopes over tables.now [])
-        (λ scopes. AreSomeScopes over tables.now scopes.items)) }
-    ensures refused { IfErr result (AreScopesRefused tables.now) }
+) -> Result<Vec<Pairing<'a>>, VerifyFault>
+    ensures paired { IfOk result (λ pairings. ArePaired over left.now right.now tables.now pairings.items) }
+    ensures refused { IfErr result (AreRecordsRefused (tables_in_scope left.now right.now tables.now)) }
 {
-    let scopes = scopes_of(alloc, over, tables)?;
-    if scopes.as_slice().is_empty() {
-        Ok(None)
-    } else {
-        Ok(Some(scopes))
-    }
+    let used = tables_in_scope(alloc, left, right, tables)?;
+    pairings_over(alloc, over, left.side(), right.side(), &used)
 }

@@ -1,26 +1,14 @@
 //! The sides of comparisons, from their bytes.
 
-ghost use Rattle.std.specs.Prelude.{◌≡◌, map, MatchOption, IfErr, IfOk};
-ghost use Rattle.scf_c.specs.Sides.{
-  IsKind,
-  IsRead,
-  IsSideRefused,
-  fault_of_right,
-  left_out_of_side,
-  pairing_of,
-  tables_in_scope,
-  used_by,
-};
+ghost use Rattle.std.specs.Prelude.{◌≡◌, MatchOption, IfErr, IfOk};
+ghost use Rattle.scf_c.specs.Sides.{IsKind, IsRead, IsSideRefused, fault_of_right, left_out_of_side};
 ghost use Rattle.scf_c.specs.declared.side.SideKind.{SideKind};
 
 use crate::layout::{LeftOutCounts, SideInput, Table};
-use crate::profile::{NOTHING_LEFT_OUT, left_out_of, loaded, reading_of};
+use crate::profile::{NOTHING_LEFT_OUT, left_out_of, loaded, reading_under};
 use crate::stack::stacked;
-use crate::tables::tables_of;
-use scf_compare::Side;
-use scf_insn::Memory;
-use scf_profile::{Reading, Scope};
-use scf_tool::{Pairing, SideFault, SideInput as ReadSide, VerifyFault};
+use scf_profile::Reading;
+use scf_tool::{SideFault, SideInput as ReadSide, VerifyFault};
 use std::alloc::Global;
 
 /// Of which kind a side is, and how its profile is read.
@@ -30,15 +18,16 @@ pub(crate) enum SideKind {
     Filters,
 }
 
-/// The kind that the numbers of a side ask for, if each has a meaning.
-pub(crate) fn kind_of(side: &SideInput) -> Option<SideKind>
-    ensures { MatchOption result ((kind : SideKind) → IsKind side.now kind → ⊥) (IsKind side.now) }
+/// The kind that the numbers of a side ask for, if each has a meaning, and the tables that a profile has to have.
+pub(crate) fn kind_of(side: &SideInput, tables: &[Table]) -> Option<SideKind>
+    ensures { MatchOption result ((kind : SideKind) → IsKind side.now tables.now kind → ⊥)
+        (IsKind side.now tables.now) }
 {
     if side.reserved != 0 {
         return None;
     }
     match side.kind {
-        1 => Some(SideKind::Profile(reading_of(&side.profile)?)),
+        1 => Some(SideKind::Profile(reading_under(&side.profile, tables)?)),
         2 => Some(SideKind::Filters),
         _ => None,
     }
@@ -84,55 +73,4 @@ pub(crate) fn left_out_of_side(side: &ReadSide) -> LeftOutCounts
         ReadSide::Profiles(loaded) => left_out_of(loaded),
         _ => NOTHING_LEFT_OUT,
     }
-}
-
-/// The tables of the architectures that a side speaks of: all, of filters.
-pub(crate) fn used_by<'a>(
-    alloc: Global,
-    side: &ReadSide,
-    tables: &[Table<'a>],
-) -> Result<Vec<Table<'a>>, Memory>
-    ensures { IfOk result (λ used. used.items ≡ used_by side.now tables.now) }
-{
-    match side {
-        ReadSide::Profiles(loaded) => tables_of(alloc, loaded.profiles.as_slice(), tables),
-        _ => Ok(Vec::from_slice(alloc, tables)?),
-    }
-}
-
-/// The tables of the architectures that are compared: those of the only profile, if one side is one, and else all.
-pub(crate) fn tables_in_scope<'a>(
-    alloc: Global,
-    left: &ReadSide,
-    right: &ReadSide,
-    tables: &[Table<'a>],
-) -> Result<Vec<Table<'a>>, Memory>
-    ensures { IfOk result (λ used. used.items ≡ tables_in_scope left.now right.now tables.now) }
-{
-    match (left, right) {
-        (ReadSide::Profiles(_), ReadSide::Profiles(_)) => Ok(Vec::from_slice(alloc, tables)?),
-        (ReadSide::Profiles(_), _) => used_by(alloc, left, tables),
-        _ => used_by(alloc, right, tables),
-    }
-}
-
-/// Two sides over the records of each scope.
-pub(crate) fn pairings_of<'a>(
-    alloc: Global,
-    left: Side<'a>,
-    right: Side<'a>,
-    scopes: &[Scope],
-) -> Result<Vec<Pairing<'a>>, Memory>
-    ensures { IfOk result (λ pairings. pairings.items ≡ map (pairing_of left.entry right.entry) scopes.now) }
-{
-    Ok(
-        scopes
-            .iter()
-            .map(|scope| Pairing {
-                left,
-                right,
-                over: *scope,
-            })
-            .collect(alloc)?,
-    )
 }

@@ -1,6 +1,6 @@
 //! A stack of filters.
 
-ghost use Rattle.std.specs.Prelude.{◌≡◌, ◌≢◌, List, Option, map, IfErr, IfOk};
+ghost use Rattle.std.specs.Prelude.{◌≡◌, List, Option, map, IfErr, IfOk};
 ghost use Rattle.scf_insn.specs.Words.{words_of};
 ghost use Rattle.scf_insn.specs.declared.insn.Insn.{Insn};
 ghost use Rattle.scf_machine.specs.Precedence.{IsDecidedBy, StackAnswers};
@@ -8,16 +8,14 @@ ghost use Rattle.scf_machine.specs.declared.stack.DecidingInsn.{DecidingInsn};
 ghost use Rattle.scf_request.specs.Contents.{rest_of};
 ghost use Rattle.scf_tool.specs.Faults.{verify_row};
 ghost use Rattle.scf_tool.specs.FilterStacks.{HasStack};
-ghost use Rattle.scf_c.specs.Faults.{IsRefusal, no_fault};
+ghost use Rattle.scf_c.specs.Endings.{Ends, IsRefusal};
 ghost use Rattle.scf_c.specs.Filters.{IsStackRefused, decided_by, no_decision};
 ghost use Rattle.scf_c.specs.Layout.{bytes_of, known_bytes, record_of};
-ghost use Rattle.scf_c.specs.Statuses.{ok};
 
-use crate::fault::{NO_FAULT, refuse};
+use crate::ending::{NO_FAULT, OK, refuse};
 use crate::layout::{Bytes, Call, DecisionNumbers, Fault};
-use crate::status::OK;
 use scf_insn::Memory;
-use scf_machine::{Decision, FilterStack};
+use scf_machine::{DecidingInsn, Decision, FilterStack};
 use scf_tool::{PartReader, VerifyFault, stack_of, verify_row};
 use std::alloc::Global;
 
@@ -54,19 +52,16 @@ const NO_DECISION: DecisionNumbers = DecisionNumbers {
 fn numbers_of(decision: Decision) -> DecisionNumbers
     ensures { result ≡ decided_by decision.answer.0 decision.by }
 {
-    let answer = decision.answer.0;
-    match decision.by {
-        Some(insn) => DecisionNumbers {
-            answer,
-            has_filter: 1,
-            filter: insn.filter as u64,
-            index: insn.index as u64,
-            reserved: [0; 4],
-        },
-        None => DecisionNumbers {
-            answer,
-            ..NO_DECISION
-        },
+    let by = decision.by.unwrap_or(DecidingInsn {
+        filter: 0,
+        index: 0,
+    });
+    DecisionNumbers {
+        answer: decision.answer.0,
+        has_filter: u32::from(decision.by.is_some()),
+        filter: by.filter as u64,
+        index: by.index as u64,
+        reserved: [0; 4],
     }
 }
 
@@ -80,12 +75,11 @@ pub extern "C" fn scf_decide(
     decision: &mut DecisionNumbers,
     fault: &mut Fault,
 ) -> u32
-    ensures decided { result ≡ ok → (stack : List (List Insn)) × HasStack (known_bytes filters.now) stack
+    ensures { Ends ((stack : List (List Insn)) × HasStack (known_bytes filters.now) stack
         × StackAnswers stack (words_of (record_of call.now)) decision.new.answer
         × (by : Option DecidingInsn) × IsDecidedBy stack (words_of (record_of call.now)) by decision.new.answer
-        × (decision.new ≡ decided_by decision.new.answer by) × (fault.new ≡ no_fault) }
-    ensures refused { result ≢ ok → IsRefusal verify_row (IsStackRefused filters.now) result fault.new
-        × (decision.new ≡ no_decision) }
+        × (decision.new ≡ decided_by decision.new.answer by))
+        (IsRefusal verify_row (IsStackRefused filters.now)) (decision.new ≡ no_decision) result fault.new }
 {
     *decision = NO_DECISION;
     *fault = NO_FAULT;

@@ -4,7 +4,7 @@ ghost use Rattle.std.specs.Prelude.{◌≡◌, ◌↔◌, IsTrue, map, string_by
 ghost use Rattle.std.specs.List.{list_any};
 ghost use Rattle.scf_profile.specs.StatedProfile.{is_named};
 ghost use Rattle.scf_request.specs.Contents.{rest_of_table};
-ghost use Rattle.scf_c.specs.Architectures.{AreMeant, HasTables, IsMeant, architecture_of, count_for, texts_of};
+ghost use Rattle.scf_c.specs.Architectures.{AreMeant, IsMeant, architecture_of, count_for, texts_of};
 ghost use Rattle.scf_c.specs.Architectures as spec;
 
 use crate::layout::Table;
@@ -55,13 +55,6 @@ pub(crate) fn are_meant(tables: &[Table]) -> bool
         }
     }
     true
-}
-
-/// Whether there is such a table.
-pub(crate) fn has_tables(tables: &[Table]) -> bool
-    ensures { IsTrue result ↔ HasTables tables.now }
-{
-    !tables.is_empty() && are_meant(tables)
 }
 
 /// Readers of the tables whose numbers have a meaning, in their order.
@@ -125,21 +118,15 @@ fn has_name(names: &[String], table: &Table) -> bool
     }
 }
 
-/// The number of the machine's own architecture: x86-64 if it has a table, and else aarch64.
-fn own_number(tables: &[Table]) -> u32
-    ensures { result ≡ spec.own_number tables.now }
-{
-    if count_for(tables, 1) == 0 { 4 } else { 1 }
-}
-
 /// Whether a table is that of the machine's own architecture, which a runtime adds to the names, and for which no names
-/// stand.
+/// stand: x86-64 if it has a table, and else aarch64.
 fn is_own(reading: Reading, names: &[String], tables: &[Table], table: &Table) -> bool
     ensures { result ≡ spec.is_own reading (map string_bytes names.now) tables.now table.now }
 {
     match reading {
         Reading::Strict | Reading::Sandbox if !names.is_empty() => false,
-        _ => table.architecture == own_number(tables),
+        _ if count_for(tables, 1) == 0 => table.architecture == 4,
+        _ => table.architecture == 1,
     }
 }
 

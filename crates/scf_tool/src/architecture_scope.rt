@@ -30,7 +30,7 @@ pub fn scope_of(scope: Scope, architecture: Architecture) -> Scope
 }
 
 /// The records of a syscall that an architecture's table has under a number.
-pub fn scope_of_call(architecture: Architecture, number: u32) -> Scope
+pub(crate) fn scope_of_call(architecture: Architecture, number: u32) -> Scope
     requires { (row_of architecture).first + number < 2 ^ 32 }
     ensures { result ≡ spec.scope_of_call architecture number }
 {

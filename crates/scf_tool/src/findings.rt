@@ -5,10 +5,11 @@ ghost use Rattle.std.specs.List.{AllZip};
 ghost use Rattle.scf_insn.specs.Kernel.{x32_syscall_bit};
 ghost use Rattle.scf_profile.specs.NamedCalls.{AreCallsOf, HasItsNames};
 ghost use Rattle.scf_profile.specs.References.{texts_at};
+ghost use Rattle.scf_tool.specs.ArchitectureScopes as spec;
 ghost use Rattle.scf_tool.specs.Comparisons as comparisons;
 ghost use Rattle.scf_tool.specs.Inputs.{behavior_of_input, named_of};
 ghost use Rattle.scf_tool.specs.JointFindings.{AreFindings, IsNamedAs};
-ghost use Rattle.scf_tool.specs.internal.Plans.{ArePaired, IsBesideProfile, pairing_of_call};
+ghost use Rattle.scf_tool.specs.internal.Plans.{ArePaired, IsBesideProfile};
 
 use crate::architecture_scope::{scope_of, scope_of_call};
 use crate::joint_findings::joint_finding;
@@ -61,7 +62,7 @@ fn owned_texts(alloc: Global, words: &[&str]) -> Result<Texts, AllocError>
 }
 
 /// The number of a call of a table. The table is asked for it, which promises that it is below 0x40000000.
-pub fn number_in(table: &CallTable, call: &NamedCall<'_>) -> u32
+fn number_in(table: &CallTable, call: &NamedCall<'_>) -> u32
     requires named { 0 < length call.now.names.items }
     requires names { HasItsNames table.now call.now }
     ensures same { result ≡ call.now.number }
@@ -135,7 +136,7 @@ fn pairings_of<'a>(
 }
 
 /// Two sides over the records of each call of an architecture's table.
-fn pairings_of_calls<'a>(
+pub fn pairings_of_calls<'a>(
     alloc: Global,
     left: Side<'a>,
     right: Side<'a>,
@@ -144,7 +145,11 @@ fn pairings_of_calls<'a>(
 ) -> Result<Vec<Pairing<'a>>, AllocError>
     requires { AreCallsOf table.now.table calls.now }
     ensures { IfOk result (λ pairings.
-        pairings.items ≡ map (pairing_of_call left.entry right.entry table.now.architecture) calls.now) }
+        pairings.items ≡ map (λ call. record {
+          left = left.entry;
+          right = right.entry;
+          over = spec.scope_of_call table.now.architecture call.number;
+        }) calls.now) }
 {
     let mut pairings = Vec::new(alloc);
     for call in calls {

@@ -30,7 +30,7 @@ mod status;
 mod verification;
 mod verify_fault;
 
-pub use architecture_scope::{scope_of, scope_of_call};
+pub use architecture_scope::scope_of;
 pub use buffer::{encoding_of, listing_of};
 pub use command_line::report_usage_error;
 pub use commands::run_command;
@@ -40,7 +40,7 @@ pub use exploration::none_differ;
 pub use fault_row::{FaultRow, MEMORY, compile_row, side_row, text_row, verify_row};
 pub use filter::read_filter;
 pub use filter_stack::{read_stack, stack_of};
-pub use findings::{CallFinding, ComparisonOutcome, Findings, number_in};
+pub use findings::{CallFinding, ComparisonOutcome, Findings, pairings_of_calls};
 pub use joint_findings::{joint_finding, worst_of};
 pub use left_out::LeftOut;
 pub use loading::load_with_tables;

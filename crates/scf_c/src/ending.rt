@@ -1,13 +1,24 @@
-//! Faults as numbers.
+//! How a call ends: its status, its fault, and what it hands out. A verdict is no status: whether filters answer as a
+//! profile does is handed out beside it.
 
 ghost use Rattle.std.specs.Prelude.{◌≡◌, ◌≢◌};
-ghost use Rattle.scf_c.specs.Faults.{fault_of, status_of};
-ghost use Rattle.scf_c.specs.Statuses.{ok};
+ghost use Rattle.scf_c.specs.Endings.{IsHandedOut, fault_of, ok, status_of, wrong_argument};
 ghost use Rattle.scf_tool.specs.Faults.{row_of};
 
 use crate::layout::Fault;
-use crate::status::{NO_MEMORY, REFUSED};
 use scf_tool::{FaultRow, MEMORY};
+
+/// All is well.
+pub(crate) const OK: u32 = 0;
+
+/// An input is refused.
+const REFUSED: u32 = 1;
+
+/// A number isn't one that the call takes.
+pub(crate) const WRONG_ARGUMENT: u32 = 2;
+
+/// An allocation failed.
+const NO_MEMORY: u32 = 3;
 
 /// The fault where there is none.
 pub(crate) const NO_FAULT: Fault = Fault {
@@ -22,6 +33,7 @@ pub(crate) fn refuse(row: FaultRow, fault: &mut Fault) -> u32
     ensures of_row { fault.new ≡ fault_of (row_of row) }
     ensures status { result ≡ status_of fault.new }
     ensures failed { result ≢ ok }
+    ensures asked { result ≢ wrong_argument }
 {
     let [(_, first), (_, second), (_, third)] = row.kind.numbers;
     *fault = Fault {
@@ -35,4 +47,13 @@ pub(crate) fn refuse(row: FaultRow, fault: &mut Fault) -> u32
     } else {
         REFUSED
     }
+}
+
+/// Hands a list out as snprintf does: as much of its front as there is room for, and how long it is.
+pub(crate) fn hand_out<T: Copy>(items: &[T], room: &mut [T], needed: &mut usize)
+    ensures { IsHandedOut items.now room.old room.new needed.new }
+{
+    *needed = items.len();
+    let count = items.len().min(room.len());
+    room[..count].copy_from_slice(&items[..count]);
 }
