@@ -14,15 +14,11 @@ use Rattle.scf_profile.specs.declared.scope.Scope.{Scope}
 use Rattle.scf_request.specs.Contents.{rest_of_table}
 use Rattle.scf_request.specs.Requests.{HasRecord}
 use Rattle.scf_request.specs.declared.contents.TableReader.{TableReader}
-use Rattle.scf_tool.proofs.Common.{List, Ok, PartReader, [], arith, get_or, length, map, refl, sym, ◌∙◌, ◌∷◌, ◌≡◌, ◌≢◌, ℕ}
-use Rattle.scf_request.specs.declared.request.Scopes.TheVariants.{AtOnce}
+use Rattle.scf_tool.proofs.Common.{List, Ok, PartReader, [], arith, get_or, length, map, refl, sym, ◌∙◌, ◌∷◌, ◌≡◌, ℕ}
 use Rattle.scf_tool.specs.ArchitectureScopes.{HasRecordAmong, NameNoCall, scope_of}
-use Rattle.scf_profile.specs.StatedProfile.{Tables}
 use Rattle.scf_tool.proofs.Common.{AllZip}
 use Rattle.scf_tool.specs.Inputs.{SpellsTable}
-use Rattle.scf_tool.specs.Commands.{AreCounts, GoesOver, GoesOverNone}
-use Rattle.scf_request.specs.declared.request_fault.RequestFault.TheVariants.{Range}
-use Rattle.scf_tool.specs.declared.fault.Fault.TheVariants.{Request}
+use Rattle.scf_tool.specs.Commands.{AreCounts}
 
 -- ---- architectures
 
@@ -94,19 +90,6 @@ module _ (texts : List (Architecture × List ℕ)) (table : Architecture × Name
           let lacks = rw same at (names.2 named.0) in
           absurd (cc)
 
--- several tables or none aren't one without a call
-pub not_only : (texts : List (Architecture × List ℕ)) (tables : Tables) → AllZip SpellsTable texts tables
-    → length tables ≢ 1 → NameNoCall texts → ⊥
-not_only texts [] each several (only, is, none) = rw is at each
-not_only texts (table ∷ []) each several none = several refl
-not_only texts (table ∷ second ∷ tables) each several (only, is, none) = (rw is at each).1
-
 -- texts that aren't all tables aren't one without a call
 pub not_valid : (texts : List (Architecture × List ℕ)) → (AreCounts texts → ⊥) → NameNoCall texts → ⊥
 not_valid texts invalid (only, is, names) = invalid ((only.0, names.0) ∷ [], rw is ((refl, names.1), tt))
-
--- a scope without a record under the tables
-pub none_under : (of_each : Bool) (scope : Scope) (tables : List (Architecture × List ℕ))
-    → (GoesOver of_each (AtOnce scope) tables → ⊥) → GoesOverNone of_each (AtOnce scope) tables (Request Range)
-none_under true scope tables none = none
-none_under false scope tables none = absurd (none tt)
