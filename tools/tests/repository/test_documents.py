@@ -401,7 +401,7 @@ class Manual(Case):
         for heading in ("NAME", "SYNOPSIS", "COMMANDS OF THE PROGRAM", "OPTIONS", "EXIT STATUS", "EXAMPLES"):
             self.assertIn(f"\n{heading}\n", shown)
 
-    def test_every_command_option_and_tool_stands_there(self):
+    def test_every_command_and_option_stands_there(self):
         text = self.text().replace("\\-", "-").replace("\\", "")
         done = subprocess.run([PROGRAM, "--help"], stdin=subprocess.DEVNULL, stdout=subprocess.PIPE, check=False)
         commands = re.findall(r"^  ([a-z]+) ", done.stdout.decode(), re.M)
@@ -413,8 +413,6 @@ class Manual(Case):
                 self.assertRegex(text, rf"--{option}(?![a-z0-9-])", command)
         for option in ("--native", "--calls", "--no-more", "--no-less", "--path"):
             self.assertIn(option, text)
-        for name in TOOLS:
-            self.assertRegex(text, rf"(?m)^\.BR scf-{name} \(1\)", name)
         for status in (0, 1, 2, 3, 4, 70, 125):
             self.assertRegex(text, rf"(?m)^\.B {status}$", status)
 
