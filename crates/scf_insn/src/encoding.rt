@@ -13,36 +13,19 @@ use crate::insn::Insn;
 use crate::kernel::{MAX_FILTER_LEN, SOCK_FILTER_LEN};
 use crate::stream::{Sink, Source, WriteFault, write_whole};
 use std::alloc::Global;
-use std::fmt;
 use thiserror::Error;
 
 /// Why a filter file wasn't read.
-#[derive(Clone, Copy, Error)]
+#[derive(Clone, Copy, Debug, Error)]
 pub enum ReadFault {
+    #[error("the input can't be read")]
     Read,
+    #[error("the instruction at byte {offset} is cut")]
     Truncated { offset: usize },
+    #[error("the input has more than 32768 bytes")]
     TooLong,
+    #[error("out of memory")]
     Memory,
-}
-
-impl fmt::Display for ReadFault {
-    fn fmt<W: fmt::Write>(&self, f: &mut fmt::Formatter<W>) -> fmt::Result {
-        let text = match self {
-            ReadFault::Read => "the input can't be read",
-            ReadFault::Truncated { offset } => {
-                return write!(f, "the instruction at byte {offset} is cut");
-            }
-            ReadFault::TooLong => "the input has more than 32768 bytes",
-            ReadFault::Memory => "out of memory",
-        };
-        f.write_str(text)
-    }
-}
-
-impl fmt::Debug for ReadFault {
-    fn fmt<W: fmt::Write>(&self, f: &mut fmt::Formatter<W>) -> fmt::Result {
-        fmt::Display::fmt(self, f)
-    }
 }
 
 /// The instructions with these bytes.

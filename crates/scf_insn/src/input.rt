@@ -7,25 +7,17 @@ ghost use Rattle.scf_insn.specs.Readings.{IsInput, read_len};
 
 use crate::stream::Source;
 use std::alloc::Global;
-use std::fmt;
 use thiserror::Error;
 
 /// Why an input wasn't read.
 #[derive(Clone, Copy, Debug, Error)]
 pub enum InputFault {
+    #[error("the input can't be read")]
     Read,
+    #[error("the input is too long")]
     TooLong,
+    #[error("out of memory")]
     Memory,
-}
-
-impl fmt::Display for InputFault {
-    fn fmt<W: fmt::Write>(&self, f: &mut fmt::Formatter<W>) -> fmt::Result {
-        f.write_str(match self {
-            InputFault::Read => "the input can't be read",
-            InputFault::TooLong => "the input is too long",
-            InputFault::Memory => "out of memory",
-        })
-    }
 }
 
 /// How many bytes are read at a time.

@@ -4,23 +4,15 @@ ghost use Rattle.std.specs.Prelude.{◌+◌, ◌*◌, ◌≤◌, ℕ};
 ghost use Rattle.scf_insn.specs.Numbers.{numeral, number_of, ReadsNumber};
 ghost use Rattle.scf_insn.specs.internal.Numbers.{IsWithinRange};
 
-use std::fmt;
 use thiserror::Error;
 
 /// Why a text isn't a number.
 #[derive(Clone, Copy, Debug, Error)]
 pub enum NumeralFault {
+    #[error("not a number")]
     Malformed,
+    #[error("a number past 2^64-1")]
     TooLarge,
-}
-
-impl fmt::Display for NumeralFault {
-    fn fmt<W: fmt::Write>(&self, f: &mut fmt::Formatter<W>) -> fmt::Result {
-        f.write_str(match self {
-            NumeralFault::Malformed => "not a number",
-            NumeralFault::TooLarge => "a number past 2^64-1",
-        })
-    }
 }
 
 /// The value with one more digit appended, if it is below 2^64.
