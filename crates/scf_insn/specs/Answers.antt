@@ -2,9 +2,6 @@
 use Rattle.std.specs.Prelude.{ℕ, ℤ, ◌+◌, ◌*◌, ◌/◌, ◌%◌, ◌^◌, ◌==◌, ◌≤◌, List, [], ◌∷◌, unwrap_or}
 use Rattle.std.specs.List.{find}
 use Rattle.std.specs.Int.{w16, cast_signed}
-use Rattle.scf_insn.specs.Kernel.{seccomp_ret_kill_process, seccomp_ret_kill_thread, seccomp_ret_trap}
-use Rattle.scf_insn.specs.Kernel.{seccomp_ret_errno, seccomp_ret_user_notif, seccomp_ret_trace}
-use Rattle.scf_insn.specs.Kernel.{seccomp_ret_log, seccomp_ret_allow}
 use Rattle.scf_insn.specs.declared.answer.Action.{Action}
 use Rattle.scf_insn.specs.declared.answer.Action.TheVariants.{KillProcess, KillThread, Trap, Errno, UserNotif, Trace}
 use Rattle.scf_insn.specs.declared.answer.Action.TheVariants.{Log, Allow, Other}
@@ -19,16 +16,16 @@ action_half answer = answer / 2 ^ 16
 abbrev pub data_half : ℕ → ℕ
 data_half answer = answer % 2 ^ 16
 
--- the high half of an action
+-- the high half of an action, that of its SECCOMP_RET_.. of linux/seccomp.h
 abbrev pub half_of : Action → ℕ
-half_of KillProcess = action_half seccomp_ret_kill_process
-half_of KillThread = action_half seccomp_ret_kill_thread
-half_of Trap = action_half seccomp_ret_trap
-half_of Errno = action_half seccomp_ret_errno
-half_of UserNotif = action_half seccomp_ret_user_notif
-half_of Trace = action_half seccomp_ret_trace
-half_of Log = action_half seccomp_ret_log
-half_of Allow = action_half seccomp_ret_allow
+half_of KillProcess = 0x8000
+half_of KillThread = 0x0000
+half_of Trap = 0x0003
+half_of Errno = 0x0005
+half_of UserNotif = 0x7fc0
+half_of Trace = 0x7ff0
+half_of Log = 0x7ffc
+half_of Allow = 0x7fff
 half_of (Other half) = half
 
 -- the actions that have a name, in the order of precedence

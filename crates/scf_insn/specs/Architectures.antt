@@ -6,7 +6,7 @@ use Rattle.scf_insn.specs.declared.architecture.Architecture.TheVariants.{X8664,
 use Rattle.scf_insn.specs.declared.architecture.ArgumentBits.{ArgumentBits}
 use Rattle.scf_insn.specs.declared.architecture.ArgumentBits.TheVariants.{Bits32, Bits64}
 use Rattle.scf_insn.specs.declared.record.CallRecord.{CallRecord}
-use Rattle.scf_insn.specs.Kernel.{audit_arch_x86_64, audit_arch_i386, audit_arch_aarch64, audit_arch_arm, audit_arch_riscv64, audit_arch_ppc64le, audit_arch_mipsel, audit_arch_mipsel64, audit_arch_mipsel64n32, audit_arch_loongarch64, x32_syscall_bit}
+use Rattle.scf_insn.specs.Kernel.{audit_arch_x86_64, x32_syscall_bit}
 use Rattle.scf_insn.specs.Words.{argument, low}
 
 -- What is known of an architecture: the value of `arch` in its records, its first and its last syscall number, how wide
@@ -27,18 +27,19 @@ row audit first last bits name part =
 abbrev whole_row : ℕ → ArgumentBits → List ℕ → List ℕ → Row
 whole_row audit bits name part = row audit 0 (2 ^ 32 - 1) bits name part
 
+-- the audit values are AUDIT_ARCH_.. of linux/audit.h
 abbrev pub row_of : Architecture → Row
 row_of X8664 = row audit_arch_x86_64 0 (x32_syscall_bit - 1) Bits64 (codes "SCMP_ARCH_X86_64") (codes "table")
-row_of X86 = whole_row audit_arch_i386 Bits32 (codes "SCMP_ARCH_X86") (codes "table-x86")
+row_of X86 = whole_row 0x40000003 Bits32 (codes "SCMP_ARCH_X86") (codes "table-x86")
 row_of X32 = row audit_arch_x86_64 x32_syscall_bit (2 ^ 32 - 1) Bits32 (codes "SCMP_ARCH_X32") (codes "table-x32")
-row_of Aarch64 = whole_row audit_arch_aarch64 Bits64 (codes "SCMP_ARCH_AARCH64") (codes "table-aarch64")
-row_of Arm = whole_row audit_arch_arm Bits32 (codes "SCMP_ARCH_ARM") (codes "table-arm")
-row_of Riscv64 = whole_row audit_arch_riscv64 Bits64 (codes "SCMP_ARCH_RISCV64") (codes "table-riscv64")
-row_of Ppc64le = whole_row audit_arch_ppc64le Bits64 (codes "SCMP_ARCH_PPC64LE") (codes "table-ppc64le")
-row_of Mipsel = whole_row audit_arch_mipsel Bits32 (codes "SCMP_ARCH_MIPSEL") (codes "table-mipsel")
-row_of Mipsel64 = whole_row audit_arch_mipsel64 Bits64 (codes "SCMP_ARCH_MIPSEL64") (codes "table-mipsel64")
-row_of Mipsel64n32 = whole_row audit_arch_mipsel64n32 Bits32 (codes "SCMP_ARCH_MIPSEL64N32") (codes "table-mipsel64n32")
-row_of Loongarch64 = whole_row audit_arch_loongarch64 Bits64 (codes "SCMP_ARCH_LOONGARCH64") (codes "table-loongarch64")
+row_of Aarch64 = whole_row 0xc00000b7 Bits64 (codes "SCMP_ARCH_AARCH64") (codes "table-aarch64")
+row_of Arm = whole_row 0x40000028 Bits32 (codes "SCMP_ARCH_ARM") (codes "table-arm")
+row_of Riscv64 = whole_row 0xc00000f3 Bits64 (codes "SCMP_ARCH_RISCV64") (codes "table-riscv64")
+row_of Ppc64le = whole_row 0xc0000015 Bits64 (codes "SCMP_ARCH_PPC64LE") (codes "table-ppc64le")
+row_of Mipsel = whole_row 0x40000008 Bits32 (codes "SCMP_ARCH_MIPSEL") (codes "table-mipsel")
+row_of Mipsel64 = whole_row 0xc0000008 Bits64 (codes "SCMP_ARCH_MIPSEL64") (codes "table-mipsel64")
+row_of Mipsel64n32 = whole_row 0xe0000008 Bits32 (codes "SCMP_ARCH_MIPSEL64N32") (codes "table-mipsel64n32")
+row_of Loongarch64 = whole_row 0xc0000102 Bits64 (codes "SCMP_ARCH_LOONGARCH64") (codes "table-loongarch64")
 
 -- all of them, in this order
 abbrev pub architectures : List Architecture

@@ -4,25 +4,6 @@ ghost use Rattle.std.specs.Prelude.{◌≡◌, ◌↔◌, IsTrue};
 ghost use Rattle.scf_insn.specs.Answers.{action_half, data_half, rank_of, action_of, half_of, answer_of};
 ghost use Rattle.scf_insn.specs.Answers.{disposition_of, IsNoMorePermissive};
 
-use crate::kernel;
-
-/// The high halves of the actions that have a name.
-const KILL_PROCESS: u16 = (kernel::SECCOMP_RET_KILL_PROCESS >> 16) as u16;
-
-const KILL_THREAD: u16 = (kernel::SECCOMP_RET_KILL_THREAD >> 16) as u16;
-
-const TRAP: u16 = (kernel::SECCOMP_RET_TRAP >> 16) as u16;
-
-const ERRNO: u16 = (kernel::SECCOMP_RET_ERRNO >> 16) as u16;
-
-const USER_NOTIF: u16 = (kernel::SECCOMP_RET_USER_NOTIF >> 16) as u16;
-
-const TRACE: u16 = (kernel::SECCOMP_RET_TRACE >> 16) as u16;
-
-const LOG: u16 = (kernel::SECCOMP_RET_LOG >> 16) as u16;
-
-const ALLOW: u16 = (kernel::SECCOMP_RET_ALLOW >> 16) as u16;
-
 /// A filter's answer, 32 bits: the action in the high half (`SECCOMP_RET_ACTION_FULL`), its data in the low half
 /// (`SECCOMP_RET_DATA`).
 #[derive(Clone, Copy, PartialEq, Eq)]
@@ -55,19 +36,19 @@ pub enum Disposition {
 }
 
 impl Action {
-    /// The high half of this action.
+    /// The high half of this action: that of its `SECCOMP_RET_..` of linux/seccomp.h.
     fn half(self) -> u16
         ensures { result ≡ half_of self }
     {
         match self {
-            Action::KillProcess => KILL_PROCESS,
-            Action::KillThread => KILL_THREAD,
-            Action::Trap => TRAP,
-            Action::Errno => ERRNO,
-            Action::UserNotif => USER_NOTIF,
-            Action::Trace => TRACE,
-            Action::Log => LOG,
-            Action::Allow => ALLOW,
+            Action::KillProcess => 0x8000,
+            Action::KillThread => 0x0000,
+            Action::Trap => 0x0003,
+            Action::Errno => 0x0005,
+            Action::UserNotif => 0x7fc0,
+            Action::Trace => 0x7ff0,
+            Action::Log => 0x7ffc,
+            Action::Allow => 0x7fff,
             Action::Other(half) => half,
         }
     }
@@ -92,14 +73,14 @@ impl Answer {
         ensures { result ≡ action_of (action_half self.now.0) }
     {
         match self.high_half() {
-            KILL_PROCESS => Action::KillProcess,
-            KILL_THREAD => Action::KillThread,
-            TRAP => Action::Trap,
-            ERRNO => Action::Errno,
-            USER_NOTIF => Action::UserNotif,
-            TRACE => Action::Trace,
-            LOG => Action::Log,
-            ALLOW => Action::Allow,
+            0x8000 => Action::KillProcess,
+            0x0000 => Action::KillThread,
+            0x0003 => Action::Trap,
+            0x0005 => Action::Errno,
+            0x7fc0 => Action::UserNotif,
+            0x7ff0 => Action::Trace,
+            0x7ffc => Action::Log,
+            0x7fff => Action::Allow,
             half => Action::Other(half),
         }
     }

@@ -3,13 +3,8 @@
 ghost use Rattle.std.specs.Prelude.{◌≡◌, ◌↔◌, ◌-◌, ◌^◌, IsTrue};
 ghost use Rattle.scf_insn.specs.Architectures.{architectures, greatest_argument, row_of, taken_of, IsOf};
 
-use crate::kernel::{
-    AUDIT_ARCH_AARCH64, AUDIT_ARCH_ARM, AUDIT_ARCH_I386, AUDIT_ARCH_LOONGARCH64, AUDIT_ARCH_MIPSEL,
-    AUDIT_ARCH_MIPSEL64, AUDIT_ARCH_MIPSEL64N32, AUDIT_ARCH_PPC64LE, AUDIT_ARCH_RISCV64,
-    AUDIT_ARCH_X86_64, X32_SYSCALL_BIT,
-};
+use crate::kernel::{AUDIT_ARCH_X86_64, X32_SYSCALL_BIT};
 use crate::record::CallRecord;
-use ArgumentBits::{Bits32, Bits64};
 
 /// How many bits of a register are an argument: all 64, or the low 32.
 #[derive(Clone, Copy, PartialEq, Eq)]
@@ -65,6 +60,18 @@ struct Row {
     part: &'static str,
 }
 
+/// The row of an architecture, of those below: architecture, audit value (`AUDIT_ARCH_..` of linux/audit.h), bits of an
+/// argument, name, part.
+macro_rules! rows {
+    ($of:expr; $($architecture:ident $audit:tt $bits:ident $name:literal $part:literal;)*) => {
+        match $of {
+            $(Architecture::$architecture => {
+                Row { audit: $audit, bits: ArgumentBits::$bits, name: $name, part: $part }
+            })*
+        }
+    };
+}
+
 /// How many architectures there are.
 pub const ARCHITECTURES: usize = 11;
 
@@ -94,74 +101,18 @@ impl Architecture {
         ensures name { result.name.now ≡ (row_of self).name }
         ensures part { result.part.now ≡ (row_of self).part }
     {
-        use Architecture::*;
-        match self {
-            X8664 => Row {
-                audit: AUDIT_ARCH_X86_64,
-                bits: Bits64,
-                name: "SCMP_ARCH_X86_64",
-                part: "table",
-            },
-            X86 => Row {
-                audit: AUDIT_ARCH_I386,
-                bits: Bits32,
-                name: "SCMP_ARCH_X86",
-                part: "table-x86",
-            },
-            X32 => Row {
-                audit: AUDIT_ARCH_X86_64,
-                bits: Bits32,
-                name: "SCMP_ARCH_X32",
-                part: "table-x32",
-            },
-            Aarch64 => Row {
-                audit: AUDIT_ARCH_AARCH64,
-                bits: Bits64,
-                name: "SCMP_ARCH_AARCH64",
-                part: "table-aarch64",
-            },
-            Arm => Row {
-                audit: AUDIT_ARCH_ARM,
-                bits: Bits32,
-                name: "SCMP_ARCH_ARM",
-                part: "table-arm",
-            },
-            Riscv64 => Row {
-                audit: AUDIT_ARCH_RISCV64,
-                bits: Bits64,
-                name: "SCMP_ARCH_RISCV64",
-                part: "table-riscv64",
-            },
-            Ppc64le => Row {
-                audit: AUDIT_ARCH_PPC64LE,
-                bits: Bits64,
-                name: "SCMP_ARCH_PPC64LE",
-                part: "table-ppc64le",
-            },
-            Mipsel => Row {
-                audit: AUDIT_ARCH_MIPSEL,
-                bits: Bits32,
-                name: "SCMP_ARCH_MIPSEL",
-                part: "table-mipsel",
-            },
-            Mipsel64 => Row {
-                audit: AUDIT_ARCH_MIPSEL64,
-                bits: Bits64,
-                name: "SCMP_ARCH_MIPSEL64",
-                part: "table-mipsel64",
-            },
-            Mipsel64n32 => Row {
-                audit: AUDIT_ARCH_MIPSEL64N32,
-                bits: Bits32,
-                name: "SCMP_ARCH_MIPSEL64N32",
-                part: "table-mipsel64n32",
-            },
-            Loongarch64 => Row {
-                audit: AUDIT_ARCH_LOONGARCH64,
-                bits: Bits64,
-                name: "SCMP_ARCH_LOONGARCH64",
-                part: "table-loongarch64",
-            },
+        rows! { self;
+            X8664 AUDIT_ARCH_X86_64 Bits64 "SCMP_ARCH_X86_64" "table";
+            X86 0x4000_0003 Bits32 "SCMP_ARCH_X86" "table-x86";
+            X32 AUDIT_ARCH_X86_64 Bits32 "SCMP_ARCH_X32" "table-x32";
+            Aarch64 0xc000_00b7 Bits64 "SCMP_ARCH_AARCH64" "table-aarch64";
+            Arm 0x4000_0028 Bits32 "SCMP_ARCH_ARM" "table-arm";
+            Riscv64 0xc000_00f3 Bits64 "SCMP_ARCH_RISCV64" "table-riscv64";
+            Ppc64le 0xc000_0015 Bits64 "SCMP_ARCH_PPC64LE" "table-ppc64le";
+            Mipsel 0x4000_0008 Bits32 "SCMP_ARCH_MIPSEL" "table-mipsel";
+            Mipsel64 0xc000_0008 Bits64 "SCMP_ARCH_MIPSEL64" "table-mipsel64";
+            Mipsel64n32 0xe000_0008 Bits32 "SCMP_ARCH_MIPSEL64N32" "table-mipsel64n32";
+            Loongarch64 0xc000_0102 Bits64 "SCMP_ARCH_LOONGARCH64" "table-loongarch64";
         }
     }
 

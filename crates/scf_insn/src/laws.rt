@@ -6,23 +6,15 @@ ghost use Rattle.scf_insn.specs.declared.insn.Insn.{Insn};
 ghost use Rattle.scf_insn.specs.declared.operation.Operation.{Operation};
 ghost use Rattle.scf_insn.specs.Codes.{code_of, operation_of};
 ghost use Rattle.scf_insn.specs.Insn.{IsInsn, program_bytes};
-ghost use Rattle.scf_insn.specs.Kernel.{audit_arch_i386, audit_arch_aarch64, audit_arch_arm, audit_arch_riscv64};
-ghost use Rattle.scf_insn.specs.Kernel.{audit_arch_ppc64le, audit_arch_mipsel, audit_arch_mipsel64};
-ghost use Rattle.scf_insn.specs.Kernel.{audit_arch_mipsel64n32, audit_arch_loongarch64};
 ghost use Rattle.scf_insn.specs.Kernel.{audit_arch_x86_64, x32_syscall_bit, bpf_maxinsns, bpf_memwords};
 ghost use Rattle.scf_insn.specs.Kernel.{sock_filter_len, seccomp_data_len, seccomp_data_args};
 ghost use Rattle.scf_insn.specs.Kernel.{max_insns_per_path, max_filter_len};
-ghost use Rattle.scf_insn.specs.Kernel.{seccomp_ret_kill_process, seccomp_ret_kill_thread, seccomp_ret_trap};
-ghost use Rattle.scf_insn.specs.Kernel.{seccomp_ret_errno, seccomp_ret_user_notif, seccomp_ret_trace};
-ghost use Rattle.scf_insn.specs.Kernel.{seccomp_ret_log, seccomp_ret_allow};
+ghost use Rattle.scf_insn.specs.Kernel.{seccomp_ret_kill_process, seccomp_ret_errno};
 
 use crate::kernel::{
-    AUDIT_ARCH_AARCH64, AUDIT_ARCH_ARM, AUDIT_ARCH_I386, AUDIT_ARCH_LOONGARCH64, AUDIT_ARCH_MIPSEL,
-    AUDIT_ARCH_MIPSEL64, AUDIT_ARCH_MIPSEL64N32, AUDIT_ARCH_PPC64LE, AUDIT_ARCH_RISCV64,
     AUDIT_ARCH_X86_64, BPF_MAXINSNS, BPF_MEMWORDS, MAX_FILTER_LEN, MAX_INSNS_PER_PATH,
-    SECCOMP_DATA_ARGS, SECCOMP_DATA_LEN, SECCOMP_RET_ALLOW, SECCOMP_RET_ERRNO,
-    SECCOMP_RET_KILL_PROCESS, SECCOMP_RET_KILL_THREAD, SECCOMP_RET_LOG, SECCOMP_RET_TRACE,
-    SECCOMP_RET_TRAP, SECCOMP_RET_USER_NOTIF, SOCK_FILTER_LEN, X32_SYSCALL_BIT,
+    SECCOMP_DATA_ARGS, SECCOMP_DATA_LEN, SECCOMP_RET_ERRNO, SECCOMP_RET_KILL_PROCESS,
+    SOCK_FILTER_LEN, X32_SYSCALL_BIT,
 };
 
 /// Bytes and lists of instructions are a bijection at multiples of 8: a list has 8 bytes for each instruction, two
@@ -45,24 +37,9 @@ pub fn one_code()
 /// The kernel's constants have the values of its headers.
 pub fn kernel_constants()
     ensures arch { AUDIT_ARCH_X86_64 ≡ audit_arch_x86_64 }
-    ensures i386 { AUDIT_ARCH_I386 ≡ audit_arch_i386 }
-    ensures aarch64 { AUDIT_ARCH_AARCH64 ≡ audit_arch_aarch64 }
-    ensures arm { AUDIT_ARCH_ARM ≡ audit_arch_arm }
-    ensures riscv64 { AUDIT_ARCH_RISCV64 ≡ audit_arch_riscv64 }
-    ensures ppc64le { AUDIT_ARCH_PPC64LE ≡ audit_arch_ppc64le }
-    ensures mipsel { AUDIT_ARCH_MIPSEL ≡ audit_arch_mipsel }
-    ensures mipsel64 { AUDIT_ARCH_MIPSEL64 ≡ audit_arch_mipsel64 }
-    ensures mipsel64n32 { AUDIT_ARCH_MIPSEL64N32 ≡ audit_arch_mipsel64n32 }
-    ensures loongarch64 { AUDIT_ARCH_LOONGARCH64 ≡ audit_arch_loongarch64 }
     ensures x32 { X32_SYSCALL_BIT ≡ x32_syscall_bit }
     ensures kill_process { SECCOMP_RET_KILL_PROCESS ≡ seccomp_ret_kill_process }
-    ensures kill_thread { SECCOMP_RET_KILL_THREAD ≡ seccomp_ret_kill_thread }
-    ensures trap { SECCOMP_RET_TRAP ≡ seccomp_ret_trap }
     ensures errno { SECCOMP_RET_ERRNO ≡ seccomp_ret_errno }
-    ensures user_notif { SECCOMP_RET_USER_NOTIF ≡ seccomp_ret_user_notif }
-    ensures trace { SECCOMP_RET_TRACE ≡ seccomp_ret_trace }
-    ensures log { SECCOMP_RET_LOG ≡ seccomp_ret_log }
-    ensures allow { SECCOMP_RET_ALLOW ≡ seccomp_ret_allow }
     ensures insns { BPF_MAXINSNS ≡ bpf_maxinsns }
     ensures scratch { BPF_MEMWORDS ≡ bpf_memwords }
     ensures insn { SOCK_FILTER_LEN ≡ sock_filter_len }

@@ -102,9 +102,9 @@ class Sources(unittest.TestCase):
 
     def test_numbers(self):
         numbers = [f"{row.number:08x}" for row in architectures.JUDGED.values()]
-        for pattern, path in ((r'\{"\w+", 0x(\w+)\}', "library/go/scf.go"),
-                              (r"^pub const AUDIT_ARCH_\w+: u32 = 0x(\w+);", "crates/scf_insn/src/kernel.rt")):
-            self.assertEqual(set(self.held(pattern, path)), set(numbers), path)
+        own = self.held(r"^pub const AUDIT_ARCH_X86_64: u32 = 0x(\w+);", "crates/scf_insn/src/kernel.rt")
+        others = self.held(r"^ +\w+ 0x(\w+) Bits", "crates/scf_insn/src/architecture.rt")
+        self.assertEqual({*own, *others}, set(numbers))
         self.assertEqual(self.held(r'\{"\w+", 0x(\w+)\}', "library/go/scf.go"), numbers)
 
 
