@@ -47,17 +47,11 @@ fn find_index(entry: Option<u32>, object: &Value) -> Result<u8, LoadFault>
     ensures range { IfOk result (λ index. index < seccomp_data_args) }
 {
     let member = required(entry, "index", object)?;
-    if let Some(index) = member.as_u64() {
-        return if index < u64::from(ARGUMENTS) {
-            Ok(index as u8)
-        } else {
-            Err(LoadFault::Index { entry })
-        };
+    match member.as_u64() {
+        Some(index) if index < u64::from(ARGUMENTS) => Ok(index as u8),
+        None if !member.is_i64() => Err(LoadFault::Kind { entry }),
+        _ => Err(LoadFault::Index { entry }),
     }
-    if member.is_i64() {
-        return Err(LoadFault::Index { entry });
-    }
-    Err(LoadFault::Kind { entry })
 }
 
 /// Whether two conditions are on one argument.

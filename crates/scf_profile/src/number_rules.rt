@@ -35,16 +35,6 @@ fn are_rising(rules: &[Rule]) -> bool
     true
 }
 
-/// Adds a rule to those of its number.
-fn add_rule(under: &mut BTreeMap<u32, SmallVec<Rule, 1>>, rule: Rule) -> Result<(), AllocError>
-    ensures rules { OnOk result (rules_under under.new rule.number ≡ rules_under under.old rule.number ++ rule ∷ []) }
-    ensures has { OnOk result (is_some (get nat_cmp under.new rule.number) ≡ true) }
-    ensures others { OnOk result ((n : ℕ) → n ≢ rule.number → get nat_cmp under.new n ≡ get nat_cmp under.old n) }
-{
-    under.entry(rule.number)?.or_default().push(rule)?;
-    Ok(())
-}
-
 /// The rules, by syscall number.
 #[tactic(auto, using(std::proofs::lemmas::Grind::common_steps))]
 fn rules_under_numbers(
@@ -53,9 +43,10 @@ fn rules_under_numbers(
 ) -> Result<BTreeMap<u32, SmallVec<Rule, 1>>, AllocError>
     ensures { IfOk result (AreUnder rules.now) }
 {
-    let mut under = BTreeMap::new(alloc);
+    let mut under: BTreeMap<u32, SmallVec<Rule, 1>> = BTreeMap::new(alloc);
     for rule in rules {
-        add_rule(&mut under, rule.try_clone(alloc)?)?;
+        let copy = rule.try_clone(alloc)?;
+        under.entry(rule.number)?.or_default().push(copy)?;
     }
     Ok(under)
 }

@@ -24,11 +24,7 @@ impl NumberSet {
         ensures same { (n : ℕ) → n ≤ greatest_argument bits → is_in_some result n ≡ nat_le first n }
         ensures set { IfSome result (IsNumberSet bits) }
     {
-        if first <= bits.greatest() {
-            Some(NumberSet::AtLeast(first))
-        } else {
-            None
-        }
+        (first <= bits.greatest()).then_some(NumberSet::AtLeast(first))
     }
 
     /// The arguments `n` with `n & mask == value`, if there are any.

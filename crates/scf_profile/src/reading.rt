@@ -38,10 +38,6 @@ impl Reading {
     pub(crate) fn left_out(self, default_answer: Answer) -> Option<Answer>
         ensures { result ≡ left_out_by self default_answer }
     {
-        if self.is_runtime() {
-            Some(default_answer)
-        } else {
-            None
-        }
+        self.is_runtime().then_some(default_answer)
     }
 }
