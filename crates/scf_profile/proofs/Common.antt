@@ -68,7 +68,7 @@ pub use Rattle.scf_profile.specs.References.{texts_at}
 pub use Rattle.scf_profile.specs.Rule.{AreConditions, Conflicts, HaveDistinctIndices, IsCondition, IsRule, all_hold, meets}
 pub use Rattle.scf_profile.specs.RulesByNumber.{numbers_of, rules_of}
 pub use Rattle.scf_profile.specs.SameAnswers.{AnswersRelated, SameAnswers}
-pub use Rattle.scf_profile.specs.StatedProfile.{Head, Tables, is_named, rules_by_each, rules_of_entry, profile_for, listed_names, own_architecture, other_names, profiles_from, rules_from, rules_named, skipped_names, strings_of, table_for, tables_of, with_stub}
+pub use Rattle.scf_profile.specs.StatedProfile.{Head, Tables, is_named, rules_by_each, rules_of_entry, profile_for, listed_names, own_architecture, other_names, profiles_from, rules_from, rules_numbered, numbers_named, is_in_none, skipped_names, strings_of, table_for, tables_of, with_stub}
 unfoldable pub use Rattle.scf_profile.specs.StatedProfile.{answer_in, condition_of, condition_of as condition_stated, entry_of, errno_of, no_engine_form, all_listed, entries_of, head_of, profiles_of, seccomp_of}
 pub use Rattle.scf_profile.specs.Steps.{◌>>=◌}
 pub use Rattle.scf_profile.specs.Stub.{is_stubbed, stub_answer}
@@ -90,7 +90,7 @@ pub use Rattle.scf_profile.specs.declared.reason.Reason.TheVariants.{Default, En
 pub use Rattle.scf_profile.specs.declared.rule.Rule.{Rule}
 pub use Rattle.scf_profile.specs.declared.table_fault.TableFault.{TableFault}
 pub use Rattle.scf_profile.specs.internal.Clashes.{IsBoundedBy, IsClashBounded, IsClashOf, IsLeastClash}
-pub use Rattle.scf_profile.specs.internal.EntryRanges.{AreStatedRules, IsEntry, TellsOneTooMany, TellsTooMany}
+pub use Rattle.scf_profile.specs.internal.EntryRanges.{AddsRules, AreStatedRules, HasSkipped, IsEntry, TellsOneTooMany, TellsTooMany, names_lacking}
 pub use Rattle.scf_profile.specs.internal.NamesByNumber.{AreByNumber, Named, named_call, names_under, names_with}
 pub use Rattle.scf_profile.specs.internal.NumberSets.{HaveCommonNumber, IsGreatestOf, IsLeastOf}
 pub use Rattle.scf_profile.specs.internal.Overlaps.{HoldAt, Overlap, OverlapAt}

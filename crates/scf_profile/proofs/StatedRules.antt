@@ -1,5 +1,6 @@
 -- The rules that entries state: their ranges, and one answer for each entry.
-use Rattle.scf_profile.proofs.Common.{◌≡◌, ℕ, suc, Bool, ◌+◌, ◌<◌, ◌≤◌, ◌^◌, List, [], ◌∷◌, ◌++◌, length, get_or, map, Some, None, Option, All, refl, sym, ap, ◌∙◌, arith, inl, inr, Contains, count_by-le-length, length-filter, All-contains_itself, All-filter, Reading, effective_rules, is_effective, filter, get, cases_order, recursion_from_All, All-nil, All-cons, All-append, All-head, All-tail, All-contains, All-same, All-weaker, filter-append, filter_map-append, Architecture, row_of, Rule, IsEntry, AreStatedRules, Answer, EntriesConflict, max_rules, IsProfile, HaveNoConflict, Conflicts, IsRule, Names, AreCallNumbers, option_map_or, rules_by_each, rules_of_entry, rules_named, rules_from, Condition, IsCondition, AreConditions, HaveDistinctIndices, AllByRecursion, alternatives, has_repeated_index, cond, true, false, list_any, or_parts, eqb, eqb-false, ◌≢◌, append-nil, flat_map-cons, nat_tests, common_steps}
+use Rattle.scf_profile.proofs.Common.{◌≡◌, ℕ, suc, Bool, ◌+◌, ◌<◌, ◌≤◌, ◌^◌, List, [], ◌∷◌, ◌++◌, length, get_or, map, Some, None, Option, All, refl, sym, ap, ◌∙◌, arith, inl, inr, Contains, count_by-le-length, length-filter, All-contains_itself, All-filter, Reading, effective_rules, is_effective, filter, get, cases_order, recursion_from_All, All-nil, All-cons, All-append, All-head, All-tail, All-contains, All-same, All-weaker, filter-append, filter_map-append, Architecture, row_of, Rule, IsEntry, AreStatedRules, Answer, EntriesConflict, max_rules, IsProfile, HaveNoConflict, Conflicts, IsRule, Names, AreCallNumbers, option_map_or, rules_by_each, rules_of_entry, rules_numbered, numbers_named, rules_from, Condition, IsCondition, AreConditions, HaveDistinctIndices, AllByRecursion, alternatives, has_repeated_index, cond, true, false, list_any, or_parts, eqb, eqb-false, ◌≢◌, append-nil, flat_map-cons, nat_tests, common_steps, and_parts, find, is_none, list_all, option_map, HasSkipped, Tables, is_in_none, is_named, names_lacking, table_for}
+use Rattle.std.specs.List.{flat_map}
 use Rattle.std.proofs.lemmas.List.Kept.{AllPairs-cons, AllPairs-filter}
 use Rattle.scf_insn.proofs.Architectures.{number_within}
 use Rattle.scf_profile.specs.declared.entry.Entry.{Entry}
@@ -17,11 +18,15 @@ rule_for a index conditions answer number = record {
   entry = index;
 }
 
+-- the rules that an entry at an index states by conditions for names
+abbrev rules_for : Architecture → Names → ℕ → List Condition → Answer → List (List ℕ) → List Rule
+rules_for a table index conditions answer names = rules_numbered index conditions answer (numbers_named a table names)
+
 -- what holds of the rule for each number that a name has
 module _ (a : Architecture) (P : Rule → Type 0) (table : Names) (index : ℕ) (conditions : List Condition)
     (answer : Answer) (each : (name : List ℕ) (number : ℕ) → get table name ≡ Some number
     → P (rule_for a index conditions answer number)) where
-  all_named : (names : List (List ℕ)) → All P (rules_named a table index conditions answer names)
+  all_named : (names : List (List ℕ)) → All P (rules_for a table index conditions answer names)
   all_named [] = All-nil P
   all_named (name ∷ names) = grind (arith, common_steps, nat_tests, all_named names)
 
@@ -31,13 +36,13 @@ all_unless P out rules h = grind (arith, common_steps, nat_tests, All-nil)
 -- what holds of the rules by each list of conditions
 all_by_each : (P : Rule → Type 0) (a : Architecture) (table : Names) (index : ℕ) (answer : Answer)
     (names : List (List ℕ)) (several : List (List Condition))
-    → All (λ cs. (names : List (List ℕ)) → All P (rules_named a table index cs answer names)) several
-    → All P (rules_by_each a table index several answer names)
+    → All (λ cs. (names : List (List ℕ)) → All P (rules_for a table index cs answer names)) several
+    → All P (rules_by_each index several answer (numbers_named a table names))
 all_by_each P a table index answer names [] each = All-nil P
 all_by_each P a table index answer names (cs ∷ several) each =
     let Q : List Condition → Type 0 =
-    λ ds. (names : List (List ℕ)) → All P (rules_named a table index ds answer names) in
-    All-append P (rules_named a table index cs answer names) (rules_by_each a table index several answer names)
+    λ ds. (names : List (List ℕ)) → All P (rules_for a table index ds answer names) in
+    All-append P (rules_for a table index cs answer names) (rules_by_each index several answer (numbers_named a table names))
     (All-head Q cs several each names)
     (all_by_each P a table index answer names several (All-tail Q cs several each))
 
@@ -86,7 +91,7 @@ all_stated out a table below index (e ∷ es) h =
     All-append P (rules_of_entry out a table index e) (rules_from out a table (index + 1) es)
     (all_unless P (option_map_or (λ (answer : Answer). eqb answer.0 e.answer.0) out false) _
     (all_by_each P a table index e.answer e.names (alternatives e.conditions)
-    (All-weaker AreConditions (λ cs. (names : List (List ℕ)) → All P (rules_named a table index cs e.answer names))
+    (All-weaker AreConditions (λ cs. (names : List (List ℕ)) → All P (rules_for a table index cs e.answer names))
     (λ cs fine. all_named a P table index cs e.answer (λ name number is.
     let rule : IsRule a (rule_for a index cs e.answer number) = record {
       first = omega arith;
@@ -123,37 +128,61 @@ of_entry out a table index e =
 from_index : (out : Option Answer) (a : Architecture) (table : Names) (index : ℕ) (es : List Entry)
     → All (λ r. index ≤ r.entry) (rules_from out a table index es)
 from_index out a table index [] = All-nil (λ (r : Rule). index ≤ r.entry)
-from_index out a table index (e ∷ es) = grind (arith, common_steps, nat_tests, of_entry, from_index out a table (index + 1) es)
+from_index out a table index (e ∷ es) =
+    let P : Rule → Type 0 = λ r. index ≤ r.entry in
+    All-append P (rules_of_entry out a table index e) (rules_from out a table (index + 1) es)
+    (All-weaker (λ (r : Rule). r.entry ≡ index) P (λ r same. omega (arith, same)) (rules_of_entry out a table index e)
+    (of_entry out a table index e))
+    (All-weaker (λ (r : Rule). index + 1 ≤ r.entry) P (λ r le. omega (arith, le)) (rules_from out a table (index + 1) es)
+    (from_index out a table (index + 1) es))
 
 stated_in_order : (out : Option Answer) (a : Architecture) (table : Names) (index : ℕ) (es : List Entry)
     → AreInOrder (rules_from out a table index es)
 stated_in_order out a table index [] = λ i j d lt inside. absurd (omega (arith, lt, inside))
-stated_in_order out a table index (e ∷ es) = grind (arith, common_steps, nat_tests, in_order_before, of_entry, from_index, stated_in_order out a table (index + 1) es)
+stated_in_order out a table index (e ∷ es) =
+    let later = rules_from out a table (index + 1) es in
+    in_order_before (rules_of_entry out a table index e) later index (of_entry out a table index e)
+    (All-weaker (λ (r : Rule). index + 1 ≤ r.entry) (λ (r : Rule). index ≤ r.entry) (λ r le. omega (arith, le)) later
+    (from_index out a table (index + 1) es))
+    (stated_in_order out a table (index + 1) es)
 
 -- ---- one name after another
-
-pub rules_first : (a : Architecture) (table : Names) (index : ℕ) (conditions : List Condition) (answer : Answer)
-    (name : List ℕ) (names : List (List ℕ)) → rules_named a table index conditions answer (name ∷ names)
-    ≡ rules_named a table index conditions answer (name ∷ []) ++ rules_named a table index conditions answer names
-rules_first a table index conditions answer name names = grind (arith, common_steps, nat_tests, filter_map-append)
 
 pub skipped_first : (lacks : List ℕ → Bool) (name : List ℕ) (names : List (List ℕ))
     → filter lacks (name ∷ names) ≡ filter lacks (name ∷ []) ++ filter lacks names
 skipped_first lacks name names = filter-append lacks (name ∷ []) names
 
-pub ruleset names_first = (rules_first, skipped_first)
+-- ---- names that a table lacks
+
+all_found : (p : Architecture × Names → Bool) (q : Names → Bool) (ts : Tables) (table : Names)
+    → option_map (λ t. t.1) (find p ts) ≡ Some table → list_all (λ t. q t.1) ts ≡ true → q table ≡ true
+all_found p q [] table is all = absurd (cc)
+all_found p q (t ∷ ts) table is all = grind (arith, common_steps, nat_tests, and_parts, all_found p q ts table)
+
+filtered_twice : (p q : List ℕ → Bool) → ((name : List ℕ) → p name ≡ true → q name ≡ true)
+    → (names : List (List ℕ)) → filter p (filter q names) ≡ filter p names
+filtered_twice p q more [] = refl
+filtered_twice p q more (name ∷ names) = grind (arith, common_steps, nat_tests, more name, filtered_twice p q more names)
+
+-- what no table has is among what one of them lacks
+pub skipped_among : (tables : Tables) (a : Architecture) (table : Names) (entries : List Entry) (names : List (List ℕ))
+    → table_for tables a ≡ Some table → names ≡ names_lacking table (flat_map (λ e. e.names) entries)
+    → HasSkipped tables entries names
+skipped_among tables a table entries names is are =
+    rw are (filtered_twice (is_in_none tables) (λ name. is_none (get table name))
+    (λ name none. all_found (λ t. is_named (row_of a).name t.0) (λ held. is_none (get held name)) tables table is none)
+    (flat_map (λ e. e.names) entries))
 
 -- ---- one condition after another
 
-pub by_each_first : (a : Architecture) (table : Names) (index : ℕ) (cs : List Condition)
-    (several : List (List Condition)) (answer : Answer) (names : List (List ℕ)) → rules_by_each a table index (cs ∷ several) answer names
-    ≡ rules_named a table index cs answer names ++ rules_by_each a table index several answer names
-by_each_first a table index cs several answer names = grind (arith, common_steps, nat_tests, flat_map-cons)
+pub by_each_first : (index : ℕ) (cs : List Condition) (several : List (List Condition)) (answer : Answer)
+    (numbers : List ℕ) → rules_by_each index (cs ∷ several) answer numbers
+    ≡ rules_numbered index cs answer numbers ++ rules_by_each index several answer numbers
+by_each_first index cs several answer numbers = grind (arith, common_steps, nat_tests, flat_map-cons)
 
-pub by_one : (a : Architecture) (table : Names) (index : ℕ) (cs : List Condition) (answer : Answer)
-    (names : List (List ℕ)) → rules_by_each a table index (cs ∷ []) answer names
-    ≡ rules_named a table index cs answer names
-by_one a table index cs answer names = append-nil (rules_named a table index cs answer names)
+pub by_one : (index : ℕ) (cs : List Condition) (answer : Answer) (numbers : List ℕ)
+    → rules_by_each index (cs ∷ []) answer numbers ≡ rules_numbered index cs answer numbers
+by_one index cs answer numbers = append-nil (rules_numbered index cs answer numbers)
 
 pub ruleset conditions_first = (by_each_first, by_one)
 

@@ -189,25 +189,26 @@ abbrev pub table_for : Tables → Architecture → Option Names
 table_for tables architecture =
     option_map (λ t. t.1) (find (λ t. is_named (row_of architecture).name t.0) tables)
 
--- the rules that an entry at an index states by conditions: one for each occurrence of a name that the table has
-abbrev pub rules_named : Architecture → Names → ℕ → List Condition → Answer → List (List ℕ) → List Rule
-rules_named architecture table index conditions answer names = filter_map (λ name. option_map (λ number. record {
-  number = (row_of architecture).first + number;
-  conditions = conditions;
-  answer = answer;
-  entry = index;
-}) (get table name)) names
+-- the number in the architecture's call records of each occurrence of a name that the table has
+abbrev pub numbers_named : Architecture → Names → List (List ℕ) → List ℕ
+numbers_named architecture table names =
+    filter_map (λ name. option_map (λ number. (row_of architecture).first + number) (get table name)) names
+
+-- the rules that an entry at an index states by conditions: one for each of its numbers
+abbrev pub rules_numbered : ℕ → List Condition → Answer → List ℕ → List Rule
+rules_numbered index conditions answer numbers =
+    map (λ number. record { number = number; conditions = conditions; answer = answer; entry = index }) numbers
 
 -- by each of several lists of conditions
-abbrev pub rules_by_each : Architecture → Names → ℕ → List (List Condition) → Answer → List (List ℕ) → List Rule
-rules_by_each architecture table index several answer names =
-    flat_map (λ conditions. rules_named architecture table index conditions answer names) several
+abbrev pub rules_by_each : ℕ → List (List Condition) → Answer → List ℕ → List Rule
+rules_by_each index several answer numbers =
+    flat_map (λ conditions. rules_numbered index conditions answer numbers) several
 
 -- by the alternatives of an entry at an index; none where entries with its answer are left out
 abbrev pub rules_of_entry : Option Answer → Architecture → Names → ℕ → Entry → List Rule
 rules_of_entry left_out architecture table index e =
     if option_map_or (λ answer. answer.0 == e.answer.0) left_out false then []
-    else rules_by_each architecture table index (alternatives e.conditions) e.answer e.names
+    else rules_by_each index (alternatives e.conditions) e.answer (numbers_named architecture table e.names)
 
 -- those of the entries from this index on
 abbrev pub rules_from : Option Answer → Architecture → Names → ℕ → List Entry → List Rule
@@ -215,10 +216,13 @@ rules_from left_out architecture table index [] = []
 rules_from left_out architecture table index (e ∷ es) =
     rules_of_entry left_out architecture table index e ++ rules_from left_out architecture table (index + 1) es
 
--- each occurrence of a name that no table has
+-- a name that no table has
+abbrev pub is_in_none : Tables → List ℕ → Bool
+is_in_none tables name = list_all (λ t. is_none (get t.1 name)) tables
+
+-- each occurrence of such a name
 abbrev pub skipped_names : Tables → List Entry → List (List ℕ)
-skipped_names tables entries =
-    filter (λ name. list_all (λ t. is_none (get t.1 name)) tables) (flat_map (λ e. e.names) entries)
+skipped_names tables entries = filter (is_in_none tables) (flat_map (λ e. e.names) entries)
 
 -- the names of architectures that have no table
 abbrev pub other_names : Tables → List (List ℕ) → List (List ℕ)

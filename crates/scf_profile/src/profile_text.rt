@@ -1,10 +1,10 @@
 //! From a text and syscall tables to profiles.
 
-ghost use Rattle.std.specs.Prelude.{◌≡◌, ◌<◌, ◌≤◌, ◌^◌, ◌∷◌, [], All, filter_map, length, map, option_map, vec_len, Err, IfOk, IfErr, IfSome};
+ghost use Rattle.std.specs.Prelude.{◌≡◌, ◌<◌, ◌≤◌, ◌^◌, ◌∷◌, [], All, filter_map, length, map, option_map, vec_len, Err, IfOk, IfErr, IfSome, OnOk};
 ghost use Rattle.serde_json.specs.View.{view};
 ghost use Rattle.scf_insn.specs.declared.answer.Answer.{Answer};
 ghost use Rattle.scf_profile.specs.declared.load_fault.LoadFault.TheVariants.{Memory, TooMany};
-ghost use Rattle.scf_profile.specs.internal.EntryRanges.{AreStatedRules, IsEntry, TellsOneTooMany};
+ghost use Rattle.scf_profile.specs.internal.EntryRanges.{AreStatedRules, HasSkipped, IsEntry, TellsOneTooMany};
 ghost use Rattle.scf_profile.specs.Limits.{max_text_len};
 ghost use Rattle.scf_profile.specs.Loading.{IsText, Loads, LoadsEachAs, Refuses, RefusesEachAs};
 ghost use Rattle.scf_profile.specs.internal.Refusals.{NamesFirstConflict, NamesLeastConflict, ParseRefuses};
@@ -20,7 +20,7 @@ use crate::architecture_table::{ArchitectureTable, table_for};
 use crate::conflict::least_conflict;
 use crate::effective::effective_rules;
 use crate::entry::Entry;
-use crate::expand::{other_architectures, rules_under, skipped_under};
+use crate::expand::{names_of, other_architectures, rules_under, skipped_of};
 use crate::forms::{check_no_engine_form, find_items, strings_of};
 use crate::limits::MAX_TEXT_LEN;
 use crate::load_fault::LoadFault;
@@ -145,14 +145,16 @@ struct StatedProfiles {
     other_architectures: Texts,
 }
 
-/// The rules of entries for an architecture, if it has a table.
-#[tactic(auto, using(crate::proofs::StatedRules::stated_rules))]
-fn rules_for(
+/// The rules of entries for an architecture, if it has a table; then those names of the entries that the table lacks
+/// take the place of others.
+#[tactic(auto, using(crate::proofs::StatedRules::stated_rules, crate::proofs::StatedRules::skipped_among))]
+fn rules_for<'v>(
     alloc: Global,
     tables: &[ArchitectureTable],
     left_out: Option<Answer>,
-    entries: &[Entry],
+    entries: &[Entry<'v>],
     architecture: Architecture,
+    lacking: &mut BorrowedTexts<'v>,
 ) -> Result<Option<StatedRules>, LoadFault>
     requires count { length entries.now ≤ 2 ^ 32 }
     requires range { All IsEntry entries.now }
@@ -161,6 +163,8 @@ fn rules_for(
     ensures range { IfOk result (λ rules. IfSome rules (λ s. AreStatedRules s.architecture s.rules.items)) }
     ensures err { IfErr result (λ fault. (default : Answer) → TellsOneTooMany
         (filter_map (profile_for left_out (tables_of tables.now) default entries.now) (architecture ∷ [])) fault) }
+    ensures lacking { OnOk result (HasSkipped (tables_of tables.now) entries.now lacking.old
+        → HasSkipped (tables_of tables.now) entries.now lacking.new) }
 {
     let Some(table) = table_for(tables, architecture) else {
         return Ok(None);
@@ -169,7 +173,8 @@ fn rules_for(
         architecture,
         table,
     };
-    let rules = rules_under(alloc, &named_table, left_out, entries)?;
+    lacking.clear();
+    let rules = rules_under(alloc, &named_table, left_out, entries, lacking)?;
     table.within_range();
     Ok(Some(StatedRules {
         architecture,
@@ -177,12 +182,13 @@ fn rules_for(
     }))
 }
 
-/// The rules of entries for each architecture that has a table.
-fn stated_for(
+/// The rules of entries for each architecture that has a table. Only those names are kept that some table lacks.
+fn stated_for<'v>(
     alloc: Global,
     tables: &[ArchitectureTable],
     left_out: Option<Answer>,
-    entries: &[Entry],
+    entries: &[Entry<'v>],
+    names: &mut BorrowedTexts<'v>,
 ) -> Result<Vec<StatedRules>, LoadFault>
     requires count { length entries.now ≤ 2 ^ 32 }
     requires range { All IsEntry entries.now }
@@ -192,11 +198,13 @@ fn stated_for(
     ensures range { IfOk result (λ stated. All (λ s. AreStatedRules s.architecture s.rules.items) stated.items) }
     ensures err { IfErr result (λ fault. (default : Answer)
         → TellsOneTooMany (profiles_from left_out (tables_of tables.now) default entries.now) fault) }
+    ensures names { OnOk result (HasSkipped (tables_of tables.now) entries.now names.old
+        → HasSkipped (tables_of tables.now) entries.now names.new) }
 {
     let mut stated = Vec::new(alloc);
     let architectures = Architecture::all();
     for architecture in &architectures {
-        if let Some(rules) = rules_for(alloc, tables, left_out, entries, *architecture)? {
+        if let Some(rules) = rules_for(alloc, tables, left_out, entries, *architecture, names)? {
             stated.push(rules)?;
         }
     }
@@ -221,8 +229,9 @@ fn read_root_for(
     check_listed(reading, tables, &head.architectures)?;
     let entries = read_entries(alloc, reading, head.object)?;
     let left_out = reading.left_out(head.default_answer);
-    let rules = stated_for(alloc, tables, left_out, &entries)?;
-    let skipped = skipped_under(alloc, tables, &entries)?;
+    let mut names = names_of(alloc, &entries)?;
+    let rules = stated_for(alloc, tables, left_out, &entries, &mut names)?;
+    let skipped = skipped_of(alloc, tables, &names)?;
     let other_architectures = other_architectures(alloc, tables, &head.architectures)?;
     Ok(StatedProfiles {
         default_answer: head.default_answer,

@@ -86,6 +86,21 @@ impl<'v> BorrowedTexts<'v> {
         Ok(())
     }
 
+    /// Drops all texts.
+    pub(crate) fn clear(&mut self)
+        ensures { self.new ≡ [] }
+    {
+        self.texts.clear();
+    }
+
+    /// Appends other texts.
+    pub(crate) fn append(&mut self, others: &BorrowedTexts<'v>) -> Result<(), AllocError>
+        ensures { OnOk result (self.new ≡ self.old ++ others.now) }
+    {
+        self.texts.extend_from_slice(&others.texts)?;
+        Ok(())
+    }
+
     /// The texts, in order.
     pub(crate) fn as_slice(&self) -> &[&'v str]
         ensures { texts_at result.now ≡ self.now }

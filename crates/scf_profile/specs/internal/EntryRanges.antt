@@ -1,6 +1,7 @@
 -- The ranges of what entries and rules hold, and how many rules there may be.
-use Rattle.std.specs.Prelude.{◌≡◌, ◌≢◌, ◌<◌, ◌≤◌, ◌^◌, List, length, nat_lt, true, All, Contains}
-use Rattle.std.specs.List.{list_any}
+use Rattle.std.specs.Prelude.{◌≡◌, ◌≢◌, ◌<◌, ◌≤◌, ◌^◌, ℕ, List, ◌++◌, length, nat_lt, true, is_none, All, Contains, IfErr, OnOk, Result, ⊤}
+use Rattle.std.specs.FinMap.{get}
+use Rattle.std.specs.List.{filter, list_any}
 use Rattle.scf_insn.specs.declared.architecture.Architecture.{Architecture}
 use Rattle.scf_profile.specs.declared.entry.Entry.{Entry}
 use Rattle.scf_profile.specs.declared.load_fault.LoadFault.{LoadFault}
@@ -9,6 +10,8 @@ use Rattle.scf_profile.specs.declared.rule.Rule.{Rule}
 use Rattle.scf_profile.specs.Profile.{AreInOrder, Profile}
 use Rattle.scf_profile.specs.Limits.{max_rules}
 use Rattle.scf_profile.specs.Rule.{IsCondition, IsRule}
+use Rattle.scf_profile.specs.StatedProfile.{Tables, is_in_none, skipped_names}
+use Rattle.scf_profile.specs.Table.{Names}
 
 pub record IsEntry (e : Entry) : Type 0 where
   pub conditions : All IsCondition e.conditions
@@ -24,6 +27,21 @@ pub record AreStatedRules (architecture : Architecture) (rules : List Rule) : Ty
 -- a fault other than out of memory tells that the rules are too many, and they are
 abbrev pub TellsTooMany : List Rule → LoadFault → Type 0
 TellsTooMany rules fault = fault ≢ faults.Memory → (fault ≡ faults.TooMany) × (max_rules < length rules)
+
+-- Rules are added to others, and there are not too many then; or a fault tells that there would be, unless memory ran
+-- out.
+pub record AddsRules (before added : List Rule) (result : Result ⊤ LoadFault) (after : List Rule) : Type 0 where
+  pub rules : OnOk result (after ≡ before ++ added)
+  pub few : OnOk result (length after ≤ max_rules)
+  pub err : IfErr result (TellsTooMany (before ++ added))
+
+-- the names that a table lacks
+abbrev pub names_lacking : Names → List (List ℕ) → List (List ℕ)
+names_lacking table names = filter (λ name. is_none (get table name)) names
+
+-- among names, in order, are the skipped ones of the entries, and no others that no table has
+abbrev pub HasSkipped : Tables → List Entry → List (List ℕ) → Type 0
+HasSkipped tables entries names = filter (is_in_none tables) names ≡ skipped_names tables entries
 
 -- a fault other than out of memory tells that the rules of some profile are too many, and they are
 abbrev pub TellsOneTooMany : List Profile → LoadFault → Type 0

@@ -35,9 +35,11 @@ loop-architecture-preserved c =
         rules = more (Some w.in-Some.rules) (rw w.in-Some.is at rules_of.rules);
         range = All-push (λ s. AreStatedRules s.architecture s.rules.items) stated w.in-Some.rules
             c.loop-architecture.invariant.range (rw w.in-Some.is at rules_of.range);
+        names = λ was. rules_of.lacking (c.loop-architecture.invariant.names was);
       })
       | in_default w ↦ rw w.stated-is (record {
         rules = more None (rw w.in_default.is at rules_of.rules);
         range = c.loop-architecture.invariant.range;
+        names = λ was. rules_of.lacking (c.loop-architecture.invariant.names was);
       })
     ]

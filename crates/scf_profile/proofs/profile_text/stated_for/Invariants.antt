@@ -1,4 +1,4 @@
-use Rattle.scf_profile.proofs.Common.{◌≡◌, ◌++◌, drop, filter_map, map, All, Answer, AreStatedRules, profile_for, profiles_from, stated_profile, tables_of}
+use Rattle.scf_profile.proofs.Common.{◌≡◌, ◌++◌, drop, filter_map, map, All, Answer, AreStatedRules, HasSkipped, profile_for, profiles_from, stated_profile, tables_of}
 use Rattle.scf_profile.proofs.profile_text.stated_for.Given as goal
 
 -- the profiles so far and those of the architectures that are left are those of all
@@ -9,4 +9,5 @@ invariant-loop-architecture l = record {
       (drop l.architecture-index l.architecture-items)
       ≡ profiles_from l.left_out (tables_of l.tables) default l.entries;
   range : All (λ s. AreStatedRules s.architecture s.rules.items) l.stated.items;
+  names : HasSkipped (tables_of l.tables) l.entries l.fn.names → HasSkipped (tables_of l.tables) l.entries l.names;
 }
