@@ -17,53 +17,33 @@ use crate::program::Program;
 use scf_insn::kernel::{BPF_MAXINSNS, BPF_MEMWORDS, SECCOMP_DATA_LEN};
 use scf_insn::{Arithmetic, Insn, Operand, Operation};
 use std::alloc::Global;
-use std::fmt;
 use thiserror::Error;
 
 /// Why a list of instructions is refused. `at` is an instruction index, from 0.
-#[derive(Clone, Copy, Error)]
+#[derive(Clone, Copy, Debug, Error)]
 pub enum CheckFault {
+    #[error("the filter is empty")]
     Empty,
+    #[error("the filter has more than 4096 instructions")]
     TooLong,
+    #[error("unknown code at {at}")]
     Code { at: usize },
+    #[error("a load outside the record at {at}")]
     Load { at: usize },
+    #[error("no such scratch word at {at}")]
     Scratch { at: usize },
+    #[error("a division by zero at {at}")]
     Divisor { at: usize },
+    #[error("a shift by more than 31 at {at}")]
     Shift { at: usize },
+    #[error("a jump out of the filter at {at}")]
     Jump { at: usize },
+    #[error("the last instruction isn't a return")]
     LastNotReturn,
+    #[error("scratch word {word} may be unset at {at}")]
     Unset { at: usize, word: u8 },
+    #[error("out of memory")]
     Memory,
-}
-
-impl fmt::Display for CheckFault {
-    fn fmt<W: fmt::Write>(&self, f: &mut fmt::Formatter<W>) -> fmt::Result {
-        let (text, at) = match *self {
-            CheckFault::Empty => ("the filter is empty", None),
-            CheckFault::TooLong => ("the filter has more than 4096 instructions", None),
-            CheckFault::Code { at } => ("unknown code", Some(at)),
-            CheckFault::Load { at } => ("a load outside the record", Some(at)),
-            CheckFault::Scratch { at } => ("no such scratch word", Some(at)),
-            CheckFault::Divisor { at } => ("a division by zero", Some(at)),
-            CheckFault::Shift { at } => ("a shift by more than 31", Some(at)),
-            CheckFault::Jump { at } => ("a jump out of the filter", Some(at)),
-            CheckFault::LastNotReturn => ("the last instruction isn't a return", None),
-            CheckFault::Unset { at, word } => {
-                return write!(f, "scratch word {word} may be unset at {at}");
-            }
-            CheckFault::Memory => ("out of memory", None),
-        };
-        match at {
-            Some(at) => write!(f, "{text} at {at}"),
-            None => f.write_str(text),
-        }
-    }
-}
-
-impl fmt::Debug for CheckFault {
-    fn fmt<W: fmt::Write>(&self, f: &mut fmt::Formatter<W>) -> fmt::Result {
-        fmt::Display::fmt(self, f)
-    }
 }
 
 /// Whether an instruction keeps its operation's rule.

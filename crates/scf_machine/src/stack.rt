@@ -13,32 +13,16 @@ use crate::program::Program;
 use scf_insn::kernel::MAX_INSNS_PER_PATH;
 use scf_insn::{Action, Answer, CallRecord};
 use std::alloc::Global;
-use std::fmt;
 use std::marker::Model;
 use thiserror::Error;
 
 /// Why a filter isn't pushed.
-#[derive(Clone, Copy, Error)]
+#[derive(Clone, Copy, Debug, Error)]
 pub enum PushFault {
+    #[error("the stack would count {total} instructions")]
     TooMany { total: usize },
+    #[error("out of memory")]
     Memory,
-}
-
-impl fmt::Display for PushFault {
-    fn fmt<W: fmt::Write>(&self, f: &mut fmt::Formatter<W>) -> fmt::Result {
-        match self {
-            PushFault::TooMany { total } => {
-                write!(f, "the stack would count {total} instructions")
-            }
-            PushFault::Memory => f.write_str("out of memory"),
-        }
-    }
-}
-
-impl fmt::Debug for PushFault {
-    fn fmt<W: fmt::Write>(&self, f: &mut fmt::Formatter<W>) -> fmt::Result {
-        fmt::Display::fmt(self, f)
-    }
 }
 
 /// The count that a filter adds to its instructions once a newer one is attached (kernel/seccomp.c,
