@@ -29,12 +29,7 @@ pub(crate) fn is_of_word(byte: u8) -> bool
 fn line_len(text: &[u8]) -> usize
     ensures { result ≡ prefix_len (λ b. not (is_line_end b)) text.now }
 {
-    for at in 0..text.len() {
-        if text[at] == b'\n' {
-            return at;
-        }
-    }
-    text.len()
+    text.iter().take_while(|byte| **byte != b'\n').count()
 }
 
 /// The first line, and the text behind its end.
@@ -74,12 +69,10 @@ fn blanks_len(bytes: &[u8]) -> usize
     ensures value { result ≡ prefix_len is_blank bytes.now }
     ensures within { result ≤ length bytes.now }
 {
-    for at in 0..bytes.len() {
-        if !matches!(bytes[at], b' ' | b'\t' | b'\r') {
-            return at;
-        }
-    }
-    bytes.len()
+    bytes
+        .iter()
+        .take_while(|byte| matches!(**byte, b' ' | b'\t' | b'\r'))
+        .count()
 }
 
 /// The count of leading bytes of a word.
@@ -87,12 +80,7 @@ fn word_len(bytes: &[u8]) -> usize
     ensures value { result ≡ prefix_len is_word_byte bytes.now }
     ensures within { result ≤ length bytes.now }
 {
-    for at in 0..bytes.len() {
-        if !is_of_word(bytes[at]) {
-            return at;
-        }
-    }
-    bytes.len()
+    bytes.iter().take_while(|byte| is_of_word(**byte)).count()
 }
 
 /// The word in front of a text, which may be empty.
