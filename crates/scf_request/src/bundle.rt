@@ -20,7 +20,6 @@ ghost use Rattle.scf_request.specs.Bundle.{
 
 use scf_insn::{ARCHITECTURES, Architecture, parse_numeral};
 use std::alloc::Global;
-use std::fmt;
 use thiserror::Error;
 
 /// The kind of a part.
@@ -61,7 +60,7 @@ pub enum BundleForm {
 }
 
 /// Why bytes aren't a bundle.
-#[derive(Clone, Copy, Error)]
+#[derive(Clone, Copy, Debug, Error)]
 pub enum BundleFault {
     #[error("no header stands at byte {offset}")]
     Header { offset: usize },
@@ -69,12 +68,6 @@ pub enum BundleFault {
     Short { offset: usize },
     #[error("out of memory")]
     Memory,
-}
-
-impl fmt::Debug for BundleFault {
-    fn fmt<W: fmt::Write>(&self, f: &mut fmt::Formatter<W>) -> fmt::Result {
-        fmt::Display::fmt(self, f)
-    }
 }
 
 impl PartKind {

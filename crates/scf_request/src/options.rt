@@ -14,20 +14,13 @@ use clap::ArgMatches;
 use scf_insn::kernel::AUDIT_ARCH_X86_64;
 use scf_insn::{CallRecord, parse_number};
 use scf_profile::{Reading, Relation, Scope};
-use std::fmt;
 use thiserror::Error;
 
 /// An option whose text isn't a number in its range.
-#[derive(Clone, Copy, Error)]
+#[derive(Clone, Copy, Debug, Error)]
 #[error("the option {name} is no number in its range")]
 pub struct NumberFault {
     pub name: &'static str,
-}
-
-impl fmt::Debug for NumberFault {
-    fn fmt<W: fmt::Write>(&self, f: &mut fmt::Formatter<W>) -> fmt::Result {
-        fmt::Display::fmt(self, f)
-    }
 }
 
 /// An option that takes a number.

@@ -140,7 +140,7 @@ fn comparison_of(options: &ArgMatches<'_>) -> Result<Comparison, RequestFault>
     ensures fault { IfErr result (λ fault. (name : CommandName) → options_read name ≡ comparison_options
         → SpellNone (command_word name) (rows_of (found_of options.now)) fault) }
 {
-    let (limits, first, last) = comparison_numbers(options)?;
+    let (limits, first, last) = comparison_numbers(options).map_err(RequestFault::Number)?;
     let scopes = scopes_of(options, first, last)?;
     let relation = chosen_flag(options, &RELATION_FLAGS, Relation::Same)?;
     Ok(Comparison {
@@ -173,7 +173,7 @@ fn call_of(options: &ArgMatches<'_>) -> Result<CallRecord, RequestFault>
     ensures fault { IfErr result (λ fault. (name : CommandName) → options_read name ≡ call_options
         → SpellNone (command_word name) (rows_of (found_of options.now)) fault) }
 {
-    Ok(record_of(options)?)
+    record_of(options).map_err(RequestFault::Number)
 }
 
 /// The command with this name and these options.
