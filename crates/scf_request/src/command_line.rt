@@ -223,7 +223,8 @@ fn command_reading<'a>(alloc: Global, definition: &Definition) -> Result<Command
             alloc,
             READING_OPTION,
             "READING",
-            "How a profile is read: by its words (`strict`), as `runc` or `crun` does, or as a `sandbox` [default: strict]",
+            "How a profile is read: by its words (`strict`), as `runc` or `crun` does, or as a `sandbox` \
+             [default: strict]",
         ))
     } else {
         Ok(command)
@@ -248,7 +249,8 @@ fn program_alone<'a>(alloc: Global) -> Command<'a>
     Command::new(alloc, "scf")
         .version("0.1.0")
         .about(
-            "Checks, runs, lists, assembles, compiles and compares seccomp filters for x86-64. Input comes on standard input.",
+            "Checks, runs, lists, assembles, compiles and compares seccomp filters for x86-64. \
+             Input comes on standard input.",
         )
         .subcommand_required(true)
 }
