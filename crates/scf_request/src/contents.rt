@@ -38,10 +38,10 @@ impl<'a> Contents<'a> {
             PartKind::Profile => push(&mut self.profiles, reader),
             PartKind::Beside => push(&mut self.beside, reader),
             PartKind::BesideProfile => push(&mut self.beside_profiles, reader),
-            PartKind::Table => push_of(&mut self.tables, Architecture::X8664, reader),
-            PartKind::TableOf(architecture) => push_of(&mut self.tables, architecture, reader),
-            PartKind::StubOf(architecture) => push_of(&mut self.stubs, architecture, reader),
-            PartKind::CountsOf(architecture) => push_of(&mut self.counts, architecture, reader),
+            PartKind::Table => push(&mut self.tables, reader.of(Architecture::X8664)),
+            PartKind::TableOf(architecture) => push(&mut self.tables, reader.of(architecture)),
+            PartKind::StubOf(architecture) => push(&mut self.stubs, reader.of(architecture)),
+            PartKind::CountsOf(architecture) => push(&mut self.counts, reader.of(architecture)),
         }
     }
 
@@ -83,25 +83,6 @@ fn push<R: Drop>(readers: &mut Vec<R>, reader: R) -> Result<(), BundleFault>
     Ok(())
 }
 
-/// Appends a reader of what is of an architecture. The error: out of memory.
-fn push_of<R: Drop>(
-    readers: &mut Vec<TableReader<R>>,
-    architecture: Architecture,
-    reader: R,
-) -> Result<(), BundleFault>
-    ensures ok { OnOk result (readers.new.items
-        ≡ readers.old.items ++ record { architecture = architecture; reader = reader } ∷ []) }
-    ensures fault { IfErr result (λ fault. fault ≡ BundleFault.Memory) }
-{
-    push(
-        readers,
-        TableReader {
-            architecture,
-            reader,
-        },
-    )
-}
-
 /// A reader of a syscall table, of the number of a stub or of counts of calls, and its architecture.
 #[derive(Drop)]
 pub struct TableReader<R> {
@@ -121,6 +102,16 @@ impl<'a> PartReader<'a> {
         ensures { rest_of result ≡ bytes.now }
     {
         PartReader { rest: bytes }
+    }
+
+    /// This reader, as one of what is of an architecture.
+    fn of(self, architecture: Architecture) -> TableReader<PartReader<'a>>
+        ensures { result ≡ record { architecture = architecture; reader = self.entry } }
+    {
+        TableReader {
+            architecture,
+            reader: self,
+        }
     }
 
     /// The bytes that aren't read yet.

@@ -1,7 +1,6 @@
 //! Whether scopes have call records.
 
 ghost use Rattle.std.specs.Prelude.{◌↔◌, IsTrue};
-ghost use Rattle.scf_insn.specs.declared.architecture.Architecture.{Architecture};
 ghost use Rattle.scf_profile.specs.Scope.{IsInScope};
 ghost use Rattle.scf_request.specs.Requests.{GoesOverRecord, HasRecord};
 
@@ -24,16 +23,9 @@ pub fn has_record(scope: Scope) -> bool
     }
 }
 
-/// Whether some record of any architecture has a number from `first` to `last`: every number is one of i386's.
-fn has_any(first: u32, last: u32) -> bool
-    ensures { IsTrue result ↔ ((architecture : Architecture)
-        × HasRecord (IsInScope (Scope.Numbers architecture first last))) }
-{
-    first <= last
-}
-
 /// Whether a command that asks for the answers to the records of a scope goes over one at least; true of any other. Of
 /// several architectures a range is one of each.
+#[tactic(auto, using(crate::proofs::RecordLemmas::of_any))]
 pub(crate) fn goes_over_record(form: BundleForm, command: Command) -> bool
     ensures { IsTrue result ↔ GoesOverRecord form command }
 {
@@ -41,8 +33,9 @@ pub(crate) fn goes_over_record(form: BundleForm, command: Command) -> bool
         Command::Answers { comparison, .. } | Command::Compare(comparison) => {
             match (form, comparison.scopes) {
                 (_, Scopes::EachCall) => true,
+                // Every number is one of i386's.
                 (BundleForm::Architectures, Scopes::AtOnce(Scope::Numbers { first, last, .. })) => {
-                    has_any(first, last)
+                    first <= last
                 }
                 (_, Scopes::AtOnce(scope)) => has_record(scope),
             }
