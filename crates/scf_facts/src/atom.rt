@@ -41,25 +41,6 @@ impl Atom {
             Atom::In { low, high, .. } => low <= number && number <= high,
         }
     }
-
-    /// The answer over these words.
-    pub(crate) fn answer_over(self, words: &[u32; 16]) -> bool
-        ensures { result ≡ atom_answer self words.now }
-    {
-        let number = words.get(self.word() as usize).copied().unwrap_or(0);
-        self.answer(number)
-    }
-
-    /// The answer if this word has this value, unless it asks of another one.
-    pub(crate) fn answer_by(self, word: u8, value: u32) -> Option<bool>
-        ensures { IfSome result (λ answer. (words : List ℕ) → slice_index words word ≡ value
-            → atom_answer self words ≡ answer) }
-    {
-        if self.word() != word {
-            return None;
-        }
-        Some(self.answer(value))
-    }
 }
 
 /// What a store knows of an atom.

@@ -31,13 +31,6 @@ impl Learned {
         }
     }
 
-    /// Whether this is of that atom.
-    fn asks(&self, atom: Atom) -> bool
-        ensures { IsTrue result → self.now.atom ≡ atom }
-    {
-        self.atom == atom
-    }
-
     /// What this alone shows of another atom.
     pub(crate) fn tells(&self, atom: Atom) -> Tell
         ensures always { result ≡ Tell.Always
@@ -49,12 +42,12 @@ impl Learned {
             → atom_answer self.now.atom words ≡ self.now.holds
             → atom_answer atom words ≡ false }
     {
-        if self.asks(atom) {
+        if self.atom == atom {
             return Tell::of(self.holds);
         }
         match self.fixes() {
-            Some((word, value)) => atom.answer_by(word, value).map_or(Tell::Maybe, Tell::of),
-            None => Tell::Maybe,
+            Some((word, value)) if word == atom.word() => Tell::of(atom.answer(value)),
+            _ => Tell::Maybe,
         }
     }
 
@@ -62,6 +55,6 @@ impl Learned {
     pub(crate) fn agrees(&self, words: &[u32; 16]) -> bool
         ensures { IsTrue result ↔ (atom_answer self.now.atom words.now ≡ self.now.holds) }
     {
-        self.atom.answer_over(words) == self.holds
+        self.atom.answer(words[self.atom.word() as usize]) == self.holds
     }
 }
