@@ -3,7 +3,6 @@
 ghost use Rattle.std.specs.Prelude.{◌≡◌, ◌==◌, ◌↔◌, ◌-◌, ◌*◌, ◌/◌, ◌%◌, ◌<◌, ◌≤◌, ◌^◌, ℕ, List, IsTrue, bit_and, nat_lt};
 ghost use Rattle.std.specs.Prelude.{slice_index};
 ghost use Rattle.scf_facts.specs.Bits.{HasBits};
-ghost use Rattle.scf_facts.specs.HighMask.{IsHighMask};
 ghost use Rattle.scf_insn.specs.Words.{IsWords};
 ghost use Rattle.scf_compare.specs.Masked.{IsMaskOf};
 ghost use Rattle.scf_compare.specs.internal.BitSlices.{IsBitSlice, IsMaskedSlice, IsWhole, bit_slice_value};
@@ -168,7 +167,7 @@ impl BitSlice {
         if value > self.mask >> self.right {
             return Decision::Known(false);
         }
-        if !has_high_bits(self.mask) {
+        if !is_high_mask(self.mask) {
             return Decision::Open(OpenTest::NONE);
         }
         let atom = Atom::Gt {
@@ -225,12 +224,4 @@ impl BitSlice {
         }
         Decision::Open(OpenTest::NONE)
     }
-}
-
-/// Whether a mask has all bits from one on, and none before it.
-fn has_high_bits(mask: u32) -> bool
-    ensures high { IsTrue result → IsHighMask mask }
-    ensures all { mask ≡ 2 ^ 32 - 1 → IsTrue result }
-{
-    mask == u32::MAX || is_high_mask(mask)
 }

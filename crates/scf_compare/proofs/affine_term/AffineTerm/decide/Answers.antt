@@ -26,4 +26,4 @@ returns-in-Some-clause-decides c = λ words is.
 
 pub returns-in-None-clause-decides : goal.returns-in-None-clause-decides
 returns-in-None-clause-decides c =
-    grind (arith, common_steps, c.is_high_mask.ensures, c.is_within-in-None.ensures.decides, quotient_fits, from_lowest_bit)
+    grind (arith, common_steps, c.is_high_mask.ensures.high, c.is_within-in-None.ensures.decides, quotient_fits, from_lowest_bit)

@@ -8,4 +8,4 @@ returns-then-value-self-clause-decides c = λ words is.
     slice_not_above (slice_index words s.word) s.mask s.right s.left c.args.v c.if-value-self.true
 
 pub returns-clause-decides : goal.returns-clause-decides
-returns-clause-decides c = grind (arith, common_steps, c.has_high_bits.ensures.high, slice_above, word_below)
+returns-clause-decides c = grind (arith, common_steps, c.is_high_mask.ensures.high, slice_above, word_below)
