@@ -20,9 +20,9 @@ use crate::step::Step;
 use scf_facts::WordFacts;
 use scf_insn::{Answer, CallRecord};
 use scf_profile::{Relation, Scope};
-use std::alloc::AllocError;
 
 /// What is known of each side, and the pending step to which the right one has come while the left one is asked.
+#[derive_where(Clone, Copy; K: Copy, M: Copy, B: Copy)]
 pub(crate) struct PairKnown<K, M, B> {
     pub(crate) left: K,
     pub(crate) right: M,
@@ -31,30 +31,11 @@ pub(crate) struct PairKnown<K, M, B> {
     pub(crate) taken: u64,
 }
 
-impl<K: Copy, M: Copy, B: Copy> Copy for PairKnown<K, M, B> {}
-
-impl<K: Copy, M: Copy, B: Copy> Clone for PairKnown<K, M, B> {
-    ghost is_clone = { λ known copy. copy ≡ known };
-
-    fn clone(&self) -> Result<PairKnown<K, M, B>, AllocError> {
-        Ok(*self)
-    }
-}
-
 /// A node of the left side's tree, or one of the right side's tree behind a leaf of the left side's.
+#[derive_where(Clone, Copy; A: Copy, B: Copy)]
 pub(crate) enum PairNode<A, B> {
     AtLeft(A),
     AtRight(SideLeaf, B),
-}
-
-impl<A: Copy, B: Copy> Copy for PairNode<A, B> {}
-
-impl<A: Copy, B: Copy> Clone for PairNode<A, B> {
-    ghost is_clone = { λ node copy. copy ≡ node };
-
-    fn clone(&self) -> Result<PairNode<A, B>, AllocError> {
-        Ok(*self)
-    }
 }
 
 /// Two sides that are compared over a scope, by a relation.

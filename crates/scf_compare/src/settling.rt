@@ -1,6 +1,5 @@
 //! A comparison's tree with the bits of the words that splits have fixed.
 
-ghost use Rattle.std.specs.Prelude.{◌≡◌};
 ghost use Rattle.scf_compare.specs.internal.Settling.{settling_trees};
 
 use crate::comparison::{Comparison, PairLeaf};
@@ -9,23 +8,12 @@ use crate::sources::OpenTest;
 use crate::step::Step;
 use scf_facts::WordFacts;
 use scf_insn::{Answer, CallRecord};
-use std::alloc::AllocError;
 
 /// A node of a comparison's tree, and the bits that splits have fixed.
-#[derive(Drop)]
+#[derive_where(Clone, Copy; N: Copy)]
 pub(crate) struct SettlingNode<N> {
     pub(crate) node: N,
     pub(crate) fixed: FixedBits,
-}
-
-impl<N: Copy> Copy for SettlingNode<N> {}
-
-impl<N: Copy> Clone for SettlingNode<N> {
-    ghost is_clone = { λ node copy. copy ≡ node };
-
-    fn clone(&self) -> Result<SettlingNode<N>, AllocError> {
-        Ok(*self)
-    }
 }
 
 /// A comparison that is walked from its root again with each split.

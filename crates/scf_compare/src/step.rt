@@ -1,11 +1,9 @@
 //! Steps in a tree of questions.
 
-ghost use Rattle.std.specs.Prelude.{◌≡◌};
-
 use scf_facts::Atom;
-use std::alloc::AllocError;
 
 /// A step from a node of a tree of questions about words. `E` is the type of its leaves.
+#[derive_where(Clone, Copy; N: Copy, E: Copy)]
 pub(crate) enum Step<N, E> {
     /// To the only next node.
     Next(N),
@@ -13,16 +11,6 @@ pub(crate) enum Step<N, E> {
     Branch(Option<Atom>, N, N),
     /// The tree ends here.
     Leaf(E),
-}
-
-impl<N: Copy, E: Copy> Copy for Step<N, E> {}
-
-impl<N: Copy, E: Copy> Clone for Step<N, E> {
-    ghost is_clone = { λ step copy. copy ≡ step };
-
-    fn clone(&self) -> Result<Step<N, E>, AllocError> {
-        Ok(*self)
-    }
 }
 
 /// What was passed on the way to a later node of a tree of questions.
