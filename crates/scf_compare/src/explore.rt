@@ -71,23 +71,6 @@ pub(crate) fn difference_by<C: Comparison>(comparison: &C, call: CallRecord) -> 
     }
 }
 
-/// The difference that a call shows, if it is in the scope and shows one.
-pub(crate) fn difference_in_scope<C: Comparison>(
-    comparison: &C,
-    call: CallRecord,
-) -> Option<Finding>
-    requires record { IsRecord call }
-    ensures found { IfSome result (IsFound (C.compared comparison.now)) }
-    ensures related { let compared = C.compared comparison.now in
-        IfNone result (compared.in_scope call → WordsRelated compared (words_of call)) }
-{
-    if comparison.is_in_scope(&call) {
-        difference_by(comparison, call)
-    } else {
-        None
-    }
-}
-
 /// Judges a leaf by what the store knows there. A record is shown only after both sides answered it.
 pub(crate) fn judge<C: Comparison, F: WordFacts>(
     comparison: &C,

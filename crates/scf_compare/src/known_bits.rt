@@ -8,7 +8,7 @@ ghost use Rattle.scf_compare.specs.internal.KnownBits.{HasResult, IsLowEnd};
 
 use crate::fixed_bits::WordBit;
 use scf_facts::{Bits, Tell, WordFacts};
-use scf_insn::{Arithmetic, Test};
+use scf_insn::{Arithmetic, Test, low_half};
 use scf_machine::{compute, holds_of};
 
 /// The bits that a word has in every list that the store allows: those that the store knows at once, and those that it
@@ -290,11 +290,4 @@ fn leading_bits(least: u64, greatest: u64) -> Bits
         return Bits::NONE;
     }
     Bits::between(low_half(least), low_half(greatest))
-}
-
-/// The low 32 bits of a number.
-fn low_half(number: u64) -> u32
-    ensures { result ≡ number % 2 ^ 32 }
-{
-    (number % (1 << 32)) as u32
 }

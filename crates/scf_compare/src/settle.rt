@@ -11,7 +11,7 @@ ghost use Rattle.scf_compare.specs.internal.Stages.{IsFound};
 
 use crate::budget::Limit;
 use crate::comparison::Comparison;
-use crate::explore::{Judged, difference_in_scope, judge};
+use crate::explore::{Judged, difference_by, judge};
 use crate::finding::Finding;
 use crate::fixed_bits::{FixedBits, WordBit};
 use crate::frontier::{Frontier, Stage, ask, open_branch, take_branch};
@@ -28,7 +28,12 @@ fn difference_of<C: Comparison>(comparison: &C, fixed: &FixedBits) -> Option<Fin
         → HaveBits fixed.now.words words → WordsRelated (C.compared comparison.now) words) }
     ensures found { IfSome result (IsFound (C.compared comparison.now)) }
 {
-    difference_in_scope(comparison, CallRecord::from_words(&fixed.values()))
+    let call = CallRecord::from_words(&fixed.values());
+    if comparison.is_in_scope(&call) {
+        difference_by(comparison, call)
+    } else {
+        None
+    }
 }
 
 /// Splits on a bit that isn't fixed yet, if a split is left: opens a branch where the bit is clear, and learns that it
