@@ -24,11 +24,11 @@
 //! goes on as far as the store decides its own (`decided`), and each branch keeps how far it came. So two filters of
 //! the same tests, one after another, are walked once, side by side.
 //!
-//! A value that the filter computes stays known while it is a bit slice of a word (`bit_slice`) or an affine term of one
-//! (`affine_term`). Of everything else only single bits are known (`computed`): those that follow from the operands'
-//! known bits (`known_bits`). At a test that neither an atom about a word nor the known bits decide the walk follows both
-//! sides and learns nothing. Behind it a leaf may stay undecided. The path remembers the first such test, by the bits of
-//! the record on which it depends (`sources`).
+//! A value that the filter computes stays known while it is a bit slice of a word (`bit_slice`) or an affine term of
+//! one (`affine_term`). Of everything else only single bits are known (`computed`): those that follow from the
+//! operands' known bits (`known_bits`). At a test that neither an atom about a word nor the known bits decide the walk
+//! follows both sides and learns nothing. Behind it a leaf may stay undecided. The path remembers the first such test,
+//! by the bits of the record on which it depends (`sources`).
 //!
 //! If the walk ends with such a leaf, and nothing fails, two stacks of the same filters are related all the same. Of
 //! others a second walk begins (`settle`). Take the filter `ld [16]; div #3; tax; ld [24]; add x; jgt #9, ..`: the sum

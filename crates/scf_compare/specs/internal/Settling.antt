@@ -49,9 +49,9 @@ pub record IsSecondWalk (compared : Compared) (steps : ℕ) (budget : Limit) (le
   pub leaves : left ≤ budget.steps
 
 -- A step of the second walk comes to a stage of the exploration, if it has the splits. Steps are counted elsewhere.
-pub record IsWalkedOn {F K N : Type 0} (store : Store F) (compared : Compared) (tree : K → Tree N) (start : K) (root : N)
-    (old new : Frontier F K (SettlingNode N)) (before : K) (from : SettlingNode N) (known : K) (budget left : Limit)
-    (stage : Option (Stage (SettlingNode N))) : Type 0 where
+pub record IsWalkedOn {F K N : Type 0} (store : Store F) (compared : Compared) (tree : K → Tree N) (start : K)
+    (root : N) (old new : Frontier F K (SettlingNode N)) (before : K) (from : SettlingNode N) (known : K)
+    (budget left : Limit) (stage : Option (Stage (SettlingNode N))) : Type 0 where
   pub explores : let trees = settling_trees tree start root in
       IfSome stage (IsStageAfter store compared trees old new (trees before) from (trees known)
       (WereSeen compared None))
