@@ -19,7 +19,7 @@ use crate::insns::load_word;
 use crate::placing::Position;
 use crate::ranges::{NrRange, cut, fill, ranges_of};
 use crate::rules::constant_rule;
-use crate::search::put_search;
+use crate::search::{Leaves, put_search};
 use crate::size::number_count;
 use crate::weights::{CallCount, range_weights};
 use scf_insn::kernel::BPF_MAXINSNS;
@@ -78,18 +78,12 @@ fn put_ranges(
     let weights = range_weights(alloc, profile, ranges, counts)?;
     // Two for each number with rules, its own and the gap in front of it, as many for the stub, and two behind them.
     let most = 2 * number_count(profile) + 2;
-    let earlier = Position(code.len());
-    let default = profile.default_answer();
-    let index = put_search(
-        alloc,
-        code,
-        profile.architecture(),
-        ranges,
-        &weights,
-        most,
-        default,
-        earlier,
-    )?;
+    let leaves = Leaves {
+        architecture: profile.architecture(),
+        default: profile.default_answer(),
+        earlier: Position(code.len()),
+    };
+    let index = put_search(alloc, code, leaves, ranges, &weights, most)?;
     Ok(index)
 }
 
@@ -181,22 +175,6 @@ fn filter_of_one(
 }
 
 /// The instructions of the filter of profiles: a search for each, and what leads a record to its search.
-fn filter_of_several(
-    alloc: Global,
-    profiles: &[Profile],
-    counts: &[CallCount],
-) -> Result<Vec<Insn>, Memory>
-    requires few { length profiles.now ≤ bpf_maxinsns }
-    requires apart { AreOfApart profiles.now }
-    ensures { IfOk result (λ code. IsFilterOf profiles.now code.items) }
-{
-    let (mut code, searches) = searches_of(alloc, profiles, counts)?;
-    put_dispatch(alloc, &mut code, &searches)?;
-    code.push_front(load_word(1))?;
-    Ok(Vec::from(code))
-}
-
-/// The instructions of the filter of profiles, however many there are.
 fn filter_of(alloc: Global, profiles: &[Profile], counts: &[CallCount]) -> Result<Vec<Insn>, Memory>
     requires few { length profiles.now ≤ bpf_maxinsns }
     requires apart { AreOfApart profiles.now }
@@ -205,16 +183,19 @@ fn filter_of(alloc: Global, profiles: &[Profile], counts: &[CallCount]) -> Resul
     if profiles.len() == 1 && profiles[0].architecture().first() == 0 {
         return filter_of_one(alloc, &profiles[0], counts);
     }
-    filter_of_several(alloc, profiles, counts)
+    let (mut code, searches) = searches_of(alloc, profiles, counts)?;
+    put_dispatch(alloc, &mut code, &searches)?;
+    code.push_front(load_word(1))?;
+    Ok(Vec::from(code))
 }
 
 /// Compiles profiles, of which no two are for one record, to a filter that answers every call record as the profile of
-/// its architecture does, in all 32 bits, and with KILL_PROCESS if there is none: also if the text of the profiles lists
-/// its architecture, but no table of it was handed in. Each run takes at most as many steps as `compile` states for the
-/// profile that takes the most, plus 2 for each other profile. Plain profiles give a plain program. It has at most as
-/// many instructions as the sum of their size bounds, or 2 if there is no profile. `TooLarge` comes only if that sum
-/// exceeds `BPF_MAXINSNS`, and `Memory` only if an allocation failed. Searches are cut by how often each syscall is
-/// called, so that frequent ones take few steps; what is promised doesn't depend on the counts.
+/// its architecture does, in all 32 bits, and with KILL_PROCESS if there is none: also if the text of the profiles
+/// lists its architecture, but no table of it was handed in. Each run takes at most as many steps as `compile` states
+/// for the profile that takes the most, plus 2 for each other profile. Plain profiles give a plain program. It has at
+/// most as many instructions as the sum of their size bounds, or 2 if there is no profile. `TooLarge` comes only if
+/// that sum exceeds `BPF_MAXINSNS`, and `Memory` only if an allocation failed. Searches are cut by how often each
+/// syscall is called, so that frequent ones take few steps; what is promised doesn't depend on the counts.
 #[tactic(auto, using(crate::proofs::Valid::answers_same, crate::proofs::Valid::is_plain))]
 pub fn compile_by_counts(
     alloc: Global,

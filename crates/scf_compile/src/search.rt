@@ -42,53 +42,43 @@ fn cut_of(weights: &[u64], half: usize) -> usize
     most
 }
 
+/// What the leaves of a search are: blocks of rules.
+#[derive(Clone, Copy)]
+pub(crate) struct Leaves {
+    pub(crate) architecture: Architecture,
+    /// The answer if no rule is met.
+    pub(crate) default: Answer,
+    /// Blocks that stand from this position on are shared.
+    pub(crate) earlier: Position,
+}
+
 /// Puts a binary search over ranges in front of the code, the upper part in front of the lower one. It is cut by
-/// weight, but no range takes more tests than if `most` ranges were halved by their count. Blocks of rules that stand
-/// from `earlier` on are shared.
+/// weight, but no range takes more tests than if `most` ranges were halved by their count.
 pub(crate) fn put_search(
     alloc: Global,
     code: &mut VecDeque<Insn>,
-    architecture: Architecture,
+    leaves: Leaves,
     ranges: &[NrRange],
     weights: &[u64],
     most: usize,
-    default: Answer,
-    earlier: Position,
 ) -> Result<Position, AllocError>
     requires some { 0 < length ranges.now }
     requires few { length ranges.now ≤ most }
     requires weights { length weights.now ≡ length ranges.now }
-    requires rules { AllRules (IsRule architecture) ranges.now }
+    requires rules { AllRules (IsRule leaves.architecture) ranges.now }
     requires small { length code.now.items + sum_by range_bound ranges.now < 2 ^ 32 }
-    ensures { IfOk result (IsSearchPut architecture default most ranges.now code.old.items code.new.items) }
+    ensures { IfOk result
+        (IsSearchPut leaves.architecture leaves.default most ranges.now code.old.items code.new.items) }
 {
     if ranges.len() > 1 {
         let half = most - most / 2;
         let cut = cut_of(weights, half);
         let (low, high) = ranges.split_at(cut);
         let (low_weights, high_weights) = weights.split_at(cut);
-        let miss = put_search(
-            alloc,
-            code,
-            architecture,
-            low,
-            low_weights,
-            half,
-            default,
-            earlier,
-        )?;
-        let hit = put_search(
-            alloc,
-            code,
-            architecture,
-            high,
-            high_weights,
-            half,
-            default,
-            earlier,
-        )?;
+        let miss = put_search(alloc, code, leaves, low, low_weights, half)?;
+        let hit = put_search(alloc, code, leaves, high, high_weights, half)?;
         return put_branch(code, Test::GreaterOrEqual, high[0].first, hit, miss);
     }
-    let block = rules_block(alloc, architecture, ranges[0].rules, default)?;
-    put_shared(code, &block, earlier)
+    let block = rules_block(alloc, leaves.architecture, ranges[0].rules, leaves.default)?;
+    put_shared(code, &block, leaves.earlier)
 }

@@ -8,4 +8,4 @@ pub put_search-requires-clause-rules : goal.put_search-requires-clause-rules
 put_search-requires-clause-rules c = rw c.architecture.ensures c.requires.ranges.rules
 
 pub returns : goal.returns
-returns c = grind (arith, common_steps, nat_tests, c.architecture.ensures, c.default_answer-default.ensures, c.number_count.ensures.count, c.in_ok-index.ensures)
+returns c = grind (arith, common_steps, nat_tests, c.architecture.ensures, c.default_answer.ensures, c.number_count.ensures.count, c.in_ok-index.ensures)

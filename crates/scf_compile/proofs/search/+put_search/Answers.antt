@@ -17,7 +17,7 @@ put_search-requires-then-ranges-gt1 t c =
           (
             omega arith,
             (
-              (all_parts (IsRule c.args.architecture) _ _ (rw halves.by_index.0 at c.requires.rules)).1,
+              (all_parts (IsRule c.args.leaves.architecture) _ _ (rw halves.by_index.0 at c.requires.rules)).1,
               omega (arith, c.in_ok-miss.ensures.small),
             ),
           ),
@@ -33,9 +33,9 @@ returns-then-ranges-gt1 t c =
     let s = c.index-high-0.result in
     let more = c.if-ranges-gt1.true in
     rw c.split_at.ensures.by_index.0 (IfOk-weaker c.put_branch.result (IsFirst _ _ _)
-    (IsSearchPut c.args.architecture c.args.default c.args.most
+    (IsSearchPut c.args.leaves.architecture c.args.leaves.default c.args.most
     (c.split_at.result.0.now ++ c.split_at.result.1.now) _ _)
-    (λ index first. search_branch c.args.architecture c.args.default _ _ s (omega arith) (omega arith) (omega arith)
+    (λ index first. search_branch c.args.leaves.architecture c.args.leaves.default _ _ s (omega arith) (omega arith) (omega arith)
     c.index-high-0.is c.in_ok-miss.ensures c.in_ok-hit.ensures (rw (← c.index-high-0.is) at first))
     c.put_branch.ensures)
 
@@ -47,12 +47,12 @@ returns t c =
     let ss = c.args.ranges.now in
     let s = c.index-ranges-0.result in
     let is = one_is ss s c.requires.some (omega arith) c.index-ranges-0.is in
-    let answers : AnswersRules c.args.architecture c.args.default s.rules.now c.in_ok-block.block.items =
-    subst (λ (r : NrRange). AnswersRules c.args.architecture c.args.default r.rules.now c.in_ok-block.block.items)
+    let answers : AnswersRules c.args.leaves.architecture c.args.leaves.default s.rules.now c.in_ok-block.block.items =
+    subst (λ (r : NrRange). AnswersRules c.args.leaves.architecture c.args.leaves.default r.rules.now c.in_ok-block.block.items)
     (sym c.index-ranges-0.is) c.in_ok-block.ensures in
-    let block : AnswersRules c.args.architecture c.args.default s.rules.now c.deref.result.now =
+    let block : AnswersRules c.args.leaves.architecture c.args.leaves.default s.rules.now c.deref.result.now =
     rw c.deref.ensures.value answers in
     IfOk-weaker c.put_shared.result (IsPut c.deref.result.now c.args.code.now.items c.put_shared.new.code.items)
-    (IsSearchPut c.args.architecture c.args.default c.args.most ss _ _)
-    (λ index put. rw is (search_one c.args.architecture c.args.default c.args.most s _ _ _ index block put))
+    (IsSearchPut c.args.leaves.architecture c.args.leaves.default c.args.most ss _ _)
+    (λ index put. rw is (search_one c.args.leaves.architecture c.args.leaves.default c.args.most s _ _ _ index block put))
     c.put_shared.ensures

@@ -1,6 +1,6 @@
 use Rattle.scf_compile.proofs.Common.{auto_rules, ◌≡◌, ◌∷◌, arith, load_word, nat_tests, common_steps}
 use Rattle.scf_compile.proofs.Filters.{all_stand, filter_put}
-use Rattle.scf_compile.proofs.compiler.filter_of_several.Goals as goal
+use Rattle.scf_compile.proofs.compiler.filter_of.Goals as goal
 
 pub put_dispatch-requires-clause-stand : goal.put_dispatch-requires-clause-stand
 put_dispatch-requires-clause-stand c = grind (arith, common_steps, nat_tests, all_stand, c.deref.ensures.value, c.in_ok-code.ensures.put.each)
