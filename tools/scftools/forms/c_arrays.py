@@ -68,14 +68,6 @@ def closing(text: str, at: int, marks: str) -> int:
     raise NotAnArray(f"a '{marks[0]}' isn't closed")
 
 
-def _replaced(body: str, parameters: Sequence[str], arguments: Sequence[str]) -> str:
-    """The text of a macro with its arguments; `##` joins what stands beside it."""
-    values = dict(zip(parameters, arguments))
-    if len(body) * (1 + max(map(len, arguments), default=0)) > LONGEST_EXPANSION:
-        raise NotAnArray(TOO_LONG)
-    return re.sub(r"\s*##\s*", "", re.sub(NAME, lambda name: values.get(name[0], name[0]), body))
-
-
 class Macros:
     """The macros in a text, which may define constants of the headers only as they are."""
 
@@ -107,13 +99,16 @@ class Macros:
                 arguments = [*elements_of(text[opening.end():end])]
                 if len(arguments) != len(parameters):
                     raise NotAnArray(f"'{name[:40]}' takes {len(parameters)} arguments, not {len(arguments)}")
-                body, end = _replaced(body, parameters, arguments), end + 1
+                if len(body) * (1 + max(map(len, arguments), default=0)) > LONGEST_EXPANSION:
+                    raise NotAnArray(TOO_LONG)
+                values, end = dict(zip(parameters, arguments)), end + 1
+                # `##` joins what stands beside it
+                body = re.sub(r"\s*##\s*", "", re.sub(NAME, lambda word: values.get(word[0], word[0]), body))
             pieces += text[at:match.start()], self._value(name, body, outer)
             at = end
         return "".join([*pieces, text[at:]])
 
     def _value(self, name: str, body: str, outer: tuple[str, ...]) -> str:
-        """What a macro stands for."""
         self._room -= len(body) + 1
         if self._room < 0 or len(outer) > DEEPEST:
             raise NotAnArray(TOO_LONG)
@@ -132,13 +127,6 @@ def _known_number(name: str) -> int | None:
         tables.read_table(None).number_of(bare)
 
 
-def _number_of(name: str) -> int:
-    number = _known_number(name)
-    if number is None:
-        raise NotAnArray(f"'{name[:40]}' is no constant that this tool knows")
-    return number
-
-
 def _words(text: str) -> Iterator[str]:
     """The numbers, constants and operators of an expression, as Python has them."""
     bare = re.sub(OFFSET, lambda match: str(16 + 8 * int(match[2]) if match[2] else FIELDS[match[1]]),
@@ -151,7 +139,10 @@ def _words(text: str) -> Iterator[str]:
         at = match.end()
         number, name, operator_of = match.groups()
         base = 16 if number and number[:2].lower() == "0x" else 8 if number and re.fullmatch("0[0-7]+", number) else 10
-        yield operator_of or str(int(number, base) if number else _number_of(name))
+        known = _known_number(name) if name else None
+        if name and known is None:
+            raise NotAnArray(f"'{name[:40]}' is no constant that this tool knows")
+        yield operator_of or str(int(number, base) if number else known)
 
 
 def value_of(text: str) -> int:
@@ -178,21 +169,17 @@ def value_of(text: str) -> int:
         raise NotAnArray(f"'{text[:60]}' isn't a constant expression") from error
 
 
-def _row(text: str) -> list[str]:
-    """The four fields of an element, by its form."""
+def _fields(text: str) -> tuple[int, int, int, int]:
+    """The values of the four fields of an element, by its form."""
     macro = re.fullmatch(MACRO, text)
     fields = list(elements_of(macro[2] if macro else text[1:-1]))
     if macro and macro[1] == "BPF_STMT" and len(fields) == 2:
-        return [fields[0], "0", "0", fields[1]]
-    if macro and macro[1] == "BPF_JUMP" and len(fields) == 4:
-        return [fields[0], fields[2], fields[3], fields[1]]
-    if macro or text[:1] != "{" or text[-1:] != "}" or len(fields) != 4:
+        fields[1:1] = "0", "0"
+    elif macro and macro[1] == "BPF_JUMP" and len(fields) == 4:
+        fields.append(fields.pop(1))
+    elif macro or text[:1] != "{" or text[-1:] != "}" or len(fields) != 4:
         raise NotAnArray(f"'{text[:60]}' isn't an instruction: {{ code, jt, jf, k }}, BPF_STMT or BPF_JUMP")
-    return fields
-
-
-def _fields(text: str) -> tuple[int, int, int, int]:
-    values = [value_of(field_text) for field_text in _row(text)]
+    values = list(map(value_of, fields))
     # a number of 32 bits, which `~` and `-` make negative here
     values[3] %= 1 << 32 if values[3] >= (1 << 64) - (1 << 32) else 1 << 64
     for name, value, end in zip(("code", "jt", "jf", "k"), values, (1 << 16, 1 << 8, 1 << 8, 1 << 32)):
@@ -242,20 +229,19 @@ def packed(rows: Iterable[Sequence[int]]) -> bytes:
 
 
 def looks_like_array(text: str) -> bool:
-    """Whether a text is meant to be such an array."""
     bare = _without_comments(text)
     start = re.sub(INCLUDES, "", bare).strip()
     row = re.match(r"\{\s*(?:[{(0-9]|BPF_)|BPF_(?:STMT|JUMP)\b|0x[0-9a-fA-F]{2}\s*,", start)
     return bool(row or re.match(HEAD, start) or re.search(OF_INSTRUCTIONS, bare))
 
 
-def rows_in(text: str) -> list[tuple[int, int, int, int]] | bytes:
-    """The instructions (code, jt, jf and k) of an array, at most MOST_ROWS, or the bytes of one of bytes; raises
-    NotAnArray if a text isn't one, or only a compiler can read it."""
+def bytes_in(text: str) -> bytes:
+    """The bytes of an array of instructions, at most MOST_ROWS, or of one of bytes; raises NotAnArray if a text isn't
+    one, or only a compiler can read it."""
     elements = _elements(_without_comments(text))
     if elements and all(re.fullmatch("0[xX][0-9a-fA-F]{1,2}|[0-9]{1,3}", element) for element in elements):
         values = [int(element, 0 if element[:2].lower() == "0x" else 10) for element in elements]
         if max(values) > 255 or len(values) % 8:
             raise NotAnArray("the bytes aren't a multiple of 8, each below 256")
         return bytes(values)
-    return [_fields(element) for element in elements[:MOST_ROWS]]
+    return packed(map(_fields, elements[:MOST_ROWS]))

@@ -36,8 +36,7 @@ class FilterLoads(Confinement):
         printed = PROGRAM.fullmatch(arguments[2].strip()) if len(arguments) > 2 else None
         if not printed or printed[2] is None:
             raise c_arrays.NotAnArray("it doesn't show the filters whole: strace does with -v")
-        rows = c_arrays.rows_in(printed[2])
-        data = rows if isinstance(rows, bytes) else c_arrays.packed(rows)
+        data = c_arrays.bytes_in(printed[2])
         if len(data) != 8 * int(printed[1]):
             raise c_arrays.NotAnArray(f"it shows {len(data) // 8} of a filter's {printed[1]} instructions")
         if not self._loads_left:

@@ -1,21 +1,182 @@
-"""Filters as commands take them: files in any of the forms of `texts`, and stacks of them."""
+"""Filters as commands take them, and stacks of them: as bytes, hexadecimal text, a C array, decimals of `tcpdump -ddd`,
+scf's assembler, and strace's log of a program that loads one.
+
+The contents decide, not the name of a file. Bytes of which the second is a NUL are a raw filter, whatever else they
+look like: each instruction that the kernel accepts has a code below 256, whose upper byte is a NUL, and no text has
+one. A text is taken for a filter only if it has one of these forms from its first letter to its last; if two forms read
+different instructions, it is refused. What is known to be something else is refused, and named. All else goes to scf as
+it is.
+"""
 from __future__ import annotations
 
 import os
+import re
 from collections.abc import Callable, Sequence
 
 from ..base import inputs, program
-from ..base.values import unless_refused
+from ..base.values import Pattern, dataclass, unless_refused
 from ..model import bundles
 from ..model.bpf import BPF_MAXINSNS
-from . import texts
-from .texts import Filter
+from ..ask import client
+from . import assembler, c_arrays
+
+# The bytes of an instruction, and the most of a filter as text.
+SIZE, LONGEST_TEXT = 8, 1 << 20
+HEXADECIMAL_TEXT, ARRAY, DECIMALS, ASSEMBLER = (
+    "hexadecimal text", "a C array", "decimals of tcpdump -ddd", "scf's assembler text")
+LOADING = Pattern(r"(?m)^[\[\]pid 0-9]{0,30}(?:seccomp\(SECCOMP_SET_MODE_FILTER|prctl\(PR_SET_SECCOMP), ")
+# What isn't a filter: how it begins, what it is, and what to do.
+OF_PROFILE = ": `scf surface` and `scf decide` take profiles, too, and `scf compile` makes the filter of one"
+NOT_FILTERS = (
+    (rb"\x7fELF", "an ELF file (a program, library or object)", ""),
+    (rb"\x1f\x8b", "compressed by gzip", ": unpack it first"),
+    (rb"PK\x03\x04", "a zip file", ": unpack it first"),
+    (rb"%PDF-", "a PDF", ""),
+    (rb"\x89PNG\r\n|\xff\xd8\xff|GIF8[79]a|(?s:BM.{4}\0{4}|RIFF.{4}WEBP)", "a picture", ""),
+    (rb"(?:filter|profile|table) [0-9]{1,8}\n", "a bundle", ": scf itself reads it, on standard input"),
+    (rb"\s*(?:\{\s*[\"}]|\[\s*[\[{\"\]])", "JSON", OF_PROFILE),
+    (rb"\s*line\s+CODE\s+JT\s+JF\s+K\b", "a disassembly of seccomp-tools",
+     ": `seccomp-tools dump -f raw` writes the filter itself"),
+    (rb"#\s*\n# pseudo filter code start", "libseccomp's pseudo code",
+     ": seccomp_export_bpf writes the filter itself"),
+    (rb"[> ] ?\s*0  (?:ld|ldx|ret|raw|jeq|ja) |\s*0  (?:ld|ldx|ret|raw|ja)\b", "a listing of `scf list`",
+     ": `scf list --plain` prints one that is taken"),
+    (rb"\s*(?:---\s*\n)?(?:apiVersion|kind):", "YAML", OF_PROFILE),
+)
+# Characters that no text has.
+NO_TEXT = Pattern(r"[\0-\x08\x0e-\x1a\x1c-\x1f\x7f]")
+# The instructions of a big-endian machine: the upper byte of the code, which is 0, stands first. No little-endian one
+# begins so.
+BIG_ENDIAN = Pattern(rb"\0[^\0].{6}(?:\0.{7})*", re.S)
+
+
+@dataclass(frozen=True)
+class Filter:
+    """A filter, with the name of its file, or of the form that it was read in."""
+
+    name: str
+    data: bytes
+
+    @property
+    def count(self) -> int:
+        """The number of its complete instructions."""
+        return len(self.data) // SIZE
+
+
+def _of_dump(text: str) -> bytes | None:
+    """The bytes of what `xxd` and `hexdump -C` print, if no line lacks, and the letters beside them are theirs. `xxd`
+    puts a colon behind the offset, and two blanks behind the digits; `hexdump -C` puts two blanks, and a bar."""
+    data = bytearray()
+    lines = text.rstrip().split("\n")
+    for at, line in enumerate(lines):
+        begin, (digits, _, letters) = line[:10], line[10:].partition("  " if line[8:10] == ": " else "|")
+        try:
+            piece = bytes.fromhex(digits) if begin in (f"{len(data):08x}: ", f"{len(data):08x}  ") else b""
+        except ValueError:
+            piece = b""
+        own_letters = "".join(chr(byte) if 32 <= byte < 127 else "." for byte in piece).rstrip(" |")
+        letters = letters.rstrip(" |")
+        if not piece or not letters.endswith(own_letters) or letters.removesuffix(own_letters).strip():
+            # the last line of hexdump is the length
+            return bytes(data) if at + 1 == len(lines) and line == f"{len(data):08x}" else None
+        data += piece
+    return bytes(data)
+
+
+def _of_hexadecimal(text: str) -> bytes | None:
+    stripped = text.strip()
+    if re.fullmatch(r'"?(?:\\x[0-9a-fA-F]{2})+"?', stripped):
+        data = bytes.fromhex(stripped.strip('"').replace("\\x", ""))
+    elif re.fullmatch(r"[0-9a-fA-F\s]+", text, re.ASCII) and all(len(word) % 2 == 0 for word in text.split()):
+        data = bytes.fromhex(text)
+    else:
+        data = _of_dump(text) or b""
+    return data if data and len(data) % SIZE == 0 else None
+
+
+def _of_decimals(text: str) -> bytes | None:
+    """A count, and so many rows of four numbers; as of `bpf_asm`, commas may end the rows."""
+    if not re.fullmatch(r"[0-9\s,]+", text, re.ASCII):
+        return None
+    rows = [row.split() for row in re.split("[\n,]", text.strip().rstrip(",")) if row.strip()]
+    if [len(row) for row in rows] != [1] + [4] * (len(rows) - 1):
+        return None
+    values = [[int(word) if len(word) < 11 else 1 << 32 for word in row] for row in rows[1:]]
+    fits = all(not (code >> 16 or jt >> 8 or jf >> 8 or k >> 32) for code, jt, jf, k in values)
+    if rows[0][0].lstrip("0") != str(len(values)) or not fits:
+        return None
+    return c_arrays.packed(values) or None
+
+
+def _of_array(text: str) -> bytes | None:
+    return c_arrays.bytes_in(text) if c_arrays.looks_like_array(text) else None
+
+
+def _of_assembler(text: str) -> bytes | None:
+    if assembler.first_word(text) not in assembler.MNEMONICS:
+        return None
+    done = client.run_scf(["asm"], text.encode())
+    if done.status != program.SUCCESS:
+        raise c_arrays.NotAnArray(": ".join([done.line, *assembler.wrong_word(text, client.Fault.read(done.line))]))
+    return done.out
+
+
+def _of_log(text: str) -> bytes | None:
+    """The one filter that a program loads."""
+    if not LOADING.search(text):
+        return None
+    from . import filter_loads  # pylint: disable=import-outside-toplevel
+
+    filters = {data for stack in filter_loads.stacks_in(text.split("\n")) for data in stack}
+    if len(filters) != 1:
+        raise c_arrays.NotAnArray(f"it loads {len(filters)} filters: `scf filters-of --log` writes each to a file")
+    return filters.pop()
+
+
+FORMS = ((HEXADECIMAL_TEXT, _of_hexadecimal), (DECIMALS, _of_decimals), (ARRAY, _of_array), (ASSEMBLER, _of_assembler),
+         ("a strace log", _of_log))
+
+
+def text_of(data: bytes) -> str | None:
+    """The text that bytes are, None if they are none, or only blanks."""
+    try:
+        text = data.decode("utf-8")
+    except UnicodeDecodeError:
+        return None
+    return None if not text.strip() or NO_TEXT.search(text) else text
+
+
+def form_of(data: bytes, label: str) -> Filter | None:
+    """The form of a filter that isn't raw, or None if the bytes are to be judged as they are. `label` names the input.
+    Raises ToolError if they are known to be something else, or can be read in two ways."""
+    if BIG_ENDIAN.fullmatch(data):
+        raise program.ToolError(f"{label} is a filter of a big-endian machine: scf doesn't read its byte order")
+    for begins, what, hint in NOT_FILTERS:
+        if re.match(begins, data):
+            raise program.ToolError(f"{label} is {what}, not a filter{hint}")
+    text = text_of(data)
+    if text is None:
+        return None
+    if len(data) > LONGEST_TEXT:
+        raise program.ToolError(f"{label} has more than {LONGEST_TEXT} bytes, the most of a filter as text")
+    filters = []
+    for name, read in FORMS:
+        try:
+            form_data = read(text)
+        except c_arrays.NotAnArray as why:
+            raise program.ToolError(f"{label} begins as {name}, but isn't one: {why}") from why
+        if form_data is not None:
+            filters.append(Filter(name, form_data))
+    if len({form.data for form in filters}) > 1:
+        names = " and as ".join(form.name for form in filters)
+        raise program.ToolError(f"{label} can be read as {names}: give the raw filter")
+    return filters[0] if filters else None
 
 
 def read_filter(name: str) -> Filter:
-    """The filter of a file, a pipe or standard input: raw, or a text in one of the forms of `texts`, whose name
-    is printed on standard error."""
-    return filter_in(name, inputs.read_input(name, "filter", most=texts.LONGEST_TEXT))
+    """The filter of a file, a pipe or standard input: raw, or a text in one of FORMS, whose name is printed on standard
+    error."""
+    return filter_in(name, inputs.read_input(name, "filter", most=LONGEST_TEXT))
 
 
 def filter_in(name: str, data: bytes) -> Filter:
@@ -24,8 +185,8 @@ def filter_in(name: str, data: bytes) -> Filter:
     raw = Filter(name, data[:inputs.LIMITS["filter"] + 1])
     if data[1:2] == b"\0":
         return raw
-    form = texts.form_of(data, inputs.label(name))
-    if form is None and texts.text_of(data) is not None:
+    form = form_of(data, inputs.label(name))
+    if form is None and text_of(data) is not None:
         raise program.ToolError(f"{inputs.label(name)} is text, in none of the forms of a filter: hexadecimal, a C "
                                 "array, decimals of tcpdump -ddd, scf's assembler")
     if form is None:

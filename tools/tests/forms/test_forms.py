@@ -7,7 +7,7 @@ import unittest
 
 from support.common import ALLOW, CORE, EPERM, Case, filter_of, insn, jeq, load, part, profile_of, ret
 from scftools.base import program
-from scftools.forms import c_arrays, texts
+from scftools.forms import c_arrays, filters
 
 FILTER = filter_of([0, 1, 231])
 ROWS = list(struct.iter_unpack("<HBBI", FILTER))
@@ -74,56 +74,56 @@ class Texts(Case):
     """Each form gives the bytes that it was made of."""
 
     def is_read(self, text, name, data=FILTER):
-        form = texts.form_of(text.encode(), "it")
+        form = filters.form_of(text.encode(), "it")
         self.assertIsNotNone(form, text[:60])
         self.assertEqual((form.name, form.data), (name, data), text[:60])
 
     def test_hexadecimal(self):
         for text in (FILTER.hex(), FILTER.hex(" ").upper() + "\n", FILTER.hex("\n", 8),
                      '"' + "".join(f"\\x{byte:02X}" for byte in FILTER) + '"\n'):
-            self.is_read(text, texts.HEXADECIMAL_TEXT)
+            self.is_read(text, filters.HEXADECIMAL_TEXT)
         for words in (("xxd", "-p"), ("xxd",), ("hexdump", "-vC"), ("od", "-An", "-v", "-tx1")):
             if shutil.which(words[0]):
-                self.is_read(dumped(*words), texts.HEXADECIMAL_TEXT)
+                self.is_read(dumped(*words), filters.HEXADECIMAL_TEXT)
 
     def test_white_space_is_asciis(self):
         """No form has other blanks: U+2003 and U+0085 between digits are no text of a filter."""
         for blank in "\u2003\u0085":
             for text in (FILTER.hex(" ", 8).replace(" ", blank), DECIMALS.replace(" ", blank)):
-                self.assertIsNone(texts.form_of(text.encode(), "it"), ascii(blank))
+                self.assertIsNone(filters.form_of(text.encode(), "it"), ascii(blank))
 
     def test_lines_that_a_dump_leaves_out(self):
         """hexdump prints `*` for lines that are repeated: that isn't the whole filter."""
         lines = [f"{at:08x}  {bytes(16).hex(' ')}  |................|" for at in (0, 16, 48)]
-        self.assertIsNotNone(texts.form_of("\n".join(lines[:2]).encode(), "it"))
+        self.assertIsNotNone(filters.form_of("\n".join(lines[:2]).encode(), "it"))
         for text in (lines[:1] + ["*"] + lines[2:], lines, lines[1:2], lines[:2] + ["00000030"]):
-            self.assertIsNone(texts.form_of("\n".join(text).encode(), "it"))
-        self.assertIsNotNone(texts.form_of("\n".join(lines[:2] + ["00000020"]).encode(), "it"))
+            self.assertIsNone(filters.form_of("\n".join(text).encode(), "it"))
+        self.assertIsNotNone(filters.form_of("\n".join(lines[:2] + ["00000020"]).encode(), "it"))
 
     @unittest.skipUnless(shutil.which("xxd"), "there is no xxd here")
     def test_words_of_the_other_order(self):
         """`xxd -e` prints words of 32 bits, which aren't the bytes in their order, though they look like them."""
-        self.is_read(dumped("xxd", "-g", "4"), texts.HEXADECIMAL_TEXT)
-        self.assertIsNone(texts.form_of(dumped("xxd", "-e").encode(), "it"))
+        self.is_read(dumped("xxd", "-g", "4"), filters.HEXADECIMAL_TEXT)
+        self.assertIsNone(filters.form_of(dumped("xxd", "-e").encode(), "it"))
 
     def test_decimals(self):
-        self.is_read(DECIMALS, texts.DECIMALS)
-        self.is_read(DECIMALS.replace("\n", ",") + "\n", texts.DECIMALS)
+        self.is_read(DECIMALS, filters.DECIMALS)
+        self.is_read(DECIMALS.replace("\n", ",") + "\n", filters.DECIMALS)
         for text in (DECIMALS.replace("\n", "\n1 ", 1), "2\n6 0 0 1\n", "1\n6 0 256 0\n", "1\n6 0 0 4294967296\n",
                      "1\n6 0 0 " + "9" * 5000, "0\n"):
-            self.assertIsNone(texts.form_of(text.encode(), "it"), text[:30])
+            self.assertIsNone(filters.form_of(text.encode(), "it"), text[:30])
 
     def test_arrays(self):
-        self.is_read(ARRAY, texts.ARRAY)
-        self.is_read("{" + ARRAY + "}", texts.ARRAY)
-        self.is_read(f"struct sock_filter x[{len(ROWS)}] = {{\n{ARRAY}}};\n", texts.ARRAY)
-        self.is_read("#include <linux/filter.h>\nstatic struct sock_filter f[] = {" + ARRAY + "};", texts.ARRAY)
-        self.is_read("{ 0x06, 0, 0, 0x7fff0000 }", texts.ARRAY, ret(ALLOW))
-        self.is_read(", ".join(f"0x{byte:02x}" for byte in FILTER), texts.ARRAY)
+        self.is_read(ARRAY, filters.ARRAY)
+        self.is_read("{" + ARRAY + "}", filters.ARRAY)
+        self.is_read(f"struct sock_filter x[{len(ROWS)}] = {{\n{ARRAY}}};\n", filters.ARRAY)
+        self.is_read("#include <linux/filter.h>\nstatic struct sock_filter f[] = {" + ARRAY + "};", filters.ARRAY)
+        self.is_read("{ 0x06, 0, 0, 0x7fff0000 }", filters.ARRAY, ret(ALLOW))
+        self.is_read(", ".join(f"0x{byte:02x}" for byte in FILTER), filters.ARRAY)
         self.is_read("unsigned char f_bpf[] = {\n" + ",".join(f"0x{byte:02x}" for byte in FILTER)
-                     + "\n};\nunsigned int f_bpf_len = 96;\n", texts.ARRAY)
+                     + "\n};\nunsigned int f_bpf_len = 96;\n", filters.ARRAY)
         if shutil.which("xxd"):
-            self.is_read(dumped("xxd", "-i"), texts.ARRAY)
+            self.is_read(dumped("xxd", "-i"), filters.ARRAY)
 
     @unittest.skipUnless(shutil.which("cc"), "there is no C compiler here")
     def test_arrays_are_what_a_compiler_makes_of_them(self):
@@ -135,10 +135,10 @@ class Texts(Case):
         made = subprocess.run([program_of_it], stdout=subprocess.PIPE, check=True).stdout
         self.assertEqual(len(made), 13 * 8)
         for text in (DECLARED, MACROS, "{" + MACROS + "}"):
-            self.is_read(text, texts.ARRAY, made)
+            self.is_read(text, filters.ARRAY, made)
         expanded = subprocess.run(["cc", "-E", "-P", source], stdout=subprocess.PIPE, check=True).stdout.decode()
         remaining = expanded.split("sock_filter filter")[-1].split("int main")[0]
-        self.is_read(f"static const struct sock_filter filter{remaining}", texts.ARRAY, made)
+        self.is_read(f"static const struct sock_filter filter{remaining}", filters.ARRAY, made)
 
     @unittest.skipUnless(shutil.which("cc"), "there is no C compiler here")
     def test_the_array_of_a_whole_file(self):
@@ -147,13 +147,13 @@ class Texts(Case):
         made = subprocess.run([program_of_it], stdout=subprocess.PIPE, check=True).stdout
         self.assertEqual(len(made), 8 * 8)
         for text in (WHOLE, WHOLE.replace("\n", "\r\n"), WHOLE.replace("filter[] =", "filter[8] =")):
-            self.is_read(text, texts.ARRAY, made)
+            self.is_read(text, filters.ARRAY, made)
         literal = WHOLE.replace("struct sock_filter filter[] = {",
                                 "struct sock_fprog p = { 8, (struct sock_filter[]) {")
-        self.is_read(literal.replace("DENIED),\n    };", "DENIED),\n    } };"), texts.ARRAY, made)
+        self.is_read(literal.replace("DENIED),\n    };", "DENIED),\n    } };"), filters.ARRAY, made)
         for words in (["-E"], ["-E", "-P"]):
             expanded = subprocess.run(["cc", *words, source], stdout=subprocess.PIPE, check=True).stdout.decode()
-            self.is_read(expanded, texts.ARRAY, made)
+            self.is_read(expanded, filters.ARRAY, made)
         for words in (["check"], ["surface"], ["compare", self.file("f.bpf", made), "--beside"]):
             self.assertIn(f"'{source}' is read as a C array, instructions: 8\n", self.run_tool(*words, source)[2])
 
@@ -176,7 +176,7 @@ class Texts(Case):
                            (array.replace("[]", "[3]").replace("X", "1"), "its array has 1 of 3 instructions"),
                            (array.replace("};", ""), "a '{' isn't closed")):
             with self.subTest(says=says):
-                self.assertIn(says, self.text_of_error(program.ToolError, texts.form_of, text.encode(), "it"))
+                self.assertIn(says, self.text_of_error(program.ToolError, filters.form_of, text.encode(), "it"))
 
     def test_arrays_that_only_a_compiler_reads(self):
         for text, says in (("BPF_STMT(BPF_RET, MY_ANSWER)", "'MY_ANSWER' is no constant"),
@@ -189,14 +189,14 @@ class Texts(Case):
                            ("unsigned char f[] = { 6, 0, 0, 0, 0, 0, 0, 0 }; int x;", "text follows the array"),
                            ("{ 6, 0, 0, __NR_raed },", "'__NR_raed' is no constant"), ("0x06, 0x00,", "multiple of 8"),
                            ("{ " + "(" * 999 + "6" + ")" * 999 + ", 0, 0, 0 },", "nested too deep")):
-            self.assertIn(says, self.text_of_error(program.ToolError, texts.form_of, text.encode(), "it"))
+            self.assertIn(says, self.text_of_error(program.ToolError, filters.form_of, text.encode(), "it"))
 
     def test_assembler(self):
         listing = subprocess.run([*CORE, "dis"], input=FILTER, stdout=subprocess.PIPE, check=True).stdout.decode()
-        self.is_read(listing, texts.ASSEMBLER)
-        self.is_read("// a comment\n start: ret #0x7fff0000", texts.ASSEMBLER, ret(ALLOW))
+        self.is_read(listing, filters.ASSEMBLER)
+        self.is_read("// a comment\n start: ret #0x7fff0000", filters.ASSEMBLER, ret(ALLOW))
         self.assertIn("it begins as scf's assembler text, but isn't one: fault text Operand line 2: the statement is "
-                      "'ret #x'", self.text_of_error(program.ToolError, texts.form_of, b"ld [4]\nret #x\n", "it"))
+                      "'ret #x'", self.text_of_error(program.ToolError, filters.form_of, b"ld [4]\nret #x\n", "it"))
 
     def test_the_word_that_an_assembler_text_has_wrong(self):
         for text, says in (("ld [0]\njeqq #41, a, b // c\na: b: ret a", "'jeqq' is no mnemonic; the nearest is 'jeq'"),
@@ -214,7 +214,7 @@ class Texts(Case):
         both = b"0000000000000004\n" + b"20 10 10 10\n" * 4
         self.assertEqual(len(bytes.fromhex(both.decode())), 24)
         self.assertIn("can be read as hexadecimal text and as decimals of tcpdump -ddd",
-                      self.text_of_error(program.ToolError, texts.form_of, both, "it"))
+                      self.text_of_error(program.ToolError, filters.form_of, both, "it"))
 
 
 class Raw(Case):
@@ -224,7 +224,7 @@ class Raw(Case):
         """Filters whose constants and jumps are letters, and which have no other letters than texts may have."""
         for data in (load(0x20202020), insn(0x20, 0x7D7B2220, 0x22, 0x7B), insn(0x06, 0x464C457F), ret(0x30303030) * 9,
                      insn(0x00, 0x0A0A3130, 0x31, 0x30), insn(0x20, 0x0A0A0A0A, 0x0A, 0x0A)):
-            self.assertIsNone(texts.form_of(data, "it"))
+            self.assertIsNone(filters.form_of(data, "it"))
             path = self.file("f.bpf", data)
             expected = subprocess.run([*CORE, "dis"], input=data, stdout=subprocess.PIPE, check=True).stdout.decode()
             self.assertIn(expected.split("\n")[0], self.output_of(0, "list", path))

@@ -11,7 +11,7 @@ import unittest
 from support.common import ALLOW, EPERM, LOADER, X86_64, Case, bytes_of, jeq, load, ret, text_of, tool
 from logs import entry, rules, where
 from scftools.model.architectures import NATIVE
-from scftools.forms import c_arrays, filter_loads, strace, texts
+from scftools.forms import c_arrays, filter_loads, filters, strace
 from scftools.logs import traces
 
 # Filters that allow all but a syscall that nobody makes.
@@ -135,11 +135,11 @@ sys.exit(5)""", "out")
             with open(self.trace("load(FIRST)", options=options), "rb") as file:
                 data = b"".join(line for line in file if line.startswith((b"prctl(PR_SET_SECCOMP", b"execve(")))
             if text is None:
-                form = texts.form_of(data, "x")
+                form = filters.form_of(data, "x")
                 self.assertEqual((form.name, form.data), ("a strace log", FIRST))
             else:
-                with self.assertRaisesRegex(texts.program.ToolError, text):
-                    texts.form_of(data, "x")
+                with self.assertRaisesRegex(filters.program.ToolError, text):
+                    filters.form_of(data, "x")
 
     def test_libseccomp(self):
         """What strace shows of libseccomp's loading is what libseccomp writes."""
