@@ -7,6 +7,7 @@ from __future__ import annotations
 
 import errno
 import json
+import os
 import re
 from collections.abc import Callable, Iterator, Sequence
 
@@ -18,12 +19,11 @@ from ..model.entries import Object
 from ..model.profiles import NUMBER_TYPE, SECCOMP_MEMBERS, TEXT_TYPE, VERSION_TYPE, Origin, Refused, where_in
 
 # What a container has by default: moby's oci/caps, and containers-common's containers.conf.
-DOCKER = (
-    "CHOWN DAC_OVERRIDE FSETID FOWNER MKNOD NET_RAW SETGID SETUID SETFCAP SETPCAP NET_BIND_SERVICE SYS_CHROOT KILL "
-    "AUDIT_WRITE"
-)
-PODMAN = "CHOWN DAC_OVERRIDE FOWNER FSETID KILL NET_BIND_SERVICE SETFCAP SETGID SETPCAP SETUID SYS_CHROOT"
-SETS = {"docker": DOCKER.split(), "podman": PODMAN.split(), "none": []}
+SETS = {
+    "docker": ("CHOWN DAC_OVERRIDE FSETID FOWNER MKNOD NET_RAW SETGID SETUID SETFCAP SETPCAP NET_BIND_SERVICE "
+               "SYS_CHROOT KILL AUDIT_WRITE").split(),
+    "podman": "CHOWN DAC_OVERRIDE FOWNER FSETID KILL NET_BIND_SERVICE SETFCAP SETGID SETPCAP SETUID SYS_CHROOT".split(),
+    "none": []}
 # linux/capability.h
 CAPABILITIES = (
     "CHOWN DAC_OVERRIDE DAC_READ_SEARCH FOWNER FSETID KILL SETGID SETUID SETPCAP LINUX_IMMUTABLE NET_BIND_SERVICE "
@@ -167,41 +167,34 @@ def printed(profile: dict[str, Any]) -> str:
 Member = tuple[str, str, Any, Any]
 
 
-def _checked_member(value: Any, kind: Any, where: str, name: str, setting: Setting) -> Iterator[Member]:
-    """The members in a member. Refuses one that isn't an object, a list, a string, a number or a kernel version as the
-    engines read it."""
-    at = where_in(where, name)
+def checked(value: Any, kind: Any, where: str, setting: Setting) -> Iterator[Member]:
+    """The members of an object and of those in it. Refuses a value that isn't an object, a list, a string, a number or
+    a kernel version as the engines read it, and an object that they read otherwise than it is spelled. A member that
+    is null is absent."""
     if isinstance(kind, dict):
-        yield from checked(value, kind, at, setting)
+        if not isinstance(value, dict):
+            raise Refused(f"{where} isn't an object")
+        for name, member in value.items():
+            if name not in kind:
+                read_as = next((known for known in kind if profiles.folded(known) == profiles.folded(name)), None)
+                if read_as is not None:
+                    raise Refused(profiles.Misread(where, name, read_as).describe())
+            yield where, name, member, kind.get(name)
+            if name in kind and member is not None and name not in setting.unread:
+                yield from checked(member, kind[name], where_in(where, name), setting)
     elif isinstance(kind, list):
         are_texts = kind == [TEXT_TYPE]
         if not isinstance(value, list) or are_texts and not all(isinstance(item, str) for item in value):
-            raise Refused(f"{at} isn't a list" + " of strings" * are_texts)
+            raise Refused(f"{where} isn't a list" + " of strings" * are_texts)
         for index, element in enumerate(() if are_texts else value):
-            yield from checked(element, kind[0], where_in(where, name, index), setting)
+            yield from checked(element, kind[0], where_in(where, index), setting)
     elif kind == NUMBER_TYPE:
         if type(value) is not int or not 0 <= value < 1 << 64:
-            raise Refused(f"{at} isn't an integer from 0 to 2^64-1")
+            raise Refused(f"{where} isn't an integer from 0 to 2^64-1")
     elif not isinstance(value, str):
-        raise Refused(f"{at} " + ("isn't a string" if kind == TEXT_TYPE else "isn't a kernel version such as 4.8"))
+        raise Refused(f"{where} " + ("isn't a string" if kind == TEXT_TYPE else "isn't a kernel version such as 4.8"))
     elif kind == VERSION_TYPE:
-        version_of(value, at)
-
-
-def checked(value: Any, members: dict[str, Any], where: str, setting: Setting) -> Iterator[Member]:
-    """The members of an object and of those in it. Refuses an object that the engines refuse for what stands in its
-    members, or that they read otherwise than it is spelled. A member that is null is absent."""
-    if not isinstance(value, dict):
-        raise Refused(f"{where} isn't an object")
-    for name, member in value.items():
-        kind = members.get(name)
-        if kind is None:
-            read_as = next((member for member in members if profiles.folded(member) == profiles.folded(name)), None)
-            if read_as is not None:
-                raise Refused(profiles.Misread(where, name, read_as).describe())
-        yield where, name, member, kind
-        if kind is not None and member is not None and name not in setting.unread:
-            yield from _checked_member(member, kind, where, name, setting)
+        version_of(value, where)
 
 
 def members_of(value: dict[str, Any] | None, setting: Setting) -> dict[str, Any]:
@@ -278,14 +271,12 @@ class Resolver:
         return value
 
     def architectures_of(self, top: dict[str, Any]) -> list[str]:
-        """The architectures that the engine hands on."""
         names, mapped, native = top.get("architectures", []), top.get("archMap", []), self.setting.native
         if names and mapped:
             raise Refused("the profile has both architectures and archMap, and the engines take one")
-        for mapping in mapped:
-            if mapping.get("architecture") == native:
-                names = [native, *(mapping.get("subArchitectures") or [])]
-                break
+        own = next((mapping for mapping in mapped if mapping.get("architecture") == native), None)
+        if own is not None:
+            names = [native, *(own.get("subArchitectures") or [])]
         others = [name for name in names if name != native]
         if self.setting.is_native and others:
             if native not in names:
@@ -422,3 +413,9 @@ def kernel_of(text: str) -> tuple[int, int]:
     if not parts:
         raise Refused(f"'{text}' isn't a kernel version such as 6.1")
     return int(parts[1]), int(parts[2])
+
+
+def setting_of(caps: str, engine: str | None = None, machine: str | None = None, kernel: str | None = None) -> Setting:
+    """A container with these capabilities, by default on this machine and this kernel. Raises Refused."""
+    return Setting(capabilities_of(caps), kernel_of(kernel or os.uname().release), engine=engine,
+                   machine=machine or machine_here())

@@ -3,7 +3,6 @@ Profiles Operator), whose spec is one, lists of other sandboxes, and with --caps
 something else is refused, and named."""
 from __future__ import annotations
 
-import os
 import re
 from collections.abc import Iterator, Sequence
 
@@ -31,8 +30,6 @@ ID = Pattern(rb'"Id":\s*"([0-9a-f]{64})"')
 # A mark, blanks and comments before an object; and how what isn't an object begins that is meant as a profile.
 BEFORE_JSON = Pattern(rb"\A(?:\xef\xbb\xbf|\s|#[^\n]*\n|//[^\n]*\n|/\*.*?\*/)*", re.S)
 IN_OTHER_FORMS = Pattern(rb'\[\s*\{\s*"|(?:defaultAction|architectures|syscalls):\s')
-# Members of a SeccompProfile's spec that aren't a profile's.
-OF_SPEC_ALONE = ("baseProfileName", "disabled")
 
 
 @dataclass(frozen=True)
@@ -85,7 +82,6 @@ class ProfileInput:
                        "names them, unless socketcall or ipc makes them: libseccomp tells runc no number of theirs")
 
     def describe(self) -> Iterator[str]:
-        """Notes on the profile and its entries."""
         yield from engines.at_most(self.notes)
         yield from self.remarks
         if self.stub:
@@ -101,20 +97,6 @@ def stub_note(stub: dict[str, int]) -> str:
     return f"runc answers the numbers {join_names(firsts)}, above all that the profile names, with ENOSYS"
 
 
-def _refuse_others(data: bytes, label: str) -> None:
-    """Refuses what isn't a profile, where that is known."""
-    if data.startswith(b"\x7fELF"):
-        raise program.ToolError(f"{label} is an ELF file (a program, library or object), not a profile")
-    if bpf.are_codes(data):
-        raise program.ToolError(f"{label} is a raw filter, not a profile: `scf surface` says what it allows, and "
-                                "`scf profile-of` prints its profile")
-    for command, members, instead in INSPECTIONS if data.lstrip().startswith((b"[", b"{")) else ():
-        if all(member in data for member in members):
-            match = ID.search(data)
-            instead = instead.replace("/ID/", f"/{match[1].decode()}/") if match else instead
-            raise program.ToolError(f"{label} is what `{command}` prints: take {instead}")
-
-
 def _sandbox_of(data: bytes) -> Sandbox | None:
     """The sandbox whose list a text is; none of JSON and of a raw filter."""
     if data.lstrip(b" \t\r\n")[:1] in (b"{", b"[") or b"\0" in data:
@@ -125,8 +107,8 @@ def _sandbox_of(data: bytes) -> Sandbox | None:
 
 
 def looks_like_profile(data: bytes) -> bool:
-    """Whether an input is meant to be a profile, and not a filter: an object, which no C array is, if only behind what
-    JSON doesn't allow; YAML, or a sandbox's list."""
+    """Whether an input is meant as a profile, not as a filter: an object, which no C array is, if only behind what JSON
+    doesn't allow; YAML, or a sandbox's list."""
     if bpf.are_codes(data):
         return False
     text = data if data.startswith(b"{") else BEFORE_JSON.sub(b"", data, 1)
@@ -140,7 +122,16 @@ def plain(data: bytes, name: str) -> bytes:
     """A profile as runtimes read it: of a SeccompProfile its spec, of a sandbox's list its rules, all else as it is.
     Refuses what isn't one."""
     label = inputs.label(name)
-    _refuse_others(data, label)
+    if data.startswith(b"\x7fELF"):
+        raise program.ToolError(f"{label} is an ELF file (a program, library or object), not a profile")
+    if bpf.are_codes(data):
+        raise program.ToolError(f"{label} is a raw filter, not a profile: `scf surface` says what it allows, and "
+                                "`scf profile-of` prints its profile")
+    for command, members, instead in INSPECTIONS if data.lstrip().startswith((b"[", b"{")) else ():
+        if all(member in data for member in members):
+            match = ID.search(data)
+            instead = instead.replace("/ID/", f"/{match[1].decode()}/") if match else instead
+            raise program.ToolError(f"{label} is what `{command}` prints: take {instead}")
     sandbox = _sandbox_of(data)
     if sandbox is not None:
         profile, notes = sandbox.profile_of(data, label)
@@ -156,26 +147,6 @@ def plain(data: bytes, name: str) -> bytes:
     profile = DerivedProfile(spec)
     profile.within = "spec"
     return profile
-
-
-def setting_of(caps: str, engine: str | None = None, machine: str | None = None) -> engines.Setting:
-    """A container with these capabilities on this kernel, and by default on this machine."""
-    return engines.Setting(engines.capabilities_of(caps), engines.kernel_of(os.uname().release), engine=engine,
-                           machine=machine or engines.machine_here())
-
-
-def _resolved(data: bytes, name: str, caps: str, machine: str | None) -> ProfileInput:
-    """An engine's profile resolved for a container with these capabilities."""
-    setting = setting_of(caps, machine=machine)
-    try:
-        resolved, origins = engines.resolve(engines.parse_json(data), setting, lambda _: None, True)
-        profile = DerivedProfile(engines.to_bytes(resolved))
-    except profiles.Refused as why:
-        raise program.ToolError(f"{inputs.label(name)}: {why}") from why
-    more = "" if machine is None else f" --machine {machine}"
-    program.say(f"{inputs.label(name)} is resolved as by resolve-profile --keep-first --caps {caps}{more}, which says "
-                f"what is left out; entries that remain: {len(resolved['syscalls'])}")
-    return ProfileInput(profile, origins)
 
 
 def read_text(name: str, kind: str | None = None) -> bytes:
@@ -194,13 +165,12 @@ def read_text(name: str, kind: str | None = None) -> bytes:
 
 
 def read_profile(name: str, caps: str | None = None, is_runtimes: bool = False) -> ProfileInput:
-    """The profile that a word names."""
     return profile_in(read_text(name, None if caps is None else "engine's profile"), name, caps, is_runtimes)
 
 
 def tell_unread(data: bytes, path: str, is_strict: bool) -> None:
     """Says which members of a profile aren't read, which may be misspelt; or refuses it."""
-    of_spec = OF_SPEC_ALONE if isinstance(data, DerivedProfile) else ()
+    of_spec = ("baseProfileName", "disabled") if isinstance(data, DerivedProfile) else ()
     unread = [member for member in profiles.unread_members(data) if member[1] not in of_spec]
     if not unread:
         return
@@ -224,7 +194,16 @@ def profile_in(data: bytes, name: str, caps: str | None = None, is_runtimes: boo
         return ProfileInput(data)
     data = plain(data, name)
     if caps is not None:
-        return _resolved(data, name, caps, machine)
+        setting, label = engines.setting_of(caps, machine=machine), inputs.label(name)
+        try:
+            resolved, origins = engines.resolve(engines.parse_json(data), setting, lambda _: None, True)
+            profile = DerivedProfile(engines.to_bytes(resolved))
+        except profiles.Refused as why:
+            raise program.ToolError(f"{label}: {why}") from why
+        more = "" if machine is None else f" --machine {machine}"
+        program.say(f"{label} is resolved as by resolve-profile --keep-first --caps {caps}{more}, which says what is "
+                    f"left out; entries that remain: {len(resolved['syscalls'])}")
+        return ProfileInput(profile, origins)
     remark = profiles.errno_by_name(data)
     if remark is not None:
         hint = "--runtime podman takes it" if is_runtimes else "scf resolve-profile resolves it"

@@ -16,7 +16,7 @@ from ..model.architectures import NATIVE
 from ..model.bpf import LONGEST_STACK, MORE_OF_OLDER
 from ..model.calls import Call
 from ..model.entries import HOLDS, LONGEST_NUMBER
-from ..model.profiles import OCI_ACTIONS, DerivedProfile, Origin
+from ..model.profiles import OCI_ACTIONS, SANDBOX, TRAP, DerivedProfile, Origin
 from ..model.tables import Tables
 from ..ask import client, explanation
 from ..ask.client import Fault, Refusal
@@ -29,36 +29,20 @@ CONFLICT_FOR_RUNTIME = ("Give the entries conditions that exclude each other: {}
 # What a value may have to be, as Python has it, and the least number.
 KINDS_OF_VALUES = {"a string": (str, 0), "an array": (list, 0), "an object": (dict, 0),
                    "a whole number": (int, -(NUMBER_END >> 1)), "a whole number from 0 to 2^64-1": (int, 0)}
-# The kinds of faults that are about one member, or two entries.
-FAULT_KINDS = ("Missing", "Kind", "Action", "Operator", "EmptyNames", "Index", "RepeatedIndex", "Errno", "ErrnoRange",
-         "NoX8664", "EngineForm", "Conflict")
-# At most so many characters of a value are printed.
-LONGEST_VALUE = 60
 
 
 def _shown(value: object) -> str:
     if isinstance(value, (list, dict)):
         return "an array" if isinstance(value, list) else "an object"
-    return output.cut(json.dumps(value), LONGEST_VALUE)
+    return output.cut(json.dumps(value), 60)
 
 
 class MemberFault(Exception):
     """The kind of a profile's first fault, the path of the value that is wrong or lacks a member, and what is to be
     said."""
 
-    def __init__(self, kind: str, path: Path, says: str):
-        super().__init__(says)
-        self.kind, self.path, self.says = kind, path, says
-
-    @property
-    def entry(self) -> object:
-        """The index of the entry that it is about, None without one."""
-        steps = list(self.path)
-        return next(iter(steps[steps.index("syscalls") + 1:]), None) if "syscalls" in steps else None
-
 
 def _check(value: object, path: Path, what: str) -> None:
-    """Refuses a value that is of another kind."""
     of_kind, least = KINDS_OF_VALUES[what]
     if type(value) is not of_kind or type(value) is int and not least <= value < NUMBER_END:
         raise MemberFault("Kind", path, f"is {_shown(value)}, not {what}")
@@ -75,7 +59,6 @@ def _member(holder: dict[str, Any], path: Path, name: str, what: str, is_needed:
 
 
 def _word(holder: dict[str, Any], path: Path, name: str, words: tuple[str, ...], kind: str) -> None:
-    """An action or an operator."""
     value = _member(holder, path, name, "a string", True)
     if value not in words:
         raise MemberFault(kind, [*path, name], f"is {_shown(value)}, which is none")
@@ -83,7 +66,7 @@ def _word(holder: dict[str, Any], path: Path, name: str, words: tuple[str, ...],
 
 def _errno(holder: dict[str, Any], path: Path, name: str, action: str, reading: str) -> None:
     value = _member(holder, path, name, "a whole number")
-    if value is not None and not profiles.takes_errno(action, reading):
+    if value is not None and action not in profiles.WITH_ERRNO and (action, reading) != (TRAP, SANDBOX):
         raise MemberFault("Errno", [*path, name], f"is {_shown(value)}, and {action} takes none")
     if value is not None and not 0 <= value <= MOST_ERRNO:
         raise MemberFault("ErrnoRange", [*path, name], f"is {_shown(value)}")
@@ -92,20 +75,6 @@ def _errno(holder: dict[str, Any], path: Path, name: str, action: str, reading: 
 def _engine_member(holder: dict[str, Any], path: Path, name: str) -> None:
     if holder.get(name) not in (None, {}, []):
         raise MemberFault("EngineForm", [*path, name], f"is {_shown(holder[name])}")
-
-
-def _condition(condition: Any, path: Path, seen: set[int]) -> None:
-    _check(condition, path, "an object")
-    index = _member(condition, path, "index", "a whole number", True)
-    if not 0 <= index < 6:
-        raise MemberFault("Index", [*path, "index"], f"is {_shown(index)}")
-    _word(condition, path, "op", tuple(HOLDS), "Operator")
-    _member(condition, path, "value", "a whole number from 0 to 2^64-1", True)
-    _member(condition, path, "valueTwo", "a whole number from 0 to 2^64-1")
-    if index in seen:
-        raise MemberFault("RepeatedIndex", [*path, "index"],
-                          f"is {_shown(index)}, as in an earlier condition of this entry")
-    seen.add(index)
 
 
 def _entry(entry: Any, path: Path, reading: str) -> None:
@@ -121,11 +90,29 @@ def _entry(entry: Any, path: Path, reading: str) -> None:
     _errno(entry, path, "errnoRet", entry["action"], reading)
     seen: set[int] = set()
     for at, condition in enumerate(_member(entry, path, "args", "an array") or ()):
-        _condition(condition, [*path, "args", at], seen)
+        here = [*path, "args", at]
+        _check(condition, here, "an object")
+        index = _member(condition, here, "index", "a whole number", True)
+        if not 0 <= index < 6:
+            raise MemberFault("Index", [*here, "index"], f"is {_shown(index)}")
+        _word(condition, here, "op", tuple(HOLDS), "Operator")
+        _member(condition, here, "value", "a whole number from 0 to 2^64-1", True)
+        _member(condition, here, "valueTwo", "a whole number from 0 to 2^64-1")
+        if index in seen:
+            raise MemberFault("RepeatedIndex", [*here, "index"],
+                              f"is {_shown(index)}, as in an earlier condition of this entry")
+        seen.add(index)
 
 
-def _profile(top: Any, path: Path, reading: str) -> None:
-    """Raises the fault of a seccomp object that scf finds first."""
+def _profile(value: Any, reading: str) -> Path:
+    """The path of the seccomp object of a profile or a whole config.json. Raises the fault that scf finds first."""
+    _check(value, [], "an object")
+    top, path = value, []
+    if value.get("defaultAction") is None and value.get("linux") is not None:
+        linux = _member(value, [], "linux", "an object")
+        if linux.get("seccomp") is None:
+            raise MemberFault("Missing", ["linux"], "has no seccomp: the container isn't confined")
+        top, path = linux["seccomp"], ["linux", "seccomp"]
     _check(top, path, "an object")
     _word(top, path, "defaultAction", OCI_ACTIONS, "Action")
     _errno(top, path, "defaultErrnoRet", top["defaultAction"], reading)
@@ -137,48 +124,33 @@ def _profile(top: Any, path: Path, reading: str) -> None:
     _engine_member(top, path, "archMap")
     for at, entry in enumerate(_member(top, path, "syscalls", "an array") or ()):
         _entry(entry, [*path, "syscalls", at], reading)
-
-
-def _root(value: Any) -> tuple[Any, list[str]]:
-    """The seccomp object of a profile or a whole config.json, and its path. Raises a fault on the way to it."""
-    _check(value, [], "an object")
-    if value.get("defaultAction") is not None or value.get("linux") is None:
-        return value, []
-    linux = _member(value, [], "linux", "an object")
-    if linux.get("seccomp") is None:
-        raise MemberFault("Missing", ["linux"], "has no seccomp: the container isn't confined")
-    return linux["seccomp"], ["linux", "seccomp"]
-
-
-def _line(data: bytes, text: str, path: Path, what: str) -> str:
-    within = getattr(data, "within", None)
-    member = json_places.path_text([within, *path] if within else path) or "the profile"
-    where = None if isinstance(data, DerivedProfile) else json_places.place_of(text, path)
-    return f"{member} {what}" + (f", at {where}" if where is not None else "")
+    return path
 
 
 def _of_member(fault: Fault, data: bytes) -> Iterator[str]:
     """The member that a fault of a profile is about, and where it stands, if that is known."""
-    is_resolved = isinstance(data, DerivedProfile) and data.within is None
-    if fault.source != "profile" or fault.kind not in FAULT_KINDS or is_resolved:
+    if isinstance(data, DerivedProfile) and data.within is None:
         return
     try:
         text = data.decode("utf-8")
         # (a number that scf doesn't take is none)
         value = json.loads(text, parse_int=lambda digits: int(digits) if len(digits) <= LONGEST_NUMBER
                            else float("nan"))
-        top, path = _root(value)
-        if fault.kind != "Conflict":
-            _profile(top, path, profiles.reading_of(data))
-            return
-        places = [json_places.place_of(text, [*path, "syscalls", fault.numbers[name]]) for name in ("first", "second")]
-        if not isinstance(data, DerivedProfile) and None not in places:
+        path = _profile(value, profiles.reading_of(data))
+        entries = [fault.numbers[name] for name in ("first", "second") if fault.kind == "Conflict"]
+        places = [json_places.place_of(text, [*path, "syscalls", entry]) for entry in entries]
+        if places and not isinstance(data, DerivedProfile) and None not in places:
             yield f"the entries begin at {places[0]} and at {places[1]}"
     except (ValueError, RecursionError):
         return
     except MemberFault as first:
-        if first.kind == fault.kind and fault.numbers.get("entry") == first.entry:
-            yield _line(data, text, first.path, first.says)
+        kind, path, says = first.args
+        entry = next(iter(path[path.index("syscalls") + 1:]), None) if "syscalls" in path else None
+        if kind == fault.kind and fault.numbers.get("entry") == entry:
+            within = getattr(data, "within", None)
+            member = json_places.path_text([within, *path] if within else path) or "the profile"
+            where = None if isinstance(data, DerivedProfile) else json_places.place_of(text, path)
+            yield f"{member} {says}" + (f", at {where}" if where is not None else "")
 
 
 def _conflicting(fault: Fault, profile: bytes, judged: Tables) -> Call:
@@ -214,7 +186,10 @@ def sentences(fault: Fault, profile: bytes, judged: Tables, origins: Sequence[Or
     if (fault.source, fault.kind) == ("profile", "Conflict"):
         yield f"the syscall is {_conflicting(fault, profile, judged).describe(judged.native)}"
     if fault.source == "profile" and origins is not None:
-        yield from profiles.original_entries(fault.numbers, origins)
+        named = [fault.numbers[name] for name in ("entry", "first", "second") if name in fault.numbers]
+        places = [origins[index].describe() for index in named if index < len(origins)]
+        if places:
+            yield f"in the original file that is {' and '.join(dict.fromkeys(places))}"
     elif fault.source == "profile":
         yield from _of_member(fault, profile)
 
@@ -228,16 +203,12 @@ def lines_of(why: Refusal, profile: bytes, judged: Tables) -> Iterator[str]:
 
 def faulty_filters(filters: Sequence[Filter], fault: Fault) -> list[str]:
     """The files of the filters that cause a stack's fault."""
-    if fault.source == "filter":
-        for bpf_filter in filters:
-            if client.run_scf(["check"], bpf_filter.data).line == fault.line:
-                return [bpf_filter.name]
-    if (fault.source, fault.kind) == ("stack", "TooMany"):
-        total = 0
-        for bpf_filter in filters:
-            if total + bpf_filter.count > LONGEST_STACK:
-                return [bpf_filter.name]
-            total += bpf_filter.count + MORE_OF_OLDER
+    total, is_too_long = 0, (fault.source, fault.kind) == ("stack", "TooMany")
+    for bpf_filter in filters:
+        is_faulty = fault.source == "filter" and client.run_scf(["check"], bpf_filter.data).line == fault.line
+        if is_faulty or is_too_long and total + bpf_filter.count > LONGEST_STACK:
+            return [bpf_filter.name]
+        total += bpf_filter.count + MORE_OF_OLDER
     return []
 
 

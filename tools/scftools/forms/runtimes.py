@@ -137,20 +137,16 @@ def add_options(parser: Parser, without_caps: str = "podman for podman, or docke
 
 
 def is_engines(options: Any) -> bool:
-    """Whether some word says that a profile is an engine's."""
     return any(getattr(options, name, None) is not None
                for name in ("engine", "caps", "kernel", "arch_map", "ignore", "machine"))
 
 
 def setting_of_words(options: Any, parser: Parser) -> Setting:
-    """The container that an engine resolves profiles for."""
     engine = options.engine or (RUNTIMES[options.runtime].engine if options.runtime in RUNTIMES else None)
-    is_podman = engine == "podman"
+    caps = options.caps if options.caps is not None else "podman" if engine == "podman" else "docker"
     try:
-        return Setting(engines.capabilities_of(options.caps if options.caps is not None else
-                                               "podman" if is_podman else "docker"),
-                       engines.kernel_of(options.kernel or os.uname().release), options.arch_map == "native", engine,
-                       options.ignore or (), machine=getattr(options, "machine", None) or engines.machine_here())
+        return replace(engines.setting_of(caps, engine, getattr(options, "machine", None), options.kernel),
+                       is_native=options.arch_map == "native", ignored=options.ignore or ())
     except Refused as why:
         parser.error(str(why))
 
@@ -158,11 +154,6 @@ def setting_of_words(options: Any, parser: Parser) -> Setting:
 def _short_errno(holder: dict[str, Any], name: str) -> dict[str, int]:
     """The member of an errno, of which libseccomp takes 16 bits."""
     return {} if holder.get(name) is None else {name: holder[name] & 0xFFFF}
-
-
-def _has_all(conditions: Sequence[dict[str, Any]]) -> bool:
-    """Whether every syscall meets these conditions, since they compare nothing: masks without a bit."""
-    return all(condition.get("op") == "SCMP_CMP_MASKED_EQ" and not condition.get("value") for condition in conditions)
 
 
 class _Application:
@@ -198,16 +189,6 @@ class _Application:
             self.refuse(f"the errno {number} of {where}")
         elif action == ERRNO and number & 0xFFFF >= MAX_ERRNO:
             self.refuse(f"libseccomp takes no errno above {MAX_ERRNO - 1}, and {where} has {number & 0xFFFF}")
-
-    def check_supervisor(self, profile: dict[str, Any], origins: Sequence[Origin]) -> None:
-        """Refuses what runc refuses of a profile whose calls a supervisor answers."""
-        if profile["defaultAction"] == NOTIFY:
-            self.refuse(f"{NOTIFY} can't be the default action")
-        for entry, origin in zip(profile["syscalls"], origins):
-            if entry["action"] == NOTIFY and "write" in entry["names"]:
-                self.refuse(f"entry {origin.index} has write with {NOTIFY}")
-            if entry["action"] == NOTIFY and "listenerPath" not in profile:
-                self.refuse(f"it has {NOTIFY} and no listenerPath")
 
     def check_members(self, given: dict[str, Any]) -> None:
         """Refuses architectures and flags that libseccomp or the runtime refuses."""
@@ -252,7 +233,10 @@ class _Application:
             is_repeated = len({condition.get("index", 0) for condition in conditions}) < len(conditions)
             if is_repeated:
                 yield f"{who} reads the conditions of {origin.describe()} as alternatives: two are on one argument"
-            if any(map(_has_all, [[condition] for condition in conditions] if is_repeated else [conditions])):
+            # those that every syscall meets, since they compare nothing: masks without a bit
+            are_met = [condition.get("op") == "SCMP_CMP_MASKED_EQ" and not condition.get("value")
+                       for condition in conditions]
+            if any(are_met) if is_repeated else all(are_met):
                 for name in entry["names"]:
                     unconditional.setdefault(name, (answer, origin))
         for names, answer, origin in handed:
@@ -289,24 +273,18 @@ class _Application:
                 data.absent = {**data.absent, architecture: absent}
         return data
 
-    def tell(self, listed: Sequence[str]) -> None:
-        """Notes what the runtime confines beside the list, and the names that are left out."""
-        if listed and self.native not in listed:
-            self.remarks.append(f"{JUDGED[self.native].name} syscalls are confined too, though architectures lacks "
-                                f"{self.native}")
-        if self.library is None:
-            self.remarks.append("libseccomp.so.2 isn't installed: names that the runtime's own doesn't know may be "
-                                "left in")
-        elif self.unknown:
-            names = excerpts(list(self.unknown))
-            self.remarks.append(f"left out, since this machine's libseccomp {self.library.version} doesn't know "
-                                f"them: {names}")
-
     def run(self, profile: dict[str, Any], origins: Sequence[Origin]) -> ProfileInput:
         """A resolved profile as the runtime is given it. Raises Refused."""
         self.check_action(profile["defaultAction"], profile.get("defaultErrnoRet"), "the default")
         if self.is_runc:
-            self.check_supervisor(profile, origins)
+            # a supervisor answers NOTIFY's calls
+            if profile["defaultAction"] == NOTIFY:
+                self.refuse(f"{NOTIFY} can't be the default action")
+            for entry, origin in zip(profile["syscalls"], origins):
+                if entry["action"] == NOTIFY and "write" in entry["names"]:
+                    self.refuse(f"entry {origin.index} has write with {NOTIFY}")
+                if entry["action"] == NOTIFY and "listenerPath" not in profile:
+                    self.refuse(f"it has {NOTIFY} and no listenerPath")
         entries = [(self.entry_of(entry, f"entry {origin.index}"), origin)
                    for entry, origin in zip(profile["syscalls"], origins)]
         given = {**profile, **_short_errno(profile, "defaultErrnoRet"),
@@ -315,7 +293,15 @@ class _Application:
             # crun takes them in small letters, and without the prefix
             given["architectures"] = [PREFIX + name.removeprefix(PREFIX).upper() for name in profile["architectures"]]
         self.check_members(given)
-        self.tell(given.get("architectures", ()))
+        if given.get("architectures") and self.native not in given["architectures"]:
+            self.remarks.append(f"{JUDGED[self.native].name} syscalls are confined too, though architectures lacks "
+                                f"{self.native}")
+        if self.library is None:
+            self.remarks.append("libseccomp.so.2 isn't installed: names that the runtime's own doesn't know may be "
+                                "left in")
+        elif self.unknown:
+            self.remarks.append(f"left out, since this machine's libseccomp {self.library.version} doesn't know "
+                                f"them: {excerpts(list(self.unknown))}")
         handed, places = multiplexed.with_rules(given, most=self.most_conditions)
         given_origins = [origin for entry, origin in entries if entry["names"]]
         return ProfileInput(self.read_as(handed), [given_origins[place] for place in places], self.stub_of(given),
@@ -335,8 +321,7 @@ def _number_in_tables(name: str, architecture: str) -> int | None:
 def _refuse_engines(seccomp: Any, program_name: str) -> None:
     """Refuses what only engines read, where there is none."""
     top = seccomp if isinstance(seccomp, dict) else {}
-    listed = top.get("syscalls")
-    entries = [entry for entry in listed if isinstance(entry, dict)] if isinstance(listed, list) else []
+    entries = [entry for _, entry in profiles.objects_in(top, "syscalls")]
     unread = [name for name in ("archMap", "defaultErrno") if top.get(name)]
     unread += [name for name in ("includes", "excludes", "name", "errno") if any(entry.get(name) for entry in entries)]
     if unread:
@@ -349,7 +334,7 @@ def _refuse_engines(seccomp: Any, program_name: str) -> None:
 def setting_of(runtime: Runtime, caps: str | None = None, machine: str | None = None) -> Setting:
     """The container that a runtime's engine resolves a profile for: by default with the engine's capabilities, on this
     machine, and on this kernel."""
-    return profile_inputs.setting_of(runtime.engine or "none" if caps is None else caps, runtime.engine, machine)
+    return engines.setting_of(runtime.engine or "none" if caps is None else caps, runtime.engine, machine)
 
 
 def applied(value: Any, name: str, setting: Setting | None = None, keeps_first: bool = False) -> ProfileInput:
@@ -439,7 +424,6 @@ def input_in(data: bytes, options: Any, is_strict: bool | None = False) -> Profi
 
 
 def profile_of_options(options: Any) -> ProfileInput:
-    """The profile that a command line names."""
     return input_in(text_of(options), options, options.strict)
 
 

@@ -89,8 +89,8 @@ class Search:
         self.judged, self.top, self.filter, self.default, self.met = judged, top, data, default, Met()
         self.entries = {entry.place: entry for entry in entries}
         self.gone: set[EntryName] = set()
-        # names of which it is undecided, each with the verdict
-        self.undecided: list[tuple[EntryName, Verdict]] = []
+        # whether scf answered `same` for the profile without these
+        self.is_same_without = False
         self._having: dict[ArchitectureNumber, dict[EntryName, Entry]] = {}
         for entry in entries:
             for name in entry.names:
@@ -106,40 +106,22 @@ class Search:
                 or other.answer != self.default and _takes_all(other)
                 and not (_takes_all(entry) and entry.place < other.place)]
 
-    def _is_greatest(self, entry: Entry, name: str) -> bool:
-        """Whether an entry alone names the greatest number of an architecture, behind which runc's stub begins."""
-        stub = self.judged.stub
-        return bool(stub) and any(
-            stub.get(oci) == JUDGED[oci].first + number + 1
-            and all(at in self.gone or at[0] == entry.place for at in self._having[oci, number])
-            for oci, number in self.judged.numbers_of(name).items())
-
-    def _answers(self, entry: Entry, call: ArchitectureNumber) -> bool:
-        """Whether an entry alone answers some arguments of a syscall. Raises TooMany."""
-        beside = self._beside(entry, call)
-        return not beside and not entry.conditions or not self.met.is_within(entry, beside, call[0])
-
     def _has_effect(self, entry: Entry, name: str) -> bool:
-        """Whether an entry alone answers some syscall by a name, and differently than the default."""
+        """Whether an entry alone answers some arguments of a syscall by a name, and differently than the default, or
+        alone names the greatest number of an architecture, behind which runc's stub begins."""
+        calls = self.judged.numbers_of(name).items()
+        if any(self.judged.stub.get(oci) == JUDGED[oci].first + number + 1
+               and all(at in self.gone or at[0] == entry.place for at in self._having[oci, number])
+               for oci, number in calls):
+            return True
+        besides = ((call[0], self._beside(entry, call)) for call in calls if entry.answer != self.default)
         try:
-            return self._is_greatest(entry, name) or entry.answer != self.default and any(
-                self._answers(entry, call) for call in self.judged.numbers_of(name).items())
+            return any(not beside and not entry.conditions or not self.met.is_within(entry, beside, oci)
+                       for oci, beside in besides)
         except TooMany:
             return True
 
-    def _leave_out(self) -> None:
-        """Leaves out what has no effect: whole entries first, then names of others, from the last on."""
-        of_others: list[tuple[Entry, list[str]]] = []
-        for entry in reversed(self.entries.values()):
-            needless = [name for name in entry.names if not self._has_effect(entry, name)]
-            if len(needless) == len(entry.names):
-                self.gone.update((entry.place, name) for name in needless)
-            else:
-                of_others.append((entry, needless))
-        for entry, needless in of_others:
-            self.gone.update([(entry.place, name) for name in needless if not self._has_effect(entry, name)])
-
-    def verdict(self) -> Verdict:
+    def _verdict(self) -> Verdict:
         """What scf says of the profile without what is left out."""
         remaining = (replace(entry, names=tuple(name for name in entry.names if (entry.place, name) not in self.gone))
                      for entry in self.entries.values())
@@ -165,7 +147,6 @@ class Search:
         return TOGETHER, tuple(sorted(set.union(*having)))
 
     def _finding(self, entry: Entry, names: Sequence[str]) -> Finding:
-        """The finding on an entry, or on some of its names."""
         why, others = self._why(entry, names)
         is_whole = len(names) == len(entry.names) and not entry.has_others
         shown, are_several = listed(names, "and"), not is_whole and len(names) > 1
@@ -177,15 +158,33 @@ class Search:
                        {"entry": entry.place, "names": list(names), "is_whole": is_whole, **by})
 
     def run(self) -> Iterator[Finding]:
-        """What is without effect, all together, by entry; afterwards `undecided` has what is undecided."""
-        self._leave_out()
-        verdict = self.verdict() if self.gone else None
-        if verdict is not None and verdict.word != SAME:
-            self.undecided, self.gone = [(left_out, verdict) for left_out in sorted(self.gone)], set()
+        """What is without effect, all together, by entry: whole entries are left out first, then names of others, from
+        the last on. If that is undecided, also of the profile with all entries as they are read here, it is said
+        once."""
+        of_others: list[tuple[Entry, list[str]]] = []
+        for entry in reversed(self.entries.values()):
+            needless = [name for name in entry.names if not self._has_effect(entry, name)]
+            if len(needless) == len(entry.names):
+                self.gone.update((entry.place, name) for name in needless)
+            else:
+                of_others.append((entry, needless))
+        for entry, needless in of_others:
+            self.gone.update([(entry.place, name) for name in needless if not self._has_effect(entry, name)])
+        word = self._verdict().word if self.gone else SAME
+        if word != SAME:
+            undecided, self.gone = sorted(self.gone), set()
+            as_read = self._verdict().word
+            for place, name in undecided if as_read == SAME else ():
+                yield Finding("without-effect", f"entry {place}, {name}: undecided whether it has an effect: {word}",
+                              {"entry": place, "names": [name], "verdict": word}, False)
+            if as_read != SAME:
+                yield Finding("without-effect", f"undecided which entries have an effect: {as_read}",
+                              {"verdict": as_read}, False)
         for entry in self.entries.values():
             names = [name for name in entry.names if (entry.place, name) in self.gone]
             if names:
                 yield self._finding(entry, names)
+        self.is_same_without = bool(self.gone)
 
 
 def _pairs(entries: Sequence[Entry], judged: Tables) -> Iterator[tuple[Entry, Entry, str, list[str]]]:

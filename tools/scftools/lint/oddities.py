@@ -12,7 +12,7 @@ from ..model import profiles, tables
 from ..model.answers import ERRNOS, MAX_ERRNO
 from ..model.architectures import NATIVE, NUMBERS, PREFIX, X32
 from ..model.entries import HOLDS, MASKED, Object
-from ..model.profiles import ALLOWING, FLAGS, OCI_ACTIONS
+from ..model.profiles import ALLOWING, FLAGS, OCI_ACTIONS, objects_in, parts_of
 from ..model.tables import Tables
 from .findings import MOST, Finding, listed
 from .kinds import ERROR
@@ -23,31 +23,14 @@ OCI_ARCHITECTURES = tuple(NUMBERS)
 ALIASES = {"AMD64": "X86_64", "X86-64": "X86_64", "X64": "X86_64", "ARM64": "AARCH64"}
 
 
-def _objects_of(value: Object, name: str) -> Iterator[tuple[int, Object]]:
-    """The objects in a member, if it is a list, each with its index."""
-    listed_values = value.get(name)
-    for at, each in enumerate(listed_values if isinstance(listed_values, list) else ()):
-        if isinstance(each, Object):
-            yield at, each
-
-
-# An object of a profile: where it is, its members in JSON, it, and the members that are known.
-Part = tuple[str, dict[str, object], Object, dict[str, object]]
-
-
-def parts_of(top: Object) -> Iterator[Part]:
-    """The profile, its entries and their conditions."""
-    yield "the profile", {}, top, profiles.SECCOMP_MEMBERS
-    for place, entry in _objects_of(top, "syscalls"):
-        yield f"entry {place}", {"entry": place}, entry, profiles.ENTRY
-        for at, condition in _objects_of(entry, "args"):
-            yield f"entry {place}, condition {at}", {"entry": place}, condition, profiles.ARGUMENT
+# How findings call a profile, an entry and a condition.
+PLACES = ("the profile", "entry {}", "entry {}, condition {}")
 
 
 def of_names(top: Object, judged: Tables) -> Iterator[Finding]:
     """Names that no syscall has, and a count of names that only other architectures have than those that are judged."""
     places: dict[str, int] = {}
-    for place, entry in _objects_of(top, "syscalls"):
+    for place, entry in objects_in(top, "syscalls"):
         places.update((name, place) for name in entry["names"] if name not in places)
     skipped = tables.classify([name for name in places if not judged.has(name)], judged)
     slips = {name: tables.misspelt_as(name, *judged.of.values()) for name, _ in skipped.unknown}
@@ -63,7 +46,7 @@ def of_names(top: Object, judged: Tables) -> Iterator[Finding]:
     if skipped.elsewhere:
         yield Finding("other-architectures", f"names that only other architectures have: {len(skipped.elsewhere)}",
                       {"count": len(skipped.elsewhere), "names": skipped.elsewhere})
-    for place, entry in _objects_of(top, "syscalls"):
+    for place, entry in objects_in(top, "syscalls"):
         seen: set[str] = set()
         twice = list(dict.fromkeys(name for name in entry["names"] if name in seen or seen.add(name)))
         if twice:
@@ -92,11 +75,11 @@ WORDS = (("defaultAction", "action", "SCMP_ACT_", OCI_ACTIONS), ("action", "acti
 
 def of_words(top: Object) -> Iterator[Finding]:
     """Unknown actions and operators, for which scf refuses a profile, so that the rest of it may be malformed, too."""
-    wrong = [(where.replace("the profile", "the default"), kind, prefix, words, value[member])
-             for where, _, value, known in parts_of(top) for member, kind, prefix, words in WORDS
+    wrong = [(place, kind, prefix, words, value[member])
+             for place, value, known in parts_of(top) for member, kind, prefix, words in WORDS
              if member in known and isinstance(value.get(member), str) and value[member] not in words]
-    for at, (where, kind, prefix, words, word) in enumerate(wrong):
-        near = _near(word, prefix, words, at)
+    for at, (place, kind, prefix, words, word) in enumerate(wrong):
+        where, near = PLACES[len(place)].format(*place) if place else "the default", _near(word, prefix, words, at)
         yield Finding(f"unknown-{kind}", f"{where}: {output.cut(word)} is no {kind}{_nearest(near)}",
                       {"where": where, "name": word, "nearest": near})
 
@@ -129,7 +112,6 @@ def of_architecture_names(top: Object) -> Iterator[Finding]:
                       {"architectures": architectures})
 
 
-COMMENT = "comment"
 # What only engines read, in their own profiles (Seccomp and Syscall in containers-common's pkg/seccomp/types.go,
 # and in moby's profiles/seccomp/seccomp.go).
 ENGINE_MEMBERS = {
@@ -138,38 +120,33 @@ ENGINE_MEMBERS = {
     "name": "only engines read name, and none takes it beside names"}
 
 
-def _of_object(part: Part, searches: Iterator[int]) -> Iterator[Finding]:
-    """The members of an object that aren't read, with the nearest one as long as there are searches for it, and those
-    that are repeated."""
-    where, at, value, known = part
-    read_members = [member for member in known if member not in ENGINE_MEMBERS]
-    folded = set(map(profiles.folded, known))
-    for name in value:
-        if name in read_members or name == COMMENT:
-            continue
-        if name in known:
-            yield Finding("engine-member", f"{where}: {ENGINE_MEMBERS[name]}: resolve-profile does so",
-                          {**at, "member": name})
-        elif profiles.folded(name) not in folded:
-            near = None if next(searches, None) is None else tables.nearest_member(name, read_members)
-            nearest = f"; the nearest that is read is {near}" if near else ""
-            yield Finding("unread-member", f"{where}: nothing reads {output.cut(name)}{nearest}",
-                          {**at, "member": name, "nearest": near})
-    for name in value.repeated:
-        keeps = isinstance(known.get(name), list) and isinstance(known[name][0], dict)
-        then = "; programs in Go keep members of the earlier one's entries" if keeps else ""
-        yield Finding("repeated-member", f"{where}: {output.cut(name)} is repeated, and the last one is taken{then}",
-                      {**at, "member": name})
-    if known is profiles.ARGUMENT and value.get("valueTwo") and value["op"] != MASKED:
-        yield Finding("unread-member", f"{where}: nothing reads valueTwo beside {value['op']}",
-                      {**at, "member": "valueTwo", "nearest": None})
-
-
 def of_members(top: Object) -> Iterator[Finding]:
-    """The members of the profile, its entries and their conditions."""
+    """The members of the profile, its entries and their conditions that aren't read, the first MOST of them with the
+    nearest one that is, and those that are repeated."""
     searches = iter(range(MOST))
-    for part in parts_of(top):
-        yield from _of_object(part, searches)
+    for place, value, known in parts_of(top):
+        where, at = PLACES[len(place)].format(*place), {"entry": place[0]} if place else {}
+        read_members = [member for member in known if member not in ENGINE_MEMBERS]
+        folded = set(map(profiles.folded, known))
+        for name in value:
+            if name in read_members or name == "comment":
+                continue
+            if name in known:
+                yield Finding("engine-member", f"{where}: {ENGINE_MEMBERS[name]}: resolve-profile does so",
+                              {**at, "member": name})
+            elif profiles.folded(name) not in folded:
+                near = None if next(searches, None) is None else tables.nearest_member(name, read_members)
+                nearest = f"; the nearest that is read is {near}" if near else ""
+                yield Finding("unread-member", f"{where}: nothing reads {output.cut(name)}{nearest}",
+                              {**at, "member": name, "nearest": near})
+        for name in value.repeated:
+            keeps = isinstance(known.get(name), list) and isinstance(known[name][0], dict)
+            then = "; programs in Go keep members of the earlier one's entries" if keeps else ""
+            yield Finding("repeated-member", f"{where}: {output.cut(name)} is repeated, and the last one is taken"
+                          f"{then}", {**at, "member": name})
+        if known is profiles.ARGUMENT and value.get("valueTwo") and value["op"] != MASKED:
+            yield Finding("unread-member", f"{where}: nothing reads valueTwo beside {value['op']}",
+                          {**at, "member": "valueTwo", "nearest": None})
 
 
 def misread(data: bytes) -> Iterator[Finding]:
@@ -190,15 +167,7 @@ SUPERVISORS = {"SCMP_ACT_NOTIFY": "a supervisor that listens to the filter",
                "SCMP_ACT_TRACE": "a tracer with PTRACE_O_TRACESECCOMP"}
 
 
-def _answers(top: Object) -> Iterator[tuple[str, dict[str, object], str, str, object]]:
-    """For the default and each entry: its name, its members in JSON, its action, the name and value of its errno."""
-    yield "the default", {}, top["defaultAction"], "defaultErrnoRet", top.get("defaultErrnoRet")
-    for place, entry in _objects_of(top, "syscalls"):
-        yield f"entry {place}", {"entry": place}, entry["action"], "errnoRet", entry.get("errnoRet")
-
-
 def _why_odd(number: int) -> str | None:
-    """What is odd about an errno, if anything is."""
     if number == 0:
         return "the syscall isn't executed, and returns 0 as if it had succeeded"
     if number in INTERNAL_ERRNOS:
@@ -211,25 +180,22 @@ def _why_odd(number: int) -> str | None:
     return f"Linux has no such errno, the last is {LAST_ERRNO}" if number > LAST_ERRNO else None
 
 
-def of_errnos(top: Object) -> Iterator[Finding]:
-    """Errnos that no program knows, or that the kernel changes."""
-    for where, at, action, member, number in _answers(top):
+def of_answers(top: Object) -> Iterator[Finding]:
+    """A default that allows; errnos that no program knows, or that the kernel changes; and actions that need a
+    supervisor or a tracer."""
+    default = top["defaultAction"]
+    if default in ALLOWING:
+        yield Finding("default-allows", f"{default}: a syscall that no entry names is allowed", {"action": default})
+    # of the default and each entry its name, its members in JSON, its action, and its errno's name and number
+    answers = [("the default", {}, default, "defaultErrnoRet", top.get("defaultErrnoRet")),
+               *((f"entry {place}", {"entry": place}, entry["action"], "errnoRet", entry.get("errnoRet"))
+                 for place, entry in objects_in(top, "syscalls"))]
+    for where, at, action, member, number in answers:
         why = _why_odd(number) if action == "SCMP_ACT_ERRNO" and isinstance(number, int) else None
         if why:
             yield Finding("odd-errno", f"{where}: {member} {number}: {why}", {**at, "errno": number})
-
-
-def of_supervisors(top: Object) -> Iterator[Finding]:
-    """Actions that need a supervisor or a tracer."""
-    for where, at, action, _, _ in _answers(top):
+    for where, at, action, _, _ in answers:
         if action in SUPERVISORS and not (action == "SCMP_ACT_NOTIFY" and top.get("listenerPath")):
             lacking = ", and the profile has no listenerPath" if action == "SCMP_ACT_NOTIFY" else ""
             yield Finding("no-supervisor", f"{where}: {action} needs {SUPERVISORS[action]}{lacking}: without one the "
                           "syscall fails with ENOSYS", {**at, "action": action})
-
-
-def of_default(top: Object) -> Iterator[Finding]:
-    """A default that allows."""
-    default = top["defaultAction"]
-    if default in ALLOWING:
-        yield Finding("default-allows", f"{default}: a syscall that no entry names is allowed", {"action": default})

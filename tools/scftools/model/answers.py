@@ -23,9 +23,6 @@ DOES = {
     "TRACE": "a tracer handles the syscall; without one it fails with ENOSYS",
     "UNNAMED": "the process is killed, since seccomp(2) has no such action",
 }
-# The actions that allow a syscall, and those that deny it.
-ALLOWING_ACTIONS = ("ALLOW", "LOG")
-DENYING_ACTIONS = ("ERRNO", "TRAP", "KILL_THREAD", "KILL_PROCESS", "UNNAMED")
 # The disposition of a syscall, the strictest first. It follows from the action alone; the rank of an answer only says
 # which of a stack's answers decides.
 DISPOSITIONS = DENIED, DELEGATED, ALLOWED = "denied", "delegated", "allowed"
@@ -33,8 +30,6 @@ DISPOSITIONS = DENIED, DELEGATED, ALLOWED = "denied", "delegated", "allowed"
 DEPENDS = "depends"
 # Actions whose data a profile gives, as an errno or a number, 1 if it gives none (the OCI specification).
 ACTIONS_WITH_DATA = ("ERRNO", "TRACE")
-# Actions whose data is always printed, even if it is 0.
-HAS_DATA = ("ERRNO", "TRACE", "TRAP", "UNNAMED")
 # Linux's names of errno(3); of two names for a number, the one that the header defines by the number.
 NUMBERS_OF_ERRNOS = {name: number for number, name in errno.errorcode.items()}
 ERRNOS = {**errno.errorcode, errno.EAGAIN: "EAGAIN", errno.EDEADLK: "EDEADLK", errno.EOPNOTSUPP: "EOPNOTSUPP"}
@@ -77,15 +72,15 @@ class Answer:
         """The action, with its data unless that means nothing."""
         if self.action == "UNNAMED":
             return f"UNNAMED {self.data:#010x}"
-        return f"{self.action} {self.data}" if self.data or self.action in HAS_DATA else self.action
+        return f"{self.action} {self.data}" if self.data or self.action in ("ERRNO", "TRACE", "TRAP") else self.action
 
     @property
     def allows(self) -> bool:
-        return self.action in ALLOWING_ACTIONS
+        return self.action in ("ALLOW", "LOG")
 
     @property
     def denies(self) -> bool:
-        return self.action in DENYING_ACTIONS
+        return self.action in ("ERRNO", "TRAP", "KILL_THREAD", "KILL_PROCESS", "UNNAMED")
 
     @property
     def word(self) -> int:
@@ -96,7 +91,6 @@ class Answer:
 
     @property
     def disposition(self) -> str:
-        """The disposition of the syscall."""
         return ALLOWED if self.allows else DENIED if self.denies else DELEGATED
 
     def does(self) -> str:

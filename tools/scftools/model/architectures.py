@@ -28,16 +28,6 @@ LITTLE_ENDIAN, WIDE = 0x40000000, 0x80000000
 
 
 @dataclass(frozen=True)
-class HeaderNumbering:
-    """How sources number an architecture's syscalls: what its header adds to some numbers, as far as the table has it;
-    whether it names a syscall by another one; and the ABIs of the kernel's table whose rows are its own."""
-
-    bases: tuple[tuple[str, int], ...] = ()
-    has_aliases: bool = False
-    abis: tuple[str, ...] = ()
-
-
-@dataclass(frozen=True)
 class Architecture:
     """An architecture that scf judges, since a table of it comes with scf: its OCI name and what people call it."""
 
@@ -47,8 +37,11 @@ class Architecture:
     # ARCH_SIZE
     first: int = 0
     bits: int = 64
-    # how headers number its syscalls
-    numbering: HeaderNumbering = HeaderNumbering()
+    # what its header adds to some numbers, as far as the table has it; whether that names a syscall by another one;
+    # and the ABIs of the kernel's table whose rows are its own
+    bases: tuple[tuple[str, int], ...] = ()
+    has_aliases: bool = False
+    abis: tuple[str, ...] = ()
     # Go's name of the machine whose own syscalls are its (GOARCH), and that machine's other architectures by the modes
     # in which strace says that processes run (personality_names in its src/syscall.c)
     machine: str | None = None
@@ -83,7 +76,6 @@ class Architecture:
 
     @property
     def register_bits(self) -> int:
-        """The bits of a register."""
         return 64 if self.number & WIDE else 32
 
     def marked(self, text: str) -> str:
@@ -97,29 +89,26 @@ class Architecture:
 
     @property
     def file(self) -> str:
-        """The file of its table."""
         return os.path.join(program.TOP, "tables", f"{self.source_name}.table")
 
 
 # Those that scf judges, by OCI names, in scf's order. The table of x32 has its numbers without __X32_SYSCALL_BIT; those
 # of mips begin at 4000, 5000 and 6000 (asm/unistd.h).
 JUDGED = {architecture.oci: architecture for architecture in (
-    Architecture(NATIVE, "x86-64", numbering=HeaderNumbering(abis=("common", "64")), machine="amd64",
-                 modes=(("32 bit", I386), ("x32", X32)), swaps_clone=False),
+    Architecture(NATIVE, "x86-64", abis=("common", "64"), machine="amd64", modes=(("32 bit", I386), ("x32", X32)),
+                 swaps_clone=False),
     Architecture(I386, "i386", bits=32, multiplexes=True),
     Architecture(X32, "x32", first=answers.FIRST_X32, bits=32, swaps_clone=False, has_bitmap=False,
-                 numbering=HeaderNumbering((("__X32_SYSCALL_BIT", 0),), abis=("common", "x32"))),
+                 bases=(("__X32_SYSCALL_BIT", 0),), abis=("common", "x32")),
     Architecture(AARCH64, "aarch64", machine="arm64", modes=(("32 bit", ARM),)),
-    Architecture(ARM, "arm", bits=32,
-                 numbering=HeaderNumbering((("__NR_SYSCALL_BASE", 0), ("__ARM_NR_BASE", 0x0F0000)), has_aliases=True)),
+    Architecture(ARM, "arm", bits=32, bases=(("__NR_SYSCALL_BASE", 0), ("__ARM_NR_BASE", 0x0F0000)), has_aliases=True),
     Architecture(f"{PREFIX}RISCV64", "riscv64", machine="riscv64"),
     Architecture(f"{PREFIX}PPC64LE", "ppc64le", machine="ppc64le", multiplexes=True),
     Architecture(f"{PREFIX}MIPSEL", "mipsel", bits=32, machine="mipsle", multiplexes=True, has_bitmap=False,
-                 numbering=HeaderNumbering((("__NR_Linux", 4000),))),
-    Architecture(f"{PREFIX}MIPSEL64", "mipsel64", machine="mips64le", has_bitmap=False,
-                 numbering=HeaderNumbering((("__NR_Linux", 5000),))),
+                 bases=(("__NR_Linux", 4000),)),
+    Architecture(f"{PREFIX}MIPSEL64", "mipsel64", machine="mips64le", has_bitmap=False, bases=(("__NR_Linux", 5000),)),
     Architecture(f"{PREFIX}MIPSEL64N32", "mipsel64n32", bits=32, machine="mips64p32le", has_bitmap=False,
-                 numbering=HeaderNumbering((("__NR_Linux", 6000),))),
+                 bases=(("__NR_Linux", 6000),)),
     Architecture(f"{PREFIX}LOONGARCH64", "loongarch64", machine="loong64", swaps_clone=False))}
 # By the names that sources have of them.
 BY_SOURCE = {architecture.source_name: architecture for architecture in JUDGED.values()}
@@ -157,7 +146,6 @@ def names_of(judged: Sequence[str]) -> list[str]:
 
 
 def profile_name(number: int) -> str | None:
-    """The OCI name of an architecture number."""
     return next((name for name, known_number in NUMBERS.items() if known_number == number), None)
 
 
@@ -170,7 +158,6 @@ def name_in(text: str) -> str | None:
 
 
 def _refuse_big_endian(name: str | None) -> None:
-    """Raises ToolError if an architecture is big-endian."""
     if name in NUMBERS and not NUMBERS[name] & LITTLE_ENDIAN:
         raise program.ToolError(f"{name} is big-endian: its filters and records have another byte order, which scf "
                                 "doesn't read")

@@ -6,6 +6,7 @@ by scf.
 """
 from __future__ import annotations
 
+import functools
 from collections.abc import Iterable
 
 from .entries import Condition
@@ -104,7 +105,6 @@ class Sets:
         return self._join(first, second, FULL_SET)
 
     def complement(self, node: int) -> int:
-        """The complement."""
         negated = self._negated.get(node)
         if negated is None:
             self.spend(1)
@@ -117,10 +117,7 @@ class Sets:
         return self.both(node, self.complement(excluded))
 
     def union(self, nodes: Iterable[int]) -> int:
-        joined = EMPTY_SET
-        for node in nodes:
-            joined = self.either(joined, node)
-        return joined
+        return functools.reduce(self.either, nodes, EMPTY_SET)
 
     def copy(self, node: int, theirs: Sets) -> int:
         """A set of others."""
@@ -241,7 +238,6 @@ class Sets:
         return self.agreeing(range(self.bits * index, self.bits * (index + 1)), value, mask, greater)
 
     def of_condition(self, condition: Condition) -> int:
-        """The arguments that meet a condition."""
         index, op, value, two = condition.index, condition.op, condition.value, condition.two
         if op == "SCMP_CMP_MASKED_EQ":
             return self.cube(index, two, value) if value & two <= self.most else EMPTY_SET
@@ -254,7 +250,4 @@ class Sets:
         return node if op in ("SCMP_CMP_GE", "SCMP_CMP_GT") else self.complement(node)
 
     def of_conditions(self, conditions: Iterable[Condition]) -> int:
-        node = FULL_SET
-        for condition in conditions:
-            node = self.both(node, self.of_condition(condition))
-        return node
+        return functools.reduce(self.both, map(self.of_condition, conditions), FULL_SET)

@@ -36,9 +36,9 @@ def looks_at_pointer(data: bytes) -> bool:
     return any(code == LOAD_WORD and k in POINTER_OFFSETS for code, _, _, k in INSTRUCTION.iter_unpack(whole))
 
 
-def _tests(number: int, conditions: Sequence[tuple[int, int, int]]) -> bytes:
-    """Tests that go on behind them for a syscall of this number whose arguments meet these conditions, each an index, a
-    mask and a value, and otherwise skip one more instruction."""
+def with_exception(data: bytes, number: int, conditions: Sequence[tuple[int, int, int]], answer: int) -> bytes:
+    """A filter that gives this answer to a syscall of this number whose arguments meet these conditions, each an index,
+    a mask and a value, and otherwise runs these bytes."""
     tests = [(0, 0xFFFFFFFF, number)]
     for index, mask, value in conditions:
         tests += [(16 + 8 * index, mask & 0xFFFFFFFF, value & mask & 0xFFFFFFFF),
@@ -48,10 +48,4 @@ def _tests(number: int, conditions: Sequence[tuple[int, int, int]]) -> bytes:
         masked = instruction(AND, mask) if mask != 0xFFFFFFFF else b""
         skipped = len(code) // INSTRUCTION.size + 1
         code = instruction(LOAD_WORD, place) + masked + instruction(JUMP | JEQ, value, 0, skipped) + code
-    return code
-
-
-def with_exception(data: bytes, number: int, conditions: Sequence[tuple[int, int, int]], answer: int) -> bytes:
-    """A filter that gives this answer to a syscall of this number whose arguments meet these conditions, each an index,
-    a mask and a value, and otherwise runs these bytes."""
-    return _tests(number, conditions) + instruction(RETURN_CONSTANT, answer) + instruction(LOAD_CONSTANT, 0) + data
+    return code + instruction(RETURN_CONSTANT, answer) + instruction(LOAD_CONSTANT, 0) + data

@@ -8,13 +8,12 @@ from .architectures import JUDGED
 from .tables import Tables
 
 TABLES = tuple(architecture.kind for architecture in JUDGED.values())
-# Of a table's architecture the first number that runc's stub answers.
-STUBS = tuple(f"stub-{table}" for table in TABLES)
-# How often syscalls of a table are called: `scf compile` cuts its searches by that.
-COUNTS = tuple(f"counts-{table}" for table in TABLES)
 # The kinds of a filter and of a profile of the other side: `scf compare` reads them, filters with --beside.
 BESIDE, BESIDE_PROFILE = "beside", "beside-profile"
-PART_KINDS = ("filter", "profile", BESIDE, BESIDE_PROFILE, *TABLES, *STUBS, *COUNTS)
+# (of a table's architecture the first number that runc's stub answers; and how often its syscalls are called, by which
+# `scf compile` cuts its searches)
+PART_KINDS = ("filter", "profile", BESIDE, BESIDE_PROFILE, *TABLES, *(f"stub-{table}" for table in TABLES),
+              *(f"counts-{table}" for table in TABLES))
 # The most bytes that scf reads; it refuses a longer bundle.
 LONGEST_BUNDLE = 1 << 24
 # How a bundle begins, and no filter, no text of one and no profile does.

@@ -62,7 +62,6 @@ class Call:
 
     @property
     def abi(self) -> str | None:
-        """The OCI name of the architecture that it is of, None if that isn't known."""
         return architectures.architecture_of_record(self.architecture, self.number)
 
     @property
@@ -72,7 +71,6 @@ class Call:
 
     @property
     def bits(self) -> int:
-        """The bits of an argument, as a profile compares them."""
         return 64 if self.judged is None else self.judged.bits
 
     def names(self, table: Table) -> list[str]:

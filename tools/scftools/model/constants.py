@@ -7,7 +7,6 @@ from __future__ import annotations
 
 import bisect
 import functools
-import operator
 import re
 from collections.abc import Mapping, Sequence
 
@@ -76,7 +75,6 @@ def numbers_on(architecture: str) -> dict[str, int]:
 
 @functools.lru_cache(None)
 def _ordered(architecture: str) -> list[str]:
-    """The names of these constants in their order."""
     return sorted(numbers_on(architecture))
 
 
@@ -97,25 +95,14 @@ def number_of(name: str, architecture: str) -> int:
     return numbers()[name]
 
 
-def _part(text: str, whole: str, architecture: str) -> int:
-    number = number_in(text)
-    if number is None and not C_IDENTIFIER.fullmatch(text):
-        raise program.ToolError(f"'{whole}' is neither a number nor constants joined by |")
-    return number_of(text, architecture) if number is None else number
-
-
-def _width(architecture: str) -> int:
-    row = architectures.JUDGED.get(architecture)
-    return 64 if row is None else row.register_bits
-
-
 def argument_in(text: str, architecture: str) -> str:
     """An argument as scf takes it: given as a number, as a negative one (-1), or as constants and numbers with `|`.
 
     A negative number has 64 bits, on i386 and arm 32. What is neither is left to scf, which refuses it. Raises
     ToolError if a constant isn't known on the architecture of this OCI name.
     """
-    number, width = number_in(text.removeprefix("-")), _width(architecture)
+    row = architectures.JUDGED.get(architecture)
+    number, width = number_in(text.removeprefix("-")), 64 if row is None else row.register_bits
     if text.startswith("-") and number is not None:
         if number > 1 << width - 1:
             raise program.ToolError(f"{text} has more than {width} bits")
@@ -127,8 +114,13 @@ def argument_in(text: str, architecture: str) -> str:
                                 f"{int(octal)} for the decimal one")
     if "|" not in text and not C_IDENTIFIER.fullmatch(text):
         return text
-    arguments = (_part(part, text, architecture) for part in parts)
-    return hex(functools.reduce(operator.or_, arguments) % (1 << width))
+    value = 0
+    for part in parts:
+        number = number_in(part)
+        if number is None and not C_IDENTIFIER.fullmatch(part):
+            raise program.ToolError(f"'{text}' is neither a number nor constants joined by |")
+        value |= number_of(part, architecture) if number is None else number
+    return hex(value % (1 << width))
 
 
 # More constants than these are shown as a number, and of so many zeros at the end of a call each by itself. Numbers
@@ -185,7 +177,7 @@ class Family:
         names += named
         if not names or len(names) > MOST_NAMES_OF_VALUE:
             return None
-        return "|".join(sorted(names, key=lambda name: self.ranks[name]) + ([hex(remainder)] if remainder else []))
+        return "|".join(sorted(names, key=self.ranks.__getitem__) + ([hex(remainder)] if remainder else []))
 
     def _of_bits(self, value: int) -> tuple[list[str], int]:
         """The constants of bits, and those bits that have none."""
@@ -199,7 +191,7 @@ class Family:
     def bit_names(self, value: int) -> str | None:
         """A mask below 2^32 by the constants of its bits, or None if one of them has none."""
         names, remainder = self._of_bits(value)
-        return "|".join(sorted(names, key=lambda name: self.ranks[name])) if names and not remainder else None
+        return "|".join(sorted(names, key=self.ranks.__getitem__)) if names and not remainder else None
 
 
 @functools.lru_cache(None)

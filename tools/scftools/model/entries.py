@@ -56,7 +56,6 @@ class Entry:
         return [(condition,) for condition in self.conditions] if is_repeated else [self.conditions]
 
     def is_met(self, arguments: Sequence[int]) -> bool:
-        """Whether arguments meet its conditions."""
         return any(all(HOLDS[condition.op](arguments[condition.index], condition.value, condition.two)
                        for condition in conditions) for conditions in self.alternatives)
 

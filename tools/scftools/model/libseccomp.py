@@ -56,7 +56,6 @@ class Library:
         return None if number == UNKNOWN_NAME else number
 
     def has_architecture(self, name: str) -> bool:
-        """Whether it knows an architecture of an OCI name."""
         return bool(self._token_of(name.removeprefix(PREFIX).lower().encode()))
 
     def filter_of(self, default: Answer, listed: Sequence[str], rules: Iterable[Rule]) -> bytes | None:
@@ -77,7 +76,6 @@ class Library:
             os.close(file)
 
     def knows(self, name: str) -> bool:
-        """Whether it knows a syscall by this name, of any architecture."""
         return self.number_of(name) is not None
 
     def name_of(self, number: int) -> str | None:

@@ -39,12 +39,13 @@ FILTER = {"caps": [TEXT_TYPE], "arches": [TEXT_TYPE], "minKernel": VERSION_TYPE}
 ARGUMENT = {"index": NUMBER_TYPE, "value": NUMBER_TYPE, "valueTwo": NUMBER_TYPE, "op": TEXT_TYPE}
 ENTRY = {"names": [TEXT_TYPE], "name": TEXT_TYPE, "action": TEXT_TYPE, "errnoRet": NUMBER_TYPE, "errno": TEXT_TYPE,
          "args": [ARGUMENT], "comment": TEXT_TYPE, "includes": FILTER, "excludes": FILTER}
-ARCH_MAP = {"architecture": TEXT_TYPE, "subArchitectures": [TEXT_TYPE]}
 SECCOMP_MEMBERS = {
-    "defaultAction": TEXT_TYPE, "defaultErrnoRet": NUMBER_TYPE, "defaultErrno": TEXT_TYPE,
-    "architectures": [TEXT_TYPE], "archMap": [ARCH_MAP], "syscalls": [ENTRY], "flags": [TEXT_TYPE],
-    "listenerPath": TEXT_TYPE, "listenerMetadata": TEXT_TYPE}
+    "defaultAction": TEXT_TYPE, "defaultErrnoRet": NUMBER_TYPE, "defaultErrno": TEXT_TYPE, "architectures": [TEXT_TYPE],
+    "archMap": [{"architecture": TEXT_TYPE, "subArchitectures": [TEXT_TYPE]}], "syscalls": [ENTRY],
+    "flags": [TEXT_TYPE], "listenerPath": TEXT_TYPE, "listenerMetadata": TEXT_TYPE}
 CONFIG_MEMBERS = {**SECCOMP_MEMBERS, "linux": {"seccomp": SECCOMP_MEMBERS}}
+# How the profile, an entry and a condition are called.
+PLACES = ("the profile", "entry {}", "entry {}: args {}")
 
 # Letters that encoding/json of Go takes for others in the name of a member (equalFoldRight in fold.go): of ASCII those
 # of the other case, and U+017F and U+212A.
@@ -79,7 +80,6 @@ class DerivedProfile(ReadProfile):
 
 
 def reading_of(data: bytes) -> str:
-    """How a profile is read."""
     return data.reading if isinstance(data, ReadProfile) else STRICT
 
 
@@ -95,15 +95,9 @@ def elsewhere_of(unit: Sequence[bytes]) -> list[tuple[str, ...]]:
 
 
 def read_as(data: bytes, reading: str) -> ReadProfile:
-    """A profile that is read so."""
     profile = type(data)(data) if isinstance(data, ReadProfile) else ReadProfile(data)
     profile.__dict__.update(getattr(data, "__dict__", {}), reading=reading)
     return profile
-
-
-def takes_errno(action: str, reading: str) -> bool:
-    """Whether an errno beside an action is its data."""
-    return action in WITH_ERRNO or (action, reading) == (TRAP, SANDBOX)
 
 
 @dataclass(frozen=True)
@@ -138,15 +132,10 @@ def default_of(data: bytes) -> Answer | None:
     return entries.default_of(top) if isinstance(top.get("defaultAction"), str) else None
 
 
-def _listed(top: dict[str, Any]) -> list[object]:
-    """The entries of an object; none if it has no list of them."""
-    listed = top.get("syscalls")
-    return listed if isinstance(listed, list) else []
-
-
 def entry_at(data: bytes, place: int) -> object:
     """The entry at an index of `syscalls`, from 0 on, or None if it can't be read."""
-    return next(iter(_listed(_top(data))[place:place + 1]), None)
+    listed = _top(data).get("syscalls")
+    return listed[place] if isinstance(listed, list) and place < len(listed) else None
 
 
 @functools.lru_cache(2)
@@ -188,12 +177,11 @@ class Pairs(list):
     """The members of an object in order, as pairs of a name and a value, with repeated ones."""
 
 
-def where_in(where: str, name: str, index: int | None = None) -> str:
-    """The name of a nested value, such as "entry 3: args 0"."""
-    if name == "syscalls":
-        return "syscalls" if index is None else f"entry {index}"
-    member = name if index is None else f"{name} {index}"
-    return member if where == "the profile" else f"{where}: {member}"
+def where_in(where: str, step: str | int) -> str:
+    """The name of a nested value, such as "entry 3: args 0", given what it is in, and the member or the index there."""
+    if isinstance(step, int):
+        return f"entry {step}" if where == "syscalls" else f"{where} {step}"
+    return step if where == "the profile" or step == "syscalls" else f"{where}: {step}"
 
 
 def _misread_in(value: object, members: object, where: str) -> Iterator[Misread]:
@@ -208,12 +196,12 @@ def _misread_in(value: object, members: object, where: str) -> Iterator[Misread]
         if name != read_as or name in seen:
             yield Misread(where, name, read_as)
         seen.add(name)
-        kind = members[read_as]
+        kind, at = members[read_as], where_in(where, read_as)
         if isinstance(kind, dict):
-            yield from _misread_in(inner, kind, where_in(where, read_as))
+            yield from _misread_in(inner, kind, at)
         elif isinstance(kind[0], dict) and isinstance(inner, list) and not isinstance(inner, Pairs):
             for index, item in enumerate(inner):
-                yield from _misread_in(item, kind[0], where_in(where, read_as, index))
+                yield from _misread_in(item, kind[0], where_in(at, index))
 
 
 def misread_members(data: bytes) -> list[Misread]:
@@ -227,48 +215,36 @@ def misread_members(data: bytes) -> list[Misread]:
         return []
 
 
-def _objects(top: dict[str, Any]) -> Iterator[tuple[str, object, dict[str, Any]]]:
-    """The objects of a profile in which something is read: each with where it is, and the members that are known."""
-    yield "the profile", top, SECCOMP_MEMBERS
-    for index, entry in enumerate(_listed(top)):
-        where = where_in("the profile", "syscalls", index)
-        yield where, entry, ENTRY
-        conditions = entry.get("args") if isinstance(entry, dict) else None
-        for at, condition in enumerate(conditions if isinstance(conditions, list) else ()):
-            yield where_in(where, "args", at), condition, ARGUMENT
+def objects_in(value: dict[str, Any], name: str) -> Iterator[tuple[int, Any]]:
+    """The objects in a member, if that is a list, each with its index."""
+    listed = value.get(name)
+    return ((at, each) for at, each in enumerate(listed if isinstance(listed, list) else ()) if isinstance(each, dict))
+
+
+def parts_of(top: dict[str, Any]) -> Iterator[tuple[tuple[int, ...], Any, dict[str, Any]]]:
+    """The profile, its entries and their conditions: each with the indexes of the entry and of the condition that it
+    is, as far as it is one, and the members that are known."""
+    yield (), top, SECCOMP_MEMBERS
+    for place, entry in objects_in(top, "syscalls"):
+        yield (place,), entry, ENTRY
+        yield from (((place, at), condition, ARGUMENT) for at, condition in objects_in(entry, "args"))
 
 
 def unread_members(data: bytes) -> Iterator[tuple[str, str, Sequence[str]]]:
     """The members of a profile that no program reads, or Go's alone: where each is, its name, and the known ones."""
     top = _top(data)
-    for where, value, members in _objects(top) if "defaultAction" in top else ():
-        if isinstance(value, dict) and not value.keys() <= members.keys():
+    for place, value, members in parts_of(top) if "defaultAction" in top else ():
+        if not value.keys() <= members.keys():
+            where = PLACES[len(place)].format(*place)
             yield from ((where, name, tuple(members)) for name in value if name not in (*members, "comment"))
 
 
 def errno_by_name(data: bytes) -> str | None:
     """Where a profile has an errno by name, which only podman reads, or None if it has none."""
     top = _top(data) if any(member in data for member in (b'errno"', b'defaultErrno"', b"\\u")) else {}
-    errnos = ((where, name, value.get(name)) for where, value, members in _objects(top) if isinstance(value, dict)
-              for name in ("defaultErrno", "errno") if name in members)
-    return next((f"{where} has {name} {json.dumps(value)}" for where, name, value in errnos if value), None)
-
-
-def _too_deep(text: str) -> int | None:
-    """Where JSON nests deeper than scf's parser allows, if that is found."""
-    depth = 0
-    try:
-        for at, token in json_places.tokens(text):
-            depth += {"[": 1, "{": 1, "]": -1, "}": -1}.get(token, 0)
-            if depth > DEEPEST_JSON:
-                return at
-    except json_places.TooManyTokens:
-        pass
-    return None
-
-
-def _refuse(number: str) -> None:
-    raise ValueError(f"the profile has {number}, which isn't a JSON number")
+    return next((f"{PLACES[len(place)].format(*place)} has {name} {json.dumps(value[name])}"
+                 for place, value, members in parts_of(top) for name in ("defaultErrno", "errno")
+                 if name in members and value.get(name)), None)
 
 
 def _odd_value(text: str) -> str | None:
@@ -287,24 +263,18 @@ def _odd_value(text: str) -> str | None:
     return None
 
 
-def _foreign_syntax(text: str, at: int) -> str | None:
-    """Syntax that people take for JSON, at an index of a text that is not; None if there is none."""
-    mark, before, behind = text[at:at + 1], text[:at].rstrip()[-1:], text[at + 1:].lstrip()[:1]
-    if text[at:at + 2] in ("//", "/*") or mark == "#":
-        return "a comment, which JSON doesn't allow,"
-    if mark in ("]", "}") and before == "," or mark == "," and behind in ("]", "}"):
-        return "a trailing comma, which JSON doesn't allow,"
-    if mark == "'":
-        return "single quotes in place of double ones"
-    return "a byte order mark, which JSON doesn't allow," if mark == "\ufeff" else None
-
-
 def malformed(error: json.JSONDecodeError) -> str:
     """A sentence on what is malformed in a text, and where."""
     text, at = error.doc, error.pos
     if YAML_MEMBER.search(text) and text.lstrip()[:1] not in ("{", "["):
         return "it is YAML: convert it to JSON, as `yq -o json` does"
-    what = _foreign_syntax(text, at)
+    mark, before, behind = text[at:at + 1], text[:at].rstrip()[-1:], text[at + 1:].lstrip()[:1]
+    is_trailing = mark in ("]", "}") and before == "," or mark == "," and behind in ("]", "}")
+    # what people take for JSON
+    what = "a comment, which JSON doesn't allow," if text[at:at + 2] in ("//", "/*") or mark == "#" else \
+        "a trailing comma, which JSON doesn't allow," if is_trailing else \
+        "single quotes in place of double ones" if mark == "'" else \
+        "a byte order mark, which JSON doesn't allow," if mark == "\ufeff" else None
     # where a comma lacks, the next value isn't the one that is meant
     within = json_places.where_in(text, at - ("delimiter" in error.msg))
     where = f"at {json_places.place(text, at)}"
@@ -321,12 +291,21 @@ def where_json_ends(data: bytes) -> str:
         return f"the profile isn't UTF-8 from {json_places.place(before, len(before))} on"
     if not text.strip():
         return "the profile is empty"
-    deep = _too_deep(text)
-    if deep is not None:
-        return f"at {json_places.place(text, deep)} the profile is nested more than {DEEPEST_JSON} deep"
+    depth = 0
+    try:
+        for at, token in json_places.tokens(text):
+            depth += {"[": 1, "{": 1, "]": -1, "}": -1}.get(token, 0)
+            if depth > DEEPEST_JSON:
+                return f"at {json_places.place(text, at)} the profile is nested more than {DEEPEST_JSON} deep"
+    except json_places.TooManyTokens:
+        pass
+
+    def refuse(number: str) -> None:
+        raise ValueError(f"the profile has {number}, which isn't a JSON number")
+
     why = "Python's JSON parser accepts it: look for unpaired surrogates, and for numbers out of range"
     try:
-        json.loads(text, parse_int=str, parse_float=str, parse_constant=_refuse)
+        json.loads(text, parse_int=str, parse_float=str, parse_constant=refuse)
     except json.JSONDecodeError as error:
         return malformed(error)
     except RecursionError:
@@ -348,11 +327,3 @@ class Origin:
 
     def describe(self) -> str:
         return f"entry {self.index}" + (f" ({self.names})" if self.names else "")
-
-
-def original_entries(numbers: dict[str, int], origins: Sequence[Origin]) -> Iterator[str]:
-    """The entries of the user's profile for those that a fault in the resolved one names."""
-    named = [numbers[name] for name in ("entry", "first", "second") if name in numbers]
-    places = [origins[index].describe() for index in named if index < len(origins)]
-    if places:
-        yield f"in the original file that is {' and '.join(dict.fromkeys(places))}"

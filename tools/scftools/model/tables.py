@@ -49,16 +49,11 @@ class Table:
         return self._parsed[1].get(name)
 
     @functools.cached_property
-    def _of_slips(self) -> dict[str, str]:
+    def of_slips(self) -> dict[str, str]:
         """The names by what they are with two neighbours exchanged, or with a blank for a letter."""
         exchanged = {name[:at] + name[at + 1] + name[at] + name[at + 2:]: name
                      for name in self.names() for at in range(len(name) - 1)}
         return {**exchanged, **{slip: name for name in self.names() for slip in _blanked(name)}}
-
-    def misspelt_as(self, name: str) -> str | None:
-        """The name that this one is but for one letter, or for two neighbours that are exchanged, if there is one."""
-        forms = (name, *_blanked(name)) if len(name) <= LONGEST_NAME else ()
-        return next((self._of_slips[form] for form in forms if form in self._of_slips), None)
 
     def names(self) -> Iterable[str]:
         return self._parsed[1].keys()
@@ -117,8 +112,7 @@ class Tables:
         return next(iter(self.numbers_of(name).values()), None)
 
     def has(self, name: str) -> bool:
-        """Whether any of them has a syscall by this name."""
-        return any(table.number_of(name) is not None for table in self.of.values())
+        return bool(self.numbers_of(name))
 
     @property
     def names(self) -> list[str]:
@@ -211,7 +205,8 @@ def nearest_member(name: str, members: Iterable[str]) -> str | None:
 
 def misspelt_as(name: str, *among: Table) -> str | None:
     """The name in the tables that this one is but for one letter, or for two neighbours that are exchanged."""
-    return next(filter(None, (table.misspelt_as(name) for table in among)), None)
+    forms = (name, *_blanked(name)) if len(name) <= LONGEST_NAME else ()
+    return next((table.of_slips[form] for table in among for form in forms if form in table.of_slips), None)
 
 
 def nearest(name: str, *among: Table) -> str | None:

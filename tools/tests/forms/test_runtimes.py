@@ -28,7 +28,7 @@ LOG, TRAP, TRACE, KILL = "SCMP_ACT_LOG", "SCMP_ACT_TRAP", "SCMP_ACT_TRACE", "SCM
 NAMES = sorted(tables.read_table(None).names())
 MOBY = "/usr/share/gocode/src/github.com/docker/docker/profiles/seccomp/default.json"
 PODMAN = "/usr/share/containers/seccomp.json"
-CAPABILITIES = [f"CAP_{name}" for name in engines.DOCKER.split()]
+CAPABILITIES = [f"CAP_{name}" for name in engines.SETS["docker"]]
 
 
 # What a container's program does, whatever else a profile says.
@@ -569,7 +569,7 @@ class VerifyProcess(Case):
             stubs = {"SCMP_ARCH_X86_64": 450, "SCMP_ARCH_X86": 450, "SCMP_ARCH_X32": 0x40000000 + 548}
             self.assertEqual((report["status"], report["verdict"], report["stacks"][0]["stub"], report["remarks"]),
                              (0, "same", stubs, [f"resolved for the capabilities of the process's bounding set: "
-                                                 f"{', '.join(sorted(engines.DOCKER.split()))}"]))
+                                                 f"{', '.join(sorted(engines.SETS['docker']))}"]))
             # a whole config.json is resolved already; of another runtime there is no stub
             for given, words, status in ((config(handed_on), ("--runtime", "runc"), 0),
                                          (config(handed_on), ("--runtime", "docker"), 0), (handed_on, (), 1),
