@@ -8,7 +8,6 @@ from __future__ import annotations
 
 from collections.abc import Iterator, Mapping, Sequence
 
-from ..base.values import dataclass
 from ..model import constants
 from ..model.answers import Answer
 from ..model.architectures import JUDGED
@@ -42,49 +41,32 @@ def _is_null_test(condition: Condition, greatest: int) -> bool:
         ("EQ", 0), ("NE", 0), ("GT", 0), ("LE", 0), ("GE", 1), ("LT", 1))
 
 
-# Names of syscalls by the architectures of which something is true.
-Named = Mapping[Owners, Sequence[str]]
+# Kinds of findings on an argument that a condition tests: the letter that it has then, and the sentence.
+ON_ARGUMENTS = {
+    "no-such-argument": ("", "{names} {have} no argument {index} (the first is 0){where}, and the kernel doesn't read "
+                         "its register"),
+    "pointer-argument": (constants.ADDRESS, "argument {index} of {names}{where} is an address: a filter can't see what "
+                         "it points to"),
+    "high-half": (constants.HALF, "the kernel reads 32 bits of argument {index} of {names}{where}, and {value:#x} has "
+                  "more: a program that passes {low:#x} doesn't meet it")}
 
 
-def _kinds_of(entry: Entry, index: int, judged: Tables) -> tuple[Named, ...]:
-    """Which of an entry's syscalls lack an argument, of which it is an address, and of which it has 64 bits and the
-    kernel reads 32."""
-    named: tuple[dict[Owners, list[str]], ...] = ({}, {}, {})
+def _of_argument(kind: str, entry: Entry, place: int, judged: Tables) -> Iterator[Finding]:
+    """Findings of a kind about the argument that a condition tests, of those syscalls of which it is so; an upper half
+    have arguments of 64 bits alone."""
+    (letter, sentence), index, value = ON_ARGUMENTS[kind], entry.conditions[place].index, entry.conditions[place].value
+    named: dict[Owners, list[str]] = {}
     for name in entry.names:
-        having = list(judged.numbers_of(name))
-        letters = {oci: constants.kinds_on(oci)[name][index:index + 1] for oci in having
-                   if name in constants.kinds_on(oci)}
-        whole = [oci for oci in having if JUDGED[oci].greatest > LOW_HALF]
-        for names, among, letter in zip(named, (having, having, whole), ("", constants.ADDRESS, constants.HALF)):
-            on = [oci for oci in among if letters.get(oci) == letter]
-            if on:
-                names.setdefault(Owners.of(on, among, judged), []).append(name)
-    return named
-
-
-def _of_condition(entry: Entry, place: int, kinds: tuple[Named, ...], greatest: int) -> Iterator[Finding]:
-    """Findings about a condition's value, and about the argument that it tests."""
-    where, more = f"entry {entry.place}, condition {place}", {"entry": entry.place, "condition": place}
-    condition = entry.conditions[place]
-    (lacking, addresses, halves), index, value = kinds, condition.index, condition.value
-    if _always_holds(condition, greatest):
-        swapped = "; value is the mask, and valueTwo what is compared with: they may be swapped" * bool(condition.two)
-        yield Finding("always-met", f"{where}: {condition.op} {value} holds for every value{swapped}", more)
-    elif condition.op == MASKED and condition.two & ~value:
-        yield Finding("odd-mask", f"{where}: valueTwo {condition.two:#x} has bits that the mask {value:#x} lacks, and "
-                      "these aren't compared", more)
-    sentences = [("no-such-argument", on, names, f"{where}: {listed(names, 'and')} "
-                  f"{'has' if len(names) == 1 else 'have'} no argument {index} (the first is 0){on.where}, and the "
-                  "kernel doesn't read its register") for on, names in lacking.items()]
-    if not _is_null_test(condition, greatest):
-        sentences += [("pointer-argument", on, names, f"{where}: argument {index} of {listed(names, 'and')}{on.where} "
-                       "is an address: a filter can't see what it points to") for on, names in addresses.items()]
-    if condition.op == EQUAL and value > LOW_HALF:
-        sentences += [("high-half", on, names, f"{where}: the kernel reads 32 bits of argument {index} of "
-                       f"{listed(names, 'and')}{on.where}, and {value:#x} has more: a program that passes "
-                       f"{value & LOW_HALF:#x} doesn't meet it") for on, names in halves.items()]
-    for kind, on, names, text in sentences:
-        yield Finding(kind, text, {**more, "names": names, **on.as_json()})
+        among = [oci for oci in judged.numbers_of(name) if kind != "high-half" or JUDGED[oci].greatest > LOW_HALF]
+        on = [oci for oci in among if name in constants.kinds_on(oci)
+              and constants.kinds_on(oci)[name][index:index + 1] == letter]
+        if on:
+            named.setdefault(Owners.of(on, among, judged), []).append(name)
+    for owners, names in named.items():
+        text = sentence.format(names=listed(names, "and"), have="has" if len(names) == 1 else "have", index=index,
+                               where=owners.where, value=value, low=value & LOW_HALF)
+        yield Finding(kind, f"entry {entry.place}, condition {place}: {text}",
+                      {"entry": entry.place, "condition": place, "names": names, **owners.as_json()})
 
 
 def of_conditions(entries: Sequence[Entry], judged: Tables) -> Iterator[Finding]:
@@ -93,7 +75,19 @@ def of_conditions(entries: Sequence[Entry], judged: Tables) -> Iterator[Finding]
         on = {oci for name in entry.names for oci in judged.numbers_of(name)} or judged.of
         greatest = max(JUDGED[oci].greatest for oci in on)
         for place, condition in enumerate(entry.conditions):
-            yield from _of_condition(entry, place, _kinds_of(entry, condition.index, judged), greatest)
+            where, more = f"entry {entry.place}, condition {place}", {"entry": entry.place, "condition": place}
+            op, value, two = condition.op, condition.value, condition.two
+            if _always_holds(condition, greatest):
+                swapped = "; value is the mask, and valueTwo what is compared with: they may be swapped" * bool(two)
+                yield Finding("always-met", f"{where}: {op} {value} holds for every value{swapped}", more)
+            elif op == MASKED and two & ~value:
+                yield Finding("odd-mask", f"{where}: valueTwo {two:#x} has bits that the mask {value:#x} lacks, and "
+                              "these aren't compared", more)
+            yield from _of_argument("no-such-argument", entry, place, judged)
+            if not _is_null_test(condition, greatest):
+                yield from _of_argument("pointer-argument", entry, place, judged)
+            if op == EQUAL and value > LOW_HALF:
+                yield from _of_argument("high-half", entry, place, judged)
 
 
 def of_unions(judged: Tables, entries: Sequence[Entry]) -> Iterator[Finding]:
@@ -110,35 +104,6 @@ def of_unions(judged: Tables, entries: Sequence[Entry]) -> Iterator[Finding]:
             places = [entry.place for entry in its]
             yield Finding("always-met", f"entries {listed(list(map(str, places)), 'and')}: every call of {name} meets "
                           "one of them, so one entry is enough", {"entries": places, "name": name})
-
-
-@dataclass(frozen=True)
-class Evasion:
-    """A denial that a bit in the upper half of a register evades: the syscall, the argument's index, the value that is
-    denied and the one that is allowed, those of other arguments, the denial, and the entry that allows, None for the
-    default."""
-
-    name: str
-    index: int
-    low: int
-    high: int
-    others: tuple[tuple[int, int], ...]
-    denied: Answer
-    entry: int | None
-    # the other arguments of which such a bit does the same
-    more: tuple[int, ...]
-
-    def finding(self, owners: Owners, number: int) -> Finding:
-        low, high, others = hex(self.low), hex(self.high), {at: hex(value) for at, value in self.others}
-        where = "by the default" if self.entry is None else f"by entry {self.entry}"
-        beside = "".join(f", beside {value} as argument {at}" for at, value in others.items())
-        more = f"; the same of {listed([f'argument {at}' for at in self.more], 'and')}" if self.more else ""
-        return Finding("high-half", f"{owners.named(self.name, number)} is denied with {low} as argument {self.index}"
-                       f"{beside} ({self.denied}), and allowed with {high} {where}: the kernel reads only the lower 32 "
-                       f"bits, and executes the same syscall for both{more}{owners.also}",
-                       {"name": self.name, "argument": self.index, "denied": low, "allowed": high, "entry": self.entry,
-                        **({"also": list(self.more)} if more else {}),
-                        "others": {str(at): value for at, value in others.items()}, **owners.as_json()})
 
 
 def _evading(sets: Sets, region_list: Sequence[Region], index: int) -> \
@@ -162,8 +127,9 @@ def _evading(sets: Sets, region_list: Sequence[Region], index: int) -> \
     return None
 
 
-def _evasions(watch: Watch, entries: Sequence[Entry]) -> Iterator[Evasion]:
-    """The evaded denials of an architecture's syscalls, each syscall once. Raises TooMany."""
+def _evasions(watch: Watch, entries: Sequence[Entry]) -> Iterator[tuple[str, str, dict[str, object]]]:
+    """The denials of an architecture that a bit in the upper half of a register evades, of each syscall one: the
+    syscall, what is to be said, and the members of the finding in JSON. Raises TooMany."""
     sets, kinds = Sets(watch.architecture.bits, Steps()), constants.kinds_on(watch.architecture.oci)
     tested: dict[tuple[int, str], set[int]] = {}
     for entry in entries:
@@ -179,19 +145,26 @@ def _evasions(watch: Watch, entries: Sequence[Entry]) -> Iterator[Evasion]:
         if evaded and len(seen) < MOST:
             seen.add(number)
             first, *more = evaded
-            denied, low, allowed, high = pairs[first]
-            others = tuple((at, low[at]) for at in sorted(indices - {first}))
-            yield Evasion(name, first, low[first], high[first], others, denied.answer, allowed.entry, tuple(more))
+            denied, lows, allowed, highs = pairs[first]
+            low, high, others = hex(lows[first]), hex(highs[first]), sorted(indices - {first})
+            beside = "".join(f", beside {lows[at]:#x} as argument {at}" for at in others)
+            also = f"; the same of {listed([f'argument {at}' for at in more], 'and')}" if more else ""
+            yield (name, f"is denied with {low} as argument {first}{beside} ({denied.answer}), and allowed with {high} "
+                   f"{allowed.by}: the kernel reads only the lower 32 bits, and executes the same syscall for both"
+                   f"{also}",
+                   {"name": name, "argument": first, "denied": low, "allowed": high, "entry": allowed.entry,
+                    **({"also": more} if more else {}), "others": {str(at): hex(lows[at]) for at in others}})
 
 
 def of_denials(judged: Tables, watches: Mapping[str, Watch], entries: Sequence[Entry]) -> Iterator[Finding]:
     """The evaded denials on architectures whose arguments have an upper half."""
-    evaded: dict[Evasion, list[str]] = {}
+    evaded: dict[tuple[str, str], tuple[dict[str, object], list[str]]] = {}
     whole = [architecture for architecture in judged.of if JUDGED[architecture].greatest > LOW_HALF]
     for oci in whole:
-        for evasion in _evasions(watches[oci], entries):
-            evaded.setdefault(evasion, []).append(oci)
-    for evasion, on in evaded.items():
-        numbers = judged.numbers_of(evasion.name)
+        for name, said, more in _evasions(watches[oci], entries):
+            evaded.setdefault((name, said), (more, []))[1].append(oci)
+    for (name, said), (more, on) in evaded.items():
+        numbers = judged.numbers_of(name)
         owners = Owners.of(on, [architecture for architecture in whole if architecture in numbers], judged)
-        yield evasion.finding(owners, numbers[owners.first])
+        yield Finding("high-half", f"{owners.named(name, numbers[owners.first])} {said}{owners.also}",
+                      {**more, **owners.as_json()})

@@ -4,7 +4,7 @@ from __future__ import annotations
 
 import os
 import urllib.parse
-from collections.abc import Iterator, Sequence
+from collections.abc import Sequence
 
 from ..base import json_places
 from ..base.values import Any
@@ -17,39 +17,11 @@ WITHIN: tuple[tuple[str, ...], ...] = ((), ("linux", "seccomp"), ("spec",))
 
 
 def _path_of(finding: Finding) -> tuple[str | int, ...]:
-    """The member of a profile that a finding is about."""
     entry = finding.more.get("entry", finding.more.get("first"))
     if not isinstance(entry, int):
         return ()
     condition = finding.more.get("condition")
     return ("syscalls", entry, "args", condition) if isinstance(condition, int) else ("syscalls", entry)
-
-
-class Places:
-    """Lines and columns of a profile's file."""
-
-    def __init__(self, data: bytes, name: str, findings: list[Finding]):
-        self.uri = "stdin" if name == "-" else urllib.parse.quote(os.path.relpath(name))
-        self._text = data.decode("utf-8", "replace")
-        paths = {(*within, *_path_of(finding)) for finding in findings for within in WITHIN}
-        self._indexes = json_places.indexes_of(self._text, paths)
-
-    def of(self, finding: Finding) -> dict[str, Any]:
-        location: dict[str, Any] = {"artifactLocation": {"uri": self.uri}}
-        indexes = (self._indexes.get((*within, *_path_of(finding))) for within in reversed(WITHIN))
-        index = next((index for index in indexes if index is not None), None)
-        if index is not None:
-            line, column = json_places.line_and_column(self._text, index)
-            location["region"] = {"startLine": line, "startColumn": column}
-        return location
-
-
-def _results(report: LintReport, places: Places) -> Iterator[dict[str, Any]]:
-    for findings, is_decided in ((report.findings, True), (report.undecided, False)):
-        for finding in findings.all():
-            level = {"level": finding.grade} if is_decided else {"kind": "open", "level": "none"}
-            yield {"ruleId": finding.kind, **level, "message": {"text": finding.text},
-                   "locations": [{"physicalLocation": places.of(finding)}]}
 
 
 def as_sarif(reports: Sequence[tuple[LintReport, bytes, str]]) -> dict[str, Any]:
@@ -58,11 +30,23 @@ def as_sarif(reports: Sequence[tuple[LintReport, bytes, str]]) -> dict[str, Any]
     results: list[dict[str, Any]] = []
     faults: list[dict[str, Any]] = []
     for report, data, name in reports:
-        places = Places(data, name, [*report.findings, *report.undecided])
-        results += _results(report, places)
+        file = {"artifactLocation": {"uri": "stdin" if name == "-" else urllib.parse.quote(os.path.relpath(name))}}
+        text, listed = data.decode("utf-8", "replace"), [*report.findings, *report.undecided]
+        indexes = json_places.indexes_of(text, {(*within, *_path_of(each)) for each in listed for within in WITHIN})
+        for findings, is_decided in ((report.findings, True), (report.undecided, False)):
+            for finding in findings.all():
+                level = {"level": finding.grade} if is_decided else {"kind": "open", "level": "none"}
+                place: dict[str, Any] = dict(file)
+                paths = ((*within, *_path_of(finding)) for within in reversed(WITHIN))
+                path = next(filter(indexes.__contains__, paths), None)
+                if path is not None:
+                    line, column = json_places.line_and_column(text, indexes[path])
+                    place["region"] = {"startLine": line, "startColumn": column}
+                results.append({"ruleId": finding.kind, **level, "message": {"text": finding.text},
+                                "locations": [{"physicalLocation": place}]})
         if report.fault:
-            place = {"physicalLocation": {"artifactLocation": {"uri": places.uri}}}
-            faults.append({"level": "error", "message": {"text": report.fault.line}, "locations": [place]})
+            faults.append({"level": "error", "message": {"text": report.fault.line},
+                           "locations": [{"physicalLocation": file}]})
     rules = meanings()
     driver = {"name": "scf lint", "rules": [
         {"id": kind, "shortDescription": {"text": rules[kind]}, "defaultConfiguration": {"level": grade}}

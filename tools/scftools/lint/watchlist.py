@@ -7,14 +7,14 @@ What is allowed, with which arguments and by which entry, is what the profile's 
 from __future__ import annotations
 
 import functools
-from collections.abc import Callable, Collection, Iterator, Mapping, Sequence
+from collections.abc import Iterator, Mapping, Sequence
 
 from ..base.values import dataclass
 from ..model.answers import ENOSYS, Answer
 from ..model.architectures import NATIVE, Architecture, machine_architecture
 from ..model.argument_sets import Sets, Steps
 from ..model.dangerous_calls import Dangerous, dangerous
-from ..model.entries import Condition, Entry
+from ..model.entries import MASKED, NOT_EQUAL, Condition, Entry
 from ..model.tables import Table, Tables
 from ..ask.answer_sets import arguments_of
 from ..ask.regions import Numbers, Region
@@ -23,19 +23,15 @@ from ..forms import runtimes
 from .findings import Finding, Owners, by_owners, listed
 
 
-def _has(index: int, mask: int, value: int) -> Condition:
-    return Condition(index, "SCMP_CMP_MASKED_EQ", mask, value)
-
-
 # What the kernel ends with -ERESTART_RESTARTBLOCK (hrtimer_nanosleep and its like, do_restart_poll,
 # futex_wait_restart): sleeps that aren't until a time (TIMER_ABSTIME is 1), poll, and FUTEX_WAIT and FUTEX_WAIT_BITSET
 # (0 and 9 under FUTEX_CMD_MASK) with a timeout. Others, as ppoll and select, begin anew or end with EINTR. Those of
 # time64 are i386's and arm's.
-_IS_NO_TIME = (_has(1, 1, 0),)
-_WAITS = [(_has(1, 0x7F, operation), Condition(3, "SCMP_CMP_NE", 0, 0)) for operation in (0, 9)]
+_IS_NO_TIME = (Condition(1, MASKED, 1, 0),)
 RESTARTED: tuple[tuple[str, tuple[Condition, ...]], ...] = (
     ("nanosleep", ()), ("clock_nanosleep", _IS_NO_TIME), ("clock_nanosleep_time64", _IS_NO_TIME), ("poll", ()),
-    *((name, waits) for name in ("futex", "futex_time64") for waits in _WAITS))
+    *((name, (Condition(1, MASKED, 0x7F, operation), Condition(3, NOT_EQUAL, 0, 0)))
+      for name in ("futex", "futex_time64") for operation in (0, 9)))
 
 
 @dataclass(frozen=True)
@@ -117,11 +113,6 @@ class Watch:
         return next((region for region in self.regions_of(name)
                      if region.answer is not None and not region.answer.allows), None)
 
-    def always(self, name: str, is_so: Callable[[Answer], bool]) -> bool:
-        """Whether every call of a syscall is known to get such an answer."""
-        return self.has(name) and self.is_finished and all(region.answer is not None and is_so(region.answer)
-                                                           for region in self.regions_of(name))
-
     def how(self, name: str) -> str | None:
         """How a syscall is allowed, None if it isn't: a verdict if that is undecided."""
         if not self.is_finished:
@@ -137,25 +128,6 @@ class Watch:
         """The users of a syscall that are allowed, or of which that is undecided."""
         return [name for name in dict.fromkeys(name for name, _ in needed.users)
                 if self.has(name) and (not self.is_finished or self.allowed(name))]
-
-    def keeps_from(self, newer: str, older: str, first_arguments: Sequence[int]) -> Region | None:
-        """The denial of a newer syscall by which libc doesn't call the older one, which is allowed; None if there is
-        none."""
-        denied, instead = self.at(newer), [self.at(older, argument) for argument in first_arguments]
-        is_kept = denied and denied.answer.denies and denied.answer != ENOSYS and \
-            any(region and region.answer.allows for region in instead)
-        return denied if is_kept else None
-
-    def void(self, name: str, conditional: Collection[str]) -> tuple[int, Answer, tuple[str, ...]] | None:
-        """The entry that denies a syscall, its answer, and what is allowed instead; None if nothing is. Names for which
-        an entry has conditions are left out."""
-        denied = self.at(name)
-        if name in conditional or denied is None or denied.entry is None or denied.answer == ENOSYS or \
-                not denied.answer.denies:
-            return None
-        others = {sibling: self.at(sibling) for sibling in SIBLINGS[name].split() if sibling not in conditional}
-        allowed = tuple(sibling for sibling, region in others.items() if region is not None and region.answer.allows)
-        return (denied.entry, denied.answer, allowed) if allowed else None
 
 
 def _allowed(name: str, danger: Dangerous, watch: Watch, owners: Owners) -> Finding:
@@ -196,17 +168,6 @@ def of_dangerous(judged: Tables, watches: Mapping[str, Watch]) -> Iterator[Findi
                            "is_always": True, "entry": None, **owners.as_json()})
 
 
-def _lacking(needed: Needed, watch: Watch, owners: Owners) -> Finding:
-    users, denied = watch.users(needed), watch.denied(needed.name)
-    more: dict[str, object] = {"names": users, **owners.as_json()}
-    called = owners.named(needed.name, watch.table.number_of(needed.name) or 0)
-    if denied is None:
-        return Finding(needed.kind, f"undecided whether {called} is always allowed{owners.also}", more, False)
-    return Finding(needed.kind, f"{listed(users, 'and')} {'is' if len(users) == 1 else 'are'} allowed, and {called} "
-                   f"is not: {needed.why} is answered {denied.by} {denied.answer.describe()}{owners.also}",
-                   {**more, "entry": denied.entry})
-
-
 def of_needed(judged: Tables, watches: Mapping[str, Watch]) -> Iterator[Finding]:
     """A finding if a syscall isn't always allowed, but others that need it are, or if that is undecided."""
     for needed in NEEDED:
@@ -214,7 +175,17 @@ def of_needed(judged: Tables, watches: Mapping[str, Watch]) -> Iterator[Finding]
         lacks = {oci: watch.is_finished if watch.users(needed) and (not watch.is_finished or watch.denied(needed.name))
                  else None for oci, watch in watches.items()
                  if watch.has(needed.name) and watch.architecture.bits in needed.bits}
-        yield from (_lacking(needed, watches[owners.first], owners) for _, owners in by_owners(lacks, judged))
+        for _, owners in by_owners(lacks, judged):
+            watch = watches[owners.first]
+            users, denied = watch.users(needed), watch.denied(needed.name)
+            more: dict[str, object] = {"names": users, **owners.as_json()}
+            called = owners.named(needed.name, watch.table.number_of(needed.name) or 0)
+            if denied is None:
+                yield Finding(needed.kind, f"undecided whether {called} is always allowed{owners.also}", more, False)
+            else:
+                yield Finding(needed.kind, f"{listed(users, 'and')} {'is' if len(users) == 1 else 'are'} allowed, and "
+                              f"{called} is not: {needed.why} is answered {denied.by} {denied.answer.describe()}"
+                              f"{owners.also}", {**more, "entry": denied.entry})
 
 
 def of_start(judged: Tables, watches: Mapping[str, Watch]) -> Iterator[Finding]:
@@ -225,8 +196,10 @@ def of_start(judged: Tables, watches: Mapping[str, Watch]) -> Iterator[Finding]:
         return
     if not watch.is_finished:
         yield Finding("no-start", f"undecided whether {judged.reading} starts anything: {UNFINISHED}", {}, False)
-    denied = [name for name in own.names if watch.always(name, lambda answer: answer.denies)]
-    killed = [name for name in denied if watch.always(name, lambda answer: answer.action.startswith("KILL"))]
+    answers = {name: [region.answer for region in watch.regions_of(name)] for name in own.names
+               if watch.has(name) and watch.is_finished}
+    denied = [name for name, its in answers.items() if all(answer and answer.denies for answer in its)]
+    killed = [name for name in denied if all(answer.action.startswith("KILL") for answer in answers[name])]
     for where, of_denied, of_killed in (("", own.denied, own.killed),
                                         (" without noNewPrivileges", own.denied_early, own.killed_early)):
         names = [name for name in denied if name in of_denied or name in killed and name in of_killed]
@@ -241,9 +214,13 @@ def of_fallbacks(judged: Tables, watches: Mapping[str, Watch]) -> Iterator[Findi
     """A finding if a newer syscall is denied so that libc doesn't call the older one, which is allowed."""
     for newer, older, first_arguments in FALLBACKS:
         numbers = judged.numbers_of(newer)
-        denials = {name: watches[name].keeps_from(newer, older, first_arguments) for name in numbers}
-        denial_of = {name: denial and (denial.answer, denial.by, denial.entry) for name, denial in denials.items()}
-        for (answer, by, entry), owners in by_owners(denial_of, judged):
+        denials: dict[str, tuple[Answer, str, int | None] | None] = dict.fromkeys(numbers)
+        for oci in numbers:
+            denied, instead = watches[oci].at(newer), [watches[oci].at(older, first) for first in first_arguments]
+            if denied and denied.answer.denies and denied.answer != ENOSYS and \
+                    any(region and region.answer.allows for region in instead):
+                denials[oci] = denied.answer, denied.by, denied.entry
+        for (answer, by, entry), owners in by_owners(denials, judged):
             yield Finding("no-fallback", f"{owners.named(newer, numbers[owners.first])} is answered {by} {answer}, and "
                           f"{older} is allowed: libc calls {older} instead only after ENOSYS, which is errno "
                           f"{ENOSYS.data}{owners.also}",
@@ -254,8 +231,16 @@ def of_siblings(judged: Tables, watches: Mapping[str, Watch], entries: Sequence[
     """Denials by an entry that another syscall makes void. One with ENOSYS isn't meant to keep a program from anything,
     but to lead it to the other one; entries with conditions are left out."""
     conditional = {name for entry in entries if entry.conditions for name in entry.names}
-    for name in dict.fromkeys(name for entry in entries for name in entry.names if name in SIBLINGS):
-        void = {oci: watches[oci].void(name, conditional) for oci in judged.numbers_of(name)}
+    for name in dict.fromkeys(name for entry in entries for name in entry.names
+                              if name in SIBLINGS and name not in conditional):
+        void: dict[str, tuple[int, Answer, tuple[str, ...]] | None] = dict.fromkeys(judged.numbers_of(name))
+        for oci in void:
+            denied = watches[oci].at(name)
+            if denied and denied.entry is not None and denied.answer.denies and denied.answer != ENOSYS:
+                others = ((sibling, watches[oci].at(sibling)) for sibling in SIBLINGS[name].split())
+                allowed = tuple(sibling for sibling, region in others
+                                if sibling not in conditional and region and region.answer.allows)
+                void[oci] = (denied.entry, denied.answer, allowed) if allowed else None
         for (entry, answer, others), on in by_owners(void, judged):
             yield Finding("sibling-allowed", f"{name} is denied{on.where} by entry {entry} ({answer}), and "
                           f"{listed(others, 'and')}, which can do the same, {'is' if len(others) == 1 else 'are'} "
