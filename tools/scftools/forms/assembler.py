@@ -42,17 +42,6 @@ def _unknown(word: str, kind: str, known: Sequence[str]) -> str:
     return f"'{output.cut(word)}' is no {kind}" + (f"; the nearest is '{near}'" if near else "")
 
 
-def _of_labels(lines: Sequence[str], here: str) -> Iterator[str]:
-    """What a line says of labels that the text doesn't have, or has twice."""
-    labels = Counter(label for line in lines for label, _, _ in _statements(line) if label)
-    for label, word, operands in _statements(here):
-        targets = re.findall(r"[A-Za-z_]\w*", operands) if word in ("ja", "jeq", "jgt", "jge", "jset") else []
-        yield from (_unknown(target, "label", [*itertools.islice(labels, MOST_LABELS)])
-                    for target in targets if target != "x" and target not in labels)
-        if labels[label] > 1:
-            yield f"'{output.cut(label)}' is a label twice"
-
-
 def wrong_word(text: str, fault: Fault | None) -> list[str]:
     """Which word of a text a fault is about, and the nearest that is known; nothing if it can't be said."""
     lines, number = text.split("\n"), fault.numbers.get("line", 0) if fault is not None else 0
@@ -63,7 +52,15 @@ def wrong_word(text: str, fault: Fault | None) -> list[str]:
         words = (word for _, word, _ in _statements(here) if word and word not in MNEMONICS)
         return [_unknown(word, "mnemonic", MNEMONICS) for word in itertools.islice(words, 1)]
     if fault.kind == "Label":
-        return [*itertools.islice(_of_labels(lines, here), 1)]
+        labels = Counter(label for line in lines for label, _, _ in _statements(line) if label)
+        for label, word, operands in _statements(here):
+            targets = re.findall(r"[A-Za-z_]\w*", operands) if word in ("ja", "jeq", "jgt", "jge", "jset") else []
+            unknown = next((target for target in targets if target != "x" and target not in labels), None)
+            if unknown is not None:
+                return [_unknown(unknown, "label", [*itertools.islice(labels, MOST_LABELS)])]
+            if labels[label] > 1:
+                return [f"'{output.cut(label)}' is a label twice"]
+        return []
     statements = [f"the statement is '{output.cut(' '.join(parts[1:]))}'"
                   for parts in itertools.islice(_statements(here), 2)]
     return statements if len(statements) == 1 and fault.kind != "TooLong" else []

@@ -5,7 +5,6 @@ Linux from 5.11 on answers syscalls that a filter always allows from a bitmap an
 """
 from __future__ import annotations
 
-from collections.abc import Iterator
 
 from ..base import inputs, output, program
 from ..base.values import Pattern
@@ -20,25 +19,6 @@ BY_NAME = {architecture.name: architecture for architecture in JUDGED.values()}
 GREATEST = (1 << 30) - 1
 UNKNOWN = "names in the counts that were skipped because no table has them"
 ALLOWED = {Answer("ALLOW", 0)}
-
-
-def _entries(file: str, own: Architecture) -> Iterator[tuple[Architecture, str, int]]:
-    """What the lines of a file count: architectures, names and counts. A line without ARCH is of `own`."""
-    text = inputs.read_whole(file, "counts").decode("utf-8", "surrogateescape")
-    for number, line in enumerate(map(str.strip, text.split("\n")), 1):
-        match = LINE.fullmatch(line)
-        architecture = BY_NAME.get(match[1], own if match[1] is None else None) if match else None
-        if match and architecture:
-            yield architecture, match[2], int(match[3])
-        elif line and not line.startswith("#"):
-            raise program.ToolError(f"line {number} of {inputs.label(file)} is neither NAME COUNT nor ARCH NAME COUNT: "
-                                    f"'{output.escaped(output.cut(line))}'")
-
-
-def _part(architecture: Architecture, counts: dict[str, int], divisor: int) -> tuple[str, bytes]:
-    """The part of a bundle with an architecture's counts; a count above 0 stays so."""
-    lines = (f"{name} {(count + divisor - 1) // divisor}\n" for name, count in counts.items())
-    return f"counts-{architecture.kind}", "".join(lines).encode()
 
 
 def _without_allowed(counts: dict[Architecture, dict[str, int]], profile: bytes,
@@ -63,16 +43,26 @@ def read_counts(file: str, profile: bytes, tables: Tables, has_bitmap: bool) -> 
     syscalls that no table has are reported."""
     counts: dict[Architecture, dict[str, int]] = {}
     unknown: dict[str, None] = {}
-    for architecture, name, count in _entries(file, JUDGED[next(iter(tables.of))]):
-        table = tables.of.get(architecture.oci)
-        if table is None or table.number_of(name) is None:
-            unknown[architecture.marked(name)] = None
-        else:
-            own = counts.setdefault(architecture, {})
-            own[name] = own.get(name, 0) + count
+    text = inputs.read_whole(file, "counts").decode("utf-8", "surrogateescape")
+    for number, line in enumerate(map(str.strip, text.split("\n")), 1):
+        match = LINE.fullmatch(line)
+        architecture = BY_NAME.get(match[1] or JUDGED[next(iter(tables.of))].name) if match else None
+        if architecture:
+            name, table = match[2], tables.of.get(architecture.oci)
+            if table is None or table.number_of(name) is None:
+                unknown[architecture.marked(name)] = None
+            else:
+                own = counts.setdefault(architecture, {})
+                own[name] = own.get(name, 0) + int(match[3])
+        elif line and not line.startswith("#"):
+            raise program.ToolError(f"line {number} of {inputs.label(file)} is neither NAME COUNT nor ARCH NAME COUNT: "
+                                    f"'{output.escaped(output.cut(line))}'")
     if unknown:
         program.say(f"{UNKNOWN}: {output.some(list(unknown), MOST_LISTED)}")
     if has_bitmap and counts:
         counts = _without_allowed(counts, profile, tables)
     divisor = max((count for own in counts.values() for count in own.values()), default=0) // GREATEST + 1
-    return [_part(architecture, own, divisor) for architecture, own in counts.items() if own]
+    # (a count above 0 stays so)
+    return [(f"counts-{architecture.kind}",
+             "".join(f"{name} {(count + divisor - 1) // divisor}\n" for name, count in own.items()).encode())
+            for architecture, own in counts.items() if own]

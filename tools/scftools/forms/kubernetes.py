@@ -18,7 +18,6 @@ from . import engines
 API, KIND = "security-profiles-operator.x-k8s.io/v1beta1", "SeccompProfile"
 SPEC_MEMBERS = ("defaultAction", "architectures", "listenerPath", "listenerMetadata", "syscalls", "flags")
 ENTRY_MEMBERS = ("names", "action", "errnoRet", "args")
-GREATEST_SIGNED = (1 << 63) - 1
 # The most bytes of YAML, which takes a Python reader four seconds, and 350 times its size; real ones have a tenth.
 LONGEST_YAML = 1 << 18
 # Where distributions put PyYAML. The tools don't look where others than root may write.
@@ -32,34 +31,27 @@ TAG = "tag:yaml.org,2002:"
 YAML_CONSTANTS = {"true": True, "false": False, "null": None, "~": None, "": None}
 
 
-def _check(profile: dict[str, Any]) -> None:
-    """Refuses what an object can't state."""
-    entries = list(enumerate(profile.get("syscalls") or []))
-    for where, action, number in (("the default", profile["defaultAction"], profile.get("defaultErrnoRet")),
-                                  *((f"entry {at}", entry["action"], entry.get("errnoRet")) for at, entry in entries)):
+def printed(profile: dict[str, Any], name: str) -> str:
+    """The text of an object by this name, whose spec is a profile: JSON, which is YAML, too. Raises Refused where an
+    object can't state it."""
+    entries = profile.get("syscalls") or []
+    answers = [(f"entry {at}", entry["action"], entry.get("errnoRet")) for at, entry in enumerate(entries)]
+    for where, action, number in (("the default", profile["defaultAction"], profile.get("defaultErrnoRet")), *answers):
         if action not in OCI_ACTIONS:
             raise Refused(f"{where} has an action that a {KIND} doesn't have")
         is_left_out = number == 0 or where == "the default"
         if is_left_out and Answer.of_profile(action, number) != Answer.of_profile(action, None):
             raise Refused(f"{where} has the errno {number}, which a {KIND} can't state")
-    for at, entry in entries:
+    for at, entry in enumerate(entries):
         for condition in entry.get("args") or []:
-            if max(condition.get("value") or 0, condition.get("valueTwo") or 0) > GREATEST_SIGNED:
+            if max(condition.get("value") or 0, condition.get("valueTwo") or 0) >= 1 << 63:
                 raise Refused(f"entry {at} compares with more than 2^63-1, which a {KIND} can't state")
-
-
-def printed(profile: dict[str, Any], name: str) -> str:
-    """The text of an object by this name, whose spec is a profile: JSON, which is YAML, too. Raises Refused."""
-    _check(profile)
-    entries = [{member: entry[member] for member in ENTRY_MEMBERS if member in entry}
-               for entry in profile.get("syscalls") or []]
     spec = {member: profile[member] for member in SPEC_MEMBERS if member in profile}
-    value = {"apiVersion": API, "kind": KIND, "metadata": {"name": name}, "spec": {**spec, "syscalls": entries}}
-    return json.dumps(value, indent=4) + "\n"
+    spec["syscalls"] = [{member: entry[member] for member in ENTRY_MEMBERS if member in entry} for entry in entries]
+    return json.dumps({"apiVersion": API, "kind": KIND, "metadata": {"name": name}, "spec": spec}, indent=4) + "\n"
 
 
 def is_yaml(data: bytes) -> bool:
-    """Whether a text looks like YAML of Kubernetes."""
     return not data.lstrip().startswith((b"{", b"[")) and all(
         re.search(rb"^" + member + rb":", data, re.M) for member in (b"apiVersion", b"kind"))
 
@@ -78,25 +70,21 @@ def _module() -> Any:
     return None
 
 
-def _scalar(node: Any) -> Any:
-    kind, text = node.tag.removeprefix(TAG), node.value
-    if kind == "str":
-        return text
-    if kind in ("bool", "null") and text.lower() in YAML_CONSTANTS:
-        return YAML_CONSTANTS[text.lower()]
-    if kind == "int" and re.fullmatch("0|-?[1-9][0-9]{0,20}|0x[0-9a-fA-F]{1,16}", text):
-        return int(text, 0)
-    raise Refused(f"line {node.start_mark.line + 1} of the YAML has a value that JSON doesn't have: "
-                  f"'{engines.excerpt(text)}'")
-
-
 def _value(node: Any, seen: set[int]) -> Any:
     """A node as JSON has it; one that is there twice, by an alias, is refused."""
     if id(node) in seen:
         raise Refused("the YAML has aliases, which may stand for more than a profile can have")
     seen.add(id(node))
     if node.id == "scalar":
-        return _scalar(node)
+        kind, text = node.tag.removeprefix(TAG), node.value
+        if kind == "str":
+            return text
+        if kind in ("bool", "null") and text.lower() in YAML_CONSTANTS:
+            return YAML_CONSTANTS[text.lower()]
+        if kind == "int" and re.fullmatch("0|-?[1-9][0-9]{0,20}|0x[0-9a-fA-F]{1,16}", text):
+            return int(text, 0)
+        raise Refused(f"line {node.start_mark.line + 1} of the YAML has a value that JSON doesn't have: "
+                      f"'{engines.excerpt(text)}'")
     if node.id == "sequence":
         return [_value(item, seen) for item in node.value]
     pairs = [(_value(key, seen), _value(value, seen)) for key, value in node.value]

@@ -54,7 +54,12 @@ def read_stacks(words: Sequence[str], options: Any = None, compiles: bool = Fals
         return read(words[0], options)  # type: ignore
     if any(map(is_process, words)):
         raise program.ToolError("a process stands alone, since its filters are a whole stack")
-    return filters.read_stack(words, (lambda word: _filter_of(word, options)) if compiles else filters.read_filter)
+
+    def filter_of(word: str) -> Filter:
+        given = read(word, options)
+        return compiled(word, given) if isinstance(given, ProfileInput) else given  # type: ignore
+
+    return filters.read_stack(words, filter_of if compiles else filters.read_filter)
 
 
 def read_stack(words: Sequence[str], options: Any = None, compiles: bool = False) -> list[Filter]:
@@ -69,11 +74,6 @@ def the_stack(given: Inspection) -> list[Filter]:
         raise program.ToolError(f"the threads of process {next(iter(given.names))} have different filters: `scf "
                                 "filters-of` takes those of each", program.UNKNOWN)
     return given.stacks[0].named
-
-
-def _filter_of(word: str, options: Any) -> Filter:
-    given = read(word, options)
-    return compiled(word, given) if isinstance(given, ProfileInput) else given  # type: ignore
 
 
 def compiled(word: str, profile: ProfileInput) -> Filter:

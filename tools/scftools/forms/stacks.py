@@ -73,7 +73,6 @@ class Inspection:
 
     @property
     def notes(self) -> list[str]:
-        """Notes on the inspection itself."""
         return [*(f"process {process} is skipped: it {why}" for process, why in self.passed_over.items()),
                 *(f"the syscall of {called(thread, process)} restarts, and its seccomp supervisor gets it a second "
                   f"time" for process, thread in self.asked_again)]

@@ -67,26 +67,19 @@ MEMBER_MARK = Pattern(r" *([a-z_]+)=")
 FORKS = ("clone(", "clone3(", "fork(", "vfork(")
 
 
-def _number_of(match: re.Match[str], architecture: str) -> int | None:
-    """The number of a part of an argument."""
-    hexadecimal, octal, decimal, name = match.groups()
-    if name:
-        return constants.numbers_on(architecture).get(name)
-    if decimal:
-        return int(decimal) if re.fullmatch("-?(?:0|[1-9].*)", decimal) else None
-    return int(hexadecimal, 16) if hexadecimal else int(octal, 8)
-
-
 def _number_in(text: str, architecture: str) -> int | None:
     """The printed number, or the bitwise OR of all that are printed, as in SOCK_STREAM|0x80000."""
     whole, at = 0, 0
     while True:
         part = PART.match(text, at)
-        number = _number_of(part, architecture) if part else None
-        if part is None or number is None:
+        if part is None:
             return None
+        hexadecimal, octal, decimal, name = part.groups()
+        number = constants.numbers_on(architecture).get(name) if name else \
+            int(hexadecimal, 16) if hexadecimal else int(octal, 8) if octal else \
+            int(decimal) if re.fullmatch("-?(?:0|[1-9].*)", decimal) else None
         is_alone = part.start() == 0 and part.end() == len(text)
-        if number < 0 and not is_alone:
+        if number is None or number < 0 and not is_alone:
             return None
         whole, at = number if is_alone else whole | number, part.end()
         if at == len(text):
@@ -117,11 +110,8 @@ def values_of(text: str, architecture: str = NATIVE) -> tuple[int, ...] | None:
 
 def _past(text: str, at: int) -> int | None:
     """The index behind a text in quotes, a comment or a path that begins here; None if it has no end."""
-    if text[at] == '"':
-        match = STRING.match(text, at)
-        return match.end() if match else None
-    if text[at] == "<":
-        match = DESCRIBED.match(text, at)
+    if text[at] in '"<':
+        match = (STRING if text[at] == '"' else DESCRIBED).match(text, at)
         return match.end() if match else None
     depth = 0
     for match in COMMENT_MARK.finditer(text, at):

@@ -29,7 +29,6 @@ MESSAGE = Pattern(r"strace: Process [0-9]+ (?:attached|detached)")
 # linux/prctl.h, linux/seccomp.h
 PR_SET_SECCOMP, SECCOMP_MODE_FILTER = 22, 2
 SECCOMP_SET_MODE_FILTER, FLAG_TSYNC, FLAG_NEW_LISTENER = 1, 1, 8
-LOADS = ("seccomp(", "prctl(")
 # More filters than a thread may have (MAX_INSNS_PER_PATH in kernel/seccomp.c is 32768, and each counts as 5 or more).
 MOST_FILTERS = 8192
 SUPERSEDED = Pattern(r"\+\+\+ superseded by execve in pid ([0-9]{1,10}) \+\+\+")
@@ -89,34 +88,29 @@ class Confinement:
         if text.startswith(FORKS):
             result = RESULT.match(text, text.rfind(")") + 1)
             if result and result[1].isdigit() and result[1] != "0":
-                self._makes(who, result[1], "CLONE_THREAD" in text)
-        elif text.startswith(LOADS):
+                child = result[1]
+                early = self._early.pop(who, child)
+                if child == early and child not in self.process:
+                    self._expected[child] = None
+                for number in (child, early):
+                    process = self.process_of(who) if "CLONE_THREAD" in text else number
+                    if number in self.process:
+                        # (it may have loaded filters since its first line)
+                        self.process[number] = process
+                    else:
+                        self._is_as(number, who, process)
+        elif text.startswith(("seccomp(", "prctl(")):
             flags = _flags_of_load(text, name, is_cut)
             if flags is not None:
-                self._loads(who, self.filter_in(text, name), bool(flags & FLAG_TSYNC))
+                filters = (*self.filters.get(who, ())[:MOST_FILTERS], self.filter_in(text, name))
+                self.is_shown, process = True, self.process_of(who)
+                for thread in self.process if flags & FLAG_TSYNC else [who]:
+                    if thread == who or self.process[thread] == process:
+                        self.filters[thread] = filters
 
     def filter_in(self, _: str, name: re.Match[str]) -> bytes:
         """The filter that a call loads; here only that there is one."""
         return name[1].encode()
-
-    def _makes(self, who: str | None, child: str, is_thread: bool) -> None:
-        early = self._early.pop(who, child)
-        if child == early and child not in self.process:
-            self._expected[child] = None
-        for number in (child, early):
-            process = self.process_of(who) if is_thread else number
-            if number in self.process:
-                # (it may have loaded filters since its first line)
-                self.process[number] = process
-            else:
-                self._is_as(number, who, process)
-
-    def _loads(self, who: str | None, data: bytes, is_for_all: bool) -> None:
-        self.is_shown, process = True, self.process_of(who)
-        filters = (*self.filters.get(who, ())[:MOST_FILTERS], data)
-        for thread in self.process if is_for_all else [who]:
-            if thread == who or self.process[thread] == process:
-                self.filters[thread] = filters
 
     def ends(self, who: str | None, text: str) -> None:
         """A line says that a process or thread has ended, or that a thread goes on as its process."""
@@ -200,7 +194,12 @@ class Reader:
     def add(self, number: int, line: str) -> None:
         """Takes a line of the log."""
         self._line = number
-        if line.endswith(("attached", "detached")) and self._is_message(line):
+        message = MESSAGE.search(line, max(0, len(line) - 64)) if line.endswith(("attached", "detached")) else None
+        if message and message.end() == len(line):
+            # it ends a line, which strace broke off there and continues in the next one
+            if message.start() and self._room > 0:
+                self._broken.append(line[:message.start()])
+                self._room -= message.start()
             return
         if self._broken:
             line = "".join([*self._broken, line])
@@ -215,16 +214,6 @@ class Reader:
         self._sink.end_line(who, read)
         if read.text.startswith("+++ "):
             self.confinement.ends(who, read.text)
-
-    def _is_message(self, line: str) -> bool:
-        """Whether a message of strace ends a line, which it broke off there and continues in the next one."""
-        message = MESSAGE.search(line, max(0, len(line) - 64))
-        if message is None or message.end() != len(line):
-            return False
-        if message.start() and self._room > 0:
-            self._broken.append(line[:message.start()])
-            self._room -= message.start()
-        return True
 
     def number_of(self, architecture: str, name: str) -> int | None:
         """The number of a syscall in the table of an architecture; strace prints one without a name as
@@ -256,25 +245,20 @@ class Reader:
         return "" if numbers else architecture
 
     def _who(self, printed: str | None) -> str | None:
-        """The process of a line: strace names it only if there are several."""
+        """The process of a line: strace names it only if there are several. One that comes up has the architecture of
+        those of which one makes it; where none is seen to, not the log's own once that of any process wasn't."""
         if printed is None:
             return next(iter(self._alive)) if len(self._alive) == 1 else None
         if printed not in self._alive:
             if max(len(self._alive), len(self._architectures)) >= PROCESSES:
                 raise program.ToolError(f"the log has more than {PROCESSES} processes whose end isn't logged")
             self._alive.add(printed)
-            self._architectures.setdefault(printed, self._architecture_of_new())
+            architecture = self.own_architecture if self._other is None else self._other
+            if self._other is not None and self._makers and len(self._makers) <= MAKERS:
+                made = map(self._architecture_of, self._makers)
+                architecture = next((oci for oci in made if oci != self.own_architecture), self.own_architecture)
+            self._architectures.setdefault(printed, architecture)
         return printed
-
-    def _architecture_of_new(self) -> str:
-        """The architecture of a process that comes up: that of those of which one makes it; where none is seen to, it
-        isn't the log's own once that of any process wasn't."""
-        if self._other is None:
-            return self.own_architecture
-        if self._makers and len(self._makers) <= MAKERS:
-            made = map(self._architecture_of, self._makers)
-            return next((oci for oci in made if oci != self.own_architecture), self.own_architecture)
-        return self._other
 
     def _architecture_of(self, who: str | None) -> str:
         return self._architectures.get(who, self.own_architecture)
@@ -283,7 +267,13 @@ class Reader:
         name = CALL_NAME.match(line.text)
         mode = None if name else MODE.match(line.text)
         if name and line.text.endswith(UNFINISHED_MARK):
-            self._begin(who, Line(line.number, line.nr, line.text.removesuffix(UNFINISHED_MARK)[:LONGEST_BEGINNING]))
+            self._pending_ends(who)
+            text = line.text.removesuffix(UNFINISHED_MARK)[:LONGEST_BEGINNING]
+            self._pending[who] = Line(line.number, line.nr, text)
+            if text.startswith(FORKS):
+                self._makers[who] = None
+            if len(self._pending) > PENDING:
+                self._pending_ends(next(iter(self._pending)))
         elif name:
             self._call(who, line, name)
         elif mode:
@@ -300,40 +290,28 @@ class Reader:
             self._sink.count_unread(line, False)
 
     def _enter(self, who: str | None, architecture: str) -> None:
-        """A process is in a mode from now on."""
         self._architectures[who] = architecture
         self._other = architecture if architecture != self.own_architecture else self._other
-
-    def _begin(self, who: str | None, line: Line) -> None:
-        """Keeps a syscall that isn't finished yet."""
-        self._pending_ends(who)
-        self._pending[who] = line
-        if line.text.startswith(FORKS):
-            self._makers[who] = None
-        if len(self._pending) > PENDING:
-            self._pending_ends(next(iter(self._pending)))
 
     def _pending_ends(self, who: str | None) -> None:
         """A call that isn't finished won't be."""
         if who in self._pending:
-            begun = self._taken(who)
+            begun = self._pending.pop(who)
+            self._makers.pop(who, None)
             self._call(who, begun, CALL_NAME.match(begun.text), is_cut=True)
-
-    def _taken(self, who: str | None) -> Line:
-        """A call that isn't finished, which is kept no longer."""
-        self._makers.pop(who, None)
-        return self._pending.pop(who)
 
     def _resume(self, who: str | None, line: Line) -> None:
         match = RESUMED.match(line.text)
         # the first process has no number as long as it is alone
         key = who if who in self._pending else None
-        name = CALL_NAME.match(self._pending[key].text) if key in self._pending else None
+        begun = self._pending.get(key)
+        name = CALL_NAME.match(begun.text) if begun else None
         if match and name and name[1] == match[1]:
-            begun = self._taken(key)
+            self._makers.pop(key, None)
+            del self._pending[key]
             is_cut = len(begun.text) >= LONGEST_BEGINNING
-            text = begun.text if is_cut else begun.text + line.text[match.end():]
-            self._call(who, Line(begun.number, begun.nr, text), name, is_cut)
+            begun.text += "" if is_cut else line.text[match.end():]
+            self._call(who, begun, name, is_cut)
         else:
             is_known = match and self.numbered(self.architecture_of(who, match[1], line.nr), match[1])
             self._sink.count_unread(line, bool(is_known))
@@ -341,20 +319,16 @@ class Reader:
     def _call(self, who: str | None, line: Line, name: re.Match[str], is_cut: bool = False) -> None:
         architecture = self.architecture_of(who, name[1], line.nr)
         if line.text.startswith(FORKS):
-            self._forked(who, line.text)
+            # a new process begins in the architecture of the one that makes it
+            result = RESULT.match(line.text, line.text.rfind(")") + 1)
+            if result and result[1].isdigit():
+                self._architectures.setdefault(result[1], self._architecture_of(who))
         was_shown, is_under = self.confinement.is_shown, self.confinement.has(who)
         self.confinement.takes(who, line.text, name, is_cut or self._is_long)
         if self.confinement.is_shown and not was_shown:
             self._sink.show_load()
         self._sink.take_call(who, line, name, architecture, is_cut or self._is_long,
                              is_under or not self.confinement.is_shown)
-
-    def _forked(self, who: str | None, text: str) -> None:
-        """A new process begins in the architecture of the one that makes it."""
-        at = text.rfind(")")
-        result = RESULT.match(text, at + 1)
-        if result and result[1].isdigit() and result[1] not in self._architectures:
-            self._architectures[result[1]] = self._architecture_of(who)
 
     def end(self) -> None:
         if self._broken:

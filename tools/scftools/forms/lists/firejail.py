@@ -59,11 +59,6 @@ class StatedSettings:
     allows_debuggers: bool = False
     remarks: list[str] = field(default_factory=list)
 
-    def ignores(self, name: str, value: str) -> bool:
-        """Whether a line is ignored: its first words are those behind `ignore`."""
-        words = f"{name} {value}".split()
-        return any(" ".join(words[:count]) in self.ignored for count in range(1, min(len(words), MOST_IGNORED) + 1))
-
 
 def _contents(path: str, most: int) -> bytes:
     with open(path, "rb") as file:
@@ -141,7 +136,9 @@ def read_lines(data: bytes, settings: StatedSettings, outer: int | None = None, 
             continue
         if name.startswith("?") and any(word in value for word in ("seccomp", "protocol")):
             raise error_at(at, "whether its condition holds isn't known", UnknownRules)
-        if name in (*SETTINGS, "include", "allow-debuggers") and settings.ignores(name, value):
+        # (a line is ignored whose first words are those behind `ignore`)
+        words = f"{name} {value}".split()[:MOST_IGNORED] if name in (*SETTINGS, "include", "allow-debuggers") else ()
+        if any(" ".join(words[:count]) in settings.ignored for count in range(1, len(words) + 1)):
             continue
         if name == "include":
             read_lines(_included(value, at, settings), settings, at, depth + 1)
@@ -200,11 +197,8 @@ class GroupReader:
 
 
 def _answer_of(text: str, at: int) -> Answer:
-    """The answer of an error action."""
-    if text.lower() in ("kill", "log"):
-        return KILL if text.lower() == "kill" else LOG
     try:
-        return answer_of_errno(text)
+        return {"kill": KILL, "log": LOG}.get(text.lower()) or answer_of_errno(text)
     except SettingError as why:
         raise error_at(at, str(why)) from why
 
@@ -234,11 +228,12 @@ def _namespaces(text: str, at: int, answer: Answer) -> dict[str, Restriction]:
             "setns": Restriction(answer, [*with_any(1, flags).denied, no_flag], entered)}
 
 
-def _personality(answer: Answer) -> Restriction:
+def _personality(answer: Answer) -> dict[str, Restriction]:
     """Denies another personality than 0 and 0xffffffff, which asks for the present one: of the lower half some bit is
     set and the next one isn't, or it has more bits."""
     mixed = [masked(0, 1 << bit | 1 << (bit + 1) % len(BITS), 1 << bit) for bit in BITS]
-    return Restriction(answer, [*mixed, (Condition(0, "SCMP_CMP_GT", LOWER_HALF, 0),)], among(0, (0, LOWER_HALF)))
+    denied = [*mixed, (Condition(0, "SCMP_CMP_GT", LOWER_HALF, 0),)]
+    return {"personality": Restriction(answer, denied, among(0, (0, LOWER_HALF)))}
 
 
 def _memory(answer: Answer) -> dict[str, Restriction]:
@@ -264,19 +259,6 @@ def _main_list(settings: StatedSettings, reader: GroupReader, answer: Answer) ->
         return ALLOW, {}, 0
     group = DENIED_GROUP if settings.allows_debuggers else DENIED_WITHOUT_DEBUGGERS
     return ALLOW, reader.answers_in(f"{group},{text}" if "seccomp" in of else group, at, answer, ALLOW, settings), at
-
-
-def _restrictions(settings: StatedSettings, answer: Answer) -> dict[str, tuple[Restriction, int]]:
-    """What the filters beside the main one deny, by names, each with its line."""
-    readers: dict[str, Callable[[str, int], dict[str, Restriction]]] = {
-        "protocol": lambda text, at: {"socket": _families(text, at)},
-        "memory-deny-write-execute": lambda _, __: _memory(answer),
-        "restrict-namespaces": lambda text, at: _namespaces(text, at, answer),
-        # (beside these lists firejail takes the filter that it was built with)
-        "seccomp.block-secondary": lambda _, __: {"personality": _personality(
-            EPERM if {"seccomp.drop", "seccomp.keep"} & settings.of.keys() else answer)}}
-    return {name: (restriction, settings.of[setting][1]) for setting, restrictions_of in readers.items()
-            if setting in settings.of for name, restriction in restrictions_of(*settings.of[setting]).items()}
 
 
 def _rules_of(name: str, main: tuple[Answer, int], restricted: tuple[Restriction, int] | None) -> Iterator[Rule]:
@@ -308,11 +290,19 @@ def _global_action() -> str:
 
 
 def policy_of(settings: StatedSettings, reader: GroupReader) -> Policy:
-    """The rules that settings have together."""
     text, at = settings.of.get("seccomp-error-action") or (_global_action(), 0)
     answer = _answer_of(text, at)
     default, answers, line = _main_list(settings, reader, answer)
-    restrictions = _restrictions(settings, answer)
+    # what the filters beside the main one deny
+    readers: dict[str, Callable[[str, int], dict[str, Restriction]]] = {
+        "protocol": lambda text, at: {"socket": _families(text, at)},
+        "memory-deny-write-execute": lambda _, __: _memory(answer),
+        "restrict-namespaces": lambda text, at: _namespaces(text, at, answer),
+        # (beside these lists firejail takes the filter that it was built with)
+        "seccomp.block-secondary": lambda _, __: _personality(
+            EPERM if {"seccomp.drop", "seccomp.keep"} & settings.of.keys() else answer)}
+    restrictions = {name: (restriction, settings.of[setting][1]) for setting, restrictions_of in readers.items()
+                    if setting in settings.of for name, restriction in restrictions_of(*settings.of[setting]).items()}
     policy = Policy(default, remarks=list(dict.fromkeys(settings.remarks)),
                     not_compared=() if "seccomp.block-secondary" in settings.of else (I386,))
     policy.add_known(rule for name in dict.fromkeys([*answers, *restrictions])

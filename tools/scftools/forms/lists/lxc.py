@@ -40,7 +40,6 @@ def _number(text: str, at: int) -> int:
 
 
 def _action(text: str, at: int) -> Answer:
-    """The answer of an action's words."""
     text = text.lstrip(" ")
     if text.startswith("errno"):
         match = re.match(r"\s*\+?([0-9]{1,9})", text[5:])
@@ -54,24 +53,21 @@ def _action(text: str, at: int) -> Answer:
     return answer
 
 
-def _condition(text: str, at: int) -> Condition:
-    match = CONDITION.match(text)
-    index = _number(match[1], at) if match else 6
-    operator = LXC_OPERATORS.get(match[3], match[3].removeprefix("SCMP_CMP_")) if match else ""
-    if index >= 6 or operator not in LXC_OPERATORS.values():
-        raise error_at(at, f"'{text.strip()}]' isn't a condition")
-    value, mask = _number(match[2], at), _number(match[4] or "0", at)
-    # of a mask LXC's `value` is what the masked argument is compared with
-    first, second = (mask, value) if operator == "MASKED_EQ" else (value, 0)
-    return Condition(index, f"SCMP_CMP_{operator}", first, second)
-
-
 def _conditions(line: str, at: int) -> tuple[Condition, ...]:
-    pieces = [piece for piece in line.split("]") if piece][:6] if "[" in line else ()
-    conditions = tuple(_condition(piece, at) for piece in pieces)
+    conditions = []
+    for text in [piece for piece in line.split("]") if piece][:6] if "[" in line else ():
+        match = CONDITION.match(text)
+        index = _number(match[1], at) if match else 6
+        operator = LXC_OPERATORS.get(match[3], match[3].removeprefix("SCMP_CMP_")) if match else ""
+        if index >= 6 or operator not in LXC_OPERATORS.values():
+            raise error_at(at, f"'{text.strip()}]' isn't a condition")
+        value, mask = _number(match[2], at), _number(match[4] or "0", at)
+        # of a mask LXC's `value` is what the masked argument is compared with
+        first, second = (mask, value) if operator == "MASKED_EQ" else (value, 0)
+        conditions.append(Condition(index, f"SCMP_CMP_{operator}", first, second))
     if len({condition.index for condition in conditions}) < len(conditions):
         raise error_at(at, "libseccomp refuses two conditions on one argument")
-    return conditions
+    return tuple(conditions)
 
 
 def _rules(lines: list[tuple[int, str]], default: Answer, policy: Policy) -> Iterator[tuple[Rule, str]]:
@@ -100,15 +96,6 @@ def _rules(lines: list[tuple[int, str]], default: Answer, policy: Policy) -> Ite
         if name.startswith(FORCE_UMOUNT):
             rule = Rule("umount2", EACCES, (Condition(1, "SCMP_CMP_MASKED_EQ", MNT_FORCE, MNT_FORCE),), at)
         yield rule, section
-
-
-def _numbers(lines: list[tuple[int, str]], policy: Policy) -> None:
-    """The rules of version 1: a number of x86-64 in each line."""
-    for at, line in lines:
-        match = re.match(r"\s*\+?([0-9]{1,9})", line)
-        if match is None:
-            raise error_at(at, "it isn't a syscall number")
-        policy.add(Rule(sandbox_rules.name_of(match[1], at), ALLOW, (), at))
 
 
 def _add(policy: Policy, rules: list[tuple[Rule, str]]) -> None:
@@ -146,7 +133,12 @@ def read_lxc_policy(data: bytes) -> Policy:
         if is_denylist:
             raise error_at(2, "version 1 has allowlists alone")
         policy = Policy(KILL)
-        _numbers(lines, policy)
+        # a number of x86-64 in each line
+        for at, line in lines:
+            match = re.match(r"\s*\+?([0-9]{1,9})", line)
+            if match is None:
+                raise error_at(at, "it isn't a syscall number")
+            policy.add(Rule(sandbox_rules.name_of(match[1], at), ALLOW, (), at))
         return policy
     _, blank, action = head.partition(" ")
     policy = Policy(_action(action, 2) if blank else ALLOW if is_denylist else KILL)

@@ -20,19 +20,17 @@ LOWER_HALF = 0xFFFFFFFF
 KILL, LOG = Answer("KILL_THREAD", 0), Answer("LOG", 0)
 # Letters that end a line for other programs, and for the sandbox don't.
 CONTROL_LETTERS = frozenset(map(chr, (*range(9), *range(11, 32), 127, 0x85, 0x2028, 0x2029)))
-Knows = Callable[[str, str], "int | None"]
 
 
-class ListError(Exception):
+class ListError(program.ToolError):
     """The sandbox refuses the list, or it has a rule that no profile can state."""
-
-    status = program.TROUBLE
 
 
 class UnknownRules(ListError):
     """What the list states can't be known here."""
 
-    status = program.UNKNOWN
+    def __init__(self, text: str):
+        super().__init__(text, program.UNKNOWN)
 
 
 def error_at(line: int, why: str, kind: type[ListError] = ListError) -> ListError:
@@ -84,11 +82,7 @@ class Policy:
 
     def _covering(self) -> dict[str, Rule]:
         """By a syscall its first rule without conditions, which for libseccomp covers all others."""
-        first: dict[str, Rule] = {}
-        for rule in self.rules:
-            if not rule.conditions:
-                first.setdefault(rule.name, rule)
-        return first
+        return {rule.name: rule for rule in reversed(self.rules) if not rule.conditions}
 
     def notes(self) -> Iterator[str]:
         """The remarks, and which rules have no effect."""
@@ -155,14 +149,13 @@ def name_of(number: int | str, at: int) -> str:
     return names[0]
 
 
-def _number_in_tables(name: str, architecture: str) -> int:
-    table = tables.architecture_table(architecture)
-    number = None if table is None else table.number_of(name)
-    return -1 if number is None or multiplexed.is_multiplexed(name, architecture) else number
-
-
-def knows() -> Knows:
+def knows() -> Callable[[str, str], int | None]:
     """The number of a name on an architecture: below 0 if libseccomp makes no rule of it there, None if it isn't known.
     Without a libseccomp any name may be known, and the tables tell the numbers."""
+    def number_in_tables(name: str, architecture: str) -> int:
+        table = tables.architecture_table(architecture)
+        number = None if table is None else table.number_of(name)
+        return -1 if number is None or multiplexed.is_multiplexed(name, architecture) else number
+
     library = libseccomp.installed()
-    return library.number_of if library is not None else _number_in_tables
+    return library.number_of if library is not None else number_in_tables

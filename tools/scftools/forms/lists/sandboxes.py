@@ -12,9 +12,8 @@ from .sandbox_rules import ListError, Policy
 
 @dataclass(frozen=True)
 class Sandbox:
-    """A sandbox, and what its list is called: what only such a list has, and its reader, which raises ListError."""
+    """What a sandbox's list is called, what only such a list has, and its reader, which raises ListError."""
 
-    name: str
     kind: str
     sign: Pattern
     read: Callable[[bytes], Policy]
@@ -25,15 +24,13 @@ class Sandbox:
             policy = self.read(data)
             return policy.data(), list(policy.notes())
         except (ListError, Refused) as why:
-            status = why.status if isinstance(why, ListError) else program.TROUBLE
-            raise program.ToolError(f"{label}, {self.kind}: {why}", status) from why
+            raise program.ToolError(f"{label}, {self.kind}: {why}", why.status) from why
 
 
-SANDBOXES = (Sandbox("LXC", "an LXC policy", lxc.SIGN, lxc.read_lxc_policy),
-             Sandbox("snapd", "a snap's seccomp template", snapd.SIGN, snapd.read_snap_template),
-             Sandbox("firejail", "a firejail profile", firejail.SIGN, firejail.read_firejail_profile))
+SANDBOXES = (Sandbox("an LXC policy", lxc.SIGN, lxc.read_lxc_policy),
+             Sandbox("a snap's seccomp template", snapd.SIGN, snapd.read_snap_template),
+             Sandbox("a firejail profile", firejail.SIGN, firejail.read_firejail_profile))
 
 
 def sandbox_of(data: bytes) -> Sandbox | None:
-    """The sandbox whose list a text is."""
     return next((sandbox for sandbox in SANDBOXES if sandbox.sign.search(data)), None)

@@ -10,7 +10,6 @@ from __future__ import annotations
 import grp
 import pwd
 import re
-from collections.abc import Iterator
 
 from ...base.values import Pattern
 from ...model import constants
@@ -71,8 +70,8 @@ def _condition(word: str, index: int, name: str, at: int) -> Condition:
     return Condition(index, f"SCMP_CMP_{SNAP_OPERATORS[operator]}", value, value if operator == "|" else 0)
 
 
-def _rules(lines: list[tuple[int, str]]) -> Iterator[Rule]:
-    number_of = sandbox_rules.knows()
+def read_snap_template(data: bytes) -> Policy:
+    lines, number_of, rules = list(sandbox_rules.lines_of(data)), sandbox_rules.knows(), []
     for at, line in lines:
         if line.startswith("#") or not line.strip():
             continue
@@ -89,13 +88,8 @@ def _rules(lines: list[tuple[int, str]]) -> Iterator[Rule]:
             # its arguments aren't looked at
             arguments = []
         conditions = tuple(_condition(word, index, name, at) for index, word in enumerate(arguments) if word != "-")
-        yield Rule(name, ALLOW, conditions, at)
-
-
-def read_snap_template(data: bytes) -> Policy:
-    lines = list(sandbox_rules.lines_of(data))
+        rules.append(Rule(name, ALLOW, conditions, at))
     directives = {line.strip() for _, line in lines}
-    rules = list(_rules(lines))
     if UNRESTRICTED in directives:
         return Policy(ALLOW, remarks=["it is unrestricted: snap-confine loads no filter"])
     policy = Policy(LOG if COMPLAIN in directives else EPERM, architectures=(NATIVE, I386), is_multiplexed=True)

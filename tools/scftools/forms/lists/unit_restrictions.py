@@ -41,10 +41,6 @@ SCHEDULING_POLICIES = (0, 3, 5)
 # linux/personality.h, by what `systemctl show` prints of Personality=, if anything.
 PERSONALITIES = {"": 0, "x86-64": 0, "x86": 8}
 SXID = (stat.S_ISUID, stat.S_ISGID)
-# The sets @clock, @module and @raw-io, as far as an x86-64 kernel has their syscalls.
-CLOCK = ("adjtimex", "clock_adjtime", "clock_adjtime64", "clock_settime", "clock_settime64", "settimeofday")
-MODULE = ("delete_module", "finit_module", "init_module")
-RAW_IO = ("ioperm", "iopl")
 # How `systemctl show` prints the error number of what is killed: SECCOMP_ERROR_NUMBER_KILL, which is INT_MAX - 1; older
 # systemds print 0.
 KILL_NUMBERS = ("2147483646", "0", "kill", "")
@@ -163,10 +159,6 @@ def _memory(_: str, architecture: str) -> Rules:
     return {**rules, "mmap": maps, "shmat": with_any(2, [attach])}
 
 
-def _realtime(_: str, __: str) -> Rules:
-    return {"sched_setscheduler": Restriction(EPERM, outside(1, SCHEDULING_POLICIES), among(1, SCHEDULING_POLICIES))}
-
-
 def _created(flags: int, mode: int) -> Restriction:
     """Denies opening with O_CREAT and a mode that has a bit of SXID; by the arguments with flags and mode."""
     create = constants.numbers()["O_CREAT"]
@@ -192,13 +184,17 @@ def _personality(text: str, _: str) -> Rules:
 # What the settings deny, each by its text and by the OCI name of an architecture.
 RULES: dict[str, Callable[[str, str], Rules]] = {
     "RestrictNamespaces": _namespaces, "RestrictAddressFamilies": _families, "MemoryDenyWriteExecute": _memory,
-    "RestrictRealtime": _realtime, "RestrictSUIDSGID": _sxid, "LockPersonality": _personality,
-    "ProtectClock": lambda _, __: _whole(CLOCK),
-    "ProtectHostname": lambda _, __: _whole(["sethostname", "setdomainname"]),
-    "ProtectKernelModules": lambda _, __: _whole(MODULE), "ProtectKernelLogs": lambda _, __: _whole(["syslog"]),
-    "ProtectKernelTunables": lambda _, __: _whole(["_sysctl"]), "PrivateDevices": lambda _, __: _whole(RAW_IO)}
-# Those that aren't `yes` or `no` alone, and what `systemctl show` prints of one that isn't set, if that isn't `no`.
-LISTS = ("RestrictNamespaces", "RestrictAddressFamilies")
+    "RestrictRealtime": lambda _, __: {"sched_setscheduler": Restriction(
+        EPERM, outside(1, SCHEDULING_POLICIES), among(1, SCHEDULING_POLICIES))},
+    "RestrictSUIDSGID": _sxid, "LockPersonality": _personality,
+    # (the sets @clock, @module and @raw-io, as far as an x86-64 kernel has their syscalls)
+    "ProtectClock": lambda _, __: _whole(("adjtimex", "clock_adjtime", "clock_adjtime64", "clock_settime",
+                                          "clock_settime64", "settimeofday")),
+    "ProtectHostname": lambda _, __: _whole(("sethostname", "setdomainname")),
+    "ProtectKernelModules": lambda _, __: _whole(("delete_module", "finit_module", "init_module")),
+    "ProtectKernelLogs": lambda _, __: _whole(["syslog"]), "ProtectKernelTunables": lambda _, __: _whole(["_sysctl"]),
+    "PrivateDevices": lambda _, __: _whole(("ioperm", "iopl"))}
+# What `systemctl show` prints of one that isn't set, if that isn't `no`.
 UNSET = {"RestrictAddressFamilies": "~"}
 RESTRICTION_PROPERTIES = (*RULES, "Personality")
 
@@ -212,7 +208,7 @@ def set_in(shown: dict[str, str]) -> dict[str, str]:
     """The settings that a unit has, each with its text; that of LockPersonality= is the personality."""
     texts = texts_in(shown)
     for name, text in texts.items():
-        if name not in LISTS and text != "yes":
+        if text != "yes" and name not in ("RestrictNamespaces", "RestrictAddressFamilies"):
             raise SettingError(f"{name}={text[:64]} isn't yes or no")
     return {**texts, **({"LockPersonality": shown.get("Personality", "")} if "LockPersonality" in texts else {})}
 
@@ -230,7 +226,6 @@ def numbers_of(version: str) -> tuple[int, int] | None:
 
 
 def is_modelled(version: str) -> bool:
-    """Whether the rules are those of this version."""
     numbers = numbers_of(version)
     return numbers is not None and numbers[1] >= KNOWN.get(numbers[0], numbers[1] + 1)
 
