@@ -48,6 +48,8 @@ class Unread(Case):
                             "'arg' of entry 1; the nearest is 'args'"),
                     "sycalls": ({"defaultAction": ALLOW, "sycalls": []},
                                 "'sycalls' of the profile; the nearest is 'syscalls'"),
+                    "mask": ({"defaultAction": ERRNO, "syscalls": [SPEC["syscalls"][0], {**entry, "args": [
+                        {**entry["args"][0], "mask": 1}]}]}, "'mask' of entry 1: args 0"),
                     "several": ({"defaultAction": ERRNO, "syscalls": [{**entry, "args": [
                         {**entry["args"][0], "mask": 1}]}], "x": 1},
                                  "'x' of the profile, and of 1 more")}
