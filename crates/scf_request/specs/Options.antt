@@ -129,17 +129,9 @@ one_of without (first ∷ second ∷ more) = None
 abbrev pub choice_in : {A : Type 0} → List Row → A × List (List ℕ × A) → Option A
 choice_in rows group = one_of group.0 (chosen_of rows group.1)
 
--- the flag of x86-64 syscalls
-abbrev pub native_flag : List ℕ
-native_flag = codes "native"
-
--- the flag of single calls
-abbrev pub calls_flag : List ℕ
-calls_flag = codes "calls"
-
 -- over which calls a comparison goes: all without a flag
 abbrev pub scope_flags : Scopes × List (List ℕ × Scopes)
-scope_flags = (AtOnce scopes.All, (native_flag, AtOnce scopes.Native) ∷ (calls_flag, EachCall) ∷ [])
+scope_flags = (AtOnce scopes.All, (codes "native", AtOnce scopes.Native) ∷ (codes "calls", EachCall) ∷ [])
 
 -- by which relation it goes: by the same answers without a flag
 abbrev pub relation_flags : Relation × List (List ℕ × Relation)
@@ -148,18 +140,6 @@ relation_flags =
 
 abbrev pub flag_names : {A : Type 0} → A × List (List ℕ × A) → List (List ℕ)
 flag_names group = map (λ flag. flag.0) group.1
-
--- the flag by which other filters stand in place of a profile
-abbrev pub beside_flag : List ℕ
-beside_flag = codes "beside"
-
--- the flag by which a profile is taken for each architecture that has a table
-abbrev pub architectures_flag : List ℕ
-architectures_flag = codes "architectures"
-
--- the flag that has what is left out of a profile printed in front of its filter
-abbrev pub left_out_flag : List ℕ
-left_out_flag = codes "left-out"
 
 -- an end of a range is given
 abbrev pub has_range : List Row → Bool
@@ -178,41 +158,25 @@ pub record AsksToCompare (rows : List Row) (comparison : Comparison) : Type 0 wh
   pub scopes : SelectsCalls rows comparison.scopes
   pub relation : choice_in rows relation_flags ≡ Some comparison.relation
 
--- the flag by which two sides are walked, and what isn't known to be answered alike is listed
-abbrev pub differences_flag : List ℕ
-differences_flag = codes "differences"
-
--- the flag by which a record of each region is shown
-abbrev pub examples_flag : List ℕ
-examples_flag = codes "examples"
-
--- the flag that has the instruction shown that gives an answer
-abbrev pub at_flag : List ℕ
-at_flag = codes "at"
-
--- the flag that has the paths of runs shown
-abbrev pub path_flag : List ℕ
-path_flag = codes "path"
-
 -- what the flags ask `decide` to print
 abbrev pub detail_in : List Row → Detail
 detail_in rows =
-    if is_given rows path_flag then Paths else (if is_given rows at_flag then Instruction else Answer)
+    if is_given rows (codes "path") then Paths else (if is_given rows (codes "at") then Instruction else Answer)
 
 -- Flags exclude a walk: that of other filters one without that of differences, and a range one with those of
 -- architectures and of differences.
 abbrev pub excludes_walk : List Row → Bool
 excludes_walk rows =
-    (is_given rows beside_flag && not (is_given rows differences_flag))
-    || (is_given rows architectures_flag && is_given rows differences_flag && has_range rows)
+    (is_given rows (codes "beside") && not (is_given rows (codes "differences")))
+    || (is_given rows (codes "architectures") && is_given rows (codes "differences") && has_range rows)
 
 -- the form of the bundle of a profile alone
 abbrev pub form_of_profile : List Row → BundleForm
-form_of_profile rows = if is_given rows architectures_flag then Architectures else Profile
+form_of_profile rows = if is_given rows (codes "architectures") then Architectures else Profile
 
 -- That of two sides. None where the flag of architectures stands with that of other filters or of native calls.
 abbrev pub form_of_sides : List Row → Option BundleForm
 form_of_sides rows =
-    if is_given rows architectures_flag
-    then (if is_given rows beside_flag || is_given rows native_flag then None else Some Architectures)
-    else Some (if is_given rows beside_flag then Beside (is_given rows calls_flag) else Profile)
+    if is_given rows (codes "architectures")
+    then (if is_given rows (codes "beside") || is_given rows (codes "native") then None else Some Architectures)
+    else Some (if is_given rows (codes "beside") then Beside (is_given rows (codes "calls")) else Profile)

@@ -15,7 +15,7 @@ use Rattle.scf_request.specs.declared.request.Command.TheVariants as commands
 use Rattle.scf_request.specs.declared.request.Request.{Request}
 use Rattle.scf_request.specs.declared.request.Scopes.{Scopes}
 use Rattle.scf_request.specs.declared.request.Scopes.TheVariants.{AtOnce, EachCall}
-use Rattle.scf_request.specs.Options.{AsksToCompare, NumberOption, architectures_flag, at_flag, beside_flag, call_options, choice_in, comparison_options, detail_in, differences_flag, examples_flag, excludes_walk, exploration_options, first_wrong, flag_names, form_of_profile, form_of_sides, has_range, is_given, left_out_flag, native_flag, number_in, numbers_of_comparison, numbers_of_record, path_flag, reading_in, relation_flags, scope_flags}
+use Rattle.scf_request.specs.Options.{AsksToCompare, NumberOption, call_options, choice_in, comparison_options, detail_in, excludes_walk, exploration_options, first_wrong, flag_names, form_of_profile, form_of_sides, has_range, is_given, number_in, numbers_of_comparison, numbers_of_record, reading_in, relation_flags, scope_flags}
 
 pub data CommandName : Type 0 where
   Answers Ask Asm Check Compare Compile Decide Dis Run : CommandName
@@ -25,20 +25,20 @@ abbrev pub words_of_command : CommandName → List ℕ × List NumberOption × L
 words_of_command Answers = (
   codes "answers",
   exploration_options,
-  native_flag ∷ differences_flag ∷ beside_flag ∷ architectures_flag ∷ examples_flag ∷ [],
+  codes "native" ∷ codes "differences" ∷ codes "beside" ∷ codes "architectures" ∷ codes "examples" ∷ [],
 )
-words_of_command Ask = (codes "ask", call_options, architectures_flag ∷ [])
+words_of_command Ask = (codes "ask", call_options, codes "architectures" ∷ [])
 words_of_command Asm = (codes "asm", [], [])
 words_of_command Check = (codes "check", [], [])
 words_of_command Compare = (
   codes "compare",
   comparison_options,
-  flag_names scope_flags ++ flag_names relation_flags ++ beside_flag ∷ architectures_flag ∷ [],
+  flag_names scope_flags ++ flag_names relation_flags ++ codes "beside" ∷ codes "architectures" ∷ [],
 )
-words_of_command Compile = (codes "compile", [], architectures_flag ∷ left_out_flag ∷ [])
-words_of_command Decide = (codes "decide", call_options, at_flag ∷ path_flag ∷ [])
+words_of_command Compile = (codes "compile", [], codes "architectures" ∷ codes "left-out" ∷ [])
+words_of_command Decide = (codes "decide", call_options, codes "at" ∷ codes "path" ∷ [])
 words_of_command Dis = (codes "dis", [], [])
-words_of_command Run = (codes "run", call_options, path_flag ∷ [])
+words_of_command Run = (codes "run", call_options, codes "path" ∷ [])
 
 -- the commands on profiles take a reading, too
 abbrev pub takes_reading : CommandName → Bool
@@ -75,12 +75,12 @@ name_and_numbers (commands.Run call has_path) = (Run, numbers_of_record call)
 -- the flags of a command are given, and no other
 abbrev pub HasFlags : List Row → Command → Type 0
 HasFlags rows (commands.Answers comparison has_examples has_differences) = AsksToCompare rows comparison
-    × (is_given rows examples_flag ≡ has_examples) × (is_given rows differences_flag ≡ has_differences)
+    × (is_given rows (codes "examples") ≡ has_examples) × (is_given rows (codes "differences") ≡ has_differences)
     × (excludes_walk rows ≡ false)
 HasFlags rows (commands.Compare comparison) = AsksToCompare rows comparison
-HasFlags rows (commands.Compile has_left_out) = is_given rows left_out_flag ≡ has_left_out
+HasFlags rows (commands.Compile has_left_out) = is_given rows (codes "left-out") ≡ has_left_out
 HasFlags rows (commands.Decide call detail) = detail ≡ detail_in rows
-HasFlags rows (commands.Run call has_path) = is_given rows path_flag ≡ has_path
+HasFlags rows (commands.Run call has_path) = is_given rows (codes "path") ≡ has_path
 HasFlags rows command = Unit {0}
 
 -- The form of a command's bundle by its flags. None where they exclude each other.
