@@ -1,5 +1,5 @@
 -- Comparisons of sides in the caller's bytes, and their findings as numbers.
-use Rattle.std.specs.Prelude.{◌≡◌, ◌⊎◌, ◌≤◌, ℕ, List, [], ◌∷◌, Some, false, length, map}
+use Rattle.std.specs.Prelude.{◌≡◌, ◌⊎◌, ◌≤◌, ℕ, List, [], ◌∷◌, None, Some, false, length, map}
 use Rattle.std.specs.List.{zip}
 use Rattle.scf_profile.specs.declared.relation.Relation.{Relation}
 use Rattle.scf_profile.specs.declared.scope.Scope.{Scope}
@@ -13,7 +13,6 @@ use Rattle.scf_tool.specs.Comparisons.{AreFoundEach}
 use Rattle.scf_tool.specs.Inputs.{left_out_of_input}
 use Rattle.scf_tool.specs.JointFindings.{joint_finding}
 use Rattle.scf_tool.specs.Reports.{report_text}
-use Rattle.scf_tool.specs.declared.findings.Findings.TheVariants.{AtOnce}
 use Rattle.scf_tool.specs.declared.plan.Pairing.{Pairing}
 use Rattle.scf_tool.specs.declared.sides.SideInput.{SideInput as ReadSide}
 use Rattle.scf_tool.specs.declared.verify_fault.SideFault.{SideFault}
@@ -91,8 +90,11 @@ no_comparison =
 
 -- the printed lines of a finding on filters and a right side
 abbrev pub text_of : Relation → ReadSide → Finding → List ℕ
-text_of relation right finding =
-    report_text relation (record { findings = AtOnce finding; left_out = left_out_of_input right })
+text_of relation right finding = report_text relation (record {
+  findings = record { joint = finding; calls = None };
+  left_out_of_left = None;
+  left_out = left_out_of_input right;
+})
 
 -- ---- a comparison
 

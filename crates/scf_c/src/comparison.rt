@@ -168,7 +168,11 @@ fn compare_inputs(
     };
     let comparison = comparison_of(&finding, &left_side, &right_side);
     let outcome = ComparisonOutcome {
-        findings: Findings::AtOnce(finding),
+        findings: Findings {
+            joint: finding,
+            calls: None,
+        },
+        left_out_of_left: None,
         left_out: right_side.left_out(),
     };
     let text = report_by(alloc, asked.relation, &outcome)?;

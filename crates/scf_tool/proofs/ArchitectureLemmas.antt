@@ -1,5 +1,7 @@
 -- The profiles of several architectures, each compared.
 use Rattle.scf_tool.proofs.Common.{◌≡◌, ◌<◌, ℕ, zero, suc, Bool, true, false, not, List, [], ◌∷◌, length, get_or, find, Option, Some, None, refl, sym, subst, ap, ◌∙◌, arith, Contains, Contains-append_right, AllZip, Finding, Holds, Fails, Undecided, Unfinished}
+use Rattle.std.specs.List.{fold}
+use Rattle.std.specs.Prelude.{max}
 use Rattle.scf_insn.specs.Architectures.{IsOf}
 use Rattle.scf_insn.specs.declared.architecture.Architecture.{Architecture}
 use Rattle.scf_insn.specs.Words.{IsRecord, words_of}
@@ -18,7 +20,7 @@ use Rattle.scf_compare.specs.Findings.{AllRelated, Compared, IsTrueFinding, comp
 use Rattle.scf_compare.specs.Sides.{Behavior, profiles_behavior}
 use Rattle.scf_tool.specs.ArchitectureScopes.{scope_of}
 use Rattle.scf_tool.specs.Comparisons.{IsFound}
-use Rattle.scf_tool.specs.JointFindings.{compared_with_each, is_failure, is_holding, joint_finding, most_steps}
+use Rattle.scf_tool.specs.JointFindings.{compared_with_each, is_failure, is_holding, joint_finding, steps_of}
 
 -- ---- two lists of one length
 
@@ -140,7 +142,7 @@ module _ (relation : Relation) (scope : Scope) (side : Behavior) (profiles : Lis
               let at = zip_found Found is_other profiles findings finding each others in
               rw (first_found, others) (one_is_true at.0 finding at.1 at.2.holds (other_is_not_holding finding at.3))
           by_first None first_found None others =
-              let all : IsTrueOfAll (Holds (most_steps findings)) = λ call record_is of_one.
+              let all : IsTrueOfAll (Holds (fold (λ most finding. max (steps_of finding) most) 0 findings)) = λ call record_is of_one.
               let p = of_one.0 in
               let among = of_one.1 in
               let at = zip_none Found is_other profiles findings among.0 p each among.1 among.2 others in

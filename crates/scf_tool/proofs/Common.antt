@@ -22,13 +22,13 @@ pub use Rattle.scf_machine.proofs.Common.{IsPush, cost_of}
 pub use Rattle.scf_profile.proofs.Common.{IfOk-weaker, Names, err_from_is_err_and, map-append, texts_at}
 pub use Rattle.scf_profile.specs.declared.load_fault.LoadFault.{LoadFault}
 pub use Rattle.scf_text.proofs.Common.{flat_map}
-pub use Rattle.scf_tool.specs.Commands.{NoReadFailed, ReadsInput}
+pub use Rattle.scf_tool.specs.Commands.{NoReadFailed, max_input_len}
 pub use Rattle.scf_tool.specs.FilterStacks.{HasNoStack, HasStack, HaveStopped, IsNotPushed}
 pub use Rattle.scf_tool.specs.Reports.{argument_text, name_line, named_line}
 pub use Rattle.scf_request.specs.Requests.{AsksFor}
 pub use Rattle.scf_request.specs.CommandLine.{scf}
 pub use Rattle.scf_tool.specs.Runs.{SpeaksOfWords}
-pub use Rattle.scf_tool.specs.Verifying.{HasEnded, IsAcceptedFilter, LeavesProfileReader, LeavesTableReader}
+pub use Rattle.scf_tool.specs.Verifying.{HasEnded, IsAcceptedFilter, LeavesProfileReader, LeavesTableReader, ReadsUnder}
 pub use Rattle.scf_tool.specs.VerifyingStacks.{LeavesFilterReaders}
 pub use Rattle.scf_request.specs.declared.contents.PartReader.{PartReader}
 pub use Rattle.scf_tool.specs.declared.fault.Fault.{Fault}

@@ -19,11 +19,11 @@ use Rattle.scf_profile.specs.Scope.{IsInScope}
 use Rattle.scf_profile.specs.declared.relation.Relation.TheVariants.{Same}
 use Rattle.scf_profile.specs.declared.scope.Scope.{Scope}
 use Rattle.scf_tool.proofs.Common.{Bool, IfSome, List, None, Option, Some, [], arith, false, inl, inr, not, refl, true, ℕ, ◌≡◌, ◌⊎◌}
-use Rattle.scf_tool.specs.Explorations.{AreDiffering, AreListed, HasDifference, is_alike}
+use Rattle.scf_tool.specs.Explorations.{AreListed, AreShown, HasDifference, is_alike}
 use Rattle.std.proofs.lemmas.Bool.{eqb-true}
 
 module _ (left right : Behavior) (scope : Scope) (limit : ℕ) (all listed : Regions)
-    (are : AreListed left right scope limit all) (differing : AreDiffering all listed) where
+    (are : AreListed left right scope limit all) (differing : AreShown true all listed) where
   -- the words that come to a leaf whose answers are alike are answered alike
   alike : (leaf : PairLeaf) (words : List ℕ) → is_alike leaf ≡ true → Tells left right leaf words
       → WordsRelated (compared_in Same scope left right) words

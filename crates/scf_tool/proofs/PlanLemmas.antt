@@ -2,7 +2,7 @@
 use Rattle.std.proofs.Common.{sum_by}
 use Rattle.std.proofs.lemmas.List.Sums.{sum_by-cons}
 use Rattle.std.proofs.lemmas.Slice.Zip.{all_zipped_more}
-use Rattle.scf_compare.specs.Sides.{Behavior, behavior_of, effort_of_sides, no_side, profiles_behavior, stack_behavior}
+use Rattle.scf_compare.specs.Sides.{Behavior, behavior_of, profiles_behavior}
 use Rattle.scf_compare.specs.declared.budget.Limit.{Limit}
 use Rattle.scf_compare.specs.declared.regions.Regions.{Regions}
 use Rattle.scf_compare.specs.declared.side.Side.{Side}
@@ -15,21 +15,20 @@ use Rattle.scf_request.specs.declared.request.Comparison.{Comparison}
 use Rattle.scf_request.specs.declared.request.Scopes.TheVariants.{AtOnce}
 use Rattle.scf_tool.proofs.ArchitectureLemmas.{joint_is_true}
 use Rattle.scf_tool.proofs.CallLemmas.{next_found}
-use Rattle.scf_tool.proofs.Common.{◌≡◌, ◌+◌, ◌<◌, ◌++◌, ℕ, AllZip, Bool, Fails, Finding, Holds, Insn, List, None, Option, Some, Undecided, Unfinished, [], ap, arith, false, get_or, length, map-append, refl, subst, take, take_more, true, ◌∷◌}
+use Rattle.scf_tool.proofs.Common.{◌≡◌, ◌+◌, ◌<◌, ◌++◌, ℕ, AllZip, Bool, Fails, Finding, Holds, List, None, Option, Some, Undecided, Unfinished, [], ap, arith, false, get_or, length, map-append, refl, subst, take, take_more, true, ◌∷◌}
 use Rattle.std.specs.Prelude.{◌*◌, map, max}
 use Rattle.scf_tool.proofs.SideLemmas.{of_side}
 use Rattle.scf_tool.specs.ArchitectureScopes.{scope_of}
 use Rattle.scf_tool.specs.Comparisons.{AreFound, AreFoundEach, IsFound, IsFoundOf, IsFoundOfInTurn, limit_of}
-use Rattle.scf_tool.specs.Explorations.{AreListed, AreListedOf, Explores, ExploresEach}
-use Rattle.scf_tool.specs.Inputs.{behavior_of_input}
+use Rattle.scf_tool.specs.Explorations.{AreListed, Explores, ExploresEach, ExploresSides}
+use Rattle.scf_tool.specs.Inputs.{IsSideOf, behavior_of_input}
 use Rattle.scf_tool.specs.JointFindings.{AreFindings, joint_finding}
 use Rattle.scf_tool.specs.declared.findings.CallFinding.{CallFinding}
-use Rattle.scf_tool.specs.declared.findings.Findings.TheVariants as Findings
 use Rattle.scf_tool.specs.declared.plan.Pairing.{Pairing}
 use Rattle.scf_tool.specs.declared.plan.Shared.{Shared}
 use Rattle.scf_tool.specs.declared.sides.SideInput.{SideInput}
 use Rattle.scf_tool.specs.declared.sides.SideInput.TheVariants as inputs
-use Rattle.scf_tool.specs.internal.Plans.{ArePaired, AreFoundSoFar, IsBesideProfile, IsFoundNext, IsNoSide, IsOfProfile, IsProfileAlone}
+use Rattle.scf_tool.specs.internal.Plans.{ArePaired, AreFoundSoFar, AreWalked, IsBesideProfile, IsFoundNext, IsOfProfile, IsProfileBeside}
 
 -- ---- one comparison more
 
@@ -106,10 +105,11 @@ is_beside left scope p q pairing same left_is right_is over_is =
     subst (λ (own : Profile). IsBesideProfile left scope own pairing) same
     (record { left_is = left_is; right_is = right_is; over_is = over_is })
 
-pub is_alone : (scope : Scope) (p q : Profile) (pairing : Pairing) → p ≡ q → IsOfProfile p pairing.left
-    → IsNoSide pairing.right → pairing.over ≡ scope_of scope p.architecture → IsProfileAlone scope q pairing
-is_alone scope p q pairing same left_is right_is over_is =
-    subst (λ (own : Profile). IsProfileAlone scope own pairing) same
+pub is_apart : (right : Side) (scope : Scope) (p q : Profile) (pairing : Pairing) → p ≡ q
+    → IsOfProfile p pairing.left → pairing.right ≡ right → pairing.over ≡ scope_of scope p.architecture
+    → IsProfileBeside right scope q pairing
+is_apart right scope p q pairing same left_is right_is over_is =
+    subst (λ (own : Profile). IsProfileBeside right scope own pairing) same
     (record { left_is = left_is; right_is = right_is; over_is = over_is })
 
 -- the findings of the calls so far
@@ -169,9 +169,10 @@ module _ (comparison : Comparison) (scope : Scope) (left : Side) where
       (findings : List Finding) → ArePaired of_each left right scope pairings
       → AllZip (IsFoundOf comparison.relation (limit_of comparison.limits)) pairings findings
       → AreFindings comparison (AtOnce scope) of_each (behavior_of left) right tables
-      (Findings.AtOnce (joint_finding findings))
+      (record { joint = joint_finding findings; calls = None })
   found_at_once true (inputs.Profiles loaded) tables pairings findings are found =
       let each = each_beside loaded.profiles pairings findings are.1 found in (
+        refl,
         findings,
         each,
         refl,
@@ -179,61 +180,80 @@ module _ (comparison : Comparison) (scope : Scope) (left : Side) where
             each,
       )
   found_at_once true (inputs.Stack stack) tables pairings findings are found =
-      beside_whole (inputs.Stack stack) pairings findings are found
-  found_at_once false right tables pairings findings are found = beside_whole right pairings findings are found
+      (refl, beside_whole (inputs.Stack stack) pairings findings are found)
+  found_at_once false right tables pairings findings are found = (refl, beside_whole right pairings findings are found)
 
--- ---- profiles by themselves
-
--- what holds of the sides of a pairing holds of the profile that it is of
-one_alone : (P : Behavior → Behavior → Scope → Type 0) (scope : Scope) (p : Profile) (pairing : Pairing)
-    → IsProfileAlone scope p pairing → P (behavior_of pairing.left) (behavior_of pairing.right) pairing.over
-    → P (profiles_behavior (p ∷ [])) no_side (scope_of scope p.architecture)
-one_alone P scope p pairing is holds = by_sides pairing.left pairing.right is.left_is is.right_is (rw is.over_is at holds)
-  where
-    by_sides : (left right : Side) → IsOfProfile p left → IsNoSide right
-        → P (behavior_of left) (behavior_of right) (scope_of scope p.architecture)
-        → P (profiles_behavior (p ∷ [])) no_side (scope_of scope p.architecture)
-    by_sides (sides.Profiles own) (sides.Stack filters) of_left of_right holds =
-        subst (λ (profiles : List Profile). P (profiles_behavior profiles) no_side (scope_of scope p.architecture)) of_left
-        (subst (λ (stack : List (List Insn)). P (profiles_behavior own.now) (stack_behavior stack)
-        (scope_of scope p.architecture)) of_right holds)
-    by_sides (sides.Profiles own) (sides.Profiles others) of_left of_right holds = absurd of_right
-    by_sides (sides.Stack filters) right of_left of_right holds = absurd of_left
-
-abbrev size_of : Profile → ℕ
-size_of p = (profiles_behavior (p ∷ [])).size
+-- ---- walks
 
 abbrev effort_of : Pairing → ℕ
-effort_of pairing = effort_of_sides pairing.left pairing.right
+effort_of pairing = (behavior_of pairing.left).size * (behavior_of pairing.right).size
 
-efforts_alone : (scope : Scope) (profiles : List Profile) (pairings : List Pairing)
-    → AllZip (IsProfileAlone scope) profiles pairings → sum_by effort_of pairings ≡ sum_by size_of profiles
-efforts_alone scope [] [] are = refl
-efforts_alone scope [] (pairing ∷ pairings) are = absurd are
-efforts_alone scope (p ∷ profiles) [] are = absurd are
-efforts_alone scope (p ∷ profiles) (pairing ∷ pairings) are =
-    let here : effort_of pairing ≡ size_of p * no_side.size =
-    one_alone (λ left right over. effort_of pairing ≡ left.size * right.size) scope p pairing are.0 refl in
-    let later = efforts_alone scope profiles pairings are.1 in
-    rw (sum_by-cons effort_of pairing pairings, sum_by-cons size_of p profiles) (omega (arith, here, later))
+module _ {A : Type 0} (IsOf : A → Pairing → Type 0) (left right : A → Behavior) (over : A → Scope)
+    (carries : (P : Behavior → Behavior → Scope → Type 0) (one : A) (pairing : Pairing) → IsOf one pairing
+    → P (behavior_of pairing.left) (behavior_of pairing.right) pairing.over → P (left one) (right one) (over one)) where
+  abbrev size_of : A → ℕ
+  size_of one = (left one).size * (right one).size
 
-each_alone : (scope : Scope) (limit : ℕ) (profiles : List Profile) (pairings : List Pairing) (listed : List Regions)
-    → AllZip (IsProfileAlone scope) profiles pairings → AllZip (AreListedOf limit) pairings listed
-    → AllZip (λ p. AreListed (profiles_behavior (p ∷ [])) no_side (scope_of scope p.architecture) limit) profiles listed
-each_alone scope limit [] [] [] are listed_of = tt
-each_alone scope limit [] [] (regions ∷ listed) are listed_of = absurd listed_of
-each_alone scope limit [] (pairing ∷ pairings) listed are listed_of = absurd are
-each_alone scope limit (p ∷ profiles) [] listed are listed_of = absurd are
-each_alone scope limit (p ∷ profiles) (pairing ∷ pairings) [] are listed_of = absurd listed_of
-each_alone scope limit (p ∷ profiles) (pairing ∷ pairings) (regions ∷ listed) are listed_of = (
-  one_alone (λ left right over. AreListed left right over limit regions) scope p pairing are.0 listed_of.0,
-  each_alone scope limit profiles pairings listed are.1 listed_of.1,
-)
+  efforts_of : (several : List A) (pairings : List Pairing) → AllZip IsOf several pairings
+      → sum_by effort_of pairings ≡ sum_by size_of several
+  efforts_of [] [] are = refl
+  efforts_of [] (pairing ∷ pairings) are = absurd are
+  efforts_of (one ∷ several) [] are = absurd are
+  efforts_of (one ∷ several) (pairing ∷ pairings) are =
+      let here : effort_of pairing ≡ size_of one =
+      carries (λ l r o. effort_of pairing ≡ l.size * r.size) one pairing are.0 refl in
+      let later = efforts_of several pairings are.1 in
+      rw (sum_by-cons effort_of pairing pairings, sum_by-cons size_of one several) (omega (arith, here, later))
 
--- what walks over the pairings of profiles come to
-pub explored_alone : (scope : Scope) (limit : ℕ) (profiles : List Profile) (pairings : List Pairing)
-    (listed : Option (List Regions)) → AllZip (IsProfileAlone scope) profiles pairings
-    → Explores pairings limit listed → ExploresEach (scope_of scope) profiles limit listed
-explored_alone scope limit profiles pairings None are below = rw (efforts_alone scope profiles pairings are) at below
-explored_alone scope limit profiles pairings (Some listed) are explored =
-    (each_alone scope limit profiles pairings listed are explored.0, explored.1)
+  listed_of : (limit : ℕ) (several : List A) (pairings : List Pairing) (listed : List Regions)
+      → AllZip IsOf several pairings
+      → AllZip (λ pairing. AreListed (behavior_of pairing.left) (behavior_of pairing.right) pairing.over limit) pairings listed
+      → AllZip (λ one. AreListed (left one) (right one) (over one) limit) several listed
+  listed_of limit [] [] [] are walked = tt
+  listed_of limit [] [] (regions ∷ listed) are walked = absurd walked
+  listed_of limit [] (pairing ∷ pairings) listed are walked = absurd are
+  listed_of limit (one ∷ several) [] listed are walked = absurd are
+  listed_of limit (one ∷ several) (pairing ∷ pairings) [] are walked = absurd walked
+  listed_of limit (one ∷ several) (pairing ∷ pairings) (regions ∷ listed) are walked = (
+    carries (λ l r o. AreListed l r o limit regions) one pairing are.0 walked.0,
+    listed_of limit several pairings listed are.1 walked.1,
+  )
+
+  explored_of : (limit : ℕ) (several : List A) (pairings : List Pairing) (listed : Option (List Regions))
+      → AllZip IsOf several pairings → Explores pairings limit listed → ExploresEach left right over several limit listed
+  explored_of limit several pairings None are below = rw (efforts_of several pairings are) at below
+  explored_of limit several pairings (Some listed) are walked =
+      (listed_of limit several pairings listed are walked.0, walked.1)
+
+module _ (right : Side) (scope : Scope) where
+  beside : (P : Behavior → Behavior → Scope → Type 0) (p : Profile) (pairing : Pairing)
+      → IsProfileBeside right scope p pairing → P (behavior_of pairing.left) (behavior_of pairing.right) pairing.over
+      → P (profiles_behavior (p ∷ [])) (behavior_of right) (scope_of scope p.architecture)
+  beside P p pairing is holds = by_left pairing.left is.left_is (rw (is.right_is, is.over_is) at holds)
+    where
+      by_left : (left : Side) → IsOfProfile p left → P (behavior_of left) (behavior_of right) (scope_of scope p.architecture)
+          → P (profiles_behavior (p ∷ [])) (behavior_of right) (scope_of scope p.architecture)
+      by_left (sides.Profiles own) own_is holds = subst (λ (profiles : List Profile). P (profiles_behavior profiles)
+          (behavior_of right) (scope_of scope p.architecture)) own_is holds
+      by_left (sides.Stack filters) own_is holds = absurd own_is
+
+  abbrev IsWhole : SideInput → Pairing → Type 0
+  IsWhole left pairing = IsSideOf left pairing.left × (pairing.right ≡ right) × (pairing.over ≡ scope)
+
+  whole : (P : Behavior → Behavior → Scope → Type 0) (left : SideInput) (pairing : Pairing) → IsWhole left pairing
+      → P (behavior_of pairing.left) (behavior_of pairing.right) pairing.over
+      → P (behavior_of_input left) (behavior_of right) scope
+  whole P left pairing (of_left, right_is, over_is) holds =
+      of_side (λ (b : Behavior). P b (behavior_of right) scope) left pairing.left of_left (rw (right_is, over_is) at holds)
+
+  -- what walks over a side beside another one come to
+  pub explored_beside : (of_each : Bool) (left : SideInput) (limit : ℕ) (pairings : List Pairing)
+      (listed : Option (List Regions)) → AreWalked of_each left right scope pairings → Explores pairings limit listed
+      → ExploresSides of_each left (behavior_of right) scope limit listed
+  explored_beside true (inputs.Profiles loaded) limit pairings listed are walked =
+      explored_of (IsProfileBeside right scope) _ _ _ beside limit loaded.profiles pairings listed are walked
+  explored_beside true (inputs.Stack stack) limit pairings listed (side, is, single) walked =
+      explored_of IsWhole _ _ _ whole limit (inputs.Stack stack ∷ []) pairings listed (rw single ((is, refl, refl), tt))
+      walked
+  explored_beside false left limit pairings listed (side, is, single) walked =
+      explored_of IsWhole _ _ _ whole limit (left ∷ []) pairings listed (rw single ((is, refl, refl), tt)) walked

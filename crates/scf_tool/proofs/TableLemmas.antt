@@ -3,7 +3,8 @@ use Rattle.scf_tool.proofs.Common.{◌≡◌, ◌≢◌, ℕ, ◌+◌, ◌<◌, 
 use Rattle.std.proofs.lemmas.List.Elements.{All-head, All-tail}
 use Rattle.std.proofs.lemmas.List.Sums.{sum_by-cons}
 use Rattle.std.proofs.lemmas.Slice.Zip.{all_zipped_more}
-use Rattle.std.specs.Prelude.{All, count_by}
+use Rattle.std.specs.Prelude.{All, Some, count_by}
+use Rattle.scf_compare.specs.declared.finding.Finding.TheVariants.{Holds}
 use Rattle.scf_insn.specs.Architectures.{row_of}
 use Rattle.scf_profile.specs.Table.{table_of}
 use Rattle.scf_profile.specs.StatedProfile.{is_named}
@@ -17,7 +18,6 @@ use Rattle.scf_tool.specs.Commands.{AreCounts, CantLoadEach}
 use Rattle.scf_request.specs.declared.request.Scopes.TheVariants.{EachCall}
 use Rattle.scf_tool.specs.JointFindings.{AreFindings}
 use Rattle.scf_tool.specs.declared.findings.CallFinding.{CallFinding}
-use Rattle.scf_tool.specs.declared.findings.Findings.TheVariants as Findings
 use Rattle.scf_tool.specs.declared.sides.SideInput.{SideInput}
 use Rattle.std.specs.Global.{Vec}
 use Rattle.scf_tool.specs.Inputs.{HasNoTable, IsNoTableOf, IsShort, IsTableOf, SpellsTable, named_of}
@@ -181,7 +181,8 @@ only_named (table ∷ second ∷ tables) default count = absurd (omega (arith, c
 -- several tables, or none, have no calls that are compared
 pub of_others : (comparison : Comparison) (of_each : Bool) (left : Behavior) (right : SideInput) (tables : List OwnedTable)
     (calls : Vec CallFinding) → length tables ≢ 1 → calls.items ≡ []
-    → AreFindings comparison EachCall of_each left right (map named_of tables) (Findings.EachCall calls)
-of_others comparison of_each left right [] calls several none = none
+    → AreFindings comparison EachCall of_each left right (map named_of tables)
+    (record { joint = Holds 0; calls = Some calls })
+of_others comparison of_each left right [] calls several none = (calls, refl, none, refl)
 of_others comparison of_each left right (table ∷ []) calls several none = absurd (several refl)
-of_others comparison of_each left right (table ∷ second ∷ tables) calls several none = none
+of_others comparison of_each left right (table ∷ second ∷ tables) calls several none = (calls, refl, none, refl)

@@ -9,7 +9,7 @@ use Rattle.scf_request.specs.declared.request.Command.TheVariants as commands
 use Rattle.scf_request.specs.declared.request.Detail.TheVariants as details
 use Rattle.scf_request.specs.declared.request.Scopes.{Scopes}
 use Rattle.scf_request.specs.declared.request.Scopes.TheVariants.{AtOnce, EachCall}
-use Rattle.scf_tool.proofs.Common.{Bool, Err, Fault, HasEnded, List, Ok, Option, ReadsInput, Reply, Result, false, inl, inr, refl, subst, true, ◌≡◌, ◌≢◌, ℕ}
+use Rattle.scf_tool.proofs.Common.{Bool, Err, Fault, HasEnded, List, Ok, Option, ReadsUnder, Reply, Result, false, inl, inr, max_input_len, refl, subst, true, ◌≡◌, ◌≢◌, ℕ}
 use Rattle.scf_tool.specs.Commands.{Compiles, EndsOnBundle, EndsOnBytes, GoesOverNone, HasNoInputs, IsRefused, IsTrueOf, RepliesTo, scopes_of, shape_of}
 use Rattle.scf_tool.specs.Inputs.{Inputs}
 use Rattle.scf_tool.specs.Statuses.{LeavesInput, LeavesWhole}
@@ -30,7 +30,7 @@ takes_whole command check list run = tt
 module _ (reading : Reading) (form : BundleForm) where
   -- the input isn't read
   pub not_read : (command : Command) (input : Option (List ℕ)) (fault : InputFault)
-      → TakesWhole command → ReadsInput input (Err fault)
+      → TakesWhole command → ReadsUnder max_input_len input (Err fault)
       → IsTrueOf reading form command input (Err (faults.Input fault))
   not_read commands.Check input fault whole read = absurd whole
   not_read commands.List input fault whole read = absurd whole
@@ -39,7 +39,7 @@ module _ (reading : Reading) (form : BundleForm) where
 
   -- the end is true of the input that the bytes are read of
   pub true_of_input : (command : Command) (bytes : List ℕ) (ending : Result Reply Fault) (input : Option (List ℕ))
-      → TakesWhole command → ReadsInput input (Ok bytes) → EndsOnBytes reading form command bytes ending
+      → TakesWhole command → ReadsUnder max_input_len input (Ok bytes) → EndsOnBytes reading form command bytes ending
       → IsTrueOf reading form command input ending
   true_of_input commands.Check bytes ending input whole read ends = absurd whole
   true_of_input commands.List bytes ending input whole read ends = absurd whole

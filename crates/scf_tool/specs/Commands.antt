@@ -44,7 +44,7 @@ use Rattle.scf_tool.specs.declared.sides.SideInput.TheVariants.{Stack, Profiles}
 use Rattle.scf_tool.specs.declared.sides.SidesInput.{SidesInput}
 use Rattle.scf_request.specs.declared.request.Comparison.{Comparison}
 use Rattle.scf_tool.specs.ArchitectureScopes.{HasRecordAmong, NameNoCall}
-use Rattle.scf_tool.specs.Explorations.{ListsDiffering, ListsSide, exploration_of}
+use Rattle.scf_tool.specs.Explorations.{ListsAnswers}
 use Rattle.scf_request.specs.declared.bundle.BundleFault.TheVariants as bundles
 use Rattle.scf_request.specs.declared.request.Command.{Command}
 use Rattle.scf_request.specs.declared.request.Command.TheVariants as commands
@@ -67,7 +67,7 @@ use Rattle.scf_tool.specs.Inputs.{AreRead, AreRefused, Inputs, SideBytes, Spells
 use Rattle.scf_tool.specs.Inputs.SideBytes.{OfFilters, OfProfile}
 use Rattle.scf_tool.specs.JointFindings.{AreFindings}
 use Rattle.scf_tool.specs.Lines.{decision_text, traced_text}
-use Rattle.scf_tool.specs.Reports.{findings_status, left_out_front, sides_text}
+use Rattle.scf_tool.specs.Reports.{finding_status, left_out_front, report_text}
 use Rattle.scf_tool.specs.Verifying.{IsAcceptedFilter, IsNoFilter, ReadsFilter, ReadsUnder}
 
 -- ---- standard input
@@ -75,10 +75,6 @@ use Rattle.scf_tool.specs.Verifying.{IsAcceptedFilter, IsNoFilter, ReadsFilter, 
 -- what a command takes of standard input: 16 MiB
 abbrev pub max_input_len : ℕ
 max_input_len = 16777216
-
--- what the input is read as: its bytes, or why they aren't read
-abbrev pub ReadsInput : Option (List ℕ) → Result (List ℕ) InputFault → Type 0
-ReadsInput input result = ReadsUnder max_input_len input result
 
 -- ---- one filter
 
@@ -273,17 +269,18 @@ abbrev pub IsReport : Comparison → SidesInput → Reply → Type 0
 IsReport comparison sides (Compared text status) = (findings : Findings)
     × AreFindings comparison comparison.scopes sides.of_each (behavior_of_input sides.left) sides.right
     (map named_of sides.tables.items) findings
-    × (text.items ≡ sides_text comparison.relation (left_out_of_input sides.left)
-    (record { findings = findings; left_out = left_out_of_input sides.right }))
-    × (status ≡ findings_status findings)
+    × (text.items ≡ report_text comparison.relation (record {
+      findings = findings;
+      left_out_of_left = left_out_of_input sides.left;
+      left_out = left_out_of_input sides.right;
+    }))
+    × (status ≡ finding_status findings.joint)
 IsReport comparison sides reply = ⊥
 
 -- what a command's reply says of its sides
 abbrev pub IsReplyTo : Command → SidesInput → Reply → Type 0
-IsReplyTo (commands.Answers comparison has_examples false) sides =
-    ListsSide sides.of_each (exploration_of comparison has_examples) sides.left
-IsReplyTo (commands.Answers comparison has_examples true) sides = ListsDiffering
-    (exploration_of comparison has_examples) (behavior_of_input sides.left) (behavior_of_input sides.right)
+IsReplyTo (commands.Answers comparison has_examples has_differences) sides =
+    ListsAnswers comparison has_examples has_differences sides
 IsReplyTo (commands.Ask call) sides = GivesReason call sides.left
 IsReplyTo (commands.Compare comparison) sides = IsReport comparison sides
 IsReplyTo (commands.Compile has_left_out) sides = IsCompiled has_left_out sides.left
@@ -338,8 +335,8 @@ IsTrueOf reading form commands.Check input = EndsOnFilter commands.Check input
 IsTrueOf reading form commands.List input = Lists input
 IsTrueOf reading form (commands.Run call has_path) input = EndsOnFilter (commands.Run call has_path) input
 IsTrueOf reading form command input = λ ending.
-    ((fault : InputFault) × (ending ≡ Err (faults.Input fault)) × ReadsInput input (Err fault))
-    ⊎ ((bytes : List ℕ) × ReadsInput input (Ok bytes) × EndsOnBytes reading form command bytes ending)
+    ((fault : InputFault) × (ending ≡ Err (faults.Input fault)) × ReadsUnder max_input_len input (Err fault))
+    ⊎ ((bytes : List ℕ) × ReadsUnder max_input_len input (Ok bytes) × EndsOnBytes reading form command bytes ending)
 
 -- ---- tables and a profile of any length
 

@@ -22,7 +22,6 @@ use Rattle.scf_compile.specs.declared.fault.CompileFault.{CompileFault}
 use Rattle.scf_compile.specs.declared.fault.CompileFault.TheVariants as compiles
 use Rattle.scf_request.specs.declared.bundle.BundleFault.{BundleFault}
 use Rattle.scf_request.specs.declared.bundle.BundleFault.TheVariants as bundles
-use Rattle.scf_request.specs.declared.request_fault.RequestFault.{RequestFault}
 use Rattle.scf_request.specs.declared.request_fault.RequestFault.TheVariants as requests
 use Rattle.scf_tool.specs.declared.verify_fault.SideFault.{SideFault}
 use Rattle.scf_tool.specs.declared.verify_fault.VerifyFault.{VerifyFault}
@@ -73,31 +72,16 @@ in_entry None = (None, 2 ^ 64 - 1) ∷ unused ∷ unused ∷ []
 
 -- ---- the names that stand in more than one row
 
-abbrev pub of_filter : Name
-of_filter = (codes "filter", 1)
-
-abbrev pub of_table : Name
-of_table = (codes "table", 4)
-
-abbrev pub of_profile : Name
-of_profile = (codes "profile", 5)
-
 abbrev pub memory : Name
 memory = (codes "Memory", 1)
-
-abbrev pub read : Name
-read = (codes "Read", 2)
 
 abbrev pub too_long : Name
 too_long = (codes "TooLong", 4)
 
-abbrev pub too_many : Name
-too_many = (codes "TooMany", 36)
-
 -- ---- the kinds of each fault
 
 abbrev pub input_kind : InputFault → Kind
-input_kind inputs.Read = (Failed, read, none)
+input_kind inputs.Read = (Failed, (codes "Read", 2), none)
 input_kind inputs.TooLong = (Failed, too_long, none)
 input_kind inputs.Memory = (Failed, memory, none)
 
@@ -107,7 +91,7 @@ bundle_kind (bundles.Short offset) = (Failed, (codes "Short", 0), one (codes "of
 bundle_kind bundles.Memory = (Failed, memory, none)
 
 abbrev pub read_kind : ReadFault → Kind
-read_kind reads.Read = (Failed, read, none)
+read_kind reads.Read = (Failed, (codes "Read", 2), none)
 read_kind (reads.Truncated offset) = (Failed, (codes "Truncated", 3), one (codes "offset") offset)
 read_kind reads.TooLong = (Failed, too_long, none)
 read_kind reads.Memory = (Failed, memory, none)
@@ -157,7 +141,7 @@ load_kind (loads.ErrnoRange entry) = (Refused, (codes "ErrnoRange", 33), in_entr
 load_kind (loads.NoX8664 entry) = (Refused, (codes "NoX8664", 34), in_entry entry)
 load_kind (loads.NotListed table) = (Refused, (codes "NotListed", 39), one (codes "table") table)
 load_kind (loads.EngineForm entry) = (Refused, (codes "EngineForm", 35), in_entry entry)
-load_kind loads.TooMany = (Refused, too_many, none)
+load_kind loads.TooMany = (Refused, (codes "TooMany", 36), none)
 load_kind (loads.Conflict number first second) = (
   Refused,
   (codes "Conflict", 37),
@@ -170,7 +154,7 @@ compile_kind compiles.TooLarge = (Refused, (codes "TooLarge", 38), none)
 compile_kind compiles.Memory = (Failed, memory, none)
 
 abbrev pub push_kind : PushFault → Kind
-push_kind (pushes.TooMany total) = (Refused, too_many, one (codes "total") total)
+push_kind (pushes.TooMany total) = (Refused, (codes "TooMany", 36), one (codes "total") total)
 push_kind pushes.Memory = (Failed, memory, none)
 
 -- ---- the rows
@@ -182,13 +166,13 @@ abbrev pub compile_row : CompileFault → Row
 compile_row fault = ((codes "compile", 6), compile_kind fault)
 
 abbrev pub verify_row : VerifyFault → Row
-verify_row (verifies.FilterRead fault) = (of_filter, read_kind fault)
-verify_row (verifies.Check fault) = (of_filter, check_kind fault)
+verify_row (verifies.FilterRead fault) = ((codes "filter", 1), read_kind fault)
+verify_row (verifies.Check fault) = ((codes "filter", 1), check_kind fault)
 verify_row (verifies.Stack fault) = ((codes "stack", 7), push_kind fault)
-verify_row (verifies.TableRead fault) = (of_table, input_kind fault)
-verify_row (verifies.Table fault) = (of_table, table_kind fault)
-verify_row (verifies.ProfileRead fault) = (of_profile, input_kind fault)
-verify_row (verifies.Profile fault) = (of_profile, load_kind fault)
+verify_row (verifies.TableRead fault) = ((codes "table", 4), input_kind fault)
+verify_row (verifies.Table fault) = ((codes "table", 4), table_kind fault)
+verify_row (verifies.ProfileRead fault) = ((codes "profile", 5), input_kind fault)
+verify_row (verifies.Profile fault) = ((codes "profile", 5), load_kind fault)
 verify_row verifies.Memory = ((codes "compare", 8), (Failed, memory, none))
 
 -- of two sides: those of the filters or the profile beside others are told apart
@@ -196,16 +180,13 @@ abbrev pub side_row : SideFault → Row
 side_row fault = (if fault.beside then (codes "beside", 2) else (verify_row fault.why).0, (verify_row fault.why).1)
 
 -- the name of an option stands in place of a kind
-abbrev pub request_row : RequestFault → Row
-request_row requests.NoCommand = ((codes "command", 0), (CommandLine, (codes "NoCommand", 0), none))
-request_row (requests.Number fault) = ((codes "number", 0), (CommandLine, (fault.name.now, 0), none))
-request_row requests.Flags = ((codes "command", 0), (CommandLine, (codes "Flags", 0), none))
-request_row requests.Reading = ((codes "command", 0), (CommandLine, (codes "Reading", 0), none))
-request_row requests.Range = ((codes "command", 0), (CommandLine, (codes "Range", 0), none))
-
 abbrev pub fault_row : Fault → Row
 fault_row faults.CommandLine = ((codes "command", 0), (Failed, memory, none))
-fault_row (faults.Request fault) = request_row fault
+fault_row (faults.Request requests.NoCommand) = ((codes "command", 0), (CommandLine, (codes "NoCommand", 0), none))
+fault_row (faults.Request (requests.Number fault)) = ((codes "number", 0), (CommandLine, (fault.name.now, 0), none))
+fault_row (faults.Request requests.Flags) = ((codes "command", 0), (CommandLine, (codes "Flags", 0), none))
+fault_row (faults.Request requests.Reading) = ((codes "command", 0), (CommandLine, (codes "Reading", 0), none))
+fault_row (faults.Request requests.Range) = ((codes "command", 0), (CommandLine, (codes "Range", 0), none))
 fault_row (faults.Input fault) = ((codes "input", 0), input_kind fault)
 fault_row (faults.Bundle fault) = ((codes "bundle", 0), bundle_kind fault)
 fault_row faults.Parts = ((codes "bundle", 0), (Failed, (codes "Parts", 0), none))
@@ -217,15 +198,13 @@ fault_row faults.Calls = ((codes "command", 0), (CommandLine, (codes "Calls", 0)
 
 -- ---- the status and the line of a row
 
-abbrev pub names_text : Row → List ℕ
-names_text ((source, _), (_, (kind, _), _)) = codes "fault " ++ source ++ codes " " ++ kind
-
 abbrev pub number_text : Number → List ℕ
 number_text (None, _) = []
 number_text (Some name, value) = codes " " ++ name ++ codes " " ++ decimal value
 
 abbrev pub fault_line : Row → List ℕ
-fault_line row = names_text row ++ flat_map number_text row.1.2 ++ codes "\n"
+fault_line row =
+    (codes "fault " ++ row.0.0 ++ codes " " ++ row.1.1.0) ++ flat_map number_text row.1.2 ++ codes "\n"
 
 abbrev pub printed_fault : Fault → Status × List ℕ
 printed_fault fault = ((fault_row fault).1.0, fault_line (fault_row fault))

@@ -48,13 +48,10 @@ by_text (Some by) = insn_text by.filter by.index
 abbrev pub decision_text : Option DecidingInsn → ℕ → List ℕ
 decision_text by answer = answer_text answer ++ (by_text by ++ codes "\n")
 
--- the line of the indices on a run's way
-abbrev pub path_text : List ℕ → List ℕ
-path_text indices = codes "path" ++ (flat_map (λ index. codes " " ++ decimal index) indices ++ codes "\n")
-
--- the lines of a run whose way is shown
+-- the lines of a run whose way is shown: its answer and its steps, and the indices on the way
 abbrev pub traced_text : ℕ → List ℕ → List ℕ
-traced_text answer indices = answer_text answer ++ (steps_text (length indices) ++ path_text indices)
+traced_text answer indices = answer_text answer ++ (steps_text (length indices)
+    ++ (codes "path" ++ (flat_map (λ index. codes " " ++ decimal index) indices ++ codes "\n")))
 
 -- why a profile answers so, behind the answer
 abbrev pub reason_words : Reason → List ℕ
@@ -62,7 +59,3 @@ reason_words Foreign = codes " foreign"
 reason_words Stub = codes " stub"
 reason_words (Entry index) = codes " entry " ++ decimal index
 reason_words Default = codes " default"
-
--- the same at the end of a line
-abbrev pub reason_text : Reason → List ℕ
-reason_text reason = reason_words reason ++ codes "\n"

@@ -7,7 +7,7 @@ use Rattle.scf_tool.specs.declared.reply.Reply.TheVariants.{CommandLine, Accepte
 use Rattle.scf_tool.specs.declared.status.Status.{Status}
 use Rattle.scf_tool.specs.declared.status.Status.TheVariants.{Success}
 use Rattle.scf_tool.specs.Faults.{printed_fault}
-use Rattle.scf_tool.specs.Lines.{answer_text, decision_text, reason_text, steps_text}
+use Rattle.scf_tool.specs.Lines.{answer_text, decision_text, reason_words, steps_text}
 
 -- the exit status of a run that ends so, and its text
 abbrev pub printed : Result Reply Fault → Status × List ℕ
@@ -16,7 +16,7 @@ printed (Ok (Accepted count)) = (Success, codes "accepted " ++ decimal count ++ 
 printed (Ok (Ran ran)) = (Success, answer_text ran.answer.0 ++ steps_text ran.steps)
 printed (Ok (Decided answer)) = (Success, answer_text answer.0 ++ codes "\n")
 printed (Ok (DecidedBy decision)) = (Success, decision_text decision.by decision.answer.0)
-printed (Ok (Asked answer reason)) = (Success, answer_text answer.0 ++ reason_text reason)
+printed (Ok (Asked answer reason)) = (Success, answer_text answer.0 ++ (reason_words reason ++ codes "\n"))
 printed (Ok (Bytes bytes)) = (Success, bytes.items)
 printed (Ok (Compared text status)) = (status, text.items)
 printed (Err fault) = printed_fault fault

@@ -1,8 +1,8 @@
 -- What the program prints of a comparison.
 use Rattle.std.specs.Prelude.{ℕ, Bool, true, false, List, [], ◌++◌, codes, length, Option, Some, None, if◌then◌else◌}
+use Rattle.std.specs.Global.{Vec}
 use Rattle.std.specs.List.{flat_map, join_by}
 use Rattle.std.specs.Fmt.{decimal, digits}
-use Rattle.std.specs.Option.{option_map_or}
 use Rattle.scf_insn.specs.declared.record.CallRecord.{CallRecord}
 use Rattle.scf_profile.specs.declared.relation.Relation.{Relation}
 use Rattle.scf_profile.specs.declared.relation.Relation.TheVariants as relations
@@ -11,13 +11,11 @@ use Rattle.scf_compare.specs.declared.finding.Finding.TheVariants.{Holds, Fails,
 use Rattle.scf_compare.specs.Verdicts.{finding_of}
 use Rattle.scf_tool.specs.declared.findings.CallFinding.{CallFinding}
 use Rattle.scf_tool.specs.declared.findings.ComparisonOutcome.{ComparisonOutcome}
-use Rattle.scf_tool.specs.declared.findings.Findings.{Findings}
-use Rattle.scf_tool.specs.declared.findings.Findings.TheVariants.{AtOnce, EachCall}
 use Rattle.scf_tool.specs.declared.left_out.LeftOut.{LeftOut}
 use Rattle.scf_tool.specs.declared.status.Status.{Status}
 use Rattle.scf_tool.specs.declared.status.Status.TheVariants.{Success, Differs, Unknown}
 use Rattle.scf_tool.specs.declared.verification.Outcome.{Outcome}
-use Rattle.scf_tool.specs.JointFindings.{worst_of_calls, is_holding}
+use Rattle.scf_tool.specs.JointFindings.{is_holding}
 use Rattle.scf_tool.specs.Lines.{answer_text}
 use Rattle.scf_tool.specs.VerifyingStacks.{outcome_left_out}
 
@@ -89,18 +87,12 @@ abbrev pub words_of_left_out : Option LeftOut → List ℕ × List ℕ
 words_of_left_out (Some left) = (codes "beside-skipped", codes "beside-other")
 words_of_left_out None = (codes "skipped", codes "other")
 
--- what was left out of both sides
-abbrev pub left_outs_text : Option LeftOut → Option LeftOut → List ℕ
-left_outs_text left right =
-    left_out_text (codes "skipped", codes "other") left ++ left_out_text (words_of_left_out left) right
-
 -- ---- call by call
 
--- the line of the worst finding on calls
-abbrev pub joint_text : Relation → List ℕ × List ℕ → Option Finding → List ℕ
-joint_text relation words None = (said_of relation).0 ++ codes "\n"
-joint_text relation words (Some (Fails call left right)) = (said_of relation).1 ++ codes "\n"
-joint_text relation words (Some finding) = finding_text relation words finding
+-- the line of the finding that speaks for several calls
+abbrev pub joint_text : Relation → List ℕ × List ℕ → Finding → List ℕ
+joint_text relation words (Fails call left right) = (said_of relation).1 ++ codes "\n"
+joint_text relation words finding = finding_text relation words finding
 
 -- what the line of a call says behind its names: of which arguments and answers a relation doesn't hold
 abbrev pub found_text : Relation → List ℕ × List ℕ → Finding → List ℕ
@@ -119,36 +111,30 @@ named_line relation words call =
 
 -- ---- a report
 
--- The lines of what is found: of the finding on a relation; or of the worst one on calls, and one for each
+-- The lines of what is found: of the finding on a relation; or of the one that speaks for all calls, and one for each
 -- call of which the relation doesn't hold.
-abbrev pub findings_text : Relation → List ℕ × List ℕ → Findings → List ℕ
-findings_text relation words (AtOnce finding) = finding_text relation words finding
-findings_text relation words (EachCall calls) =
-    joint_text relation words (worst_of_calls calls.items)
-    ++ flat_map (named_line relation words) calls.items
+abbrev pub findings_text : Relation → List ℕ × List ℕ → Finding → Option (Vec CallFinding) → List ℕ
+findings_text relation words joint None = finding_text relation words joint
+findings_text relation words joint (Some calls) =
+    joint_text relation words joint ++ flat_map (named_line relation words) calls.items
 
--- The lines of an outcome, and those of what was left out, also of the profile on the left.
-abbrev pub sides_text : Relation → Option LeftOut → ComparisonOutcome → List ℕ
-sides_text relation left outcome =
-    findings_text relation (words_of_sides left outcome.left_out) outcome.findings
-    ++ left_outs_text left outcome.left_out
-
--- those of filters that are compared
+-- The lines of an outcome, and those of what was left out of both sides.
 abbrev pub report_text : Relation → ComparisonOutcome → List ℕ
-report_text relation outcome = sides_text relation None outcome
+report_text relation outcome =
+    findings_text relation (words_of_sides outcome.left_out_of_left outcome.left_out) outcome.findings.joint
+    outcome.findings.calls ++ (left_out_text (codes "skipped", codes "other") outcome.left_out_of_left
+    ++ left_out_text (words_of_left_out outcome.left_out_of_left) outcome.left_out)
 
 -- a verdict is a finding on a profile
 abbrev pub outcome_of : Outcome → ComparisonOutcome
-outcome_of outcome =
-    record { findings = AtOnce (finding_of outcome.verdict); left_out = Some (outcome_left_out outcome) }
+outcome_of outcome = record {
+  findings = record { joint = finding_of outcome.verdict; calls = None };
+  left_out_of_left = None;
+  left_out = Some (outcome_left_out outcome);
+}
 
 -- the exit status that goes with a finding
 abbrev pub finding_status : Finding → Status
 finding_status (Holds steps) = Success
 finding_status (Fails call left right) = Differs
 finding_status finding = Unknown
-
--- that of findings: of calls by the worst one
-abbrev pub findings_status : Findings → Status
-findings_status (AtOnce finding) = finding_status finding
-findings_status (EachCall calls) = option_map_or finding_status (worst_of_calls calls.items) Success

@@ -13,7 +13,6 @@ use Rattle.scf_insn.specs.Streams.{HasFailed}
 use Rattle.scf_machine.specs.declared.checker.CheckFault.TheVariants as checks
 use Rattle.scf_machine.specs.Checks.{IsFirstFault}
 use Rattle.scf_machine.specs.Rules.{IsValidList, KeepsScratchRule}
-use Rattle.scf_profile.specs.declared.load_fault.LoadFault.{LoadFault}
 use Rattle.scf_profile.specs.declared.loaded.Loaded.{Loaded}
 use Rattle.scf_profile.specs.declared.table_fault.TableFault.TheVariants as tables
 use Rattle.scf_profile.specs.Limits.{max_text_len}
@@ -107,16 +106,12 @@ IsNoTable bytes (Table fault) =
     IfSome bytes (λ input. (length input ≤ max_text_len) × (fault ≢ tables.Memory → table_of input ≡ Err fault))
 IsNoTable bytes fault = ⊥
 
--- why it has no profile: the bytes are refused for this fault first
-abbrev pub IsNoProfileBy : (List ℕ → LoadFault → Type 0) → Option (List ℕ) → VerifyFault → Type 0
-IsNoProfileBy refuses bytes (ProfileRead fault) = ReadsUnder max_text_len bytes (Err fault)
-IsNoProfileBy refuses bytes (Profile fault) =
-    IfSome bytes (λ input. (length input ≤ max_text_len) × refuses input fault)
-IsNoProfileBy refuses bytes fault = ⊥
-
--- the bytes and the map of the table state none
+-- why it has no profile: the bytes are refused under the map of the table, for this fault first
 abbrev pub IsNoProfile : Interpretation → Names → Option (List ℕ) → VerifyFault → Type 0
-IsNoProfile by names bytes fault = IsNoProfileBy (λ input. RefusesAs by.reading input names) bytes fault
+IsNoProfile by names bytes (ProfileRead fault) = ReadsUnder max_text_len bytes (Err fault)
+IsNoProfile by names bytes (Profile fault) =
+    IfSome bytes (λ input. (length input ≤ max_text_len) × RefusesAs by.reading input names fault)
+IsNoProfile by names bytes fault = ⊥
 
 -- why a table and a profile state nothing that is compared: the first that isn't read, or out of memory behind both
 abbrev pub IsProfileFault : Interpretation → Option (List ℕ) → Option (List ℕ) → VerifyFault → Type 0

@@ -1,6 +1,6 @@
 //! The encoding and the listing of instructions, in memory.
 
-ghost use Rattle.std.specs.Prelude.{◌≡◌, [], IfOk};
+ghost use Rattle.std.specs.Prelude.{◌≡◌, IfOk};
 ghost use Rattle.scf_insn.specs.Insn.{program_bytes};
 ghost use Rattle.scf_text.specs.Listing.{text_of};
 
@@ -13,18 +13,6 @@ use std::alloc::Global;
 struct Buffer {
     bytes: Vec<u8>,
     failures: u64,
-}
-
-impl Buffer {
-    /// An empty buffer.
-    fn new(alloc: Global) -> Buffer
-        ensures { result.bytes.items ≡ [] }
-    {
-        Buffer {
-            bytes: Vec::new(alloc),
-            failures: 0,
-        }
-    }
 }
 
 impl Sink for Buffer {
@@ -49,7 +37,8 @@ impl Sink for Buffer {
 pub fn encoding_of(alloc: Global, insns: &[Insn]) -> Result<Vec<u8>, Memory>
     ensures { IfOk result (λ bytes. bytes.items ≡ program_bytes insns.now) }
 {
-    let mut encoding = Buffer::new(alloc);
+    let bytes = Vec::new(alloc);
+    let mut encoding = Buffer { bytes, failures: 0 };
     match write_program(insns, &mut encoding) {
         Ok(()) => Ok(encoding.bytes),
         Err(_) => Err(Memory),
@@ -60,7 +49,8 @@ pub fn encoding_of(alloc: Global, insns: &[Insn]) -> Result<Vec<u8>, Memory>
 pub fn listing_of(alloc: Global, insns: &[Insn]) -> Result<Vec<u8>, Memory>
     ensures { IfOk result (λ text. text.items ≡ text_of insns.now) }
 {
-    let mut listing = Buffer::new(alloc);
+    let bytes = Vec::new(alloc);
+    let mut listing = Buffer { bytes, failures: 0 };
     match disassemble(insns, &mut listing) {
         Ok(()) => Ok(listing.bytes),
         Err(_) => Err(Memory),

@@ -1,12 +1,11 @@
 //! The program's commands.
 
 ghost use Rattle.std.specs.Prelude.{◌≡◌, map, Ok, Err, IfErr, IfOk, OnOk};
-ghost use Rattle.scf_tool.specs.Commands.{EndsOnBytes, IsTrueOf, ReadsInput};
+ghost use Rattle.scf_tool.specs.Commands.{EndsOnBytes, IsTrueOf, max_input_len};
 ghost use Rattle.scf_tool.specs.Runs.{Ends, IsRunOfProgram};
 ghost use Rattle.scf_tool.specs.Statuses.{LeavesInput};
-ghost use Rattle.scf_tool.specs.Verifying.{HasEnded, HasFailedWhere};
+ghost use Rattle.scf_tool.specs.Verifying.{HasEnded, HasFailedWhere, ReadsUnder};
 
-mod answers;
 mod bundle;
 mod compare;
 mod decide;
@@ -31,9 +30,9 @@ const MAX_INPUT: usize = 16_777_216;
 
 /// Reads all of standard input, unless it is one filter.
 fn whole_input<R: Source>(alloc: Global, input: &mut R) -> Result<Vec<u8>, InputFault>
-    ensures read { IfOk result (λ bytes. ReadsInput (R.remaining input.old) (Ok bytes.items)) }
+    ensures read { IfOk result (λ bytes. ReadsUnder max_input_len (R.remaining input.old) (Ok bytes.items)) }
     ensures ended { OnOk result (HasEnded R.remaining R.failures input.old input.new) }
-    ensures fault { IfErr result (λ fault. ReadsInput (R.remaining input.old) (Err fault)) }
+    ensures fault { IfErr result (λ fault. ReadsUnder max_input_len (R.remaining input.old) (Err fault)) }
     ensures failed { IfErr result (λ fault.
         HasFailedWhere (fault ≡ InputFault.Read) R.failures input.old input.new) }
 {

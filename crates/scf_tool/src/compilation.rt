@@ -4,13 +4,14 @@ ghost use Rattle.std.specs.Prelude.{◌≡◌, ◌<◌, ◌++◌, IfErr, IfOk};
 ghost use Rattle.scf_compile.specs.SizeBound.{size_bound_of_each};
 ghost use Rattle.scf_insn.specs.Kernel.{bpf_maxinsns};
 ghost use Rattle.scf_tool.specs.Commands.{IsFilterOfEach};
+ghost use Rattle.scf_tool.specs.Inputs.{left_out_of_each};
 ghost use Rattle.scf_tool.specs.Reports.{left_out_front};
 
 use crate::buffer::encoding_of;
-use crate::left_out::{LeftOut, LeftOutFront};
+use crate::left_out::LeftOutFront;
 use scf_compile::{CallCount, CompileFault, compile_by_counts};
 use scf_insn::Memory;
-use scf_profile::Profiles;
+use scf_profile::{LoadedProfiles, Profiles};
 use std::alloc::Global;
 
 /// The bytes of the filter that answers as the profiles of several architectures do. The errors are those of
@@ -32,16 +33,17 @@ pub fn filter_of_each(
 pub(crate) fn behind_left_out(
     alloc: Global,
     has_left_out: bool,
-    left_out: &LeftOut,
+    loaded: &LoadedProfiles,
     filter: Vec<u8>,
 ) -> Result<Vec<u8>, CompileFault>
-    ensures text { IfOk result (λ text. text.items ≡ left_out_front has_left_out left_out.now ++ filter.items) }
+    ensures text { IfOk result (λ text.
+        text.items ≡ left_out_front has_left_out (left_out_of_each loaded.now) ++ filter.items) }
     ensures memory { IfErr result (λ fault. fault ≡ CompileFault.Memory) }
 {
     if !has_left_out {
         return Ok(filter);
     }
-    let front = format!(in alloc; "{}", LeftOutFront(left_out)).map_err(Memory::from)?;
+    let front = format!(in alloc; "{}", LeftOutFront(loaded)).map_err(Memory::from)?;
     let mut text = front.into_bytes();
     text.extend_from_slice(&filter).map_err(Memory::from)?;
     Ok(text)

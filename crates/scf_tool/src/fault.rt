@@ -55,14 +55,6 @@ impl From<BundleFault> for Fault {
     }
 }
 
-impl From<CompileFault> for Fault {
-    ghost from_gives = { λ fault e. e ≡ faults.Compile fault };
-
-    fn from(fault: CompileFault) -> Fault {
-        Fault::Compile(fault)
-    }
-}
-
 impl From<VerifyFault> for Fault {
     ghost from_gives = { λ why e. e ≡ faults.Sides (record { beside = false; why = why }) };
 

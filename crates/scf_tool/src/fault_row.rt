@@ -280,7 +280,7 @@ pub fn side_row(fault: SideFault) -> FaultRow
 }
 
 fn request_row(fault: RequestFault) -> FaultRow
-    ensures { table.row_of result ≡ table.request_row fault }
+    ensures { table.row_of result ≡ table.fault_row (Fault.Request fault) }
 {
     let (source, name) = match fault {
         RequestFault::NoCommand => ("command", "NoCommand"),

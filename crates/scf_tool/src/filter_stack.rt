@@ -27,10 +27,9 @@ fn push_filter<R: Source>(
     ensures reader { LeavesFilterReader R.remaining R.failures reader.old result reader.new }
 {
     let program = read_filter(alloc, reader)?;
-    match stack.push(program) {
-        Ok(()) => Ok(()),
-        Err((fault, _)) => Err(VerifyFault::Stack(fault)),
-    }
+    stack
+        .push(program)
+        .map_err(|(fault, _)| VerifyFault::Stack(fault))
 }
 
 /// Reads a stack of filters, the oldest first. Each is read, checked and pushed before the next; the error is the first

@@ -36,17 +36,20 @@ pub struct CallFinding {
 
 /// What comparisons find.
 #[derive(Drop)]
-pub enum Findings {
-    /// The finding of one comparison over all records that are asked for.
-    AtOnce(Finding),
-    /// The calls of a table, by number, each compared by itself.
-    EachCall(Vec<CallFinding>),
+pub struct Findings {
+    /// The finding that speaks for all records that are asked for.
+    pub joint: Finding,
+    /// Call by call: the calls of a table, by number, each compared by itself.
+    pub calls: Option<Vec<CallFinding>>,
 }
 
-/// What comparisons find, and what was left out of the profile, if they are with one.
+/// What comparisons find, and what was left out of the profiles.
 #[derive(Drop)]
 pub struct ComparisonOutcome {
     pub findings: Findings,
+    /// Of the one on the left, if that is one.
+    pub left_out_of_left: Option<LeftOut>,
+    /// Of the one on the right, if that is one.
     pub left_out: Option<LeftOut>,
 }
 
@@ -184,21 +187,23 @@ fn named_findings(
     Ok(named)
 }
 
-/// Compares two sides over the records of a scope: the finding that speaks for all.
+/// Compares two sides over the records of a scope.
 fn compare_at_once(
     alloc: Global,
     sides: &SidesInput,
     scope: Scope,
     comparison: Comparison,
-) -> Result<Finding, Memory>
-    ensures { IfOk result (λ finding. AreFindings comparison (Scopes.AtOnce scope) sides.now.of_each
-        (behavior_of_input sides.now.left) sides.now.right (map named_of sides.now.tables.items)
-        (Findings.AtOnce finding)) }
+) -> Result<Findings, Memory>
+    ensures { IfOk result (AreFindings comparison (Scopes.AtOnce scope) sides.now.of_each
+        (behavior_of_input sides.now.left) sides.now.right (map named_of sides.now.tables.items)) }
 {
     let pairings = pairings_of(alloc, sides.left.side(), &sides.right, sides.of_each, scope)?;
     let limit = limit_of(comparison.limits);
     let findings = compare_each(alloc, &pairings, comparison.relation, limit, None)?;
-    Ok(joint_finding(&findings))
+    Ok(Findings {
+        joint: joint_finding(&findings),
+        calls: None,
+    })
 }
 
 /// Compares two sides over the records of each call of a table.
@@ -207,9 +212,9 @@ fn compare_calls(
     sides: &SidesInput,
     table: &OwnedTable,
     comparison: Comparison,
-) -> Result<Vec<CallFinding>, Memory>
-    ensures { IfOk result (λ calls. AreFindings comparison Scopes.EachCall sides.now.of_each
-        (behavior_of_input sides.now.left) sides.now.right (named_of table.now ∷ []) (Findings.EachCall calls)) }
+) -> Result<Findings, Memory>
+    ensures { IfOk result (AreFindings comparison Scopes.EachCall sides.now.of_each
+        (behavior_of_input sides.now.left) sides.now.right (named_of table.now ∷ [])) }
 {
     let calls = table.table.calls(alloc)?;
     let left = sides.left.side();
@@ -222,7 +227,10 @@ fn compare_calls(
         limit_of(comparison.limits),
         Some(comparison.limits.total),
     )?;
-    Ok(named_findings(alloc, &calls, &findings)?)
+    Ok(Findings {
+        joint: joint_finding(&findings),
+        calls: Some(named_findings(alloc, &calls, &findings)?),
+    })
 }
 
 /// Compares two sides as is asked: by a relation, over the records of a scope, or call by call of the only table.
@@ -249,14 +257,17 @@ pub(crate) fn findings_of(
     match comparison.scopes {
         Scopes::AtOnce(scope) => {
             let finding = compare_at_once(alloc, sides, scope, comparison)?;
-            Ok(Findings::AtOnce(finding))
+            Ok(finding)
         }
         Scopes::EachCall => {
             if sides.tables.len() != 1 {
-                return Ok(Findings::EachCall(Vec::new(alloc)));
+                return Ok(Findings {
+                    joint: Finding::Holds { steps: 0 },
+                    calls: Some(Vec::new(alloc)),
+                });
             }
             let calls = compare_calls(alloc, sides, &sides.tables[0], comparison)?;
-            Ok(Findings::EachCall(calls))
+            Ok(calls)
         }
     }
 }

@@ -2,10 +2,11 @@
 
 ghost use Rattle.std.specs.Prelude.{◌≡◌, Some, map, string_bytes, true};
 ghost use Rattle.std.specs.List.{flat_map};
+ghost use Rattle.scf_tool.specs.Inputs.{left_out_of_each};
 ghost use Rattle.scf_tool.specs.Reports.{left_out_front, left_out_text, length_text, name_line};
 ghost use Rattle.scf_tool.specs.Reports as spec;
 
-use scf_profile::Texts;
+use scf_profile::{LoadedProfiles, Texts};
 use std::fmt;
 
 /// What was left out of a profile.
@@ -50,10 +51,10 @@ impl fmt::Display for Lengths<'_> {
 
 /// What was left out of a profile, and a line that ends it.
 #[derive(Clone, Copy)]
-pub(crate) struct LeftOutFront<'a>(pub &'a LeftOut);
+pub(crate) struct LeftOutFront<'a>(pub &'a LoadedProfiles);
 
 impl fmt::Display for LeftOutFront<'_> {
-    ghost output = { λ front. Some (left_out_front true front.0.now) };
+    ghost output = { λ front. Some (left_out_front true (left_out_of_each front.0.now)) };
 
     fn fmt<W: fmt::Write>(&self, f: &mut fmt::Formatter<W>) -> fmt::Result {
         let skipped = self.0.skipped.as_slice();

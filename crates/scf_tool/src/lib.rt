@@ -41,7 +41,7 @@ pub use fault_row::{FaultRow, MEMORY, compile_row, side_row, text_row, verify_ro
 pub use filter::read_filter;
 pub use filter_stack::{read_stack, stack_of};
 pub use findings::{CallFinding, ComparisonOutcome, Findings, pairings_of_calls};
-pub use joint_findings::{joint_finding, worst_of};
+pub use joint_findings::joint_finding;
 pub use left_out::LeftOut;
 pub use loading::load_with_tables;
 pub use owned_table::{OwnedTable, read_tables};

@@ -1,9 +1,9 @@
 //! Several comparisons or walks, one after another.
 
 ghost use Rattle.std.specs.Prelude.{◌<◌, IfOk, MatchOption, None, Some};
-ghost use Rattle.scf_compare.specs.Sides.{effort_of_sides};
+ghost use Rattle.scf_compare.specs.Sides.{behavior_of, effort_of_sides};
 ghost use Rattle.scf_tool.specs.Comparisons.{AreFoundEach};
-ghost use Rattle.scf_tool.specs.Explorations.{AreListedOf, Explores};
+ghost use Rattle.scf_tool.specs.Explorations.{AreListed, Explores};
 ghost use Rattle.scf_tool.specs.internal.Plans.{IsFoundNext};
 
 use scf_compare::{Finding, Limit, Regions, Side, compare_sides, compare_sides_within, regions_of};
@@ -87,13 +87,10 @@ pub fn compare_each(
 }
 
 /// The regions of the sides of a pairing. None if the walk takes more steps than the limit.
-pub(crate) fn explore(
-    alloc: Global,
-    pairing: &Pairing<'_>,
-    limit: u64,
-) -> Result<Option<Regions>, Memory>
+fn explore(alloc: Global, pairing: &Pairing<'_>, limit: u64) -> Result<Option<Regions>, Memory>
     ensures { IfOk result (λ explored. MatchOption explored
-        (limit < effort_of_sides pairing.now.left pairing.now.right) (AreListedOf limit pairing.now)) }
+        (limit < effort_of_sides pairing.now.left pairing.now.right)
+        (AreListed (behavior_of pairing.now.left) (behavior_of pairing.now.right) pairing.now.over limit)) }
 {
     word_sets_start_exact();
     regions_of::<WordSets>(alloc, &pairing.left, &pairing.right, pairing.over, limit)

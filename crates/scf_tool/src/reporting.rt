@@ -4,12 +4,12 @@ ghost use Rattle.std.specs.Prelude.{◌≡◌, IfOk, Some, codes, map, string_by
 ghost use Rattle.std.specs.List.{flat_map, join_by};
 ghost use Rattle.scf_compare.specs.Verdicts.{finding_of};
 ghost use Rattle.scf_tool.specs.Reports.{argument_text, call_line, finding_text, found_text, joint_text};
-ghost use Rattle.scf_tool.specs.Reports.{named_line, outcome_of, report_text, said_of, sides_text};
+ghost use Rattle.scf_tool.specs.Reports.{named_line, outcome_of, report_text, said_of};
 ghost use Rattle.scf_tool.specs.Reports as spec;
 ghost use Rattle.scf_tool.specs.internal.Words.{names_in};
 
-use crate::findings::{CallFinding, ComparisonOutcome, Findings};
-use crate::joint_findings::{holds, worst_of_calls};
+use crate::findings::{CallFinding, ComparisonOutcome};
+use crate::joint_findings::holds;
 use crate::left_out::{LeftOut, LeftOutLines, NameLines, words_of_left_out};
 use crate::lines::AnswerText;
 use crate::verification::Outcome;
@@ -142,18 +142,17 @@ fn finding_of(verdict: &Verdict) -> Finding
     }
 }
 
-/// The line of the worst finding on calls.
+/// The line of the finding that speaks for several calls.
 #[derive(Clone, Copy)]
-struct JointLine(Words, Option<Finding>);
+struct JointLine(Words, Finding);
 
 impl fmt::Display for JointLine {
     ghost output = { λ line. Some (joint_text line.0.relation (names_in line.0) line.1) };
 
     fn fmt<W: fmt::Write>(&self, f: &mut fmt::Formatter<W>) -> fmt::Result {
         match self.1 {
-            None => write!(f, "{}\n", self.0.said().0),
-            Some(Finding::Fails { .. }) => write!(f, "{}\n", self.0.said().1),
-            Some(finding) => f.write(FindingLines(self.0, finding)),
+            Finding::Fails { .. } => write!(f, "{}\n", self.0.said().1),
+            finding => f.write(FindingLines(self.0, finding)),
         }
     }
 }
@@ -245,31 +244,22 @@ pub fn report_by(
 ) -> Result<Vec<u8>, Memory>
     ensures { IfOk result (λ text. text.items ≡ report_text relation outcome.now) }
 {
-    report_sides(alloc, relation, &None, outcome)
-}
-
-/// The report of an outcome as `report_by` gives it, where the left side may be a profile, of which this was left out.
-pub(crate) fn report_sides(
-    alloc: Global,
-    relation: Relation,
-    left: &Option<LeftOut>,
-    outcome: &ComparisonOutcome,
-) -> Result<Vec<u8>, Memory>
-    ensures { IfOk result (λ text. text.items ≡ sides_text relation left.now outcome.now) }
-{
-    let words = Words::of(relation, left, &outcome.left_out);
+    let left = &outcome.left_out_of_left;
+    let right = &outcome.left_out;
+    let words = Words::of(relation, left, right);
     let of_left = LeftOutLines("skipped", "other", left);
     let (skipped, other) = words_of_left_out(left);
-    let of_right = LeftOutLines(skipped, other, &outcome.left_out);
-    match &outcome.findings {
-        Findings::AtOnce(finding) => {
-            let finding = FindingLines(words, *finding);
+    let of_right = LeftOutLines(skipped, other, right);
+    let joint = outcome.findings.joint;
+    match &outcome.findings.calls {
+        None => {
+            let finding = FindingLines(words, joint);
             Ok(format!(in alloc; "{finding}{of_left}{of_right}")?.into_bytes())
         }
-        Findings::EachCall(calls) => {
-            let joint = JointLine(words, worst_of_calls(calls));
+        Some(calls) => {
+            let line = JointLine(words, joint);
             let each = NamedLines(words, calls);
-            Ok(format!(in alloc; "{joint}{each}{of_left}{of_right}")?.into_bytes())
+            Ok(format!(in alloc; "{line}{each}{of_left}{of_right}")?.into_bytes())
         }
     }
 }

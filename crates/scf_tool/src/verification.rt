@@ -37,12 +37,10 @@ pub(crate) fn read_table<R: Source>(alloc: Global, reader: &mut R) -> Result<Cal
     ensures refused { IfErr result (IsNoTable (R.remaining reader.old)) }
     ensures reader { LeavesTableReader R.remaining R.failures reader.old result reader.new }
 {
-    match read_input(alloc, reader, MAX_TEXT_LEN) {
-        Ok(text) => match CallTable::read(alloc, &text) {
-            Ok(table) => Ok(table),
-            Err(fault) => Err(VerifyFault::Table(fault)),
-        },
-        Err(fault) => Err(VerifyFault::TableRead(fault)),
+    let text = read_input(alloc, reader, MAX_TEXT_LEN).map_err(VerifyFault::TableRead)?;
+    match CallTable::read(alloc, &text) {
+        Ok(table) => Ok(table),
+        Err(fault) => Err(VerifyFault::Table(fault)),
     }
 }
 
@@ -69,8 +67,8 @@ pub(crate) fn read_profile<R: Source>(
 /// The filter is read and checked, then the table is read, then the profile; the error is the first fault. Tables and
 /// profiles have at most 4194304 bytes each.
 ///
-/// `Same` is true of every call record, and `Differs` shows one that is answered differently: see `compare`. A filter and
-/// a profile that are plain, or test under masks of at most 16 bits together, are never left undecided.
+/// `Same` is true of every call record, and `Differs` shows one that is answered differently: see `compare`. A filter
+/// and a profile that are plain, or test under masks of at most 16 bits together, are never left undecided.
 pub fn verify<F: Source, P: Source, T: Source>(
     alloc: Global,
     filter_reader: &mut F,

@@ -47,16 +47,18 @@ pub record IsBesideProfile (left : Side) (scope : Scope) (p : Profile) (pairing 
   pub right_is : IsOfProfile p pairing.right
   pub over_is : pairing.over ≡ scope_of scope p.architecture
 
--- no side: a stack without filters
-abbrev pub IsNoSide : Side → Type 0
-IsNoSide (sides.Stack filters) = filters.now ≡ []
-IsNoSide side = ⊥
-
--- a profile by itself, over its records of a scope
-pub record IsProfileAlone (scope : Scope) (p : Profile) (pairing : Pairing) : Type 0 where
+-- a profile beside a side, over its records of a scope
+pub record IsProfileBeside (right : Side) (scope : Scope) (p : Profile) (pairing : Pairing) : Type 0 where
   pub left_is : IsOfProfile p pairing.left
-  pub right_is : IsNoSide pairing.right
+  pub right_is : pairing.right ≡ right
   pub over_is : pairing.over ≡ scope_of scope p.architecture
+
+-- a side that is read, beside another one: several profiles stand each by itself
+abbrev pub AreWalked : Bool → SideInput → Side → Scope → List Pairing → Type 0
+AreWalked true (inputs.Profiles loaded) right scope pairings =
+    AllZip (IsProfileBeside right scope) loaded.profiles pairings
+AreWalked of_each left right scope pairings = (side : Side) × IsSideOf left side
+    × (pairings ≡ record { left = side; right = right; over = scope } ∷ [])
 
 -- a side beside one that is read: several profiles stand each by itself
 abbrev pub ArePaired : Bool → Side → SideInput → Scope → List Pairing → Type 0

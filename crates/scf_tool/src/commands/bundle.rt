@@ -10,11 +10,10 @@ ghost use Rattle.scf_tool.specs.Inputs.{AreRead, SpellsTable, named_of};
 ghost use Rattle.scf_tool.specs.internal.Sides.{inputs_of};
 
 use crate::architecture_scope::{has_record_among, name_no_call};
-use crate::commands::answers::{list_answers, list_differences};
 use crate::commands::compare::compare_sides;
 use crate::commands::decide::decide;
 use crate::commands::profile::{ask_profile, compile_profile};
-use crate::exploration::exploration_of;
+use crate::exploration::list_answers;
 use crate::fault::Fault;
 use crate::inputs::{Inputs, Shape, Takes, open};
 use crate::owned_table::{OwnedTable, valid_tables};
@@ -107,10 +106,7 @@ fn read_over(alloc: Global, over: Scopes, inputs: Inputs<'_>) -> Result<SidesInp
     ensures refused { IfErr result (IsRefused over (inputs_of inputs.entry)) }
 {
     let read = check_records(alloc, inputs.rules.of_each, over, &inputs.tables)?;
-    match read_sides(alloc, inputs, read) {
-        Ok(sides) => Ok(sides),
-        Err(fault) => Err(Fault::Sides(fault)),
-    }
+    read_sides(alloc, inputs, read).map_err(Fault::Sides)
 }
 
 /// Replies to the sides of a command.
@@ -122,17 +118,10 @@ fn reply_to(alloc: Global, command: &Command, sides: SidesInput) -> Result<Reply
             comparison,
             has_examples,
             has_differences,
-        } => {
-            let exploration = exploration_of(comparison, *has_examples);
-            if *has_differences {
-                list_differences(alloc, &sides, exploration)
-            } else {
-                list_answers(alloc, &sides, exploration)
-            }
-        }
+        } => Ok(list_answers(alloc, &sides, comparison, *has_examples, *has_differences)?),
         Command::Ask(call) => ask_profile(&sides.left, call),
         Command::Compare(comparison) => compare_sides(alloc, sides, *comparison),
-        Command::Compile { has_left_out } => compile_profile(alloc, sides, *has_left_out),
+        Command::Compile { has_left_out } => compile_profile(alloc, &sides, *has_left_out),
         Command::Decide { call, detail } => decide(alloc, &sides.left, call, *detail),
         Command::Assemble | Command::Check | Command::List | Command::Run { .. } => Err(
             Fault::Parts,

@@ -3,13 +3,12 @@
 ghost use Rattle.std.specs.Prelude.{◌≡◌, IfOk};
 ghost use Rattle.scf_request.specs.declared.request.Command.TheVariants as commands;
 ghost use Rattle.scf_tool.specs.Commands.{IsReport, Replies, memory_fault_of};
-ghost use Rattle.scf_tool.specs.Reports.{finding_status, findings_status};
+ghost use Rattle.scf_tool.specs.Reports.{finding_status};
 
 use crate::fault::Fault;
-use crate::findings::{ComparisonOutcome, Findings, findings_of};
-use crate::joint_findings::worst_of_calls;
+use crate::findings::{ComparisonOutcome, findings_of};
 use crate::reply::Reply;
-use crate::reporting::report_sides;
+use crate::reporting::report_by;
 use crate::sides::SidesInput;
 use crate::status::Status;
 use crate::verify_fault::VerifyFault;
@@ -29,31 +28,18 @@ fn status_of_finding(finding: &Finding) -> Status
     }
 }
 
-/// The exit status that goes with findings.
-fn status_of_findings(findings: &Findings) -> Status
-    ensures { result ≡ findings_status findings.now }
-{
-    match findings {
-        Findings::AtOnce(finding) => status_of_finding(finding),
-        Findings::EachCall(calls) => worst_of_calls(calls).map_or(
-            Status::Success,
-            |finding| status_of_finding(&finding),
-        ),
-    }
-}
-
 /// The report on two sides, compared as is asked.
 fn report_of(alloc: Global, sides: SidesInput, comparison: Comparison) -> Result<Reply, Memory>
     ensures { IfOk result (IsReport comparison sides) }
 {
     let findings = findings_of(alloc, &sides, comparison)?;
-    let status = status_of_findings(&findings);
-    let left_out = sides.left.left_out();
+    let status = status_of_finding(&findings.joint);
     let outcome = ComparisonOutcome {
         findings,
+        left_out_of_left: sides.left.left_out(),
         left_out: sides.right.left_out(),
     };
-    let text = report_sides(alloc, comparison.relation, &left_out, &outcome)?;
+    let text = report_by(alloc, comparison.relation, &outcome)?;
     Ok(Reply::Compared { text, status })
 }
 
@@ -65,8 +51,5 @@ pub(super) fn compare_sides(
 ) -> Result<Reply, Fault>
     ensures { Replies (memory_fault_of (commands.Compare comparison)) (IsReport comparison sides) result }
 {
-    match report_of(alloc, sides, comparison) {
-        Ok(reply) => Ok(reply),
-        Err(_) => Err(Fault::from(VerifyFault::Memory)),
-    }
+    report_of(alloc, sides, comparison).map_err(|_| Fault::from(VerifyFault::Memory))
 }

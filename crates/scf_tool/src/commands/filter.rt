@@ -7,6 +7,7 @@ ghost use Rattle.scf_tool.specs.Commands.{EndsOnFilter, Lists};
 ghost use Rattle.scf_request.specs.declared.request.Command.TheVariants as commands;
 ghost use Rattle.scf_tool.specs.Lines.{traced_text};
 ghost use Rattle.scf_tool.specs.Statuses.{LeavesFilter};
+ghost use Rattle.scf_tool.specs.declared.verify_fault.VerifyFault.TheVariants as verifies;
 
 use crate::buffer::listing_of;
 use crate::fault::Fault;
@@ -40,6 +41,13 @@ pub(super) fn run_filter<R: Source>(
     Ok(Reply::Ran(run(&program, call)))
 }
 
+/// Memory ran out for what is printed of a filter.
+fn no_memory(_why: Memory) -> VerifyFault
+    ensures { result ≡ verifies.FilterRead ReadFault.Memory }
+{
+    VerifyFault::FilterRead(ReadFault::Memory)
+}
+
 /// The lines of a filter's run on a call and its way.
 fn traced(alloc: Global, program: &Program, call: &CallRecord) -> Result<Vec<u8>, Memory>
     ensures { IfOk result (λ text. (answer : ℕ) × (indices : List ℕ)
@@ -59,10 +67,7 @@ pub(super) fn trace_filter<R: Source>(
     ensures input { LeavesFilter R.remaining R.failures input.old result input.new }
 {
     let program = read_filter(alloc, input)?;
-    match traced(alloc, &program, call) {
-        Ok(lines) => Ok(Reply::Bytes(lines)),
-        Err(_) => Err(Fault::from(VerifyFault::FilterRead(ReadFault::Memory))),
-    }
+    Ok(Reply::Bytes(traced(alloc, &program, call).map_err(no_memory)?))
 }
 
 /// `dis`: the listing of a filter, which isn't checked.
@@ -70,12 +75,6 @@ pub(super) fn list_filter<R: Source>(alloc: Global, input: &mut R) -> Result<Rep
     ensures answer { Lists (R.remaining input.old) result }
     ensures input { LeavesFilter R.remaining R.failures input.old result input.new }
 {
-    let insns = match read_program(alloc, input) {
-        Ok(insns) => insns,
-        Err(fault) => return Err(Fault::from(VerifyFault::FilterRead(fault))),
-    };
-    match listing_of(alloc, &insns) {
-        Ok(text) => Ok(Reply::Bytes(text)),
-        Err(_) => Err(Fault::from(VerifyFault::FilterRead(ReadFault::Memory))),
-    }
+    let insns = read_program(alloc, input).map_err(VerifyFault::FilterRead)?;
+    Ok(Reply::Bytes(listing_of(alloc, &insns).map_err(no_memory)?))
 }

@@ -5,7 +5,6 @@ ghost use Rattle.scf_tool.specs.Commands.{Compiles, GivesReason, Replies};
 
 use crate::compilation::{behind_left_out, filter_of_each};
 use crate::fault::Fault;
-use crate::left_out::LeftOut;
 use crate::loading::call_counts;
 use crate::reply::Reply;
 use crate::sides::{SideInput, SidesInput};
@@ -16,31 +15,18 @@ use std::alloc::Global;
 /// left out of the profile, if that is asked for.
 pub(super) fn compile_profile(
     alloc: Global,
-    sides: SidesInput,
+    sides: &SidesInput,
     has_left_out: bool,
 ) -> Result<Reply, Fault>
-    ensures { Compiles has_left_out sides.left result }
+    ensures { Compiles has_left_out sides.now.left result }
 {
-    let SidesInput {
-        left,
-        right: _right,
-        of_each: _of_each,
-        tables,
-        counts,
-    } = sides;
-    let calls = call_counts(alloc, &tables, &counts)?;
-    match left {
-        SideInput::Profiles(loaded) => {
-            let filter = filter_of_each(alloc, &loaded.profiles, &calls)?;
-            let left_out = LeftOut {
-                skipped: loaded.skipped,
-                other_architectures: loaded.other_architectures,
-            };
-            let bytes = behind_left_out(alloc, has_left_out, &left_out, filter)?;
-            Ok(Reply::Bytes(bytes))
-        }
-        SideInput::Stack(_stack) => Err(Fault::Parts),
-    }
+    let SideInput::Profiles(loaded) = &sides.left else {
+        return Err(Fault::Parts);
+    };
+    let calls = call_counts(alloc, &sides.tables, &sides.counts).map_err(Fault::Compile)?;
+    let filter = filter_of_each(alloc, &loaded.profiles, &calls).map_err(Fault::Compile)?;
+    let bytes = behind_left_out(alloc, has_left_out, loaded, filter).map_err(Fault::Compile)?;
+    Ok(Reply::Bytes(bytes))
 }
 
 /// `ask`: what a profile answers to a call, or that of its architecture, and why.

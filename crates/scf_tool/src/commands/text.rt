@@ -12,12 +12,7 @@ use std::alloc::Global;
 pub(super) fn assemble_text(alloc: Global, text: &[u8]) -> Result<Reply, Fault>
     ensures { Assembles text.now result }
 {
-    let insns = match assemble(alloc, text) {
-        Ok(insns) => insns,
-        Err(fault) => return Err(Fault::Text(fault)),
-    };
-    match encoding_of(alloc, &insns) {
-        Ok(bytes) => Ok(Reply::Bytes(bytes)),
-        Err(_) => Err(Fault::Text(TextFault::Memory)),
-    }
+    let insns = assemble(alloc, text).map_err(Fault::Text)?;
+    let bytes = encoding_of(alloc, &insns).map_err(|_| Fault::Text(TextFault::Memory))?;
+    Ok(Reply::Bytes(bytes))
 }

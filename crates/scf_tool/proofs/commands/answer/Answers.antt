@@ -1,4 +1,4 @@
-use Rattle.scf_tool.proofs.Common.{Err, Ok, ReadsInput, err_from_is_err_and}
+use Rattle.scf_tool.proofs.Common.{Err, Ok, ReadsUnder, err_from_is_err_and, max_input_len}
 use Rattle.scf_tool.proofs.WholeInput.{left_by, left_whole, not_read, takes_whole, true_of_input}
 use Rattle.scf_tool.specs.declared.fault.Fault.TheVariants as faults
 use Rattle.scf_tool.specs.internal.Bytes.{TakesWhole}
@@ -25,7 +25,7 @@ pub returns-in_ok-bytes-in_default-clause-answer : goal.returns-in_ok-bytes-in_d
 returns-in_ok-bytes-in_default-clause-answer g c =
     let whole : TakesWhole c.args.request.now.command =
     takes_whole c.args.request.now.command c.in_default.not-Check c.in_default.not-List c.in_default.not-Run in
-    let read : ReadsInput (g.R.Source.remaining c.args.input.now) (Ok c.deref.result.now) =
+    let read : ReadsUnder max_input_len (g.R.Source.remaining c.args.input.now) (Ok c.deref.result.now) =
     rw c.deref.ensures.value c.in_ok-bytes-in_default.ensures.read in
     true_of_input c.args.request.now.reading c.args.request.now.form c.args.request.now.command c.deref.result.now
     c.answer_bytes.result (g.R.Source.remaining c.args.input.now) whole read c.answer_bytes.ensures

@@ -1,11 +1,10 @@
 use Rattle.scf_compare.specs.Sides.{Behavior}
-use Rattle.scf_tool.proofs.Common.{map}
+use Rattle.scf_tool.proofs.Common.{None, map}
 use Rattle.scf_tool.proofs.PlanLemmas.{found_at_once}
 use Rattle.scf_tool.proofs.SideLemmas.{of_side}
 use Rattle.scf_tool.specs.Inputs.{named_of}
 use Rattle.scf_tool.specs.JointFindings.{AreFindings, joint_finding}
 use Rattle.scf_request.specs.declared.request.Scopes.TheVariants.{AtOnce}
-use Rattle.scf_tool.specs.declared.findings.Findings.TheVariants as Findings
 use Rattle.scf_tool.proofs.findings.compare_at_once.Goals as goal
 
 pub returns : goal.returns
@@ -19,5 +18,5 @@ returns c =
     rw (c.joint_finding.ensures, c.deref-2.ensures.value)
     (of_side
     (λ (left : Behavior). AreFindings c.args.comparison (AtOnce c.args.scope) sides.of_each left sides.right tables
-    (Findings.AtOnce (joint_finding findings)))
+    (record { joint = joint_finding findings; calls = None }))
     sides.left c.side.result c.side.ensures at_once)

@@ -1,11 +1,12 @@
 use Rattle.scf_compare.specs.Sides.{Behavior, behavior_of}
 use Rattle.scf_profile.specs.declared.named_call.NamedCall.{NamedCall}
-use Rattle.scf_tool.proofs.Common.{Finding, List, map, ◌≡◌, ◌∙◌, ℕ}
+use Rattle.scf_tool.proofs.Common.{Finding, List, ap, map, refl, sym, ◌≡◌, ◌∙◌, ℕ}
 use Rattle.scf_tool.proofs.PlanLemmas.{as_many, found_of_each}
 use Rattle.scf_tool.proofs.SideLemmas.{of_side}
 use Rattle.scf_tool.specs.ArchitectureScopes.{scope_of_call}
 use Rattle.scf_tool.specs.Comparisons.{AreFound, IsFoundInTurn, IsFoundOfInTurn, limit_of}
 use Rattle.scf_tool.specs.Inputs.{behavior_of_input}
+use Rattle.scf_tool.specs.JointFindings.{joint_finding}
 use Rattle.scf_tool.specs.declared.findings.CallFinding.{CallFinding}
 use Rattle.scf_tool.specs.declared.plan.Pairing.{Pairing}
 use Rattle.scf_tool.specs.internal.Plans.{pairing_of_call}
@@ -18,7 +19,7 @@ named_findings-requires c =
     pairing_of_call c.side-left.result c.side-right.result c.args.table.now.architecture in
     let found = rw (c.deref-2.ensures.value, c.in_ok-pairings.ensures, c.deref.ensures.value, c.limit_of.ensures)
     at c.in_ok-findings.ensures in
-    rw (c.deref-4.ensures.value, c.deref-3.ensures.value)
+    rw (c.deref-5.ensures.value, c.deref-4.ensures.value)
     (as_many (IsFoundOfInTurn comparison.relation (limit_of comparison.limits)) of_call comparison.limits.total
     c.in_ok-calls.calls.items c.in_ok-findings.findings.items found.0 found.1)
 
@@ -41,13 +42,16 @@ returns c =
     c.in_ok-findings.findings.items found.0 found.1 in
     let findings : List Finding = map (λ (call : CallFinding). call.finding) named in
     let same : findings ≡ c.in_ok-findings.findings.items =
-    c.in_ok-named_findings.ensures.found ∙ c.deref-4.ensures.value in (
+    c.in_ok-named_findings.ensures.found ∙ c.deref-5.ensures.value in (
+      c.in_ok-named_findings.field-0,
+      refl,
       calls,
       c.in_ok-calls.ensures,
-      rw c.deref-3.ensures.value at c.in_ok-named_findings.ensures.named,
+      rw c.deref-4.ensures.value at c.in_ok-named_findings.ensures.named,
       found.0,
       of_side (λ (left : Behavior). Found left (behavior_of_input sides.right) found.0 findings)
           sides.left c.side-left.result c.side-left.ensures
           (of_side (λ (right : Behavior). Found (behavior_of c.side-left.result) right found.0 findings)
           sides.right c.side-right.result c.side-right.ensures (rw same each)),
+      c.joint_finding.ensures ∙ ap joint_finding (c.deref-3.ensures.value ∙ sym same),
     )

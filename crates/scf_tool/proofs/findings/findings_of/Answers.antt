@@ -1,10 +1,9 @@
 use Rattle.scf_tool.proofs.Common.{arith, length, ◌≡◌}
-use Rattle.scf_tool.proofs.TableLemmas.{of_only}
+use Rattle.scf_tool.proofs.TableLemmas.{of_only, of_others}
 use Rattle.scf_profile.specs.StatedProfile.{Tables}
 use Rattle.scf_request.specs.declared.request.Scopes.TheVariants.{EachCall}
 use Rattle.scf_tool.specs.Inputs.{behavior_of_input}
 use Rattle.scf_tool.specs.JointFindings.{AreFindings}
-use Rattle.scf_tool.specs.declared.findings.Findings.TheVariants as Findings
 use Rattle.scf_tool.proofs.findings.findings_of.Goals as goal
 
 pub returns-in_ok-finding-in-AtOnce : goal.returns-in_ok-finding-in-AtOnce
@@ -17,5 +16,13 @@ returns-in_ok-calls-in-EachCall c =
     let is_one = rw c.len.ensures at c.if-len-ne1.false in
     let one : length sides.tables.items ≡ 1 = omega (arith, counted, is_one) in
     rw c.in-EachCall.is (of_only (λ (tables : Tables). AreFindings c.args.comparison EachCall sides.of_each
-    (behavior_of_input sides.left) sides.right tables (Findings.EachCall c.in_ok-calls-in-EachCall.calls))
+    (behavior_of_input sides.left) sides.right tables c.in_ok-calls-in-EachCall.calls)
     sides.tables.items c.index.result.now one c.index.ensures c.in_ok-calls-in-EachCall.ensures)
+
+pub returns-then-len-ne1 : goal.returns-then-len-ne1
+returns-then-len-ne1 c =
+    let sides = c.args.sides.now in
+    let counted = sides.tables.ok.0 in
+    let other = rw c.len.ensures at c.if-len-ne1.true in
+    rw c.in-EachCall.is (of_others c.args.comparison sides.of_each (behavior_of_input sides.left) sides.right
+    sides.tables.items c.new.result (λ one. omega (arith, counted, other, one)) c.new.ensures.items)

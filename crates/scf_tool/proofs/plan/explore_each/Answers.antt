@@ -1,24 +1,26 @@
-use Rattle.scf_compare.specs.Sides.{behavior_of, effort_of_sides}
+use Rattle.scf_compare.specs.Sides.{behavior_of}
 use Rattle.scf_compare.specs.declared.regions.Regions.{Regions}
 use Rattle.scf_tool.proofs.Common.{◌≤◌, ℕ, List, ap, arith, subst, sum_by_push, take_more}
 use Rattle.scf_tool.proofs.ExplorationLemmas.{widened}
-use Rattle.std.proofs.Common.{sum_by}
+use Rattle.std.proofs.Common.{sum_by, ◌*◌}
 use Rattle.std.proofs.lemmas.List.Sums.{sum_by_more}
 use Rattle.std.proofs.lemmas.Slice.Zip.{all_zipped_more}
-use Rattle.scf_tool.specs.Explorations.{AreListedOf}
+use Rattle.scf_tool.specs.Explorations.{AreListed}
 use Rattle.scf_tool.specs.declared.plan.Pairing.{Pairing}
 use Rattle.scf_tool.proofs.plan.explore_each.Goals as goal
 
 pub loop-pairing-preserved : goal.loop-pairing-preserved
 loop-pairing-preserved c =
-    let listed : Pairing → Regions → Type 0 = AreListedOf c.args.limit in
-    let size : Pairing → ℕ = λ pairing. effort_of_sides pairing.left pairing.right in
+    let listed_in : ℕ → Pairing → Regions → Type 0 = λ limit pairing.
+    AreListed (behavior_of pairing.left) (behavior_of pairing.right) pairing.over limit in
+    let listed : Pairing → Regions → Type 0 = listed_in c.args.limit in
+    let size : Pairing → ℕ = λ pairing. (behavior_of pairing.left).size * (behavior_of pairing.right).size in
     let steps : Regions → ℕ = λ regions. regions.steps in
     let pairing = c.pairing-item.result in
     let regions = c.in-Some.regions in
     let index = c.loop-pairing.pairing-index in
     let before = c.loop-pairing.listed.items in
-    let are_listed : AreListedOf c.loop-pairing.remaining pairing regions =
+    let are_listed : listed_in c.loop-pairing.remaining pairing regions =
     rw c.in-Some.is at c.in_ok-regions.ensures in
     let spent = c.loop-pairing.invariant.spent in
     let wide : listed pairing regions = widened (behavior_of pairing.left) (behavior_of pairing.right) pairing.over

@@ -1,6 +1,6 @@
 use Rattle.std.proofs.Common.{rules}
 use Rattle.std.proofs.lemmas.Fn.{filter_same}
-use Rattle.scf_tool.proofs.exploration.differing.Goals as goal
+use Rattle.scf_tool.proofs.exploration.shown.Goals as goal
 
 pub returns : goal.returns
 returns c = record {
