@@ -79,20 +79,6 @@ class SeccompRecord:
     # its time and serial number, None if the line doesn't have them as numbers
     stamp: str | None
 
-    @property
-    def time(self) -> float | None:
-        """Seconds since 1970."""
-        return None if self.stamp is None else float(self.stamp.partition(":")[0])
-
-
-@dataclass(frozen=True)
-class SyscallRecord:
-    """An audit record of a syscall that a rule of auditctl logs: its first four arguments, as they are printed."""
-
-    number: int
-    architecture: int
-    arguments: tuple[str, ...]
-
 
 def _number(text: str, what: str, most: int, base: int = 10) -> int:
     """A field as a number, from 0 to `most`."""
@@ -179,24 +165,17 @@ def record_in(line: str, at: int, tables: dict[str, Table]) -> SeccompRecord:
                          name_of(who[2]) if who else "", stamp[1] if stamp else None)
 
 
-def syscall_in(line: str, at: int, tables: dict[str, Table]) -> SyscallRecord:
-    """The record of a syscall that begins there. The kernel writes the arguments in hexadecimal."""
-    text = line[at:].partition(ENRICHED)[0]
-    match = CALL.search(text)
+def syscall_in(line: str, at: int, tables: dict[str, Table]) -> tuple[int, int, dict[int, int]]:
+    """Of the record that begins there, of a syscall that a rule of auditctl logs: its number, its architecture, and its
+    first four arguments, which the kernel writes in hexadecimal, and ausearch -i also by names."""
+    match = CALL.search(line[at:].partition(ENRICHED)[0])
     if not match:
         raise Malformed("the record is cut: it has no arch= syscall= a0= a1= a2= a3=")
     arch, number, *arguments = match.groups()
     architecture = architecture_of(arch)
-    return SyscallRecord(number_of(number, architecture, tables), architecture, tuple(
-        f"0x{value}" if re.fullmatch("[0-9a-f]{1,16}", value) else value for value in arguments))
-
-
-def is_own_record(message: bytes) -> bool:
-    """Whether a message of /dev/kmsg is an audit record of the kernel: one of facility 0, which messages that programs
-    write there never have, and that begins as one, since the kernel puts words of processes into others."""
-    head, _, text = message.partition(b";")
-    number = head.partition(b",")[0]
-    return number.isdigit() and int(number) >> 3 == 0 and text.startswith(b"audit: type=")
+    return number_of(number, architecture, tables), architecture, {
+        index: int(value, 16) for index, value in enumerate(arguments)
+        if re.fullmatch("(?:0x)?[0-9a-f]{1,16}", value)}
 
 
 def is_of(line: str, process: int, since: float | None) -> bool:
@@ -221,8 +200,12 @@ def kernel_lines() -> Iterator[str]:
                 continue
             except BlockingIOError:
                 return
-            if is_own_record(message):
-                yield message.partition(b";")[2].partition(b"\n")[0].decode("latin-1")
+            # (one of facility 0, which messages that programs write there never have, and that begins as one, since the
+            # kernel puts words of processes into others)
+            head, _, text = message.partition(b";")
+            number = head.partition(b",")[0]
+            if number.isdigit() and int(number) >> 3 == 0 and text.startswith(b"audit: type="):
+                yield text.partition(b"\n")[0].decode("latin-1")
     finally:
         os.close(log)
 

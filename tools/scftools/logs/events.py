@@ -5,9 +5,9 @@ from __future__ import annotations
 import functools
 import itertools
 import re
-from collections.abc import Iterable, Iterator
+from collections.abc import Iterable, Iterator, Sequence
 
-from ..base.values import Pattern, dataclass, field, replace
+from ..base.values import Any, Pattern, dataclass, field, replace
 from ..model import tables
 from ..model.answers import ACTIONS, DOES, MAX_ERRNO, NUMBERS_OF_ERRNOS, Answer
 from ..model.architectures import JUDGED, Architecture
@@ -83,8 +83,6 @@ class Event:
     arguments: tuple[tuple[int, ...] | None, ...] = (None,) * 6
     process: int | None = None
     name: str = ""
-    # seconds since 1970
-    time: float | None = None
 
     @functools.cached_property
     def key(self) -> tuple[object, ...]:
@@ -98,9 +96,7 @@ class Event:
 
     def ways(self) -> Iterator[dict[int, int]]:
         """The values of the known arguments, in each way that they may be; at most WAYS of them."""
-        pairs = [(index, values) for index, values in enumerate(self.arguments) if values is not None]
-        for values in itertools.islice(itertools.product(*(values for _, values in pairs)), WAYS):
-            yield dict(zip((index for index, _ in pairs), values))
+        return itertools.islice(ways_of(enumerate(self.arguments)), WAYS)
 
     def with_values(self, values: dict[int, int]) -> Call:
         """The call with these arguments, and 0 as the others."""
@@ -142,11 +138,6 @@ class Failures:
         failure = self.of.setdefault(event.key, Failure(event))
         failure.event, failure.count, failure.last = event, failure.count + 1, self.count
 
-    def shows_load(self) -> None:
-        """The first filter is loaded: what failed before isn't its answer."""
-        self.before_load += self.count
-        self.of, self.of_ended, self.count, self.beyond = {}, [], 0, 0
-
 
 @dataclass
 class EventLog:
@@ -180,97 +171,17 @@ class EventLog:
             self.beyond += 1
 
 
-class _Records:
-    """The audit records of a log. journald has one twice if auditd doesn't run: from the kernel's log, and from audit,
-    which journalctl prints without the record's stamp."""
-
-    def __init__(self) -> None:
-        self._stamps: dict[str, None] = {}
-        # how many records with and without a stamp have everything else in common
-        self._counts: dict[audit_records.SeccompRecord, list[int]] = {}
-
-    def is_new(self, record: audit_records.SeccompRecord) -> bool:
-        """Adds a record; whether it isn't one that was added before."""
-        if record.stamp in self._stamps:
-            return False
-        has_stamp = record.stamp is not None
-        self._stamps.update({record.stamp: None} if has_stamp else {})
-        counts = self._counts.setdefault(replace(record, stamp=None), [0, 0])
-        counts[has_stamp] += 1
-        for every, most in ((self._stamps, STAMPS), (self._counts, PENDING)):
-            if len(every) > most:
-                every.pop(next(iter(every)))
-        return counts[has_stamp] > counts[not has_stamp]
+def forget_beyond(every: dict[Any, Any], most: int) -> None:
+    """Forgets the oldest of some things where there is one too many."""
+    if len(every) > most:
+        del every[next(iter(every))]
 
 
-def of_record(record: audit_records.SeccompRecord) -> Event:
-    call = Call(record.number, record.architecture, record.pointer)
-    actions = tuple(ACTIONS.get(half, "UNNAMED") for half in record.halves)
-    outcome = Outcome(actions, record.halves[0] if actions == ("UNNAMED",) else None)
-    return Event(RECORD, call, outcome, process=record.process, name=record.name, time=record.time)
-
-
-class _Ends(Sink):
-    """A strace log, of which the last syscall of each process is kept, those that SIGSYS ended, and those that
-    failed."""
-
-    def __init__(self, tables_of: dict[str, Table], log: EventLog):
-        self.reader, self._log = Reader(self, tables_of), log
-        # the last syscall of each process
-        self.last: dict[str | None, _Printed] = {}
-        self.killed: list[_Printed] = []
-        # each SIGSYS: the process, the signal's members, and the syscall before it
-        self.signals: list[tuple[str | None, str, _Printed | None]] = []
-        # of each process what failed, the last at the end
-        self._failed: dict[str | None, dict[tuple[object, ...], None]] = {}
-
-    def take_call(self, who: str | None, line: Line, name: re.Match[str], architecture: str, is_cut: bool,
-                  is_judged: bool) -> None:
-        self.last.pop(who, None)
-        nr = self.reader.number_of(architecture, name[1])
-        # (what socketcall and ipc do strace prints by its own name)
-        if nr is None or line.nr not in (None, nr):
-            return
-        printed = _printed(who, line.text[:LONGEST_BEGINNING], nr, architecture)
-        self.last[who] = printed
-        if len(self.last) > PENDING:
-            self.last.pop(next(iter(self.last)))
-        self._log.last_failure = None
-        if printed.failure is not None and not is_judged:
-            self._log.failures.before_load += 1
-        elif printed.failure is not None:
-            self._fails(who, printed.failure)
-
-    def show_load(self) -> None:
-        self._failed = {}
-        self._log.failures.shows_load()
-
-    def _fails(self, who: str | None, event: Event) -> None:
-        self._log.last_failure = event
-        self._log.failures.add(event)
-        failed = self._failed.setdefault(self.reader.confinement.process_of(who), {})
-        failed.pop(event.key, None)
-        failed[event.key] = None
-        for every, most in ((failed, OF_PROCESS), (self._failed, PENDING)):
-            if len(every) > most:
-                every.pop(next(iter(every)))
-
-    def _ends(self, who: str | None, text: str) -> None:
-        process, is_bad = self.reader.confinement.process_of(who), ENDED_BADLY.match(text) is not None
-        failed = self._failed.pop(process, None) if is_bad or process == who else None
-        if failed and is_bad and len(self._log.failures.of_ended) < EVENTS:
-            self._log.failures.of_ended.append([*reversed(failed)])
-
-    def end_line(self, who: str | None, line: Line) -> None:
-        signal = SIGSYS_LINE.match(line.text)
-        if signal and len(self.signals) < EVENTS:
-            self.signals.append((who, signal[1], self.last.pop(who, None)))
-        elif line.text.startswith("+++ "):
-            if SUPERSEDED.match(line.text) is None:
-                self._ends(who, line.text)
-            ended = self.last.pop(who, None)
-            if ended and KILLED.match(line.text) and len(self.killed) < EVENTS:
-                self.killed.append(ended)
+def ways_of(arguments: Iterable[tuple[int, Sequence[int] | None]]) -> Iterator[dict[int, int]]:
+    """The values of known arguments, in each way that they may be; None of one that isn't known."""
+    pairs = [(index, values) for index, values in arguments if values is not None]
+    for values in itertools.product(*(values for _, values in pairs)):
+        yield dict(zip((index for index, _ in pairs), values))
 
 
 @dataclass(frozen=True)
@@ -289,15 +200,10 @@ class _Printed:
         """The numbers that a record of it has, the syscall's and the architecture's."""
         return self.architecture.first + self.number, self.architecture.number
 
-    @property
-    def end(self) -> int:
-        """Where its result stands; behind the text if it has none."""
-        end = strace.arguments_in(self.text, self.name.end())[1]
-        return len(self.text) if end is None else end
-
     def is_its_number(self) -> bool:
         """Whether it returned its own number, as the kernel shows one that it kills for."""
-        result = strace.RESULT.match(self.text, self.end)
+        end = strace.arguments_in(self.text, self.name.end())[1]
+        result = None if end is None else strace.RESULT.match(self.text, end)
         return result is not None and result[1] in (str(self.record[0]), hex(self.record[0]))
 
     def event(self, outcome: Outcome, pointer: int | None = None) -> Event:
@@ -339,26 +245,62 @@ def _of_signal(who: str | None, members: str, call: _Printed | None, tables_of: 
     return Event(STRACE, Call(number, architecture, pointer), outcome, process=int(who) if who else None)
 
 
-def _of_ends(ends: _Ends, log: EventLog) -> None:
-    """Adds the events of a strace log: each SIGSYS."""
-    for who, members, call in ends.signals:
-        try:
-            log.add(_of_signal(who, members, call, ends.reader.tables))
-        except Malformed as why:
-            log.faults.append((0, str(why)))
-    numbered = [printed for printed in ends.killed if printed.is_its_number()]
-    if not ends.signals or numbered:
-        # of a process with several threads all are killed, and the syscalls of the others don't end
-        for printed in numbered or ends.killed:
-            log.add(printed.event(Outcome(KILLS if numbered else ("KILL_THREAD",))))
-
-
-class _LogReader:
-    """What the lines of a log of any kind have."""
+class _LogReader(Sink):
+    """What the lines of a log of any kind have. Of a strace log the last syscall of each process is kept, those that
+    SIGSYS ended, and those that failed."""
 
     def __init__(self, lines: Iterable[str], table: Table):
-        self.log, self._lines, self._records = EventLog(), iter(lines), _Records()
-        self._ends = _Ends(tables.architecture_tables(JUDGED, table).of, self.log)
+        self.log, self._lines = EventLog(), iter(lines)
+        self.reader = Reader(self, tables.architecture_tables(JUDGED, table).of)
+        # the stamps of records, and how many without and with one have everything else in common
+        self._stamps: dict[str, None] = {}
+        self._counts: dict[audit_records.SeccompRecord, list[int]] = {}
+        # the last syscall of each process, and those that SIGSYS ended
+        self._last: dict[str | None, _Printed] = {}
+        self._killed: list[_Printed] = []
+        # each SIGSYS: the process, the signal's members, and the syscall before it
+        self._signals: list[tuple[str | None, str, _Printed | None]] = []
+        # of each process what failed, the last at the end
+        self._failed: dict[str | None, dict[tuple[object, ...], None]] = {}
+
+    def take_call(self, who: str | None, line: Line, name: re.Match[str], architecture: str, is_cut: bool,
+                  is_judged: bool) -> None:
+        self._last.pop(who, None)
+        nr = self.reader.number_of(architecture, name[1])
+        # (what socketcall and ipc do strace prints by its own name)
+        if nr is None or line.nr not in (None, nr):
+            return
+        self._last[who] = _printed(who, line.text[:LONGEST_BEGINNING], nr, architecture)
+        forget_beyond(self._last, PENDING)
+        event = self.log.last_failure = self._last[who].failure if is_judged else None
+        if event is not None:
+            self.log.failures.add(event)
+            failed = self._failed.setdefault(self.reader.confinement.process_of(who), {})
+            failed.pop(event.key, None)
+            failed[event.key] = None
+            forget_beyond(failed, OF_PROCESS)
+            forget_beyond(self._failed, PENDING)
+        elif self._last[who].failure is not None:
+            self.log.failures.before_load += 1
+
+    def show_load(self) -> None:
+        """The first filter is loaded: what failed before isn't its answer."""
+        failures, self._failed = self.log.failures, {}
+        self.log.failures = Failures(before_load=failures.before_load + failures.count)
+
+    def end_line(self, who: str | None, line: Line) -> None:
+        signal = SIGSYS_LINE.match(line.text)
+        if signal and len(self._signals) < EVENTS:
+            self._signals.append((who, signal[1], self._last.pop(who, None)))
+        elif line.text.startswith("+++ "):
+            if SUPERSEDED.match(line.text) is None:
+                process, is_bad = self.reader.confinement.process_of(who), ENDED_BADLY.match(line.text) is not None
+                failed = self._failed.pop(process, None) if is_bad or process == who else None
+                if failed and is_bad and len(self.log.failures.of_ended) < EVENTS:
+                    self.log.failures.of_ended.append([*reversed(failed)])
+            ended = self._last.pop(who, None)
+            if ended and KILLED.match(line.text) and len(self._killed) < EVENTS:
+                self._killed.append(ended)
 
     def _take(self, number: int, line: str) -> None:
         is_entry = line.startswith('{"')
@@ -366,7 +308,7 @@ class _LogReader:
             self.log.cores.take_list(line, self._lines)
         elif not self._is_record(journals.message_in(line) if is_entry else line) and not is_entry and \
                 not self.log.cores.take(line):
-            self._ends.reader.add(number, line)
+            self.reader.add(number, line)
 
     def _is_record(self, line: str) -> bool:
         """Takes what the kernel writes; whether it is that."""
@@ -378,10 +320,26 @@ class _LogReader:
         if suppressed:
             self.log.suppressed += int(suppressed[1])
         elif kind is not None and kind[0] in audit_records.SECCOMP_KINDS:
-            record = audit_records.record_in(line, kind[1], self._ends.reader.tables)
-            if self._records.is_new(record):
-                self.log.add(of_record(record))
+            record = audit_records.record_in(line, kind[1], self.reader.tables)
+            if self._is_new(record):
+                actions = tuple(ACTIONS.get(half, "UNNAMED") for half in record.halves)
+                outcome = Outcome(actions, record.halves[0] if actions == ("UNNAMED",) else None)
+                self.log.add(Event(RECORD, Call(record.number, record.architecture, record.pointer), outcome,
+                                   process=record.process, name=record.name))
         return True
+
+    def _is_new(self, record: audit_records.SeccompRecord) -> bool:
+        """Whether a record isn't one that came before. journald has one twice if auditd doesn't run: from the kernel's
+        log, and from audit, which journalctl prints without the record's stamp."""
+        if record.stamp in self._stamps:
+            return False
+        has_stamp = record.stamp is not None
+        self._stamps.update({record.stamp: None} if has_stamp else {})
+        counts = self._counts.setdefault(replace(record, stamp=None), [0, 0])
+        counts[has_stamp] += 1
+        forget_beyond(self._stamps, STAMPS)
+        forget_beyond(self._counts, PENDING)
+        return counts[has_stamp] > counts[not has_stamp]
 
     def read(self) -> EventLog:
         for number, line in enumerate(self._lines, 1):
@@ -389,8 +347,17 @@ class _LogReader:
                 self._take(number, line)
             except Malformed as why:
                 self.log.faults += [(number, str(why))] * (len(self.log.faults) < EVENTS)
-        self._ends.reader.end()
-        _of_ends(self._ends, self.log)
+        self.reader.end()
+        for who, members, call in self._signals:
+            try:
+                self.log.add(_of_signal(who, members, call, self.reader.tables))
+            except Malformed as why:
+                self.log.faults.append((0, str(why)))
+        numbered = [printed for printed in self._killed if printed.is_its_number()]
+        if not self._signals or numbered:
+            # of a process with several threads all are killed, and the syscalls of the others don't end
+            for printed in numbered or self._killed:
+                self.log.add(printed.event(Outcome(KILLS if numbered else ("KILL_THREAD",))))
         return self.log
 
 

@@ -21,6 +21,7 @@ from ..lint.watchlist import FALLBACKS
 from ..report.covers import Alternative
 from ..report.profile_of import entry_of
 from . import requirements
+from .events import ways_of
 from .requirements import NOT_ALLOWED, Judgement, Judges, Needs, TracedCall
 from .traces import Seen
 
@@ -101,7 +102,7 @@ class Making:
 
     def _widen(self, judgement: Judgement, denies: str, by: str) -> None:
         """Allows what is needed, by what, and the base denies, or may deny."""
-        name, alternatives = judgement.traced.name, map(_conditions, judgement.traced.known_values())
+        name, alternatives = judgement.traced.name, map(_conditions, ways_of(judgement.traced.arguments))
         self.denied.append(f"allowed, though PROFILE {denies} it: {requirements.describe(judgement)} ({by})")
         self.draft.add(name, ())
         self.beyond.setdefault(name, {}).update(dict.fromkeys(alternatives))
@@ -126,10 +127,9 @@ class Making:
         self.failing[traced.shown_name] = None
         answer = next(iter(judgement.answers))
         if has_name and answer != self.draft.default:
-            self.draft.add(traced.name, map(_conditions, traced.known_values()), answer)
+            self.draft.add(traced.name, map(_conditions, ways_of(traced.arguments)), answer)
 
     def _take(self, judgement: Judgement) -> None:
-        """Takes a syscall of the log."""
         traced = judgement.traced
         has_name = self.judges.tables[traced.architecture.oci].number_of(traced.name) is not None
         if judgement.disposition == NOT_ALLOWED:
@@ -171,15 +171,6 @@ class Making:
                 self.as_base.add(name)
                 self.draft.add(name, ())
 
-    def _settle(self) -> None:
-        """Has the base's conditions where values aren't known or too many, and adds what is allowed beyond the base."""
-        for name, alternatives in self.draft.allowed.items():
-            if name in self.as_base or len(alternatives) > CONDITIONS:
-                self.draft.allowed[name] = dict.fromkeys(
-                    each for architecture in self.architectures for each in self._as_base(architecture, name))
-        for name, alternatives in self.beyond.items():
-            self.draft.add(name, alternatives if len(alternatives) <= CONDITIONS else [()])
-
     def profile(self) -> dict[str, object]:
         """The profile, which isn't proved yet."""
         for judgement in self.needs.judged:
@@ -189,7 +180,13 @@ class Making:
                       if judgement.traced.architecture == architecture]
             self._keep_fallbacks(architecture, called)
             self._keep_always(architecture)
-        self._settle()
+        for name, alternatives in self.draft.allowed.items():
+            # (where values aren't known, or are too many, the base's conditions)
+            if name in self.as_base or len(alternatives) > CONDITIONS:
+                self.draft.allowed[name] = dict.fromkeys(
+                    each for architecture in self.architectures for each in self._as_base(architecture, name))
+        for name, alternatives in self.beyond.items():
+            self.draft.add(name, alternatives if len(alternatives) <= CONDITIONS else [()])
         made: dict[str, object] = {"defaultAction": "SCMP_ACT_ERRNO"} if default_of(self.top).allows else {
             name: self.top[name] for name in ("defaultAction", "defaultErrnoRet") if name in self.top}
         if self.top.get("architectures"):
@@ -197,13 +194,6 @@ class Making:
             made["architectures"] = [name for name in self.top["architectures"] if name in seen] or sorted(seen)
         made.update((name, self.top[name]) for name in PASSED_ON if name in self.top)
         return {**made, "syscalls": list(self.draft.entries())}
-
-    def all_remarks(self) -> list[str]:
-        """What is to be known of the profile, for standard error."""
-        failing = output.some(list(self.failing), MOST_LISTED)
-        more = "; --widen allows them" if self.needs.log.has_load else ""
-        return [*requirements.log_remarks(self.needs), *self.denied, *self.remarks, *(
-            [f"left out, since PROFILE answers as they fail in the log: {failing}{more}"] if failing else [])]
 
 
 def _conditions(values: dict[int, int]) -> Alternative:
@@ -227,4 +217,8 @@ def make(needs: Needs, judges: Judges, widens: bool) -> tuple[int, str, list[str
     text = json.dumps(making.profile(), indent=4) + "\n"
     if not (widens and making.denied):
         check(profiles.read_as(text.encode(), judges.listed.reading), judges, making.architectures)
-    return making.status, text, making.all_remarks()
+    remarks = [*requirements.log_remarks(needs), *making.denied, *making.remarks]
+    if making.failing:
+        failing, more = output.some(list(making.failing), MOST_LISTED), "; --widen allows them" * needs.log.has_load
+        remarks.append(f"left out, since PROFILE answers as they fail in the log: {failing}{more}")
+    return making.status, text, remarks

@@ -5,7 +5,6 @@ All that the profile answers is known by its regions: those of a syscall with th
 """
 from __future__ import annotations
 
-import itertools
 from collections.abc import Iterator, Sequence
 
 from ..base import output, program
@@ -25,6 +24,7 @@ from ..forms import runtimes
 from ..forms.strace_reader import OWN_MODE, modes_of
 from ..report.covers import Alternative, Covers
 from . import audit_records, traces
+from .events import ways_of
 from .traces import CUT, FOREIGN, LOST, MORE, UNREAD, Seen, Trace
 
 NOT_ALLOWED = "not allowed"
@@ -60,12 +60,6 @@ class TracedCall:
     def unsure(self) -> list[int]:
         """The arguments of which not one value alone is known."""
         return [index for index, values in self.arguments if values is None or len(values) > 1]
-
-    def known_values(self) -> Iterator[dict[int, int]]:
-        """The values of the known arguments, in each way that they may be."""
-        pairs = [(index, values) for index, values in self.arguments if values is not None]
-        for values in itertools.product(*(values for _, values in pairs)):
-            yield dict(zip((index for index, _ in pairs), values))
 
     @property
     def call(self) -> Call:
@@ -111,11 +105,6 @@ class Needs:
     # as what a log is taken that doesn't say its architecture, if that isn't this machine's
     taken: str
 
-    @property
-    def unlisted(self) -> list[Architecture]:
-        """The architectures of syscalls that the profile doesn't list."""
-        return list(dict.fromkeys(judgement.traced.architecture for judgement in self.judged if judgement.is_foreign))
-
     def of(self, disposition: str) -> list[Judgement]:
         return [judgement for judgement in self.judged if judgement.disposition == disposition]
 
@@ -152,7 +141,7 @@ class Judge:
     def of(self, traced: TracedCall) -> Judgement:
         call = traced.call
         allowed, denied, passing = [], [], []
-        for values in traced.known_values():
+        for values in ways_of(traced.arguments):
             denied_before = len(denied)
             for region in self._lookup.of_number(call):
                 if region.answer is not None and region.has(values):
@@ -202,7 +191,6 @@ class Judges:
                               for name in tables.architecture_tables(names, self.tables[NATIVE]).of},
                              profiles.reading_of(profile))
         self._of: dict[str, Judge] = {}
-        self._looked: dict[str, dict[str, tuple[int, ...]]] = {}
 
     def of(self, architecture: str) -> Judge:
         """The judge of an architecture's syscalls; if the profile doesn't list it, one to which they are foreign."""
@@ -213,9 +201,7 @@ class Judges:
 
     def looked_at(self, architecture: str, name: str) -> tuple[int, ...]:
         """The arguments of a syscall that a condition tests."""
-        if architecture not in self._looked:
-            self._looked[architecture] = self.of(architecture).looked if architecture in self.listed.of else {}
-        return self._looked[architecture].get(name, ())
+        return self.of(architecture).looked.get(name, ()) if architecture in self.listed.of else ()
 
 
 def find(log: Trace, judges: Judges, are_several: bool) -> Needs:
@@ -233,7 +219,7 @@ def find(log: Trace, judges: Judges, are_several: bool) -> Needs:
     ways, order = 0, list(JUDGED)
     for call in sorted(traced,
                        key=lambda call: (order.index(call.architecture.oci), call.number, call.name, call.seen.line)):
-        ways += sum(1 for _ in call.known_values())
+        ways += sum(1 for _ in ways_of(call.arguments))
         if ways <= MOST_WAYS and not client.is_spent():
             needs.judged.append(judges.of(call.architecture.oci).of(call))
         else:
@@ -258,24 +244,11 @@ def describe(judgement: Judgement) -> str:
     return f"{judgement.traced.describe()} {result}"
 
 
-def _of_judged(judgement: Judgement, are_several: bool) -> Iterator[str]:
-    """The lines of a syscall that isn't allowed, or not always."""
-    yield describe(judgement)
-    if judgement.disposition == DEPENDS and judgement.allowed and judgement.denied:
-        call, answer = judgement.denied
-        yield f"# allowed with {_arguments(judgement.allowed)}; with {_arguments(call)} it is {answer}"
-    yield f"# {where(judgement.traced.seen, are_several)}"
-
-
-def _arguments(call: Call) -> str:
-    return f"args {' '.join(map(hex, call.arguments))}"
-
-
 def log_remarks(needs: Needs) -> Iterator[str]:
     """Lines on the log's architectures, and on what in it wasn't judged."""
     if needs.taken:
         yield needs.taken
-    for architecture in needs.unlisted:
+    for architecture in dict.fromkeys(each.traced.architecture for each in needs.judged if each.is_foreign):
         yield (f"{architecture.name} syscalls aren't allowed, since the profile doesn't list {architecture.oci}: "
                "engines' filters kill for them")
     elsewhere = tables.names_elsewhere() if needs.unnamed else ()
@@ -300,9 +273,13 @@ def log_remarks(needs: Needs) -> Iterator[str]:
 
 def needs_lines(needs: Needs) -> Iterator[str]:
     """The text output: what isn't allowed, what depends, and counts."""
-    for disposition in (NOT_ALLOWED, DEPENDS, UNDECIDED):
-        for judgement in needs.of(disposition):
-            yield from _of_judged(judgement, needs.are_several)
+    for judgement in [each for disposition in (NOT_ALLOWED, DEPENDS, UNDECIDED) for each in needs.of(disposition)]:
+        yield describe(judgement)
+        if judgement.disposition == DEPENDS and judgement.allowed and judgement.denied:
+            call, answer = judgement.denied
+            with_allowed, with_others = (" ".join(map(hex, each.arguments)) for each in (judgement.allowed, call))
+            yield f"# allowed with args {with_allowed}; with args {with_others} it is {answer}"
+        yield f"# {where(judgement.traced.seen, needs.are_several)}"
     yield from output.notes(log_remarks(needs))
     counts = ", ".join(f"{disposition} {len(needs.of(disposition))}"
                        for disposition in (ALLOWED, NOT_ALLOWED, DEPENDS, UNDECIDED)

@@ -12,7 +12,7 @@ import itertools
 import json
 import re
 from collections import Counter
-from collections.abc import Callable, Iterator, Sequence
+from collections.abc import Callable, Sequence
 
 from ..base import output, program
 from ..base.inputs import LONGEST_LINE
@@ -25,7 +25,7 @@ from ..model.tables import Table
 from ..forms import kubernetes, strace
 from ..forms.strace import Arguments
 from ..forms.strace_reader import PENDING, Line, Reader, Sink
-from . import audit_records
+from . import audit_records, events
 
 # What isn't judged, by its name in JSON: syscalls of architectures without a table, those without a result or without a
 # beginning, those with other names or arguments than are kept; lines that aren't read; and syscalls that were lost.
@@ -36,7 +36,7 @@ MOST_REMEMBERED, MOST_NOT_REMEMBERED = 1000, 100000
 RAW_BEGIN = Pattern(r"execve\(0x[0-9a-f]+, (?:0x[0-9a-f]+|0), (?:0x[0-9a-f]+|0)\) += 0\Z")
 # How an object of Kubernetes begins as YAML.
 YAML_BEGINNINGS = ("apiVersion:", "kind:")
-NAME, HEXADECIMAL = "[a-z_][a-z0-9_]{0,63}", Pattern("0x[0-9a-f]{1,16}")
+NAME = "[a-z_][a-z0-9_]{0,63}"
 # perf trace: `0.017 ( 0.002 ms): ls/1234 brk() = 0x1`; one that was interrupted ends with `...`, and goes on behind
 # `... [continued]: `.
 PERF = Pattern(rf" *(?:[0-9]+\.[0-9]+|\?) \( *(?:[0-9.]+ ms *)?\): (?:(?:.{{0,64}}?/)?([0-9]{{1,10}}) +)?"
@@ -106,12 +106,16 @@ class Trace(Sink):
         self.reader.begin()
 
     def add(self, number: int, line: str) -> None:
-        """Takes a line of a log."""
-        if strace.is_own(line) or not self._is_other(number, line.rstrip("\r")):
-            self.reader.add(number, line)
-
-    def end(self) -> None:
-        self.reader.end()
+        """Takes a line of a log: one that another program than strace writes, or strace's."""
+        other = line.rstrip("\r")
+        if not strace.is_own(line):
+            if self._is_record(number, other):
+                return
+            for mark, pattern, take in self._FORMATS:
+                match = pattern.match(other) if mark in other else None
+                if match and take(self, number, match) is not False:
+                    return
+        self.reader.add(number, line)
 
     def show_load(self) -> None:
         calls, unjudged = self._earlier
@@ -139,16 +143,12 @@ class Trace(Sink):
         else:
             errno = strace.errno_in(line.text, name) or 0
             for named in [named for named in numbered if line.nr in (None, numbered[named])] or [name[1]]:
-                arguments = self._arguments(architecture, named, line.text, name)
+                arguments: Arguments = {}
+                if self.looked_at(architecture, named):
+                    # (strace prints it by its name, or as what it does)
+                    arguments = strace.registers_in(line.text, name, architecture, bool(self._is_raw)) \
+                        if named == name[1] else {0: (multiplexed.CALL_NUMBERS[named][name[1]],)}
                 self.keep(line.number, architecture, named, arguments, errno=errno)
-
-    def _arguments(self, architecture: str, syscall: str, text: str, name: re.Match[str]) -> Arguments:
-        """The known arguments of a syscall, which strace prints by its name or as what it does."""
-        if not self.looked_at(architecture, syscall):
-            return {}
-        if syscall != name[1]:
-            return {0: (multiplexed.CALL_NUMBERS[syscall][name[1]],)}
-        return strace.registers_in(text, name, architecture, bool(self._is_raw))
 
     def keep(self, number: int, architecture: str, name: str, arguments: Arguments, count: int = 1,
              errno: int = 0) -> None:
@@ -186,16 +186,6 @@ class Trace(Sink):
             values = {at: (value & strace.GREATEST_ARGUMENTS[of],) for at, value in arguments.items()}
             self.keep(number, of, names[0] if names else f"syscall_{nr:#x}", values, count)
 
-    def _is_other(self, number: int, line: str) -> bool:
-        """Takes a line that isn't strace's; whether it did."""
-        if self._is_record(number, line):
-            return True
-        for mark, pattern, take in self._FORMATS:
-            match = pattern.match(line) if mark in line else None
-            if match and take(self, number, match) is not False:
-                return True
-        return False
-
     def _is_record(self, number: int, line: str) -> bool:
         """Takes an audit record, of whatever type; whether the line is one."""
         kind = audit_records.kind_of(line)
@@ -204,18 +194,15 @@ class Trace(Sink):
         self.is_of_kernel = self.is_of_kernel or audit_records.is_of_kernel(line, kind[1])
         try:
             if kind[0] in audit_records.SYSCALL_KINDS:
-                record = audit_records.syscall_in(line, kind[1], self.reader.tables)
-                values = {at: int(text, 16) for at, text in enumerate(record.arguments) if HEXADECIMAL.fullmatch(text)}
+                nr, architecture, values = audit_records.syscall_in(line, kind[1], self.reader.tables)
             else:
-                record, values = audit_records.record_in(line, kind[1], self.reader.tables), {}
-            self._by_number(number, record.number, values, architecture=record.architecture)
+                record = audit_records.record_in(line, kind[1], self.reader.tables)
+                nr, architecture, values = record.number, record.architecture, {}
+            self._by_number(number, nr, values, architecture=architecture)
         except audit_records.Malformed as why:
             self.fault = self.fault or f"line {number} can't be read: {why}"
             self.unjudged[UNREAD] += 1
         return True
-
-    def _take_loss(self, _: int, match: re.Match[str]) -> None:
-        self.unjudged[LOST] += int(match[1] or match[2])
 
     def _take_perf(self, number: int, match: re.Match[str]) -> None:
         thread, continued, begun = match.groups()
@@ -224,12 +211,8 @@ class Trace(Sink):
             return
         if begun and match.string.endswith("..."):
             self._interrupted[thread, begun] = None
-            if len(self._interrupted) > PENDING:
-                del self._interrupted[next(iter(self._interrupted))]
+            events.forget_beyond(self._interrupted, PENDING)
         self._by_name(number, continued or begun)
-
-    def _take_count(self, number: int, match: re.Match[str]) -> None:
-        self._by_name(number, match[1], int(match[2]))
 
     def _take_map(self, number: int, match: re.Match[str]) -> bool:
         name, nr, count = match.groups()
@@ -254,14 +237,14 @@ class Trace(Sink):
         else:
             self._by_name(number, f"{name} or {SEVERAL[name]}" if name in SEVERAL else SYSDIG_NAMES.get(name, name))
 
-    def _take_heading(self, _: int, __: re.Match[str]) -> None:
-        """A heading has no syscall."""
-
     # What programs beside strace write: what each such line has somewhere, its pattern, and what takes it, unless that
-    # says that it didn't.
-    _FORMATS = (("", LOSSES, _take_loss), ("): ", PERF, _take_perf), ("@", MAP, _take_map),
-                ("sys_enter: NR ", SYS_ENTER, _take_sys_enter), (") ", SYSDIG, _take_sysdig),
-                ("", COUNTED, _take_count), ("", HEADINGS, _take_heading))
+    # says that it didn't. (A heading has no syscall.)
+    _FORMATS = (
+        ("", LOSSES, lambda self, _, match: self.unjudged.update({LOST: int(match[1] or match[2])})),
+        ("): ", PERF, _take_perf), ("@", MAP, _take_map), ("sys_enter: NR ", SYS_ENTER, _take_sys_enter),
+        (") ", SYSDIG, _take_sysdig),
+        ("", COUNTED, lambda self, number, match: self._by_name(number, match[1], int(match[2]))),
+        ("", HEADINGS, lambda *_: None))
 
     def add_profile(self, text: str) -> None:
         """Takes a profile that was made of a log: each syscall that it allows, with arguments that aren't known."""
@@ -278,26 +261,22 @@ class Trace(Sink):
                 self._by_name(1, name)
 
 
-def _read(name: str, lines: Iterator[str], trace: Trace) -> None:
-    """Takes the lines of a log, or the text of a profile, which is an object or Kubernetes' YAML."""
-    trace.begin(name)
-    numbered = enumerate(lines, 1)
-    number, line = next(((number, line) for number, line in numbered if line.strip()), (1, ""))
-    if line.lstrip()[:1] == "{" or line.startswith(YAML_BEGINNINGS) or line.rstrip() == "---":
-        trace.add_profile("\n".join([line, *(line for _, line in numbered)]))
-        return
-    for number, line in itertools.chain([(number, line)], numbered):
-        trace.add(number, line)
-        if trace.unjudged[MORE] > MOST_NOT_REMEMBERED:
-            raise program.ToolError(f"the log has more than {MOST_REMEMBERED + MOST_NOT_REMEMBERED} syscalls with "
-                                    "other names or arguments: log fewer syscalls by strace -e trace=..")
-    trace.end()
-
-
 def read_traces(names: Sequence[str], looked_at: Callable[[str, str], tuple[int, ...]], tables: dict[str, Table],
                 architecture: str) -> Trace:
-    """The contents of some logs (`-` is standard input), with the requested arguments of each syscall."""
+    """The contents of some logs (`-` is standard input), with the requested arguments of each syscall. A log may be a
+    profile, too, as an object or as Kubernetes' YAML."""
     trace = Trace(looked_at, tables, architecture)
     for name in names:
-        _read(name, strace.log_lines(name), trace)
+        trace.begin(name)
+        numbered = enumerate(strace.log_lines(name), 1)
+        number, line = next(((number, line) for number, line in numbered if line.strip()), (1, ""))
+        if line.lstrip()[:1] == "{" or line.startswith(YAML_BEGINNINGS) or line.rstrip() == "---":
+            trace.add_profile("\n".join([line, *(line for _, line in numbered)]))
+            continue
+        for number, line in itertools.chain([(number, line)], numbered):
+            trace.add(number, line)
+            if trace.unjudged[MORE] > MOST_NOT_REMEMBERED:
+                raise program.ToolError(f"the log has more than {MOST_REMEMBERED + MOST_NOT_REMEMBERED} syscalls with "
+                                        "other names or arguments: log fewer syscalls by strace -e trace=..")
+        trace.reader.end()
     return trace
