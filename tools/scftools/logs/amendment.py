@@ -92,22 +92,9 @@ class AmendmentSearch:
                       (condition["index"], GREATEST_VALUE, condition["value"]) for condition in conditions)
         return Amendment(self.name, tuple(gone), tuple(added), tests, json.dumps(changed).encode())
 
-    def _is_proved(self, change: Amendment) -> bool:
-        """Whether scf proves that the changed profile allows these calls, and answers all others as before."""
-        excepted = bpf.with_exception(self.filter, self.number, change.conditions, answers.ALLOW.word)
-        if len(excepted) > BPF_MAXINSNS * bpf.INSTRUCTION.size:
-            return False
-        try:
-            verdict = verdicts.compared([excepted], change.profile, self.tables, SCOPES[NATIVE_SCOPE]).verdict
-        except Refusal:
-            return False
-        return verdict.word == SAME
-
-    def _with(self, taken_out: list[int], conditions: list[dict[str, object]]) -> Iterator[Amendment]:
-        allowed: dict[str, object] = {"names": [self.name], "action": ALLOW_ACTION}
-        if conditions:
-            allowed["args"] = conditions
-        yield self._changed(taken_out, [allowed], conditions)
+    def _allowed(self, conditions: list[dict[str, object]]) -> dict[str, object]:
+        """The entry that allows the syscall under these conditions."""
+        return {"names": [self.name], "action": ALLOW_ACTION, **({"args": conditions} if conditions else {})}
 
     def _by_entry(self, place: int, conditions: list[dict[str, object]]) -> Iterator[Amendment]:
         """Changes of an entry that denies, to one that doesn't deny the calls with all of these arguments. Each of its
@@ -120,17 +107,9 @@ class AmendmentSearch:
         denial = {key: entry[key] for key in ("action", "errnoRet") if key in entry}
         others = [{"names": [self.name], **denial, "args": [*present.values(), {**condition, "op": NOT_EQUAL}]}
                   for condition in conditions if condition["index"] not in present]
-        allowed: dict[str, object] = {"names": [self.name], "action": ALLOW_ACTION, "args": conditions}
         if self.top["defaultAction"] == ALLOW_ACTION:
             yield self._changed([place], others, conditions)
-        yield self._changed([place], [allowed, *others], conditions)
-
-    def _of_entry(self, place: int) -> Iterator[Amendment]:
-        """The change of an entry with conditions to one that allows."""
-        present = [dict(condition) for condition in self.top["syscalls"][place].get("args") or []]
-        if present and all(condition["op"] in (EQUAL, MASKED) for condition in present):
-            conditions = [{**condition, "valueTwo": condition.get("valueTwo", 0)} for condition in present]
-            yield self._changed([place], [{"names": [self.name], "action": ALLOW_ACTION, "args": present}], conditions)
+        yield self._changed([place], [self._allowed(conditions), *others], conditions)
 
     def candidates(self, reason: Reason, conditions: list[dict[str, object]]) -> Iterator[Amendment]:
         """Changes that allow the calls with these arguments, the smallest first."""
@@ -138,20 +117,33 @@ class AmendmentSearch:
             yield from self._by_entry(reason.entry, conditions)
             return
         if reason.entry is None:
-            yield from self._with([], conditions)
-        elif not conditions:
-            yield from self._of_entry(reason.entry)
-        if not conditions:
-            naming = [index for index, entry in enumerate(self.top.get("syscalls", []))
-                      if any(self.tables.number_of(name) == self.number for name in entry["names"])]
-            if self.top["defaultAction"] == ALLOW_ACTION:
-                yield self._changed(naming, [], conditions)
-            yield from self._with(naming, conditions)
+            yield self._changed([], [self._allowed(conditions)], conditions)
+        if conditions:
+            return
+        if reason.entry is not None:
+            present = [dict(condition) for condition in self.top["syscalls"][reason.entry].get("args") or []]
+            if present and all(condition["op"] in (EQUAL, MASKED) for condition in present):
+                yield self._changed([reason.entry], [self._allowed(present)],
+                                    [{**condition, "valueTwo": condition.get("valueTwo", 0)} for condition in present])
+        naming = [index for index, entry in enumerate(self.top.get("syscalls", []))
+                  if any(self.tables.number_of(name) == self.number for name in entry["names"])]
+        if self.top["defaultAction"] == ALLOW_ACTION:
+            yield self._changed(naming, [], [])
+        yield self._changed(naming, [self._allowed([])], [])
 
     def run(self, reason: Reason, conditions: list[dict[str, object]]) -> Amendment | None:
-        """The first change that scf proves, None if it proves none."""
-        return next((candidate for candidate in self.candidates(reason, conditions) if self._is_proved(candidate)),
-                    None)
+        """The first change of which scf proves that it allows these calls, and answers all others as before."""
+        for change in self.candidates(reason, conditions):
+            excepted = bpf.with_exception(self.filter, self.number, change.conditions, answers.ALLOW.word)
+            if len(excepted) > BPF_MAXINSNS * bpf.INSTRUCTION.size:
+                continue
+            try:
+                report = verdicts.compared([excepted], change.profile, self.tables, SCOPES[NATIVE_SCOPE])
+            except Refusal:
+                continue
+            if report.verdict.word == SAME:
+                return change
+        return None
 
 
 def amendments(profile: bytes, event: Event, reason: Reason, tables: Tables) -> Iterator[Amendment]:

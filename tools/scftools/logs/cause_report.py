@@ -43,17 +43,6 @@ class Denial:
         if failure.last > self.last:
             self.event, self.last = failure.event, failure.last
 
-    @property
-    def order(self) -> tuple[bool, int, int]:
-        """By which the most telling comes first: what a process ended after; then what was tried least, since
-        libraries try and ignore the same again and again; then the last."""
-        return not self.has_ended, self.count, -self.last
-
-    def cause(self, given: Inputs) -> Cause:
-        cause = causes.cause_of(self.event, self.count, given, self.common)
-        cause.has_ended = self.has_ended
-        return cause
-
 
 @dataclass
 class Denials:
@@ -68,11 +57,6 @@ class Denials:
     @property
     def count(self) -> int:
         return sum(denial.count for denial in self.of)
-
-    @property
-    def is_partial(self) -> bool:
-        """Whether of some it isn't known whether they are denials."""
-        return bool(self.unknown or self.failures.beyond)
 
 
 def denials_of(failures: Failures, given: Inputs) -> Denials:
@@ -97,7 +81,9 @@ def denials_of(failures: Failures, given: Inputs) -> Denials:
         last = next((key_of[kind] for kind in kinds if kind in key_of), None)
         if last is not None:
             by_key[last].has_ended = True
-    denials.of = sorted(by_key.values(), key=lambda denial: denial.order)
+    # the most telling first: what a process ended after; then what was tried least, since libraries try and ignore the
+    # same again and again; then the last
+    denials.of = sorted(by_key.values(), key=lambda denial: (not denial.has_ended, denial.count, -denial.last))
     return denials
 
 
@@ -158,34 +144,33 @@ class LogReport:
         if log.faults:
             statuses.add(program.TROUBLE)
         if not self.causes or log.beyond or log.suppressed or any(core.has_syscall for core in log.cores) or \
-                self.denials and self.denials.is_partial:
+                self.denials and (self.denials.unknown or log.failures.beyond):
             statuses.add(program.UNKNOWN)
         return client.worst(statuses)
 
 
-def _denials(log: EventLog, given: Inputs) -> Denials | None:
-    """The denials of a log; without any, and where the profile or a filter is refused, a failure becomes an event."""
-    if given.profile is None and not given.filters:
-        denied, failure = None, log.last_failure
-    else:
+def log_report(log: EventLog, given: Inputs, is_all: bool) -> LogReport:
+    """The causes of a log's events and of its denials; where there are none, or scf refuses the profile or a filter, of
+    a syscall that failed."""
+    given = given.on(log.all_events)
+    denied, failure = None, log.last_failure
+    if given.profile is not None or given.filters:
         try:
             denied = denials_of(log.failures, given)
             failure = None if denied.of else log.last_failure
         except Refusal:
-            denied, failure = None, next((failure.event for failure in log.failures.of.values()), None)
+            failure = next((failure.event for failure in log.failures.of.values()), None)
     if failure is not None and not log.events:
         log.add(failure)
-    return denied
-
-
-def log_report(log: EventLog, given: Inputs, is_all: bool) -> LogReport:
-    """The causes of a log's events and of its denials; where there are none, of its last syscall, if that failed."""
-    given = given.on(log.all_events)
-    denied = _denials(log, given)
-    shown = len(denied.of) if denied and is_all else SHOWN
     of_events = [causes.cause_of(event, count, given) for event, count in log.events.values()]
-    of_denials = [denial.cause(given) for denial in denied.of[:shown]] if denied else []
-    return LogReport(log, given, of_events + of_denials, denied, shown)
+    report = LogReport(log, given, of_events, denied)
+    if denied is not None:
+        report.shown = len(denied.of) if is_all else SHOWN
+        for denial in denied.of[:report.shown]:
+            cause = causes.cause_of(denial.event, denial.count, given, denial.common)
+            cause.has_ended = denial.has_ended
+            report.causes.append(cause)
+    return report
 
 
 def log_report_lines(report: LogReport) -> Iterator[str]:

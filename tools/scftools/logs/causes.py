@@ -63,12 +63,6 @@ class AnsweringStack:
         """Of filters, oldest first. Raises Refusal."""
         return cls(regions.regions_of_filters(data, number), Asker(data).decided)
 
-    @classmethod
-    def of_profile(cls, profile: bytes, judged: Tables, number: int | None = None) -> AnsweringStack:
-        """Of a profile. Raises Refusal."""
-        return cls(regions.regions_of_profile(profile, judged, number=number),
-                   lambda call: reasons.profile_reason(profile, judged, call.words()).answer)
-
     def case(self, event: Event, values: dict[int, int]) -> Case | None:
         """The answer to an event with these arguments, None if scf doesn't say."""
         call = event.with_values(values)
@@ -155,7 +149,9 @@ class Inputs:
     @functools.cached_property
     def of_profile(self) -> AnsweringStack:
         """What the profile answers. Raises Refusal."""
-        return AnsweringStack.of_profile(self.profile or b"", self.judged, self.number)
+        profile, judged = self.profile or b"", self.judged
+        return AnsweringStack(regions.regions_of_profile(profile, judged, number=self.number),
+                              lambda call: reasons.profile_reason(profile, judged, call.words()).answer)
 
     def reason(self, call: Call) -> Reason:
         """Why the profile answers a call so: as all calls of its region, if scf decides that. Raises Refusal."""
@@ -246,9 +242,15 @@ def _of_event(cause: Cause) -> Iterator[str]:
     yield LACKS[event.source]
 
 
-def _relation(side: Side, event: Event) -> str:
-    """How the answers of a party stand beside an event that they contradict."""
-    s, them = "" if side.are else "s", "them" if side.are else "it"
+def _of_verdict(side: Side, event: Event) -> str:
+    """Whether a party answers as the event was answered, or how its answers stand beside an event that they
+    contradict."""
+    s, them = ("", "them") if side.are else ("s", "it")
+    if side.verdict == UNKNOWN_FIT:
+        return f"whether {side.name} answer{s} so with other arguments isn't known"
+    if side.verdict == FITS:
+        is_for_all = all(case.fits and case.is_for_all for case in side.cases)
+        return f"so {side.name} answer{s} it" + ("" if is_for_all else " with such arguments, and not with all")
     ranks, of_event = [rank(case.answer.word >> 16) for case in side.cases], [*map(rank, event.outcome.halves)]
     others = f"another filter of the process answered so, or it isn't under {side.name}"
     if min(ranks) > max(of_event):
@@ -257,19 +259,6 @@ def _relation(side: Side, event: Event) -> str:
     if max(ranks) < min(of_event):
         return f"{side.name} would have answered more strictly: the process isn't under {them}"
     return f"{side.name} answer{s} otherwise: {others}"
-
-
-def _of_verdict(side: Side, event: Event) -> Iterator[str]:
-    """Whether a party answers as the event was answered."""
-    s = "" if side.are else "s"
-    if side.verdict == CONTRADICTS:
-        yield _relation(side, event)
-    elif side.verdict == UNKNOWN_FIT:
-        yield f"whether {side.name} answer{s} so with other arguments isn't known"
-    elif all(case.fits and case.is_for_all for case in side.cases):
-        yield f"so {side.name} answer{s} it"
-    else:
-        yield f"so {side.name} answer{s} it with such arguments, and not with all"
 
 
 def _of_case(case: Case, event: Event, table: Table) -> Iterator[str]:
@@ -295,7 +284,7 @@ def _of_side(side: Side | None, cause: Cause, of_case: Callable[[Case, Cause], I
             if (answer, case.is_for_all) not in shown:
                 yield from (answer, *rest)
             shown.add((answer, case.is_for_all))
-        yield from output.notes(_of_verdict(side, cause.event))
+        yield from output.notes([_of_verdict(side, cause.event)])
 
 
 def _of_profile(case: Case, cause: Cause) -> Iterator[str]:
@@ -319,20 +308,16 @@ def _of_filters(case: Case, cause: Cause) -> Iterator[str]:
                              *(giver.last_tests(case.call, given.table) if giver is not None else ())])
 
 
-def _of_changes(cause: Cause) -> Iterator[str]:
-    """The changes of the profile that allow the syscall."""
-    for change in cause.changes:
-        whose = "" if cause.given.judged.is_native else " to an x86-64 syscall"
-        yield f"this change of the profile allows {change.describe()}, and no other answer{whose} changes:"
-        yield from (f"  {step}" for step in change.steps())
-
-
 def cause_lines(cause: Cause) -> Iterator[str]:
     """What is printed of an event: scf's lines, and those of the tool marked by `# `."""
     yield from output.notes(_of_event(cause))
     yield from _of_side(cause.profile, cause, _of_profile)
     yield from _of_side(cause.filters, cause, _of_filters)
-    yield from output.notes(_of_changes(cause))
+    for change in cause.changes:
+        whose = "" if cause.given.judged.is_native else " to an x86-64 syscall"
+        yield from output.notes([
+            f"this change of the profile allows {change.describe()}, and no other answer{whose} changes:",
+            *(f"  {step}" for step in change.steps())])
 
 
 def _side_json(side: Side, cause: Cause, of_case: Callable[[Case], dict[str, object]]) -> dict[str, object]:

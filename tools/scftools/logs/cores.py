@@ -81,21 +81,19 @@ def notes_of(data: bytes, layout: Layout) -> Iterator[tuple[int, memoryview]]:
         if at + (index + 1) * size > len(data):
             raise refused("is cut, or its program headers stand too far behind")
         fields = layout.segment.unpack_from(data, at + index * size)
-        if fields[0] == NOTES:
-            yield from _notes_in(data, fields[layout.offsets[0]], fields[layout.offsets[1]])
-
-
-def _notes_in(data: bytes, at: int, size: int) -> Iterator[tuple[int, memoryview]]:
-    end = at + size
-    if end > len(data):
-        raise refused(f"is cut, or its notes aren't in its first {inputs.LIMITS['core']} bytes")
-    while at + 12 <= end:
-        name, length, kind = struct.unpack_from("<III", data, at)
-        begin = at + 12 + (name + 3 & ~3)
-        at = begin + (length + 3 & ~3)
-        if at > end:
-            raise refused("has a note that is cut")
-        yield kind, memoryview(data)[begin:begin + length]
+        if fields[0] != NOTES:
+            continue
+        begin, size_of_notes = (fields[offset] for offset in layout.offsets)
+        end = begin + size_of_notes
+        if end > len(data):
+            raise refused(f"is cut, or its notes aren't in its first {inputs.LIMITS['core']} bytes")
+        while begin + 12 <= end:
+            name, length, kind = struct.unpack_from("<III", data, begin)
+            note = begin + 12 + (name + 3 & ~3)
+            begin = note + (length + 3 & ~3)
+            if begin > end:
+                raise refused("has a note that is cut")
+            yield kind, memoryview(data)[note:note + length]
 
 
 def _signal(note: bytes, layout: Layout) -> tuple[int, int, int, int]:

@@ -74,13 +74,6 @@ ANSWER_LINE = Pattern(r"(?:(?:filter |profile |beside )?([A-Z_]+ (?:0x[0-9a-f]+|
 STATUS = Pattern(r"(?:.*\b)?(?:exit(?:ed)?|status|code)\b\D*([0-9]{1,3})\D*", re.I)
 
 
-def _of_fault(line: str, table: Table) -> Iterator[str]:
-    match = FAULT.search(line)
-    fault = Fault.read(match[0]) if match else None
-    if fault is not None and explanation.has_row(fault.line):
-        yield from explanation.explain_fault(fault, table)
-
-
 def _of_verdict(line: str) -> Iterator[str]:
     word = re.sub(r"(undetermined): .*", r"\1", line)
     if re.fullmatch("undecided at [0-9]+|unfinished", line):
@@ -153,19 +146,17 @@ def _of_status(line: str) -> Iterator[str]:
         yield f"signal {number - 128} ended it"
 
 
-def _of_whole(line: str, table: Table) -> list[str]:
-    """The meaning of a line without anything before it."""
-    ways = (_of_verdict(line), _of_answer(line), _of_call(line, table), _of_left_out(line, table), _of_finding(line),
-            _of_status(line))
-    return next((sentences for sentences in map(list, ways) if sentences), [])
-
-
 def meaning_of(line: str, table: Table) -> list[str]:
     """The sentences on a line; none if nothing is known of it."""
     line = COLOUR.sub("", line).strip().strip("`'\"")
-    sentences = list(_of_fault(line, table))
+    match = FAULT.search(line)
+    fault = Fault.read(match[0]) if match else None
+    is_known = fault is not None and explanation.has_row(fault.line)
+    sentences = list(explanation.explain_fault(fault, table)) if is_known else []
     while not sentences and line:
-        sentences = _of_whole(line, table)
+        ways = (_of_verdict(line), _of_answer(line), _of_call(line, table), _of_left_out(line, table),
+                _of_finding(line), _of_status(line))
+        sentences = next(filter(None, map(list, ways)), [])
         before = LOG_PREFIX.match(line)
         line = line[before.end():] if before else ""
     return sentences

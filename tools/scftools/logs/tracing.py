@@ -57,18 +57,12 @@ def _path_of(name: str) -> str:
     raise program.ToolError(what, status)
 
 
-def _gains_privileges(path: str) -> bool:
-    """Whether a program has set-user-ID, set-group-ID or capabilities: the kernel gives a traced one none of them."""
-    if os.stat(path).st_mode & (stat.S_ISUID | stat.S_ISGID):
-        return True
-    return bool(unless_refused(b"", os.getxattr, path, "security.capability"))
-
-
 def run_traced(log: str, options: Sequence[str], words: Sequence[str]) -> int:
     """Runs a program with its arguments while strace writes its log, and waits for both. The result is the program's
     status, or a signal's number below zero. Raises ToolError if there is no such program, or no strace."""
     path = _path_of(words[0])
-    if os.geteuid() and _gains_privileges(path):
+    if os.geteuid() and (os.stat(path).st_mode & (stat.S_ISUID | stat.S_ISGID)
+                         or unless_refused(b"", os.getxattr, path, "security.capability")):
         program.say(f"'{words[0]}' gets no privileges while it is traced: it may do other things than else")
     try:
         tracer = os.posix_spawnp("strace", ["strace", *options, "-o", log, "--", *words], os.environ,
