@@ -66,12 +66,12 @@ def run_in_child(work: Callable[..., Any], seconds: float,
     """The result or exception of a function run in a child process; it calls `look_for_signals` now and then. With
     `receive` the function is given another one, by which it sends values: each is received, however the child ends.
     Where `receive` returns seconds, the child has these from then on."""
+    import pickle  # pylint: disable=import-outside-toplevel
+
     ended: list[tuple[bool, Any]] = []
     pending = bytearray()
 
     def take(piece: bytes) -> float | None:
-        import pickle  # pylint: disable=import-outside-toplevel
-
         seconds = None
         pending.extend(piece)
         while len(pending) >= LENGTH.size and len(pending) >= LENGTH.size + LENGTH.unpack_from(pending)[0]:
@@ -85,11 +85,16 @@ def run_in_child(work: Callable[..., Any], seconds: float,
         return seconds
 
     def write(file: int) -> None:
+        def send(is_well: bool | None, value: object) -> None:
+            """Sends the result, an exception, or with None another value."""
+            data = pickle.dumps((is_well, value))
+            write_all(file, LENGTH.pack(len(data)) + data)
+
         try:
-            result = True, work() if receive is None else work(lambda value: _send(file, None, value))
+            result = True, work() if receive is None else work(lambda value: send(None, value))
         except BaseException as error:  # pylint: disable=broad-exception-caught
             result = False, error
-        _send(file, *result)
+        send(*result)
 
     status = read_child(write, seconds, take)
     if not ended:
@@ -132,14 +137,6 @@ def write_all(file: int, data: bytes) -> None:
         unsent = unsent[os.write(file, unsent):]
 
 
-def _send(file: int, is_well: bool | None, value: object) -> None:
-    """Sends a value from the child: its result, an exception, or with None another one."""
-    import pickle  # pylint: disable=import-outside-toplevel
-
-    data = pickle.dumps((is_well, value))
-    write_all(file, LENGTH.pack(len(data)) + data)
-
-
 def _take_output(child: int, file: int, heeded: set[int], until: float, take: Callable[[bytes], float | None]) -> None:
     """Takes all that the child writes; signals that end this process are passed on to it, and it ends soon then."""
     late: Exception = Late()
@@ -163,15 +160,10 @@ def _take_output(child: int, file: int, heeded: set[int], until: float, take: Ca
 
 
 def _end(child: int) -> int | None:
-    """Kills a child and what it started, and waits for it: its status."""
+    """Kills a child and what it started, and waits for it, unless a syscall blocks it even then: its status."""
     for kill in (os.killpg, os.kill):
         # (it may have no group of its own yet)
         unless_refused(None, kill, child, signal.SIGKILL)
-    return _status_of(child)
-
-
-def _status_of(child: int) -> int | None:
-    """Waits for a child that has ended or was killed, unless a syscall blocks it even then."""
     until = time.monotonic() + LAST_WAIT
     try:
         while time.monotonic() < until:

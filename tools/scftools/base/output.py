@@ -134,7 +134,6 @@ def notes(lines: Iterable[str]) -> Iterator[str]:
 
 
 def flush() -> None:
-    """Flushes the output."""
     try:
         if sys.stdout is not None:
             sys.stdout.flush()

@@ -128,7 +128,6 @@ def start(main: Callable[[], int]) -> NoReturn:
 
 
 def finish(status: int) -> NoReturn:
-    """Flushes the output and exits."""
     try:
         output.flush()
     except OSError as error:
