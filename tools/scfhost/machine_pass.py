@@ -13,7 +13,7 @@ from collections.abc import Callable, Iterable, Iterator, Sequence
 
 from scftools.base import child
 from scftools.base.values import Any
-from scftools.forms.stacks import Inspection, Stack
+from scftools.forms.stacks import Inspection, Stack, called
 from . import processes
 from .hold import Unreadable
 from .processes import Kernel
@@ -94,8 +94,8 @@ class _Reader(Kernel):
                         self.send({"filter": base64.b64encode(data).decode()})
                 stacks.append({"filters": [self.numbers[data] for data in stack.filters],
                                "is_strict": stack.is_strict, "threads": stack.threads[number]})
-            notes += [f"the syscall of thread {thread} of process {process} restarts, and its seccomp supervisor gets "
-                      f"it a second time" for process, thread in inspection.asked_again]
+            notes += [f"the syscall of {called(thread, process)} restarts, and its seccomp supervisor gets it a second "
+                      f"time" for process, thread in inspection.asked_again]
         self.send({"process": number, "stacks": stacks, "notes": notes})
 
     def slices(self, number: int, patience: float) -> Iterator[Inspection]:
@@ -128,7 +128,6 @@ class Copies:
         self.filters: list[bytes] = []
 
     def receive(self, value: Any) -> None:
-        """Takes a child's answer."""
         value = child.checked(value, ANSWER)
         if "filter" in value:
             self.filters.append(base64.b64decode(value["filter"], validate=True))
@@ -144,7 +143,6 @@ class Copies:
         self.notes += value["notes"]
 
     def forget(self) -> None:
-        """Forgets the bytes."""
         self.stacks.clear()
         self.filters.clear()
 
