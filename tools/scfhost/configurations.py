@@ -136,8 +136,8 @@ def _without_empty(members: dict[str, Any]) -> dict[str, Any]:
     return {name: value for name, value in members.items() if value not in (None, [])}
 
 
-def _comparable(seccomp: Any) -> object:
-    """All that decides what a filter answers."""
+def comparable(seccomp: Any) -> object:
+    """All of some settings that decides what a filter answers."""
     if not seccomp:
         return None
     rules = [(name, entry.get("action"), entry.get("errnoRet"),
@@ -145,8 +145,3 @@ def _comparable(seccomp: Any) -> object:
                      condition.get("op")) for condition in entry.get("args") or ()))
              for entry in seccomp.get("syscalls") or () for name in entry.get("names") or ()]
     return (seccomp.get("defaultAction"), seccomp.get("defaultErrnoRet"), seccomp.get("architectures") or [], rules)
-
-
-def say_the_same(started: dict[str, Any] | None, configured: Any) -> bool:
-    """Whether two settings state the same, so that the filters do."""
-    return _comparable(started) == _comparable(configured)

@@ -90,14 +90,6 @@ class ContainerDescription:
     started: int | None = None
 
 
-def _object(read: Callable[[str, int], bytes], path: str, most: int) -> Any:
-    """The JSON of a file, or None if it can't be read or isn't JSON."""
-    try:
-        return json.loads(read(path, most).decode("utf-8"))
-    except (UnreadableFile, ValueError, RecursionError):
-        return None
-
-
 def _text(value: Any, *names: str) -> str | None:
     """The first of some members of an object that is a text with a letter."""
     members = (value.get(name) for name in names) if isinstance(value, dict) else ()
@@ -108,21 +100,6 @@ def _is_of_user(kernel: Kernel, process: int, user: int) -> bool:
     """Whether a process is a user's: it runs as that user, or in a user namespace of that user."""
     shown = kernel.status_of(process).get("Uid", "").split()
     return shown[:2] == [str(user)] * 2 or user != 0 and kernel.makers_of_namespaces(process)[:1] == [user]
-
-
-def _of_runc(value: Any) -> tuple[Any, str | None, Any, Any]:
-    """The first process, the bundle, the time of the start, and the control groups, of a state.json."""
-    config, groups = value.get("config"), value.get("cgroup_paths")
-    labels = config.get("labels") if isinstance(config, dict) else None
-    texts = (label for label in (labels if isinstance(labels, list) else ()) if isinstance(label, str))
-    bundle = next((text.removeprefix("bundle=") for text in texts if text.startswith("bundle=")), None)
-    return (value.get("init_process_pid"), bundle, value.get("init_process_start"),
-            groups.values() if isinstance(groups, dict) else ())
-
-
-def _of_crun(value: Any) -> tuple[Any, str | None, Any, Any]:
-    """The same of crun's status."""
-    return value.get("pid"), _text(value, "bundle"), value.get("process-start-time"), [value.get("cgroup-path")]
 
 
 # What a child answers: a container, with the number of its settings, which are answered before, each once; a line on
@@ -139,9 +116,17 @@ class Reader:
 
     def __init__(self, send: child.Send, is_root: bool) -> None:
         self.send, self.read = send, owned_files.read_own if is_root else owned_files.read_file
-        self.names = Names(self.read)
+        # the containers in the storage of podman or CRI-O, by its folder and their identifiers
+        self.stored: dict[str, dict[str, Any]] = {}
         self.settings: dict[str | None, int | None] = {None: None}
         self.unread: list[str] = []
+
+    def object_in(self, path: str) -> Any:
+        """The JSON of a file, or None if it can't be read or isn't JSON."""
+        try:
+            return json.loads(self.read(path, MOST_BYTES).decode("utf-8"))
+        except (UnreadableFile, ValueError, RecursionError):
+            return None
 
     def state_in(self, folder: str) -> ContainerDescription | None:
         """The container of a runtime's folder. Raises UnreadableFile if a file is there that isn't the runtime's."""
@@ -155,7 +140,16 @@ class Reader:
                 raise UnreadableFile(f"'{path}' isn't JSON") from error
             if not isinstance(value, dict):
                 raise UnreadableFile(f"'{path}' isn't an object")
-            first, bundle, started, groups = _of_runc(value) if runtime == "runc" else _of_crun(value)
+            if runtime == "runc":
+                first, started, groups = (value.get(member) for member in (
+                    "init_process_pid", "init_process_start", "cgroup_paths"))
+                groups = groups.values() if isinstance(groups, dict) else ()
+                labels = value["config"].get("labels") if isinstance(value.get("config"), dict) else None
+                texts = (label for label in (labels if isinstance(labels, list) else ()) if isinstance(label, str))
+                bundle = next((text.removeprefix("bundle=") for text in texts if text.startswith("bundle=")), None)
+            else:
+                first, started, bundle = value.get("pid"), value.get("process-start-time"), _text(value, "bundle")
+                groups = [value.get("cgroup-path")]
             paths = tuple(group.encode("utf-8", "backslashreplace") for group in groups
                           if isinstance(group, str) and group.strip("/"))
             config = os.path.join(bundle, "config.json") if bundle and bundle.startswith("/") else ""
@@ -176,8 +170,15 @@ class Reader:
         """Sends what is read of a folder; whatever is raised meanwhile concerns no other container."""
         try:
             container = read(folder)
-            if container is not None and _number(container.first):
-                self.send_container(self.with_config(container))
+            if container is None or not _number(container.first):
+                return
+            container = self.with_config(container)
+            if container.seccomp not in self.settings:
+                self.settings[container.seccomp] = len(self.settings) - 1
+                self.send({"settings": container.seccomp})
+            self.send({**{name: getattr(container, name) for name in CONTAINER},
+                       "seccomp": self.settings[container.seccomp], "started": _number(container.started),
+                       "groups": list(map(os.fsdecode, container.groups))})
         except UnreadableFile as why:
             self.unread.append(str(why))
         except Exception as error:  # pylint: disable=broad-exception-caught
@@ -201,7 +202,7 @@ class Reader:
             return replace(container, why="its runtime's files name no bundle")
         try:
             configuration = engines.parse_json(self.read(container.config, MOST_BYTES))
-            container = with_engine(container, configuration, self.names)
+            container = self.with_engine(container, configuration)
             container, configuration = self.as_started(container, configuration)
             seccomp = configurations.seccomp_in(configuration, container.config)
             return replace(container, seccomp=None if seccomp is None else json.dumps(seccomp))
@@ -217,21 +218,51 @@ class Reader:
         has others by now."""
         linux = configuration.get("linux") or {} if isinstance(configuration, dict) else {}
         try:
-            state = _object(self.read, os.path.join(container.folder, configurations.STATES["runc"]), MOST_BYTES)
+            state = self.object_in(os.path.join(container.folder, configurations.STATES["runc"]))
             started = configurations.started_seccomp(state)
-            if container.runtime != "runc" or configurations.say_the_same(started, linux.get("seccomp")):
+            if container.runtime != "runc" or \
+                    configurations.comparable(started) == configurations.comparable(linux.get("seccomp")):
                 return container, configuration
         except (LookupError, TypeError, AttributeError):
             return container, configuration
         return replace(container, has_changed=True), {**configuration, "linux": {**linux, "seccomp": started}}
 
-    def send_container(self, container: ContainerDescription) -> None:
-        if container.seccomp not in self.settings:
-            self.settings[container.seccomp] = len(self.settings) - 1
-            self.send({"settings": container.seccomp})
-        members = {name: getattr(container, name) for name in CONTAINER}
-        self.send({**members, "seccomp": self.settings[container.seccomp], "started": _number(container.started),
-                   "groups": list(map(os.fsdecode, container.groups))})
+    def with_engine(self, container: ContainerDescription, configuration: Any) -> ContainerDescription:
+        """The container with the name, image and pod that its engine gives it."""
+        annotations = configuration.get("annotations") if isinstance(configuration, dict) else None
+        bundle = os.path.dirname(container.config)
+        task, storage = TASK_BUNDLE.fullmatch(bundle), STORAGE_BUNDLE.fullmatch(bundle)
+        engine = MANAGER.get(_text(annotations, "io.container.manager") or "")
+        name, image = _text(annotations, *NAME_ANNOTATIONS), _text(annotations, *IMAGE_ANNOTATIONS)
+        if storage:
+            engine = engine or "podman"
+            stored = self.in_storage(storage[1], storage[2])
+            name, image = name or stored[0], image or stored[1]
+        elif task and task[1] == "moby":
+            engine = "Docker"
+            value = self.object_in(os.path.join(DOCKER_CONTAINERS, container.identifier, "config.v2.json"))
+            name = (_text(value, "Name") or "").removeprefix("/") or None
+            image = _text(value.get("Config") if isinstance(value, dict) else None, "Image")
+        elif task:
+            engine = "containerd"
+        pods = ((_text(annotations, space) or "", _text(annotations, pod)) for space, pod in POD_ANNOTATIONS)
+        pod = next((f"{space}/{pod}" for space, pod in pods if pod), None) or _text(annotations, *SANDBOX_ANNOTATIONS)
+        return replace(container, engine=engine or container.engine, name=name, image=image, pod=pod)
+
+    def in_storage(self, folder: str, identifier: str) -> tuple[str | None, str | None]:
+        """The name and the image of a container in a storage, which is read once."""
+        if folder not in self.stored:
+            listed = self.object_in(os.path.join(folder, "containers.json"))
+            self.stored[folder] = {entry["id"]: entry for entry in (listed if isinstance(listed, list) else ())
+                                   if _text(entry, "id")}
+        entry = self.stored[folder].get(identifier, {})
+        names = entry.get("names")
+        try:
+            metadata = json.loads(entry.get("metadata") or "null")
+        except (ValueError, TypeError, RecursionError):
+            metadata = None
+        return (names[0] if isinstance(names, list) and names and isinstance(names[0], str) else None,
+                _text(metadata, "image-name"))
 
 
 def _number(value: Any) -> int | None:
@@ -322,57 +353,6 @@ def described_containers(kernel: Kernel, snapshot: Snapshot, more_roots: Sequenc
     return list(by_first.values())
 
 
-class Names:
-    """The names and images of containers in the storage of podman or CRI-O, read once for each storage."""
-
-    def __init__(self, read: Callable[[str, int], bytes]) -> None:
-        self.read = read
-        self.of_storage: dict[str, dict[str, tuple[str | None, str | None]]] = {}
-
-    def of(self, folder: str, identifier: str) -> tuple[str | None, str | None]:
-        """The name and the image of a container in a storage."""
-        if folder not in self.of_storage:
-            listed = _object(self.read, os.path.join(folder, "containers.json"), MOST_BYTES)
-            self.of_storage[folder] = {entry["id"]: self._in(entry) for entry in
-                                       (listed if isinstance(listed, list) else ()) if _text(entry, "id")}
-        return self.of_storage[folder].get(identifier, (None, None))
-
-    @staticmethod
-    def _in(value: dict[str, Any]) -> tuple[str | None, str | None]:
-        """The name and the image of a container of which storage has this."""
-        names = value.get("names")
-        try:
-            metadata = json.loads(value.get("metadata") or "null")
-        except (ValueError, TypeError, RecursionError):
-            metadata = None
-        return (names[0] if isinstance(names, list) and names and isinstance(names[0], str) else None,
-                _text(metadata, "image-name"))
-
-
-def with_engine(container: ContainerDescription, configuration: Any, names: Names) -> ContainerDescription:
-    """The container with the name, image and pod that its engine gives it."""
-    annotations = configuration.get("annotations") if isinstance(configuration, dict) else None
-    bundle = os.path.dirname(container.config)
-    task, storage = TASK_BUNDLE.fullmatch(bundle), STORAGE_BUNDLE.fullmatch(bundle)
-    engine = MANAGER.get(_text(annotations, "io.container.manager") or "")
-    name, image = _text(annotations, *NAME_ANNOTATIONS), _text(annotations, *IMAGE_ANNOTATIONS)
-    if storage:
-        engine = engine or "podman"
-        stored = names.of(storage[1], storage[2])
-        name, image = name or stored[0], image or stored[1]
-    elif task and task[1] == "moby":
-        engine = "Docker"
-        path = os.path.join(DOCKER_CONTAINERS, container.identifier, "config.v2.json")
-        value = _object(names.read, path, MOST_BYTES)
-        name = (_text(value, "Name") or "").removeprefix("/") or None
-        image = _text(value.get("Config") if isinstance(value, dict) else None, "Image")
-    elif task:
-        engine = "containerd"
-    pods = ((_text(annotations, space) or "", _text(annotations, pod)) for space, pod in POD_ANNOTATIONS)
-    pod = next((f"{space}/{pod}" for space, pod in pods if pod), None) or _text(annotations, *SANDBOX_ANNOTATIONS)
-    return replace(container, engine=engine or container.engine, name=name, image=image, pod=pod)
-
-
 @dataclass(frozen=True)
 class Place:
     """Where a container's processes are: its control group, its PID namespace, or else its first process alone."""
@@ -380,18 +360,6 @@ class Place:
     container: ContainerDescription
     group: containers.Group | None
     space: tuple[int, int] | None
-
-
-def _stated_group(container: ContainerDescription, process: Process) -> containers.Group | None:
-    """The control group that a runtime's file states, if the container's first process is in it or below."""
-    paths: dict[str, bytes] = {}
-    for hierarchy in (*containers.HIERARCHIES, *process.groups):
-        path = process.groups.get(hierarchy, b"/")
-        while path not in (b"/", b"") and hierarchy not in paths:
-            if any(group.endswith(path) for group in container.groups):
-                paths[hierarchy] = path
-            path = path.rpartition(b"/")[0]
-    return containers.Group.of(next(iter(paths)), paths, process.groups, True) if paths else None
 
 
 def _named_group(process: Process) -> containers.Group | None:
@@ -404,10 +372,18 @@ def _named_group(process: Process) -> containers.Group | None:
 
 
 def place_of(kernel: Kernel, container: ContainerDescription, process: Process) -> Place:
-    """Where the processes of a container are, given its first one. A group that has this tool or the machine's first
-    process in it isn't the container's own: the container was started without one. What a user's file states isn't
-    believed: it could be a group of others."""
-    group = (_stated_group(container, process) if container.user is None else None) or _named_group(process)
+    """Where the processes of a container are, given its first one: in the control group that its runtime's file states,
+    if the process is in it or below. A group that has this tool or the machine's first process in it isn't the
+    container's own: the container was started without one. What a user's file states isn't believed: it could be a
+    group of others."""
+    paths: dict[str, bytes] = {}
+    for hierarchy in (*containers.HIERARCHIES, *process.groups) if container.user is None else ():
+        path = process.groups.get(hierarchy, b"/")
+        while path not in (b"/", b"") and hierarchy not in paths:
+            if any(group.endswith(path) for group in container.groups):
+                paths[hierarchy] = path
+            path = path.rpartition(b"/")[0]
+    group = containers.Group.of(next(iter(paths)), paths, process.groups, True) if paths else _named_group(process)
     if group is not None and any(group.has(kernel.groups_of(number)) for number in (1, os.getpid())):
         group = None
     is_first = process.inner == 1 and len(process.spaces) > 1

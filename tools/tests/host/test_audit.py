@@ -1031,8 +1031,7 @@ class Files(unittest.TestCase):
 
     def of(self, bundle, **annotations):
         container = container_files.ContainerDescription(IDENTIFIER, "runc", "runc", 7, f"{bundle}/config.json")
-        described = container_files.with_engine(container, {"annotations": annotations},
-                                                container_files.Names(container_files.owned_files.read_own))
+        described = container_files.Reader(print, is_root=True).with_engine(container, {"annotations": annotations})
         return described.engine, described.name, described.image, described.pod
 
     def test_containerd(self):
