@@ -17,11 +17,11 @@ from scftools.forms.stacks import Stack
 from scftools.report.pages import ShownSurface
 from . import hold, machine, machine_pass
 from .audit_judge import Judges, Task
-from .audit_rows import (BY_CONFIGURATION, NOT_KNOWN, UNCONFINED_THOUGH, Audit, AuditRow, Expectation, RowPart,
-                         StackJudgement, StackShape)
+from .audit_rows import (
+    BY_CONFIGURATION, NOT_KNOWN, UNCONFINED_THOUGH, Audit, AuditRow, RowPart, StackJudgement)
 from .container_files import described_containers
 from .expectations import Expectations, Options, RowMaker
-from .machine import Process, Snapshot
+from .machine import Snapshot
 from .machine_pass import Copies
 from .processes import Kernel
 from .ptrace import ticks_at_start
@@ -31,16 +31,6 @@ from .turnover import COMES_AND_GOES, LOOKS, Turnover
 TO_CONFINE = 0.5
 # How long all rows of root may take, all users' files, and all users' rows.
 SECONDS_OF_ROOT, SECONDS_OF_FILES, SECONDS_OF_USERS = 60.0, 10.0, 20.0
-IN_STRICT_MODE = "it is in seccomp's strict mode, which no profile expresses"
-
-
-def unconfined_judgement(expected: Expectation) -> StackJudgement:
-    """The verdict on threads that have neither a filter nor the strict mode."""
-    why = expected.why or ("it isn't looked at" if expected.is_unresolved else None)
-    if why is not None:
-        return StackJudgement(NOT_KNOWN, f"it isn't confined, and what is configured isn't known: {why}",
-                              is_unconfined=True)
-    return StackJudgement(UNCONFINED_THOUGH if expected.is_stated else BY_CONFIGURATION, is_unconfined=True)
 
 
 class Assessor:
@@ -93,7 +83,7 @@ class Assessor:
         """Adds the parts of a task's rows; whether it has some for which the time wasn't enough, by these reasons."""
         for row, its in zip(task.rows, task.threads):
             waiting = {**dict.fromkeys(task.copies.waiting, why), **task.copies.unread}
-            row.parts = [RowPart(StackShape(), {process.number: []}, StackJudgement(NOT_KNOWN, waiting[process.number]))
+            row.parts = [RowPart({process.number: []}, StackJudgement(NOT_KNOWN, waiting[process.number]))
                          for process in row.processes if process.number in waiting
                          and ticks_at_start(process.number) == process.start]
             row.parts += self.parts_of(row, [(task.stacks[index], index, its[index]) for index in its], judging)
@@ -118,12 +108,16 @@ class Assessor:
             if stack.is_unconfined:
                 plain.update(threads)
                 continue
-            why = judging if stack.filters else IN_STRICT_MODE
+            why = judging if stack.filters else "it is in seccomp's strict mode, which no profile expresses"
             digest, judgement = row.judged.get(index) or (None, StackJudgement(NOT_KNOWN, why))
             lengths = tuple(len(data) // 8 for data in stack.filters)
-            yield RowPart(StackShape(lengths, stack.is_strict, digest), threads, judgement)
+            yield RowPart(threads, judgement, lengths, stack.is_strict, digest)
         if plain:
-            yield RowPart(StackShape(), dict(sorted(plain.items())), unconfined_judgement(row.expected))
+            verdict = UNCONFINED_THOUGH if row.expected.is_stated else BY_CONFIGURATION
+            why = row.expected.why or ("it isn't looked at" if row.expected.is_unresolved else None)
+            if why is not None:
+                verdict, why = NOT_KNOWN, f"it isn't confined, and what is configured isn't known: {why}"
+            yield RowPart(dict(sorted(plain.items())), StackJudgement(verdict, why, is_unconfined=True))
 
     def look_again(self, rows: Iterable[AuditRow]) -> None:
         """Reads those processes again that have no filter though one is configured, since they may just be starting."""
@@ -132,18 +126,15 @@ class Assessor:
             return
         time.sleep(TO_CONFINE)
         for row in early:
-            row.processes = [process for process in map(self.again, row.processes) if process is not None]
-            row.judged = {}
+            before, row.processes, row.judged = row.processes, [], {}
+            for process in before:
+                now = machine.process_of_number(self.kernel, process.number)
+                self.snapshot.processes.pop(process.number, None)
+                # (it may have ended, and another one may have its number)
+                if now is not None and now.start == process.start:
+                    self.snapshot.processes[process.number] = now
+                    row.processes.append(now)
         self.fill(early)
-
-    def again(self, process: Process) -> Process | None:
-        """A process as it is now, None if it has ended, also if another one has its number."""
-        now = machine.process_of_number(self.kernel, process.number)
-        self.snapshot.processes.pop(process.number, None)
-        if now is None or now.start != process.start:
-            return None
-        self.snapshot.processes[process.number] = now
-        return now
 
 
 def audit_machine(options: Options, judges: Judges) -> Audit:
@@ -166,11 +157,11 @@ def audit_machine(options: Options, judges: Judges) -> Audit:
     turnover.look()
     for row in rows:
         if row.container is not None and row.user is None and turnover.gone[row.container.first] >= LOOKS and row.parts:
-            judgement = StackJudgement(NOT_KNOWN, COMES_AND_GOES)
-            row.parts.append(RowPart(StackShape(), {row.container.first: [row.container.first]}, judgement))
+            first = row.container.first
+            row.parts.append(RowPart({first: [first]}, StackJudgement(NOT_KNOWN, COMES_AND_GOES)))
             row.parts.sort(key=lambda part: part.judgement.order)
     rows = sorted((row for row in rows if row.parts), key=lambda row: row.order)
-    of_root = {part.stack.digest for row in rows if row.user is None for part in row.parts}
+    of_root = {part.digest for row in rows if row.user is None for part in row.parts}
     surfaces = {digest: surface for user, found in assessor.surfaces.items() for digest, surface in found.items()
                 if user is None or digest not in of_root}
     return Audit(rows, snapshot, now, time.monotonic() - began, options.allows_unconfined, surfaces)

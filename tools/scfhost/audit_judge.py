@@ -42,8 +42,6 @@ ANSWER = ({"row": int, "digest": (str, None), "why": (str, None)},
 
 
 class StackJudge:
-    """Compares stacks with profiles."""
-
     def __init__(self, options: Options) -> None:
         self.options = options
         # what settings mean; and the verdicts, by what is expected and stacks
@@ -155,15 +153,6 @@ def _undecided(verdict: Verdict | None) -> StackJudgement:
     return StackJudgement(NOT_KNOWN, f"scf says: {word}{at}")
 
 
-def _of_answer(value: Any) -> StackJudgement:
-    """The verdict that a child answered."""
-    if value["verdict"] not in AUDIT_VERDICTS:
-        raise ValueError(value["verdict"])
-    shown = verdicts.report("\n".join(value["shown"])).verdict if value["shown"] else None
-    return StackJudgement(**{**value, "shown": shown, "lines": tuple(value["lines"]),
-                             "not_compared": tuple(value["not_compared"])})
-
-
 def _begin() -> None:
     """What a child that judges does first."""
     path = client.built_program()
@@ -199,7 +188,6 @@ class Task:
             row.judged = {index: row.judged.get(index) for index in its if self.stacks[index].filters}
 
     def receive(self, value: Any) -> None:
-        """Takes a child's answer."""
         value = child.checked(value, ANSWER)
         if "whole" in value:
             self.surfaces_of.setdefault(self.digests[value["stack"]], ShownSurface.of_json(value))
@@ -207,8 +195,14 @@ class Task:
             row = self.rows[value["row"]]
             row.expected = replace(row.expected, dropped=value["digest"], why=value["why"])
         elif self.rows[value["row"]].judged[value["stack"]] is None:
+            judged = value["judgement"]
+            if judged["verdict"] not in AUDIT_VERDICTS:
+                raise ValueError(judged["verdict"])
+            shown = verdicts.report("\n".join(judged["shown"])).verdict if judged["shown"] else None
             self.digests[value["stack"]] = value["digest"]
-            self.rows[value["row"]].judged[value["stack"]] = value["digest"], _of_answer(value["judgement"])
+            self.rows[value["row"]].judged[value["stack"]] = value["digest"], StackJudgement(**{
+                **judged, "shown": shown, "lines": tuple(judged["lines"]),
+                "not_compared": tuple(judged["not_compared"])})
 
     @property
     def is_over(self) -> bool:

@@ -5,7 +5,6 @@ import os
 import re
 from collections import Counter
 from collections.abc import Iterable, Iterator
-from itertools import islice
 
 from scftools.base import output
 from scftools.base.values import Any, dataclass
@@ -15,13 +14,10 @@ from .audit_rows import (AUDIT_VERDICTS, CONTAINER, OTHER_PROGRAM, ROW_KINDS, ST
 
 # At most so many processes of a row are named in a line, and so many characters of a name are printed.
 MOST_PROCESSES, MOST_OF_NAME = 3, 200
-# After the path of a container's config.json.
-CHANGED = "has changed: judged is the profile that the container was started with"
 PLURALS = {CONTAINER: "containers", UNIT: "units", OTHER_PROGRAM: "other confined programs"}
 
 
 def short(identifier: str) -> str:
-    """An identifier as engines show it."""
     return identifier[:12] if re.fullmatch("[0-9a-f]{64}", identifier) else identifier
 
 
@@ -60,19 +56,13 @@ def judgement_text(judgement: StackJudgement, table: Table) -> str:
             f"{judgement.shown.profile}")
 
 
-def _processes_text(names: dict[int, bytes], part: RowPart) -> str:
-    """Which processes of a row have a stack."""
-    shown = [f"{number} ({output.escaped(names.get(number, b''))})" for number in islice(part.threads, MOST_PROCESSES)]
-    more = len(part.threads) - len(shown)
-    return f"process{'es' * (len(part.threads) > 1)} {', '.join(shown)}" + (f" and {more} more" if more else "")
-
-
 def row_lines(row: AuditRow, table: Table, row_of_reason: dict[tuple[int | None, str], str]) -> Iterator[str]:
     """A line for a row, and for each further verdict in it one more. A reason that stands at an earlier row of the same
     user isn't repeated: `row_of_reason` has the rows by their users and reasons."""
     yield f"{row.verdict}: {row_text(row)}: {output.count_text(len(row.processes), 'process', 'processes')}"
     if row.container is not None and row.container.has_changed:
-        yield f"    {output.escaped(row.container.config)} {CHANGED}"
+        yield (f"    {output.escaped(row.container.config)} has changed: judged is the profile that the container was "
+               "started with")
     firsts: dict[str, RowPart] = {}
     for part in row.parts:
         firsts.setdefault(part.judgement.verdict, part)
@@ -84,7 +74,9 @@ def row_lines(row: AuditRow, table: Table, row_of_reason: dict[tuple[int | None,
         if text and part.judgement.shown is None:
             earlier = row_of_reason.setdefault((row.user, text), row_text(row))
             text = text if earlier == row_text(row) else f"as for {earlier}"
-        yield f"    {verdict}: {_processes_text(names, part)}" + (f": {text}" if text else "")
+        shown = output.some([f"{number} ({output.escaped(names.get(number, b''))})" for number in part.threads],
+                            MOST_PROCESSES)
+        yield f"    {verdict}: process{'es' * (len(part.threads) > 1)} {shown}" + (f": {text}" if text else "")
 
 
 def summary(audit: Audit, unlisted: int = 0) -> Iterator[str]:
@@ -111,15 +103,17 @@ def audit_lines(audit: Audit, table: Table, lists_all: bool = True, earlier: Ear
     row_of_reason: dict[tuple[int | None, str], str] = {}
     for row in listed:
         yield from row_lines(row, table, row_of_reason)
-    for line in () if earlier is None else _change_lines(earlier, audit, lists_all):
-        yield f"# {line}"
+    if earlier is not None:
+        since = f"since {output.escaped(earlier.time)}"
+        lines = [f"{change['change']} {since}: {change['row']}"
+                 + (f": {change['verdict']}" if change["verdict"] is not None else "") + _was(change)
+                 for change in changes(earlier, audit, lists_all)]
+        yield from (f"# {line}" for line in lines or [f"nothing changed {since}"])
     yield from (f"# {line}" for line in summary(audit, len(audit.rows) - len(listed)))
 
 
 @dataclass(frozen=True)
 class EarlierRow:
-    """A row of an earlier audit."""
-
     text: str
     verdict: str
     is_only_counted: bool
@@ -168,20 +162,12 @@ def changes(earlier: Earlier, audit: Audit, lists_all: bool = True) -> Iterator[
                "kind": key[0], "row": output.escaped(rows[0].text), "verdict": verdict, "was": was}
 
 
-def _change_lines(earlier: Earlier, audit: Audit, lists_all: bool) -> Iterator[str]:
-    """A line for each change since an earlier audit, or one that there is none."""
-    count = 0
-    for count, change in enumerate(changes(earlier, audit, lists_all), 1):
-        verdict = f": {change['verdict']}" if change["verdict"] is not None else ""
-        was = f" (was {change['was']})" if change["was"] is not None else ""
-        yield f"{change['change']} since {output.escaped(earlier.time)}: {change['row']}{verdict}{was}"
-    if not count:
-        yield f"nothing changed since {output.escaped(earlier.time)}"
-
-
 def change_text(change: dict[str, object]) -> str:
-    was = f" (was {change['was']})" if change["was"] is not None else ""
-    return f"{change['time']} {change['verdict'] or 'gone'}: {change['row']}{was}"
+    return f"{change['time']} {change['verdict'] or 'gone'}: {change['row']}{_was(change)}"
+
+
+def _was(change: dict[str, object]) -> str:
+    return f" (was {change['was']})" if change["was"] is not None else ""
 
 
 def _judgement_json(judgement: StackJudgement, table: Table) -> dict[str, object]:
@@ -211,7 +197,7 @@ def row_json(row: AuditRow, numbers: dict[str, int], table: Table) -> dict[str, 
                         "sha256": row.expected.digest,
                         **({"why": output.escaped(row.expected.why)} if row.expected.why is not None else {}),
                         **({"changed": True} if container is not None and container.has_changed else {})}
-    parts = [{**_judgement_json(part.judgement, table), "stack": numbers.get(part.stack.digest or ""),
+    parts = [{**_judgement_json(part.judgement, table), "stack": numbers.get(part.digest or ""),
               "is_unconfined": part.judgement.is_unconfined,
               "processes": [{"process": process, "name": output.escaped(names.get(process, b"")),
                              "threads": len(threads)} for process, threads in part.threads.items()]}
@@ -221,22 +207,6 @@ def row_json(row: AuditRow, numbers: dict[str, int], table: Table) -> dict[str, 
             "users": sorted({process.user for process in row.processes}), "parts": parts}
 
 
-def head_json(audit: Audit, earlier: Earlier | None = None) -> dict[str, object]:
-    """The JSON of the whole audit, without its rows."""
-    system = os.uname()
-    since = {} if earlier is None else {"since": {
-        "time": output.escaped(earlier.time), "changes": [*changes(earlier, audit)]}}
-    return {"status": audit.status, "host": system.nodename, "kernel": system.release,
-            "time": output.time_text(audit.time), "seconds": round(audit.seconds, 3),
-            "verdicts": {kind: {verdict: audit.counts[kind, verdict] for verdict in AUDIT_VERDICTS}
-                         for kind in ROW_KINDS},
-            "processes": {"confined": len(audit.confined), "unconfined": len(audit.unconfined),
-                          "unread": len(audit.unread)},
-            "left_out": [output.escaped(line) for line in audit.left_out],
-            "notes": [output.escaped(note) for note in audit.snapshot.notes], **since,
-            "stacks": [{"sha256": digest, "filters": list(stack.lengths)} for digest, stack in audit.stacks.items()]}
-
-
 def audit_json(audit: Audit, table: Table, earlier: Earlier | None = None) -> dict[str, object]:
     *rows, head = json_lines(audit, table, earlier)
     return {**head, "rows": rows}
@@ -244,9 +214,19 @@ def audit_json(audit: Audit, table: Table, earlier: Earlier | None = None) -> di
 
 def json_lines(audit: Audit, table: Table, earlier: Earlier | None = None) -> Iterator[dict[str, object]]:
     """An object for each row, and the last one for the whole."""
-    numbers = {digest: at for at, digest in enumerate(audit.stacks)}
+    numbers, system = {digest: at for at, digest in enumerate(audit.stacks)}, os.uname()
     yield from (row_json(row, numbers, table) for row in audit.rows)
-    yield head_json(audit, earlier)
+    since = {} if earlier is None else {"since": {
+        "time": output.escaped(earlier.time), "changes": [*changes(earlier, audit)]}}
+    yield {"status": audit.status, "host": system.nodename, "kernel": system.release,
+           "time": output.time_text(audit.time), "seconds": round(audit.seconds, 3),
+           "verdicts": {kind: {verdict: audit.counts[kind, verdict] for verdict in AUDIT_VERDICTS}
+                        for kind in ROW_KINDS},
+           "processes": {"confined": len(audit.confined), "unconfined": len(audit.unconfined),
+                         "unread": len(audit.unread)},
+           "left_out": [output.escaped(line) for line in audit.left_out],
+           "notes": [output.escaped(note) for note in audit.snapshot.notes], **since,
+           "stacks": [{"sha256": digest, "filters": list(stack.lengths)} for digest, stack in audit.stacks.items()]}
 
 
 def _metrics(audit: Audit) -> Iterator[output.Metric]:
@@ -266,7 +246,7 @@ def _metrics(audit: Audit) -> Iterator[output.Metric]:
         ([("kind", kind), ("user", user), ("verdict", verdict)], counts[user, kind, verdict])
         for user in (None, *sorted({row.user for row in audit.rows} - {None}))
         for kind in ROW_KINDS for verdict in AUDIT_VERDICTS if user is None or counts[user, kind, verdict]]
-    stacks = {(row.user, part.stack.digest) for row in audit.rows for part in row.parts}
+    stacks = {(row.user, part.digest) for row in audit.rows for part in row.parts}
     for name, help_text, of_user in (
             ("unconfined_processes", "Processes with a thread that has no seccomp filter.", by_user(audit.unconfined)),
             ("confined_processes", "Processes with a thread that has a seccomp filter.", by_user(audit.confined)),

@@ -58,9 +58,9 @@ def _stacks_of(row: AuditRow, numbers: dict[str | None, int]) -> Markup:
     has_several = len({part.judgement.verdict for part in row.parts}) > 1
     items = []
     for part in row.parts:
-        at = numbers.get(part.stack.digest)
-        shown = part.judgement.why or part.stack.description if at is None else \
-            joined([tag("a", f"stack {at}", href=f"#stack-{at}"), f": {part.stack.description}"])
+        at = numbers.get(part.digest)
+        shown = part.judgement.why or part.description if at is None else \
+            joined([tag("a", f"stack {at}", href=f"#stack-{at}"), f": {part.description}"])
         items.append(joined([f"{part.judgement.verdict}: " if has_several else "", shown]))
     if len(items) <= FEW:
         return listed(items)

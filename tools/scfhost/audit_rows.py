@@ -98,11 +98,14 @@ class StackJudgement:
         return not self.is_unconfined, AUDIT_VERDICTS.index(self.verdict)
 
 
-@dataclass(frozen=True)
-class StackShape:
-    """A stack without its bytes: the lengths of its filters, and the SHA-256 of their bundle, None if that isn't known
-    or there are none."""
+@dataclass
+class RowPart:
+    """A distinct stack of a row's threads."""
 
+    # the threads that have it, by their processes
+    threads: dict[int, list[int]]
+    judgement: StackJudgement
+    # the lengths of its filters, and the SHA-256 of their bundle, None if that isn't known or there are none
     lengths: tuple[int, ...] = ()
     is_strict: bool = False
     digest: str | None = None
@@ -110,16 +113,6 @@ class StackShape:
     @property
     def description(self) -> str:
         return description(self.lengths, self.is_strict)
-
-
-@dataclass
-class RowPart:
-    """A distinct stack of a row's threads."""
-
-    stack: StackShape
-    # the threads that have it, by their processes
-    threads: dict[int, list[int]]
-    judgement: StackJudgement
 
 
 @dataclass
@@ -246,11 +239,11 @@ class Audit:
                 for number, threads in part.threads.items() if not threads}
 
     @property
-    def stacks(self) -> dict[str, StackShape]:
-        """The distinct stacks that some thread has, by their digests: root's first."""
-        stacks: dict[str, StackShape] = {}
+    def stacks(self) -> dict[str, RowPart]:
+        """A part of a row for each distinct stack, by its digest: root's first."""
+        stacks: dict[str, RowPart] = {}
         for row in sorted(self.rows, key=lambda row: row.user is not None):
             for part in row.parts:
-                if part.stack.digest is not None:
-                    stacks.setdefault(part.stack.digest, part.stack)
+                if part.digest is not None:
+                    stacks.setdefault(part.digest, part)
         return stacks

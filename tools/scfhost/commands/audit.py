@@ -120,15 +120,6 @@ def show(report, given, table, earlier):
         output.put_lines(audit_output.audit_lines(report, table, given.programs, earlier))
 
 
-def show_changes(before, report, given):
-    """Prints a line, or an object, for each change since the audit before."""
-    for change in audit_output.changes(before, report, given.programs or given.json_lines):
-        if given.json_lines:
-            output.put_json(change)
-        else:
-            output.put_line(audit_output.change_text(change))
-
-
 def main():
     given = read_words()
     options, earlier, before = options_of(given), earlier_in(given.since), None
@@ -140,7 +131,11 @@ def main():
         if before is None or given.json:
             show(report, given, options.table, earlier)
         else:
-            show_changes(before, report, given)
+            for change in audit_output.changes(before, report, given.programs or given.json_lines):
+                if given.json_lines:
+                    output.put_json(change)
+                else:
+                    output.put_line(audit_output.change_text(change))
         output.flush()
         if given.watch is None:
             return report.status

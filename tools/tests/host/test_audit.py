@@ -1117,7 +1117,7 @@ class Kept(Case):
 
 def unit(name, verdict="weaker", why=None, threads=(), kind=audit_rows.UNIT, expected=None):
     """A row of threads without filters."""
-    part = audit_rows.RowPart(audit_rows.StackShape(), dict(threads), audit_rows.StackJudgement(verdict, why))
+    part = audit_rows.RowPart(dict(threads), audit_rows.StackJudgement(verdict, why))
     return audit_rows.AuditRow(kind, name, [], expected or audit_rows.Expectation(), parts=[part])
 
 
@@ -1132,9 +1132,8 @@ class Output(Case):
         self.row = audit_rows.AuditRow(audit_rows.CONTAINER, container.identifier, [process(name=b"x\n# y")],
                                        audit_rows.Expectation(),
                                   container)
-        stack = audit_rows.StackShape((9,), digest="cd" * 32)
-        self.row.parts = [audit_rows.RowPart(stack, {7: [7]},
-                                             audit_rows.StackJudgement(audit_rows.NOT_KNOWN, "it\nis"))]
+        self.row.parts = [audit_rows.RowPart({7: [7]}, audit_rows.StackJudgement(audit_rows.NOT_KNOWN, "it\nis"), (9,),
+                                             digest="cd" * 32)]
         self.audit = audit_rows.Audit([self.row], machine.Snapshot({7: self.row.processes[0]}), 0.0, 1.5)
 
     def test_lines(self):

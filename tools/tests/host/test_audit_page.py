@@ -73,7 +73,6 @@ class Pages(Case):
         container = container_files.ContainerDescription("i" * 64, "podman", "crun", 7, HOSTILE, name=HOSTILE,
                                                          image=HOSTILE, pod=HOSTILE)
         stack = stacks.Stack((filter_of([0, 41]),), False, {7: [7]})
-        shape = audit_rows.StackShape((10,), digest="ab" * 32)
         seven, eight = process(name=os.fsencode(HOSTILE)), process(8)
         asked = compare.Comparison(stack.named, profile_of("read"), table)
         verdict = asked.run(verdicts.NATIVE_SCOPE, verdicts.NO_MORE)[1].verdict
@@ -83,12 +82,12 @@ class Pages(Case):
                 audit_rows.AuditRow(audit_rows.UNIT, "a.service", [eight], audit_rows.Expectation(why=HOSTILE))]
         weaker = audit_rows.StackJudgement(audit_rows.WEAKER, shown=verdict,
                                            lines=tuple(compare_output.difference_lines(asked, verdict)))
-        rows[0].parts = [audit_rows.RowPart(shape, {7: [7]}, weaker)]
-        rows[1].parts = [audit_rows.RowPart(audit_rows.StackShape(), {8: [8]}, audit_rows.StackJudgement(
-            audit_rows.NOT_KNOWN, HOSTILE, is_unconfined=True))]
+        rows[0].parts = [audit_rows.RowPart({7: [7]}, weaker, (10,), digest="ab" * 32)]
+        rows[1].parts = [audit_rows.RowPart({8: [8]}, audit_rows.StackJudgement(audit_rows.NOT_KNOWN, HOSTILE,
+                                                                                is_unconfined=True))]
         snapshot = machine.Snapshot({7: seven, 8: eight}, {None: [HOSTILE]})
         surface = pages.ShownSurface.of(surfaces.surface_of_filters(stack.filters, table))
-        report = audit_rows.Audit(rows, snapshot, 0.0, surfaces={shape.digest: surface})
+        report = audit_rows.Audit(rows, snapshot, 0.0, surfaces={"ab" * 32: surface})
         was = audit_output.EarlierRow(HOSTILE, "weaker", False)
         earlier = audit_output.Earlier(HOSTILE, {("unit", None, HOSTILE): was})
         return audit_page.page(report, table, earlier)
@@ -109,7 +108,7 @@ class Pages(Case):
                 for name in ("a", "b")]
         for row in rows:
             judgement = audit_rows.StackJudgement(audit_rows.NOT_KNOWN, "slow")
-            row.parts = [audit_rows.RowPart(audit_rows.StackShape(), {8: [8]}, judgement)]
+            row.parts = [audit_rows.RowPart({8: [8]}, judgement)]
         text = Page(audit_page.page(audit_rows.Audit(rows, machine.Snapshot(), 0.0), tables.read_table(None)),
                     self).check()
         self.assertIn("not known unit a, unit b", text)
@@ -121,8 +120,7 @@ class Pages(Case):
                                (audit_rows.Expectation(why="no bus"), "what is configured isn't known: no bus"),
                                (audit_rows.Expectation(source="systemctl", why="no bus"), "systemctl no bus")):
             row = audit_rows.AuditRow(audit_rows.UNIT, "a.service", [process(8)], expected)
-            row.parts = [audit_rows.RowPart(audit_rows.StackShape(), {8: [8]},
-                                            audit_rows.StackJudgement(audit_rows.NOT_KNOWN))]
+            row.parts = [audit_rows.RowPart({8: [8]}, audit_rows.StackJudgement(audit_rows.NOT_KNOWN))]
             made = audit_rows.Audit([row], machine.Snapshot(), 0.0)
             text = Page(audit_page.page(made, tables.read_table(None)), self).check()
             self.assertIn(says, text)
