@@ -16,7 +16,6 @@ import math
 import os
 import select
 import signal
-import stat
 import time
 from collections.abc import Callable, Sequence
 
@@ -47,8 +46,6 @@ HOOK_PATH = "PATH=/usr/local/sbin:/usr/local/bin:/usr/sbin:/usr/bin:/sbin:/bin"
 STATE_SECONDS, KILL_SECONDS, EXPLANATION_SECONDS, GRACE = 5.0, 2.0, 10.0, 4.0
 # Seconds that the check may take beyond the wait for a filter.
 DEADLINE = 30.0
-OF_NO_GROUP = ("the container has neither a PID namespace nor a control group of its own: its first process "
-               "and that one's descendants were checked")
 # How much time the hook file leaves for what isn't waited for: the tool's own start, and its end.
 STARTUP = 10
 
@@ -101,22 +98,14 @@ def state(seconds: float) -> bytes:
     raise ContainerError(f"the state on standard input has more than {inputs.LIMITS['state']} bytes")
 
 
-def contents(name: str) -> bytes:
-    """The bytes of a configuration. A pipe or a device isn't opened: it may never end."""
-    try:
-        is_other = not stat.S_ISREG(os.stat(name).st_mode)
-    except (OSError, ValueError):
-        is_other = False
-    if is_other and not os.path.isdir(name):
-        raise ContainerError(f"'{name}' isn't a regular file")
-    return inputs.read_whole(name, "profile")
-
-
 def configuration_of(container: ContainerState) -> dict[str, Any] | None:
     """The seccomp configuration of the container's config.json, as `configurations.seccomp_in`."""
     name = os.path.join(container.bundle, configurations.CONFIG)
+    # (a pipe or a device isn't opened: it may never end)
+    if os.path.exists(name) and not os.path.isfile(name) and not os.path.isdir(name):
+        raise ContainerError(f"'{name}' isn't a regular file")
     try:
-        value = engines.parse_json(contents(name))
+        value = engines.parse_json(inputs.read_whole(name, "profile"))
     except (program.ToolError, profiles.Refused) as why:
         raise ContainerError(f"the container's configuration: {why}") from why
     return configurations.seccomp_in(value, name)
@@ -135,7 +124,9 @@ def members_of(kernel: Kernel, pid: int) -> containers.Container:
             return container
     except processes.Unreadable:
         pass
-    return containers.Container(None, lambda: descendants(kernel, pid), remarks=(OF_NO_GROUP,))
+    return containers.Container(None, lambda: descendants(kernel, pid), remarks=[
+        "the container has neither a PID namespace nor a control group of its own: its first process and that one's "
+        "descendants were checked"])
 
 
 def descendants(kernel: Kernel, pid: int) -> list[int]:
@@ -181,20 +172,8 @@ class ContainerProcess:
         pid, until = self.container.pid, time.monotonic() + KILL_SECONDS
         was_there = not self.has_ended()
         others = {} if self.members.end_together else self.hold_others()
-        why = send_signal(self.file, signal.SIGKILL)
-        count = self.kill_others(others, until)
-        more = f", and {count} more of the container" if count else ""
-        if not was_there or why == errno.ESRCH:
-            return Kill(count > 0, f"process {pid} has ended already" + (f"{more} were killed" if more else ""))
-        if why is not None:
-            return Kill(False, f"process {pid} can't be killed: {os.strerror(why)}")
-        if not self.has_ended(max(0.0, until - time.monotonic())):
-            return Kill(True, f"SIGKILL was sent to process {pid}{more}; it hasn't ended yet")
-        return Kill(True, f"process {pid} was killed{more}")
-
-    def kill_others(self, others: dict[int, int], until: float) -> int:
-        """Kills the held processes and those that they started meanwhile; returns how many."""
-        killed: set[int] = set()
+        why, killed = send_signal(self.file, signal.SIGKILL), set()
+        # those that were held, and those that they started meanwhile
         while others:
             killed.update(pid for pid, file in others.items() if send_signal(file, signal.SIGKILL) is None)
             for file in others.values():
@@ -203,7 +182,14 @@ class ContainerProcess:
                 break
             time.sleep(0.001)
             others = self.hold_others()
-        return len(killed)
+        more = f", and {len(killed)} more of the container" if killed else ""
+        if not was_there or why == errno.ESRCH:
+            return Kill(bool(killed), f"process {pid} has ended already" + (f"{more} were killed" if more else ""))
+        if why is not None:
+            return Kill(False, f"process {pid} can't be killed: {os.strerror(why)}")
+        if not self.has_ended(max(0.0, until - time.monotonic())):
+            return Kill(True, f"SIGKILL was sent to process {pid}{more}; it hasn't ended yet")
+        return Kill(True, f"process {pid} was killed{more}")
 
     def hold_others(self) -> dict[int, int]:
         """The pidfds of the other processes that run, each held before it was listed again."""
@@ -237,15 +223,13 @@ class ContainerProcess:
             raise processes.Unreadable(f"process {pid} {inspection.passed_over.get(pid, 'has ended')}")
         return inspection
 
-    def has_filters(self) -> bool:
-        """Whether every thread has a filter, as far as that can be known without stopping it."""
-        of_threads = [self.kernel.status_of(thread) for thread in self.threads()]
-        return all(status.get("Seccomp") != "0" or has_ended(status) for status in of_threads)
-
     def confined(self, seconds: float, is_forced: bool) -> Inspection:
-        """The filters of all threads, once each has one or the time is up."""
+        """The filters of all threads, once each has one, as far as that can be known without stopping it, or the time
+        is up."""
         until = time.monotonic() + seconds
-        while not self.has_ended() and not self.has_filters() and time.monotonic() < until:
+        while not self.has_ended() and time.monotonic() < until and any(
+                status.get("Seccomp") == "0" and not has_ended(status)
+                for status in map(self.kernel.status_of, self.threads())):
             time.sleep(READING_PAUSE)
         return self.look(is_forced)
 
@@ -409,32 +393,19 @@ def verdict_line(container: ContainerState | None, result: HookResult) -> str:
     return f"{who}: unknown whether it is confined as configured"
 
 
-def dry_run_line(status: int, kills: bool) -> str:
-    """A line that says what a hook would have done that only reports."""
-    if status == program.SUCCESS:
-        return "dry run: the status is 0 without --dry-run, too"
-    killed = ", and the container would be killed" if kills else ""
-    return f"dry run: without --dry-run the status would be {status}{killed}"
-
-
-def hook_words(words: Sequence[str]) -> list[str]:
-    """The words that the hook is called with. A runtime calls it in a folder of its own, so the table's path is the
-    absolute one."""
-    named = [word for word in words if word != "--print-hook"]
-    for at, word in enumerate(named):
-        option, equals, path = word.partition("=")
-        if option == "--table" and equals:
-            named[at] = f"--table={os.path.abspath(path)}"
-        elif named[at - 1:at] == ["--table"]:
-            named[at] = os.path.abspath(word)
-    return named
-
-
 def hook_file(path: str, words: Sequence[str], seconds: float) -> str:
     """The text of a file for hooks.d, as oci-hooks(5) has it, that calls this tool for each container. The runtime must
     wait longer than the tool itself, which takes this many seconds to know."""
+    named = [word for word in words if word != "--print-hook"]
+    for at, word in enumerate(named):
+        # (a runtime calls the hook in a folder of its own)
+        option, equals, table = word.partition("=")
+        if option == "--table" and equals:
+            named[at] = f"--table={os.path.abspath(table)}"
+        elif named[at - 1:at] == ["--table"]:
+            named[at] = os.path.abspath(word)
     longest = seconds + STATE_SECONDS + KILL_SECONDS + EXPLANATION_SECONDS + GRACE
-    hook = {"path": path, "args": [os.path.basename(path), *hook_words(words)], "env": [HOOK_PATH],
+    hook = {"path": path, "args": [os.path.basename(path), *named], "env": [HOOK_PATH],
             "timeout": math.ceil(longest) + STARTUP}
     return json.dumps({"version": "1.0.0", "hook": hook, "when": {"always": True}, "stages": ["poststart"]},
                       indent=4) + "\n"

@@ -1,6 +1,7 @@
 """A hook's watchdog: a process that acts if the hook can't."""
 from __future__ import annotations
 
+import contextlib
 import os
 import select
 import signal
@@ -32,22 +33,17 @@ class Watchdog:
         if child:
             return
         try:
-            self._watch(act, until, hook)
+            is_dismissed = False
+            with contextlib.suppress(Exception):
+                os.close(self.end)
+                signal.pthread_sigmask(signal.SIG_BLOCK, signal.valid_signals())
+                is_dismissed = is_ready(self.file, until) and os.read(self.file, 1) != b""
+            if not is_dismissed:
+                act()
+                if os.getppid() == hook:
+                    os.kill(hook, signal.SIGKILL)
         finally:
             os._exit(program.TROUBLE)
-
-    def _watch(self, act: Callable[[], object], until: float, hook: int) -> None:
-        os.close(self.end)
-        try:
-            signal.pthread_sigmask(signal.SIG_BLOCK, signal.valid_signals())
-            is_dismissed = is_ready(self.file, until) and os.read(self.file, 1) != b""
-        except Exception:  # pylint: disable=broad-exception-caught
-            is_dismissed = False
-        if is_dismissed:
-            return
-        act()
-        if os.getppid() == hook:
-            os.kill(hook, signal.SIGKILL)
 
     def dismiss(self) -> None:
         os.write(self.end, b"\n")

@@ -101,7 +101,9 @@ def judge(options, process):
 def tell(is_json, container, result, killed):
     lines = [hooks.verdict_line(container, result), *(kill.line for kill in killed), *result.lines()]
     if is_dry_run():
-        lines.append(hooks.dry_run_line(result.status, "--kill" in sys.argv[1:]))
+        killing = ", and the container would be killed" if "--kill" in sys.argv[1:] else ""
+        lines.append("dry run: the status is 0 without --dry-run, too" if result.status == program.SUCCESS else
+                     f"dry run: without --dry-run the status would be {result.status}{killing}")
     if is_json:
         name = None if container is None else output.escaped(container.name)
         output.put_json({**result.value(), "id": name, "killed": any(kill.is_so for kill in killed),
