@@ -11,7 +11,7 @@ from scftools.base import program
 from scftools.base.values import Any
 from scftools.model import architectures, libseccomp, multiplexed
 from scftools.model.answers import Answer
-from scftools.model.architectures import I386, Architecture
+from scftools.model.architectures import I386
 from scftools.model.profiles import DerivedProfile
 from scftools.ask.explanation import join_names
 from scftools.forms.lists import unit_restrictions
@@ -86,19 +86,6 @@ def _settings_of(name: str | None, options: Any, say: Callable[[str], None]) -> 
     return settings
 
 
-def _group_of(settings: UnitSettings, wanted: Architecture, say: Callable[[str], None]) -> list[str]:
-    """The architectures for which a profile is printed, among them this one; says which others there are."""
-    group = next((group for group in groups_of(settings) if wanted.oci in group), None)
-    if group is None:
-        raise program.ToolError(f"the unit permits no {wanted.name} syscalls")
-    alike, others = (architectures.names_of([oci for oci in units.LOCAL if oci in settings.architectures
-                                             and (oci in group) == is_alike]) for is_alike in (True, False))
-    if others:
-        say(f"the profile is only for {join_names(alike)}: the unit denies other syscalls on {join_names(others)} "
-            f"(--arch {others[0]})")
-    return group
-
-
 def profile_of_unit(name: str | None, say: Callable[[str], None], options: Any = None) -> DerivedProfile:
     """The profile of a unit, or of the settings that a command line says, for the architecture that it says. By default
     it is this one's, and `others` are those for architectures on which something else is denied."""
@@ -106,7 +93,14 @@ def profile_of_unit(name: str | None, say: Callable[[str], None], options: Any =
     settings = _settings_of(name, options, say)
     groups = groups_of(settings)
     if options is not None:
-        groups = [_group_of(settings, wanted, say)]
+        groups = [group for group in groups if wanted.oci in group]
+        if not groups:
+            raise program.ToolError(f"the unit permits no {wanted.name} syscalls")
+        alike, others = (architectures.names_of([oci for oci in units.LOCAL if oci in settings.architectures
+                                                 and (oci in groups[0]) == is_alike]) for is_alike in (True, False))
+        if others:
+            say(f"the profile is only for {join_names(alike)}: the unit denies other syscalls on {join_names(others)} "
+                f"(--arch {others[0]})")
         if settings.filter is None:
             say("there is no SystemCallFilter: every syscall is allowed"
                 + (" that no other setting denies" if settings.restrictions else ""))

@@ -124,21 +124,6 @@ def architectures_of(text: str) -> list[str]:
     return list(dict.fromkeys([NATIVE, *(OCI_NAMES[word] for word in words)])) if words else list(LOCAL)
 
 
-def groups_of(text: str) -> dict[str, list[str]]:
-    """The groups of calls that `systemd-analyze syscall-filter` prints; a group may name others."""
-    groups: dict[str, list[str]] = {}
-    members: list[str] = []
-    for line in text.split("\n"):
-        word = line.strip()
-        if not word or word.startswith("#"):
-            continue
-        if line.startswith("@"):
-            members = groups.setdefault(word, [])
-        else:
-            members.append(word)
-    return groups
-
-
 class ListReader:
     """Reads lists of syscalls; asks for groups if a list names one, and reports what is left out.
 
@@ -230,7 +215,6 @@ class ListReader:
 
 
 def printed_by(words: Sequence[str]) -> str:
-    """The text that a command of systemd prints."""
     import subprocess  # pylint: disable=import-outside-toplevel
 
     try:
@@ -249,7 +233,18 @@ def printed_by(words: Sequence[str]) -> str:
 
 
 def all_groups() -> dict[str, list[str]]:
-    return groups_of(printed_by(["systemd-analyze", "--no-pager", "syscall-filter"]))
+    """The groups of calls that `systemd-analyze syscall-filter` prints; a group may name others."""
+    groups: dict[str, list[str]] = {}
+    members: list[str] = []
+    for line in printed_by(["systemd-analyze", "--no-pager", "syscall-filter"]).split("\n"):
+        word = line.strip()
+        if not word or word.startswith("#"):
+            continue
+        if line.startswith("@"):
+            members = groups.setdefault(word, [])
+        else:
+            members.append(word)
+    return groups
 
 
 def assignments_of(text: str, section: str, setting: str) -> Iterator[str]:
@@ -269,19 +264,16 @@ def assignments_of(text: str, section: str, setting: str) -> Iterator[str]:
             yield value
 
 
-def _systemds_root() -> str:
-    """The prefix of systemd's paths: a tool in a container of the machine has another root."""
-    # only root may look; others aren't in a container with the machine's processes
-    return "" if unless_refused(True, os.path.samefile, "/proc/1/root", "/") else "/proc/1/root"
-
-
 def files_of(shown: dict[str, str]) -> Iterator[str]:
     """The texts of the files from which systemd read a unit: its own file, and the drop-ins in their order."""
     import shlex  # pylint: disable=import-outside-toplevel
 
+    # (a tool in a container of the machine has another root; only root may look, and others aren't in one with the
+    # machine's processes)
+    root = "" if unless_refused(True, os.path.samefile, "/proc/1/root", "/") else "/proc/1/root"
     for path in [shown.get("FragmentPath", ""), *shlex.split(shown.get("DropInPaths", ""))]:
         try:
-            with open(_systemds_root() + path, "rb") as file:
+            with open(root + path, "rb") as file:
                 data = file.read(MOST_FILE_BYTES + 1)
         except OSError as error:
             raise UnknownSettings(f"'{output.escaped(path)}' can't be read: {error.strerror}") from error
@@ -326,26 +318,7 @@ def shown_by_systemctl(names: Sequence[str]) -> list[dict[str, str]]:
     return units
 
 
-def _restrictions_in(shown: dict[str, str], version: str, reader: ListReader) -> dict[str, str]:
-    """The other settings of a unit that have filters."""
-    restrictions = unit_restrictions.set_in(shown)
-    if "MemoryDenyWriteExecute" in restrictions and unit_restrictions.is_by_prctl(version):
-        del restrictions["MemoryDenyWriteExecute"]
-        reader.tell("MemoryDenyWriteExecute= is applied by prctl(2), and has no filter")
-    return restrictions
-
-
-def _as_newer(call_list: CallList, reader: ListReader) -> list[str] | None:
-    """Makes a list what newer versions take it for, which allow write(2); what they know, if it is an allow-list."""
-    if call_list.is_inverted:
-        call_list.calls.pop("write", None)
-        return None
-    call_list.calls["write"] = None
-    return reader.known_calls()
-
-
 def settings_in(shown: dict[str, str], unit: str, reader: ListReader) -> UnitSettings:
-    """The settings of a unit of which systemctl shows this."""
     if shown.get("LoadState", "loaded") != "loaded":
         raise program.ToolError(f"the unit {unit} isn't loaded: {shown['LoadState']}")
     if "SystemCallFilter" not in shown:
@@ -358,10 +331,18 @@ def settings_in(shown: dict[str, str], unit: str, reader: ListReader) -> UnitSet
             raise program.ToolError("systemctl show doesn't print which syscalls the allow-list denies with an errno "
                                     f"of their own, and the unit's files don't say it: {why}",
                                     program.UNKNOWN) from why
-    version = shown.get(MANAGER_VERSION, "")
-    is_newer = call_list is not None and (unit_restrictions.numbers_of(version) or (0, 0)) >= WITH_ENOSYS
-    known_names = _as_newer(call_list, reader) if is_newer else None
-    return UnitSettings(call_list, refusal_of(shown.get("SystemCallErrorNumber", "")),
-                        architectures_of(shown.get("SystemCallArchitectures", "")),
-                        reader.shown(shown.get("SystemCallLog", "~")), _restrictions_in(shown, version, reader),
-                        version, known_names)
+    version, known_names = shown.get(MANAGER_VERSION, ""), None
+    if call_list is not None and (unit_restrictions.numbers_of(version) or (0, 0)) >= WITH_ENOSYS:
+        if call_list.is_inverted:
+            call_list.calls.pop("write", None)
+        else:
+            call_list.calls["write"] = None
+            known_names = reader.known_calls()
+    settings = UnitSettings(call_list, refusal_of(shown.get("SystemCallErrorNumber", "")),
+                            architectures_of(shown.get("SystemCallArchitectures", "")),
+                            reader.shown(shown.get("SystemCallLog", "~")), unit_restrictions.set_in(shown), version,
+                            known_names)
+    if "MemoryDenyWriteExecute" in settings.restrictions and unit_restrictions.is_by_prctl(version):
+        del settings.restrictions["MemoryDenyWriteExecute"]
+        reader.tell("MemoryDenyWriteExecute= is applied by prctl(2), and has no filter")
+    return settings
