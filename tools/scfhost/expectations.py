@@ -8,12 +8,13 @@ from collections.abc import Callable, Iterable, Sequence
 
 from scftools.base import program
 from scftools.base.values import Any, dataclass
+from scftools.model.answers import ALLOW
 from scftools.model.profiles import elsewhere_of
 from scftools.model.tables import Table
 from scftools.ask.questions import IS_ALLOWED
 from scftools.ask.verdicts import SAME
 from scftools.forms.filters import Filter
-from scftools.forms.lists import lxc, sandbox_rules
+from scftools.forms.lists import lxc, sandbox_rules, snapd
 from scftools.report import compare_output
 from scftools.report.compare import Comparison
 from . import configurations, container_files, owned_files, sandbox_programs, unit_profiles, units, verify
@@ -119,7 +120,7 @@ class Expectations:
 
     def _of_lxc(self, container: ContainerDescription) -> Expectation:
         """The expectation of a container of LXC, whose configuration only its name tells."""
-        path = sandbox_programs.lxc_config(container.identifier)
+        path = os.path.join(sandbox_programs.LXC_CONTAINERS, container.identifier, "config")
 
         def read() -> Expectation:
             policy_path = sandbox_programs.lxc_policy(path)
@@ -138,12 +139,12 @@ class Expectations:
 
     def of_snap(self, tag: str) -> Expectation | None:
         """The expectation of the programs with a snap's security tag, None if the tag has no filter."""
-        path = sandbox_programs.snap_rules(tag)
+        path = os.path.join(sandbox_programs.SNAP_RULES, f"{tag}.src")
 
         def read() -> Expectation | None:
-            policy = sandbox_programs.snap_policy(tag)
-            return None if policy is None else Expectation(self.options.request(policy.data()), path,
-                                                           beside=sandbox_programs.filter_of_all_snaps())
+            policy = snapd.read_snap_template(owned_files.read_own(path, sandbox_rules.MOST_LIST_BYTES))
+            return None if policy.default == ALLOW else Expectation(self.options.request(policy.data()), path,
+                                                                    beside=sandbox_programs.filter_of_all_snaps())
 
         return self._of_list(tag, path, read)
 
@@ -194,7 +195,14 @@ class RowMaker:
             row = self.row_of(process)
             if row is not None:
                 rows.setdefault((row.kind, row.user, row.place or row.key), row).processes.append(process)
-        _tell_apart(rows.values())
+        # where a container's description stands is added to its key if one before it of the same user has the key, too:
+        # those come first that files describe, then those that only a group's name tells
+        seen: set[tuple[int | None, str]] = set()
+        for row in sorted((row for row in rows.values() if row.container is not None), key=lambda row: (
+                not row.container.folder, row.place)):
+            if (row.user, row.key) in seen:
+                row.key = f"{row.key} of {row.place}"
+            seen.add((row.user, row.key))
         return list(rows.values())
 
     def row_of(self, process: Process) -> AuditRow | None:
@@ -210,7 +218,13 @@ class RowMaker:
             return AuditRow(OTHER_PROGRAM, tag, [], of_snap, user=owner)
         if unit is not None:
             return AuditRow(UNIT, unit, [], self.of_units[unit], user=self.user_in_unit(process, unit))
-        return self.program_row(process) if process.is_confined else None
+        if not process.is_confined:
+            return None
+        path = os.fsdecode(process.executable) or f"unknown ({os.fsdecode(process.name)})"
+        sandbox, expected = self.sandboxes[process.number], self.expectations.of_all() or Expectation()
+        if sandbox is not None:
+            path, expected = f"{path} in firejail {sandbox.number}", self.expectations.of_firejail(sandbox)
+        return AuditRow(OTHER_PROGRAM, path, [], expected, user=process.owner or None)
 
     def user_in_unit(self, process: Process, unit: str) -> int | None:
         """The user who has brought a process into a unit, None if it is the unit's own: one of the system's users has
@@ -220,22 +234,3 @@ class RowMaker:
         is_own = process.owner < FIRST_USER or process.owner in OF_SERVICES or \
             main is not None and main.owner == process.owner
         return None if is_own and not is_of_user else process.owner or None
-
-    def program_row(self, process: Process) -> AuditRow:
-        """The row of a program that is in no container and no unit, and maybe in a sandbox of firejail."""
-        path = os.fsdecode(process.executable) or f"unknown ({os.fsdecode(process.name)})"
-        sandbox, expected = self.sandboxes[process.number], self.expectations.of_all() or Expectation()
-        if sandbox is not None:
-            path, expected = f"{path} in firejail {sandbox.number}", self.expectations.of_firejail(sandbox)
-        return AuditRow(OTHER_PROGRAM, path, [], expected, user=process.owner or None)
-
-
-def _tell_apart(rows: Iterable[AuditRow]) -> None:
-    """Adds to the key of a container where its description stands, if one before it of the same user has the key, too:
-    those come first that files describe, then those that only a group's name tells."""
-    seen: set[tuple[int | None, str]] = set()
-    for row in sorted((row for row in rows if row.container is not None), key=lambda row: (
-            not row.container.folder, row.place)):
-        if (row.user, row.key) in seen:
-            row.key = f"{row.key} of {row.place}"
-        seen.add((row.user, row.key))

@@ -12,8 +12,7 @@ import os
 from collections.abc import Iterator
 
 from scftools.base.values import Pattern, dataclass
-from scftools.model.answers import ALLOW
-from scftools.forms.lists import firejail, snapd
+from scftools.forms.lists import firejail
 from scftools.forms.lists.sandbox_rules import MOST_LIST_BYTES, Policy, UnknownRules
 from . import owned_files
 from .machine import Process, inherited
@@ -43,11 +42,6 @@ def _names_in(folder: str) -> list[str]:
         return owned_files.names_in(folder, MOST_NAMES)[0] if owned_files.writer_of(folder) is None else []
     except UnreadableFile:
         return []
-
-
-def lxc_config(name: str) -> str:
-    """The path of the configuration of root's container by this name."""
-    return os.path.join(LXC_CONTAINERS, name, "config")
 
 
 def lxc_policy(path: str) -> str | None:
@@ -100,34 +94,22 @@ class Firejail:
 
 
 def firejails_of(processes: dict[int, Process]) -> dict[int, Firejail | None]:
-    """The sandbox of each process: that of its nearest ancestor that started one."""
-    names = (name for name in _names_in(FIREJAIL_SANDBOXES) if name.isascii() and name.isdigit())
-    sandboxes = (_firejail(processes[int(name)]) for name in names if int(name) in processes)
-    return inherited(processes, {sandbox.number: sandbox for sandbox in sandboxes if sandbox is not None})
-
-
-def _firejail(process: Process) -> Firejail | None:
-    """The sandbox that a process started; None if its file isn't root's, has no path, or is that of a process before
-    it with this number."""
-    name = os.path.join(FIREJAIL_SANDBOXES, str(process.number))
-    try:
-        path = os.fsdecode(owned_files.read_own(name, MOST_PATH).rstrip(b"\n"))
-        is_its = os.stat(name).st_mtime >= process.started_at - SLACK
-    except (UnreadableFile, OSError):
-        return None
-    return Firejail(process.number, path) if path.startswith("/") and is_its else None
-
-
-def snap_rules(tag: str) -> str:
-    """The path of the rules of a security tag."""
-    return os.path.join(SNAP_RULES, f"{tag}.src")
-
-
-def snap_policy(tag: str) -> Policy | None:
-    """The rules of a security tag, None if it has no filter. Raises ListError or UnreadableFile if they can't be
-    known."""
-    policy = snapd.read_snap_template(owned_files.read_own(snap_rules(tag), MOST_LIST_BYTES))
-    return None if policy.default == ALLOW else policy
+    """The sandbox of each process: that of its nearest ancestor that started one. A file tells of none if it isn't
+    root's, has no path, or is that of an earlier process with this number."""
+    sandboxes: dict[int, Firejail] = {}
+    for name in _names_in(FIREJAIL_SANDBOXES):
+        process = processes.get(int(name)) if name.isascii() and name.isdigit() else None
+        if process is None:
+            continue
+        file = os.path.join(FIREJAIL_SANDBOXES, name)
+        try:
+            path = os.fsdecode(owned_files.read_own(file, MOST_PATH).rstrip(b"\n"))
+            is_its = os.stat(file).st_mtime >= process.started_at - SLACK
+        except (UnreadableFile, OSError):
+            continue
+        if path.startswith("/") and is_its:
+            sandboxes[process.number] = Firejail(process.number, path)
+    return inherited(processes, sandboxes)
 
 
 def filter_of_all_snaps() -> bytes:
