@@ -5,6 +5,7 @@ stopped, so that no new one is missed. All continue (PTRACE_DETACH), whatever ha
 """
 from __future__ import annotations
 
+import contextlib
 import errno
 import os
 import struct
@@ -178,7 +179,11 @@ class Hold:
                 time.sleep(PAUSE_UNHELD)
                 self.look_at_traced()
             else:
-                self.interrupt_seized()
+                for thread in sorted(self.seized):
+                    # (it may have ended)
+                    unless_refused(None, self.kernel.ptrace, PTRACE_INTERRUPT, thread, None, None)
+                    self.stopping.add(thread)
+                self.seized.clear()
                 self.settle(HELD_FOR_ONE)
                 if self.stopping:
                     self.let_stopped_go()
@@ -246,14 +251,6 @@ class Hold:
         raise Unreadable(why or f"{called(thread, process)} can't be stopped ({error.strerror}): run this as root, "
                                 f"outside of containers") from error
 
-    def interrupt_seized(self) -> None:
-        """Tells those that run to stop."""
-        for thread in sorted(self.seized):
-            # (it may have ended)
-            unless_refused(None, self.kernel.ptrace, PTRACE_INTERRUPT, thread, None, None)
-            self.stopping.add(thread)
-        self.seized.clear()
-
     def settle(self, seconds: float) -> None:
         """Waits for those that were told to stop, no longer than this."""
         until = min(time.monotonic() + seconds, self.until)
@@ -299,7 +296,10 @@ class Hold:
         """Lets a thread go that isn't to be held any more, whether it is there or has ended."""
         given = self.stopped.get(thread, 0)
         if thread in self.restarts.calls:
-            self.choose_restart(thread)
+            # (where the choice can't be made, its call begins anew)
+            with contextlib.suppress(OSError, Ended, Unreadable):
+                filters, _ = stack_of(self.kernel, thread, self.process_of[thread])
+                self.restarts.before_it_runs_on(thread, filters)
         self.forget(thread)
         try:
             self.kernel.ptrace(PTRACE_DETACH, thread, None, given)
@@ -307,14 +307,6 @@ class Hold:
             # It ends, which its parent is told only once its tracer has waited for it; or it never stopped.
             if not self.state_of(thread):
                 self.leaving.add(thread)
-
-    def choose_restart(self, thread: int) -> None:
-        """Chooses how a stopped thread's call goes on; where that can't be, it begins anew."""
-        try:
-            filters, _ = stack_of(self.kernel, thread, self.process_of[thread])
-            self.restarts.before_it_runs_on(thread, filters)
-        except (OSError, Ended, Unreadable):
-            pass
 
     def let_stopped_go(self) -> None:
         for thread in list(self.stopped):
@@ -331,7 +323,7 @@ class Hold:
         return Unreadable(f"threads came and went for {self.patience:g} seconds, faster than they can be stopped")
 
 
-def why_no_filter(kernel: Kernel, thread: int, process: int, index: int, error: OSError) -> str:
+def why_no_filter(thread: int, process: int, index: int, error: OSError) -> str:
     if error.errno == errno.EACCES:
         return ("the kernel shows filters only to a process with CAP_SYS_ADMIN that has no filter of its own: run this "
                 "as root, outside of containers")
@@ -366,7 +358,7 @@ def filter_at(kernel: Kernel, thread: int, process: int, index: int) -> bytes | 
         mode = kernel.status_of(thread).get("Seccomp")
         if error.errno == errno.EINVAL and index == 0 and mode in ("0", "1"):
             return None
-        raise Unreadable(why_no_filter(kernel, thread, process, index, error)) from error
+        raise Unreadable(why_no_filter(thread, process, index, error)) from error
     if count > BPF_MAXINSNS:
         raise Unreadable(f"filter {index} of {called(thread, process)} has {count} instructions, more than a filter "
                          f"may have")

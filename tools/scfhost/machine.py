@@ -8,7 +8,7 @@ from __future__ import annotations
 import os
 import re
 import time
-from collections.abc import Iterable, Mapping
+from collections.abc import Mapping
 
 from scftools.base import output
 from scftools.base.values import Any, Pattern, dataclass, field, unless_refused
@@ -20,7 +20,8 @@ from .ptrace import PROC_PID_INIT_INO, contents, has_ended, ticks_at_start
 LISTINGS = 3
 # Of what wasn't looked at of a user, at most so many reasons are given, and so many characters of each.
 MOST_REASONS, MOST_OF_REASON = 3, 200
-SECCOMP_MODE = Pattern(rb"^Seccomp:\t([0-2])", re.M)
+# In /proc/THREAD/status, of a thread that is in a mode of seccomp(2).
+CONFINED = Pattern(rb"^Seccomp:\t[12]", re.M)
 
 
 @dataclass(frozen=True)
@@ -93,12 +94,6 @@ class Snapshot:
                 for user, lines in sorted(self.left_out_of.items(), key=lambda of: (of[0] is not None, of[0] or 0))}
 
 
-def _mode_of(thread: int) -> int:
-    """The mode of seccomp(2) that a thread is in, 0 for none."""
-    match = SECCOMP_MODE.search(contents(f"/proc/{thread}/status"))
-    return int(match[1]) if match else 0
-
-
 def process_of_number(kernel: Kernel, number: int) -> Process | None:
     """A process, or None if all of its threads have ended or it is the kernel's."""
     status, threads = kernel.status_of(number), kernel.threads_of(number)
@@ -112,7 +107,8 @@ def process_of_number(kernel: Kernel, number: int) -> Process | None:
         if not threads:
             return None
         first, status = threads[0], statuses[threads[0]]
-    is_confined = status.get("Seccomp", "0") != "0" or any(_mode_of(thread) for thread in threads if thread != first)
+    is_confined = status.get("Seccomp", "0") != "0" or any(
+        CONFINED.search(contents(f"/proc/{thread}/status")) for thread in threads if thread != first)
     is_stuck = is_confined and status["State"][:1] == "D"
     user, executable = int(status["Uid"].split()[1]), unless_refused(b"", os.readlink, f"/proc/{first}/exe".encode())
     return Process(number, int(status["PPid"]), kernel.name_of(number), executable, user,
@@ -121,23 +117,17 @@ def process_of_number(kernel: Kernel, number: int) -> Process | None:
                    is_stuck, kernel.owner_of(first, user), ticks_at_start(number) or 0)
 
 
-def _left_out(kernel: Kernel, why: str | None) -> Iterable[str]:
-    """Lines on what this tool can't see."""
-    if why is not None:
-        yield f"no filters could be read: {why}"
-    space = unless_refused(None, os.stat, "/proc/self/ns/pid")
-    if space is None or space.st_ino != PROC_PID_INIT_INO:
-        yield "processes outside of the PID namespace that this tool runs in"
-    if not kernel.is_root_the_first():
-        yield ("control groups outside of the cgroup namespace that this tool runs in, so containers and units may not "
-               "be known as such")
-
-
 def read_machine(kernel: Kernel, why: str | None) -> Snapshot:
     """All processes, each as it was at some moment; `why` says why no filters can be read."""
     snapshot = Snapshot()
-    for line in _left_out(kernel, why):
-        snapshot.leave_out(line)
+    if why is not None:
+        snapshot.leave_out(f"no filters could be read: {why}")
+    space = unless_refused(None, os.stat, "/proc/self/ns/pid")
+    if space is None or space.st_ino != PROC_PID_INIT_INO:
+        snapshot.leave_out("processes outside of the PID namespace that this tool runs in")
+    if not kernel.is_root_the_first():
+        snapshot.leave_out("control groups outside of the cgroup namespace that this tool runs in, so containers and "
+                           "units may not be known as such")
     for _ in range(LISTINGS):
         unread = [number for number in kernel.processes() if number not in snapshot.processes]
         described = (process_of_number(kernel, number) for number in unread if number != kernel.tool)

@@ -55,21 +55,6 @@ def _unreadable(path: str, error: Exception) -> UnreadableFile:
     return UnreadableFile(f"'{path}' can't be read: {getattr(error, 'strerror', None) or error}")
 
 
-def _has_access_list(path: str) -> bool:
-    """Whether the bits of a file's group are those of an access list's mask (acl(5))."""
-    return bool(unless_refused(b"", os.getxattr, path, "system.posix_acl_access"))
-
-
-def _writer(path: str, status: os.stat_result) -> int | None:
-    """Who beside root, and beside the user of this tool, may change a file, a link or what a folder has."""
-    if status.st_uid not in (0, os.geteuid()):
-        return status.st_uid
-    is_of_others = status.st_mode & stat.S_IWOTH or \
-        status.st_mode & stat.S_IWGRP and (status.st_gid != 0 or _has_access_list(path))
-    is_safe = stat.S_ISLNK(status.st_mode) or stat.S_ISDIR(status.st_mode) and status.st_mode & stat.S_ISVTX
-    return ANYONE if is_of_others and not is_safe else None
-
-
 def writer_of(path: str) -> int | None:
     """The user beside root who could put another file in place of the one at an absolute path, or change it; None if
     none could. Nothing that is a user's is looked into. Raises UnreadableFile."""
@@ -82,10 +67,15 @@ def writer_of(path: str) -> int | None:
             if place in mounts:
                 return mounts[place]
             status = os.lstat(place)
-            user = _writer(place, status)
-            if user is not None:
-                return user
-            if stat.S_ISLNK(status.st_mode):
+            mode, is_link = status.st_mode, stat.S_ISLNK(status.st_mode)
+            if status.st_uid not in (0, os.geteuid()):
+                return status.st_uid
+            # (the bits of the group may be those of an access list's mask, acl(5))
+            is_of_others = mode & stat.S_IWOTH or mode & stat.S_IWGRP and (
+                status.st_gid != 0 or unless_refused(b"", os.getxattr, place, "system.posix_acl_access"))
+            if is_of_others and not is_link and not (stat.S_ISDIR(mode) and mode & stat.S_ISVTX):
+                return ANYONE
+            if is_link:
                 target, links = os.readlink(place), links + 1
                 parts += target.split("/")[::-1]
                 place = "/" if target.startswith("/") else folder

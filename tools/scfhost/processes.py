@@ -92,27 +92,19 @@ def process_of(kernel: Kernel, number: int) -> int:
 def look_at_process(kernel: Kernel, process: int, thread: int | None = None, patience: float = PATIENCE,
                     is_forced: bool = False) -> Inspection:
     """Reads all threads of a process, or one of them."""
-
-    def listed() -> dict[int, int]:
-        threads = kernel.threads_of(process)
-        return {number: process for number in threads if thread in (None, number)}
-
     if thread is not None and thread not in kernel.threads_of(process):
         raise Unreadable(f"process {process} has no thread {thread}")
-    inspection = look(kernel, listed, patience, is_forced)
+    inspection = look(kernel, lambda: {number: process for number in kernel.threads_of(process)
+                                       if thread in (None, number)}, patience, is_forced)
     if not inspection.stacks:
         who = called(process if thread is None else thread, process)
         raise Unreadable(f"{who} {inspection.passed_over.get(process, 'has ended')}")
     return inspection
 
 
-def look_at_container(kernel: Kernel, container: Container, patience: float = PATIENCE,
-                      is_forced: bool = False) -> Inspection:
-
-    def listed() -> dict[int, int]:
-        return {thread: process for process in container.processes() for thread in kernel.threads_of(process)}
-
-    inspection = look(kernel, listed, patience, is_forced)
+def look_at_container(kernel: Kernel, container: Container, is_forced: bool) -> Inspection:
+    inspection = look(kernel, lambda: {thread: process for process in container.processes()
+                                       for thread in kernel.threads_of(process)}, PATIENCE, is_forced)
     if not inspection.stacks:
         raise Unreadable("the processes of the container have ended")
     return inspection

@@ -69,18 +69,6 @@ def read_words():
     return options
 
 
-def the_one_stack(stacks, process):
-    if len(stacks) > 1:
-        shares = "".join(f"; {threads_text(stack.threads[process])}: {stack.description}" for stack in stacks)
-        raise program.ToolError(f"the threads of process {process} don't have the same filters{shares}; --thread takes "
-                                "those of one thread")
-    if not stacks[0].filters:
-        thread = stacks[0].threads[process][0]
-        who = called(thread, process) if len(stacks[0].threads[process]) == 1 else f"process {process}"
-        raise program.ToolError(f"{who} has {stacks[0].description}", program.NEGATIVE)
-    return stacks[0]
-
-
 def loaded_in(log, label, thread, hint):
     """The stack that the processes of a log share, or that one thread has; the hint says how to take that."""
     try:
@@ -138,9 +126,17 @@ def of_process(options):
         return process, processes.look_at_process(kernel, process, options.thread, is_forced=options.force)
 
     process, inspection = processes.read_or_end(read, has_force=True)
-    for note in inspection.notes:
-        program.say(note)
-    return the_one_stack(inspection.stacks, process)
+    program.say(*inspection.notes)
+    stack, *others = inspection.stacks
+    if others:
+        shares = "".join(f"; {threads_text(each.threads[process])}: {each.description}" for each in inspection.stacks)
+        raise program.ToolError(f"the threads of process {process} don't have the same filters{shares}; --thread takes "
+                                "those of one thread")
+    if not stack.filters:
+        threads = stack.threads[process]
+        who = called(threads[0], process) if len(threads) == 1 else f"process {process}"
+        raise program.ToolError(f"{who} has {stack.description}", program.NEGATIVE)
+    return stack
 
 
 def main():
