@@ -72,7 +72,6 @@ def member(value: Any, wanted: str, path: str) -> Any:
 
 
 def identifiers_in(text: str) -> list[str]:
-    """The identifiers of containers in a text."""
     return [match[0] for match in IDENTIFIER.finditer(text)]
 
 

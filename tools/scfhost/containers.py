@@ -66,8 +66,6 @@ class Group:
 
 @dataclass
 class Container:
-    """The processes of a container."""
-
     # The path of their control group; None if they share a PID namespace instead.
     group: bytes | None
     processes: Callable[[], list[int]]

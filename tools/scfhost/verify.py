@@ -110,10 +110,6 @@ class Request:
         if block.stub and self.applied is not None:
             yield from self.applied.stub_notes(block.stub)
 
-    def as_json(self, block: Block) -> dict[str, object]:
-        members = compare_output.comparison_json(block.comparison, block.report, block.scope, block.status)
-        return {**members, "stub": block.stub} if block.stub else members
-
 
 def nothing_request(*settings: Any, **named: Any) -> Request:
     """The question where nothing is configured, by the other settings of a request: other ABIs' syscalls are allowed,
@@ -150,7 +146,6 @@ def read_saved(folder: str) -> list[Filter]:
 
 
 def blocks(inspection: Inspection, request: Request) -> list[Block]:
-    """The blocks of stacks that are compared."""
     return blocks_of(inspection, request.judge,
                      lambda stack, status: Block(stack, status, configured=request.configured))
 
@@ -176,19 +171,16 @@ def verification_lines(made: Sequence[Block], inspection: Inspection, request: R
     yield from output.notes(inspection.notes)
 
 
-def _block_json(block: Block, inspection: Inspection, request: Request) -> dict[str, object]:
-    members: dict[str, object] = {"status": block.status, "verdict": block.verdict}
-    if block.report is not None:
-        members = request.as_json(block)
-    return {**members, **block.stack.as_json(inspection.names)}
-
-
 def verification_json(made: Sequence[Block], inspection: Inspection, request: Request,
                       container: str | None) -> dict[str, object]:
     """The object with everything that `verification_lines` prints, and the container: the verdict is that of the
     worst stack."""
     scope = request.scope or next((block.scope for block in made if block.report is not None), verdicts.NATIVE_SCOPE)
+    compared = [{"status": block.status, "verdict": block.verdict} if block.report is None else
+                compare_output.comparison_json(block.comparison, block.report, block.scope, block.status)
+                for block in made]
     return {"status": made[0].status, "scope": scope, "verdict": made[0].verdict, "container": container,
-            "stacks": [_block_json(block, inspection, request) for block in made],
+            "stacks": [{**members, **({"stub": block.stub} if block.stub else {}),
+                        **block.stack.as_json(inspection.names)} for members, block in zip(compared, made)],
             "passed_over": [{"process": process, "why": why} for process, why in inspection.passed_over.items()],
             "asked_again": [{"process": process, "thread": thread} for process, thread in inspection.asked_again]}

@@ -109,12 +109,6 @@ def read_words():
     return options
 
 
-def containers_of(kernel, user):
-    """The containers of root, or of a user, that run, with their settings of seccomp, as audit finds them."""
-    described = container_files.described_containers(kernel, Snapshot(), (), child.Budget(audit.SECONDS_OF_FILES))
-    return [found for found in described if found.user == user]
-
-
 def container_named(owned, name, user):
     """The one of some containers by a name, or by the beginning of its ID."""
     fitting = [found for found in owned if name in (found.name, found.identifier)] or \
@@ -145,16 +139,6 @@ def configured_request(container, settings):
         return replace(verify.request_of(config, container.runtime, False, table, relation, scope), configured=True)
     except configurations.ContainerError as why:
         raise program.ToolError(str(why)) from why
-
-
-def setting_of(options, kernel):
-    """The container of a process: without `--caps` with the capabilities of the process's bounding set, which are those
-    that the engine gave the container."""
-    bounding = kernel.status_of(options.pid).get("CapBnd")
-    if options.caps is not None or bounding is None:
-        return options.setting
-    return replace(options.setting, capabilities=engines.capabilities_in(int(bounding, 16)),
-                   source="the process's bounding set")
 
 
 def is_configured(data, name, kernel, pid):
@@ -191,10 +175,15 @@ def read_profile(name, is_engines):
 
 
 def profiles_in(data, name, options, kernel):
-    """The profiles in what was read of a file, as the container's runtime applies them."""
-    if options.runtime is not None:
-        return [runtimes.applied_in(data, name, options.runtime, setting_of(options, kernel), options.strict)]
-    return profile_inputs.profile_in(data, name, is_runtimes=True, is_strict=options.strict).parts
+    """The profiles in what was read of a file, as the container's runtime applies them: without `--caps` for the
+    capabilities of the process's bounding set, which are those that the engine gave the container."""
+    if options.runtime is None:
+        return profile_inputs.profile_in(data, name, is_runtimes=True, is_strict=options.strict).parts
+    setting, bounding = options.setting, kernel.status_of(options.pid).get("CapBnd")
+    if options.caps is None and bounding is not None:
+        setting = replace(setting, capabilities=engines.capabilities_in(int(bounding, 16)),
+                          source="the process's bounding set")
+    return [runtimes.applied_in(data, name, options.runtime, setting, options.strict)]
 
 
 def request_of(options, kernel, named):
@@ -232,7 +221,9 @@ def main():
     options = read_words()
     kernel, named = processes.Kernel(), None
     if options.name is not None:
-        named = container_named(containers_of(kernel, options.user), options.name, options.user)
+        described = container_files.described_containers(kernel, Snapshot(), (), child.Budget(audit.SECONDS_OF_FILES))
+        named = container_named([found for found in described if found.user == options.user], options.name,
+                                options.user)
         options.pid, options.container = named.first, True
     request = request_of(options, kernel, named)
 

@@ -235,7 +235,7 @@ class Named(Confined):
                 ({"linux": {}}, (self.file("p.json", refuses("mount")),), 0, "same")):
             found = described(ONE, child.pid, profile, "box")
             with self.subTest(profile, words=words), \
-                    mock.patch.object(verify, "containers_of", lambda *_, found=found: [found]), \
+                    mock.patch.object(verify.container_files, "described_containers", lambda *_, it=found: [it]), \
                     mock.patch.object(verify.processes, "container_of",
                                       lambda *_: containers.Container(b"/box", lambda: [child.pid])):
                 actual, out, err = self.run_tool("verify", "box", *words)
@@ -245,7 +245,7 @@ class Named(Confined):
     def test_without_a_profile_it_is_unconfined_by_configuration(self):
         child = self.child([])
         found = described(TWO, child.pid, {"linux": {}})
-        with mock.patch.object(verify, "containers_of", lambda *_: [found]), \
+        with mock.patch.object(verify.container_files, "described_containers", lambda *_: [found]), \
                 mock.patch.object(verify.processes, "container_of",
                                   lambda *_: containers.Container(b"/box", lambda: [child.pid])):
             status, out, _ = self.run_tool("verify", TWO[:6])

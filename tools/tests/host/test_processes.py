@@ -35,7 +35,7 @@ class Verdicts(Case):
         report = verdicts.Report(("differs",), verdicts.Verdict("differs"))
         with mock.patch.object(verify.Request, "judge", lambda _, item: verify.Block(item, 1, None, report)), \
                 mock.patch.object(verify.Request, "notes", lambda *_: iter(())), \
-                mock.patch.object(verify.Request, "as_json", lambda *_: {"verdict": "differs"}):
+                mock.patch.object(verify.compare_output, "comparison_json", lambda *_: {"verdict": "differs"}):
             made = verify.blocks(actual, request)
             self.assertEqual([item.verdict for item in made], ["unconfined", "differs", "strict"])
             self.assertEqual(next(verify.verification_lines(made, actual, request)),
