@@ -59,7 +59,8 @@ def judgement_text(judgement: StackJudgement, table: Table) -> str:
 def row_lines(row: AuditRow, table: Table, row_of_reason: dict[tuple[int | None, str], str]) -> Iterator[str]:
     """A line for a row, and for each further verdict in it one more. A reason that stands at an earlier row of the same
     user isn't repeated: `row_of_reason` has the rows by their users and reasons."""
-    yield f"{row.verdict}: {row_text(row)}: {output.count_text(len(row.processes), 'process', 'processes')}"
+    count = len(row.processes)
+    yield f"{row.verdict}: {row_text(row)}: {count} process{'es' * (count != 1)}"
     if row.container is not None and row.container.has_changed:
         yield (f"    {output.escaped(row.container.config)} has changed: judged is the profile that the container was "
                "started with")

@@ -75,7 +75,7 @@ def _row(row: AuditRow, numbers: dict[str | None, int]) -> list[object]:
     source += [" ", tag("code", digest[:DIGITS], title=digest)] if digest else []
     source += [" ", expected.why] if expected.why is not None else []
     processes = [f"{number} {output.escaped(name)}" for number, name in row.names.items()]
-    count = output.count_text(len(processes), "process", "processes")
+    count = f"{len(processes)} process{'es' * (len(processes) != 1)}"
     return [_coloured(row.verdict), joined([row.kind, " ", tag("strong", row.name, class_="long")]),
             ", ".join(audit_output.about(row)), tag("span", *source, class_="long"), _stacks_of(row, numbers),
             tag("details", tag("summary", str(len(capabilities))), " ".join(capabilities)) if capabilities else "none",

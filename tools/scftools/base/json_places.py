@@ -70,13 +70,6 @@ def tokens(text: str) -> Iterator[tuple[int, str]]:
     raise TooManyTokens
 
 
-def _text_of(token: str) -> str:
-    try:
-        return json.loads(token)
-    except ValueError:
-        return token
-
-
 def values(text: str) -> Iterator[tuple[int, list[str | int], str]]:
     """Each value of a text in order: where it begins, its path, which changes with the next one, and its first token. A
     text that isn't JSON is followed as far as that makes sense. Raises TooManyTokens."""
@@ -94,8 +87,11 @@ def values(text: str) -> Iterator[tuple[int, list[str | int], str]]:
             path.pop()
             is_name = False
         elif is_name and token[0] == '"':
-            path[-1] = _text_of(token)
             is_name = False
+            try:
+                path[-1] = json.loads(token)
+            except ValueError:
+                path[-1] = token
         elif token not in ":]}":
             yield begin, path, token
             if token in "[{":
