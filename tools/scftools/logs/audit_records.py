@@ -146,11 +146,6 @@ def kind_of(line: str) -> tuple[str, int] | None:
     return (match[match.lastindex], match.end() - 1) if match else None
 
 
-def is_of_kernel(line: str, at: int) -> bool:
-    """Whether the record that begins there stands as in the kernel's log, and not as in auditd's or journald's own."""
-    return line[:at + 1].endswith(("type=1326 ", "type=1300 "))
-
-
 def record_in(line: str, at: int, tables: dict[str, Table]) -> SeccompRecord:
     """The record of seccomp that begins there; the last fields count, since those before may have a process's words."""
     text = line[at:].partition(ENRICHED)[0]

@@ -115,15 +115,6 @@ def denial_lines(denials: Denials, shown: int, given: Inputs) -> Iterator[str]:
                f"{failures.before_load}")
 
 
-def denials_json(denials: Denials, shown: int, table: Table) -> dict[str, object]:
-    failures = denials.failures
-    listed = {name: [{"call": each.event.call.as_json(table), "errno": each.event.outcome.data, "count": each.count}
-                     for each in its]
-              for name, its in (("not_shown", denials.of[shown:]), ("by_other_cause", denials.by_other_cause))}
-    return {"count": failures.count, "denied": denials.count, **listed, "unknown": denials.unknown,
-            "not_judged": failures.beyond, "before_load": failures.before_load}
-
-
 @dataclass
 class LogReport:
     """The causes of all events of a log and of its most telling denials, and what else is in it."""
@@ -152,14 +143,15 @@ class LogReport:
 def log_report(log: EventLog, given: Inputs, is_all: bool) -> LogReport:
     """The causes of a log's events and of its denials; where there are none, or scf refuses the profile or a filter, of
     a syscall that failed."""
-    given = given.on(log.all_events)
+    failed = [failure.event for failure in log.failures.of.values()]
+    given = given.on([*(event for event, _ in log.events.values()), *failed, *filter(None, [log.last_failure])])
     denied, failure = None, log.last_failure
     if given.profile is not None or given.filters:
         try:
             denied = denials_of(log.failures, given)
             failure = None if denied.of else log.last_failure
         except Refusal:
-            failure = next((failure.event for failure in log.failures.of.values()), None)
+            failure = next(iter(failed), None)
     if failure is not None and not log.events:
         log.add(failure)
     of_events = [causes.cause_of(event, count, given) for event, count in log.events.values()]
@@ -192,10 +184,16 @@ def log_report_lines(report: LogReport) -> Iterator[str]:
 
 
 def log_report_json(report: LogReport) -> dict[str, object]:
-    log, denied = report.log, report.denials
-    has_failures = denied is not None and log.failures.count + log.failures.before_load
-    return {"status": report.status, "events": [causes.cause_json(cause) for cause in report.causes],
-            "faults": [{"line": number, "why": why} for number, why in log.faults],
-            "suppressed": log.suppressed, "not_judged": log.beyond,
-            **({"cores": [core.as_json() for core in log.cores]} if log.cores else {}),
-            **({"failures": denials_json(denied, report.shown, report.given.table)} if has_failures else {})}
+    log, denied, failures = report.log, report.denials, report.log.failures
+    value = {"status": report.status, "events": [causes.cause_json(cause) for cause in report.causes],
+             "faults": [{"line": number, "why": why} for number, why in log.faults],
+             "suppressed": log.suppressed, "not_judged": log.beyond,
+             **({"cores": [core.as_json() for core in log.cores]} if log.cores else {})}
+    if denied is None or not failures.count + failures.before_load:
+        return value
+    listed = {name: [{"call": each.event.call.as_json(report.given.table), "errno": each.event.outcome.data,
+                      "count": each.count} for each in its]
+              for name, its in (("not_shown", denied.of[report.shown:]), ("by_other_cause", denied.by_other_cause))}
+    return {**value, "failures": {
+        "count": failures.count, "denied": denied.count, **listed, "unknown": denied.unknown,
+        "not_judged": failures.beyond, "before_load": failures.before_load}}

@@ -58,11 +58,6 @@ class AnsweringStack:
     def __init__(self, region_list: Sequence[Region] | None, answer: Callable[[Call], Answer | None]):
         self.regions, self.answer = Lookup(region_list), answer
 
-    @classmethod
-    def of_filters(cls, data: Sequence[bytes], number: int | None = None) -> AnsweringStack:
-        """Of filters, oldest first. Raises Refusal."""
-        return cls(regions.regions_of_filters(data, number), Asker(data).decided)
-
     def case(self, event: Event, values: dict[int, int]) -> Case | None:
         """The answer to an event with these arguments, None if scf doesn't say."""
         call = event.with_values(values)
@@ -109,10 +104,6 @@ class Side:
     # whether the syscall is of an architecture that the profile names, and that isn't judged
     is_undetermined: bool = False
 
-    @property
-    def are(self) -> bool:
-        return self.name.endswith("s")
-
 
 @dataclass(frozen=True)
 class Inputs:
@@ -144,7 +135,8 @@ class Inputs:
     @functools.cached_property
     def of_filters(self) -> AnsweringStack:
         """What the filters answer. Raises Refusal."""
-        return AnsweringStack.of_filters([each.data for each in self.filters], self.number)
+        data = [each.data for each in self.filters]
+        return AnsweringStack(regions.regions_of_filters(data, self.number), Asker(data).decided)
 
     @functools.cached_property
     def of_profile(self) -> AnsweringStack:
@@ -174,14 +166,10 @@ class Cause:
     has_ended: bool = False
 
     @property
-    def sides(self) -> list[Side]:
-        return [side for side in (self.profile, self.filters) if side is not None]
-
-    @property
     def status(self) -> int:
         verdicts = {CONTRADICTS: program.NEGATIVE, UNKNOWN_FIT: program.UNKNOWN, FITS: program.SUCCESS}
         return client.worst(verdicts[side.verdict] if side.refusal is None else side.refusal.status
-                            for side in self.sides)
+                            for side in (self.profile, self.filters) if side is not None)
 
 
 def _side(name: str, stack_of: Callable[[], AnsweringStack], event: Event) -> Side:
@@ -245,7 +233,7 @@ def _of_event(cause: Cause) -> Iterator[str]:
 def _of_verdict(side: Side, event: Event) -> str:
     """Whether a party answers as the event was answered, or how its answers stand beside an event that they
     contradict."""
-    s, them = ("", "them") if side.are else ("s", "it")
+    s, them, be = ("", "them", "are") if side.name.endswith("s") else ("s", "it", "is")
     if side.verdict == UNKNOWN_FIT:
         return f"whether {side.name} answer{s} so with other arguments isn't known"
     if side.verdict == FITS:
@@ -255,7 +243,7 @@ def _of_verdict(side: Side, event: Event) -> str:
     others = f"another filter of the process answered so, or it isn't under {side.name}"
     if min(ranks) > max(of_event):
         itself = "the kernel itself, or " if event.outcome.is_result else ""
-        return f"{side.name} {'are' if side.are else 'is'} more permissive: {itself}{others}"
+        return f"{side.name} {be} more permissive: {itself}{others}"
     if max(ranks) < min(of_event):
         return f"{side.name} would have answered more strictly: the process isn't under {them}"
     return f"{side.name} answer{s} otherwise: {others}"

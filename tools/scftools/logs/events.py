@@ -156,12 +156,6 @@ class EventLog:
     # events beyond the most that are kept
     beyond: int = 0
 
-    @property
-    def all_events(self) -> list[Event]:
-        """The events, and the syscalls that failed."""
-        failed = (failure.event for failure in self.failures.of.values())
-        return [*(event for event, _ in self.events.values()), *failed, *filter(None, [self.last_failure])]
-
     def add(self, event: Event) -> None:
         if event.key in self.events:
             self.events[event.key][1] += 1

@@ -204,29 +204,6 @@ class Judges:
         return self.of(architecture).looked.get(name, ()) if architecture in self.listed.of else ()
 
 
-def find(log: Trace, judges: Judges, are_several: bool) -> Needs:
-    """The calls of logs, by their architectures and numbers, each judged."""
-    needs = Needs(log, [], {}, are_several, judges.taken)
-    traced: list[TracedCall] = []
-    for (architecture, name, values), seen in log.calls.items():
-        in_architecture, number = JUDGED[architecture], log.reader.number_of(architecture, name)
-        if number is None:
-            shown = in_architecture.marked(name)
-            needs.unnamed[shown] = needs.unnamed.get(shown, 0) + seen.count
-        else:
-            arguments = tuple(zip(judges.looked_at(architecture, name), values))
-            traced.append(TracedCall(in_architecture, number, name, arguments, seen))
-    ways, order = 0, list(JUDGED)
-    for call in sorted(traced,
-                       key=lambda call: (order.index(call.architecture.oci), call.number, call.name, call.seen.line)):
-        ways += sum(1 for _ in ways_of(call.arguments))
-        if ways <= MOST_WAYS and not client.is_spent():
-            needs.judged.append(judges.of(call.architecture.oci).of(call))
-        else:
-            log.unjudged[MORE] += call.seen.count
-    return needs
-
-
 def where(seen: Seen, are_several: bool) -> str:
     """Where a syscall stands in the logs."""
     if not seen.line:
@@ -332,4 +309,22 @@ def read_needs(names: Sequence[str], judges: Judges, runtime: str | None = None)
     for name in runtimes.OWN_CALLS[runtime].names if runtime else ():
         if log.reader.number_of(architecture, name) is not None:
             log.keep(0, architecture, name, {})
-    return find(log, judges, len(names) > 1)
+    needs = Needs(log, [], {}, len(names) > 1, judges.taken)
+    traced: list[TracedCall] = []
+    for (architecture, name, values), seen in log.calls.items():
+        in_architecture, number = JUDGED[architecture], log.reader.number_of(architecture, name)
+        if number is None:
+            shown = in_architecture.marked(name)
+            needs.unnamed[shown] = needs.unnamed.get(shown, 0) + seen.count
+        else:
+            arguments = tuple(zip(judges.looked_at(architecture, name), values))
+            traced.append(TracedCall(in_architecture, number, name, arguments, seen))
+    ways, order = 0, list(JUDGED)
+    for call in sorted(traced,
+                       key=lambda call: (order.index(call.architecture.oci), call.number, call.name, call.seen.line)):
+        ways += sum(1 for _ in ways_of(call.arguments))
+        if ways <= MOST_WAYS and not client.is_spent():
+            needs.judged.append(judges.of(call.architecture.oci).of(call))
+        else:
+            log.unjudged[MORE] += call.seen.count
+    return needs

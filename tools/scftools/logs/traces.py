@@ -191,7 +191,8 @@ class Trace(Sink):
         kind = audit_records.kind_of(line)
         if kind is None:
             return audit_records.OTHER.search(line) is not None
-        self.is_of_kernel = self.is_of_kernel or audit_records.is_of_kernel(line, kind[1])
+        # (there a type has its number, and in auditd's or journald's own log its name)
+        self.is_of_kernel = self.is_of_kernel or line[:kind[1] + 1].endswith(("type=1326 ", "type=1300 "))
         try:
             if kind[0] in audit_records.SYSCALL_KINDS:
                 nr, architecture, values = audit_records.syscall_in(line, kind[1], self.reader.tables)

@@ -16,8 +16,9 @@ from support.common import (ALLOW, I386, KILL_PROCESS, KILL_THREAD, LOADER, LOG,
                             X86_64, Case, bytes_of, jeq, module, profile_of, ret, text_of)
 from logs import entry, where
 from scftools.model import bpf, tables
+from scftools.forms.filters import Filter
 from scftools.logs import audit_records, cores, events, journals
-from scftools.logs.causes import AnsweringStack
+from scftools.logs.causes import Inputs
 
 TABLE = tables.read_table(None)
 SOCKET, AF_NETLINK, NETLINK_AUDIT = 41, 16, 9
@@ -830,10 +831,11 @@ class Exceptions(Causes):
 
     def test_they_answer_so(self):
         conditions = ((0, (1 << 64) - 1, 0x100000010), (2, 0xFFFFFFFF, 9), (5, 0xF0, 0x37))
-        stack = AnsweringStack.of_filters([bpf.with_exception(ret(ERRNO | 1), SOCKET, conditions, TRAP)])
+        filters = [Filter("", bpf.with_exception(ret(ERRNO | 1), SOCKET, conditions, TRAP))]
         for number, first, third, last in ((SOCKET, 0x100000010, 9, 0x30), (SOCKET, 0x100000010, 1 << 32 | 9, 0x13F),
                                            (SOCKET, 0x10, 9, 0x30), (SOCKET, 0x100000010, 8, 0x30),
                                            (SOCKET, 0x100000010, 9, 0x40), (42, 0x100000010, 9, 0x30)):
             meets = number == SOCKET and first == 0x100000010 and third & 0xFFFFFFFF == 9 and last & 0xF0 == 0x30
             call = events.Call(number, arguments=(first, 0, third, 0, 0, last))
-            self.assertEqual(str(stack.answer(call)), "TRAP 0" if meets else "ERRNO 1")
+            answer = Inputs(None, filters=filters).of_filters.answer(call)
+            self.assertEqual(str(answer), "TRAP 0" if meets else "ERRNO 1")
