@@ -99,7 +99,7 @@ class StackJudge:
         """The verdict beside all that is expected."""
         filters = tuple(data for data in stack.filters if data != expected.beside)
         stack = replace(stack, filters=filters) if filters else stack
-        judgements = (self.judge(stack, request) for request in (expected.asked, *expected.others))
+        judgements = (self.judge(stack, request) for request in (expected.asked.parts if expected.asked else (None,)))
         worst = min(judgements, key=lambda judgement: WORST_FIRST.index(judgement.verdict))
         if expected.doubt is None or worst.verdict in (NOT_KNOWN, AS_CONFIGURED):
             return worst

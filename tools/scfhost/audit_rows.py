@@ -39,8 +39,6 @@ class Expectation:
     source: str | None = None
     # why it isn't known what is expected
     why: str | None = None
-    # what is expected beside the profile, of architectures that it doesn't name
-    others: tuple[Request, ...] = ()
     # why processes that differ may be as configured
     doubt: str | None = None
     # a filter that the processes may have beside, which only denies more
@@ -60,7 +58,7 @@ class Expectation:
     def key(self) -> str:
         """What tells it from others with another meaning."""
         requests = [(request.profile, reading_of(request.profile), not_compared_of(request.profile), request.elsewhere,
-                     request.applied and request.applied.stub) for request in (self.asked, *self.others) if request]
+                     request.applied and request.applied.stub) for request in (self.asked.parts if self.asked else ())]
         return output.sha256(repr((self.settings, self.runtime, self.why, requests, self.doubt, self.beside)).encode(
             "utf-8", "surrogatepass"))
 

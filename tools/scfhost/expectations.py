@@ -7,7 +7,7 @@ import os
 from collections.abc import Callable, Iterable, Sequence
 
 from scftools.base import program
-from scftools.base.values import Any, dataclass
+from scftools.base.values import Any, dataclass, replace
 from scftools.model.answers import ALLOW
 from scftools.model.profiles import elsewhere_of
 from scftools.model.tables import Table
@@ -116,7 +116,7 @@ class Expectations:
         """The expectation of several profiles, each for its architectures."""
         asked, *others = (self.options.request(profile, elsewhere=elsewhere)
                           for profile, elsewhere in zip(profiles, elsewhere_of(profiles)))
-        return Expectation(asked, source, others=tuple(others), doubt=doubt)
+        return Expectation(replace(asked, others=tuple(others)), source, doubt=doubt)
 
     def _of_lxc(self, container: ContainerDescription) -> Expectation:
         """The expectation of a container of LXC, whose configuration only its name tells."""

@@ -74,6 +74,11 @@ class Request:
     saved: Sequence[Filter] = ()
 
     @property
+    def parts(self) -> tuple[Request, ...]:
+        """The question, and those about other architectures."""
+        return self, *self.others
+
+    @property
     def remarks(self) -> list[str]:
         """Notes on the profile as its runtime applies it."""
         if self.configured is False:
@@ -90,7 +95,7 @@ class Request:
         return fault is None or fault.kind in ("Conflict", "RepeatedIndex")
 
     def judge(self, stack: Stack) -> Block:
-        unit = [each.comparison(stack.named) for each in (self, *self.others)]
+        unit = [each.comparison(stack.named) for each in self.parts]
         comparison, status, report = compare.compare_unit(unit, self.scope)
         has_stub = not self.saved and report.verdict is not None and report.verdict.word == verdicts.SAME
         return Block(stack, status, comparison, report, comparison.stub if has_stub else {},
