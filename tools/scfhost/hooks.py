@@ -215,14 +215,6 @@ class ContainerProcess:
             processes_of.update((thread, member) for thread in self.kernel.threads_of(member) if member != pid)
         return processes_of
 
-    def look(self, is_forced: bool = False) -> Inspection:
-        """The filters of all threads."""
-        pid = self.container.pid
-        inspection = processes.look(self.kernel, self.threads, processes.PATIENCE, is_forced)
-        if pid not in inspection.names or self.has_ended():
-            raise processes.Unreadable(f"process {pid} {inspection.passed_over.get(pid, 'has ended')}")
-        return inspection
-
     def confined(self, seconds: float, is_forced: bool) -> Inspection:
         """The filters of all threads, once each has one, as far as that can be known without stopping it, or the time
         is up."""
@@ -231,7 +223,10 @@ class ContainerProcess:
                 status.get("Seccomp") == "0" and not has_ended(status)
                 for status in map(self.kernel.status_of, self.threads())):
             time.sleep(READING_PAUSE)
-        return self.look(is_forced)
+        pid, inspection = self.container.pid, processes.look(self.kernel, self.threads, processes.PATIENCE, is_forced)
+        if pid not in inspection.names or self.has_ended():
+            raise processes.Unreadable(f"process {pid} {inspection.passed_over.get(pid, 'has ended')}")
+        return inspection
 
 
 @dataclass(frozen=True)

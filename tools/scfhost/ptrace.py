@@ -213,10 +213,7 @@ class Kernel:
         place, below = self.group_folder(hierarchy, path) or (b"", b"")
         for part in below.strip(b"/").split(b"/") if place else ():
             place = place + b"/" + part
-            try:
-                user = os.stat(place).st_uid
-            except OSError:
-                break
+            user = unless_refused(None, lambda: os.stat(place).st_uid)
             if user != 0:
                 return user
         return None

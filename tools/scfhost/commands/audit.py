@@ -82,15 +82,6 @@ def read_words():
     return given
 
 
-def options_of(given):
-    def profile(name):
-        return None if name is None else (name, profile_inputs.read_profile(name, is_runtimes=True).data)
-
-    return expectations.Options(tables.read_table(given.table), profile(given.expect), profile(given.baseline),
-                                given.force, given.allow_unconfined, tuple(given.runtime_root),
-                                verdicts.NATIVE_SCOPE if given.native else None, given.html is not None)
-
-
 def earlier_in(name):
     if name is None:
         return None
@@ -98,15 +89,6 @@ def earlier_in(name):
         return audit_output.Earlier.of_object(json.loads(inputs.read_whole(name, "object")))
     except (ValueError, RecursionError) as why:
         raise program.ToolError(f"{inputs.label(name)} isn't an object that --json printed") from why
-
-
-def write(report, given, options, earlier):
-    if given.prometheus is not None:
-        output.replace_file(given.prometheus, audit_output.metrics(report))
-    if given.html is not None:
-        from .. import audit_page  # pylint: disable=import-outside-toplevel
-
-        output.replace_file(given.html, audit_page.page(report, options.table, earlier))
 
 
 def show(report, given, table, earlier):
@@ -122,14 +104,25 @@ def show(report, given, table, earlier):
 
 def main():
     given = read_words()
-    options, earlier, before = options_of(given), earlier_in(given.since), None
+    table = tables.read_table(given.table)
+    expected, baseline = (None if name is None else (name, profile_inputs.read_profile(name, is_runtimes=True).data)
+                          for name in (given.expect, given.baseline))
+    options = expectations.Options(table, expected, baseline, given.force, given.allow_unconfined,
+                                   tuple(given.runtime_root), verdicts.NATIVE_SCOPE if given.native else None,
+                                   given.html is not None)
+    earlier, before = earlier_in(given.since), None
     options.check()
     judges = audit_judge.Judges(options)
     while True:
         report = processes.read_or_end(lambda: audit.audit_machine(options, judges), is_json=given.json)
-        write(report, given, options, earlier)
+        if given.prometheus is not None:
+            output.replace_file(given.prometheus, audit_output.metrics(report))
+        if given.html is not None:
+            from .. import audit_page  # pylint: disable=import-outside-toplevel
+
+            output.replace_file(given.html, audit_page.page(report, table, earlier))
         if before is None or given.json:
-            show(report, given, options.table, earlier)
+            show(report, given, table, earlier)
         else:
             for change in audit_output.changes(before, report, given.programs or given.json_lines):
                 if given.json_lines:

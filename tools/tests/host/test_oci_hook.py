@@ -293,7 +293,7 @@ class OfProcesses(Hook):
         asked = verify.request_of(hooks.configuration_of(process.container), None, False, table, "same")
         for others, expected in (([], (0, "same")), ([os.getpid()], (4, None))):
             process.members = processes.Container(None, list, lambda item=others: item)
-            finding = hooks.finding_of(process.look(), asked, process)
+            finding = hooks.finding_of(process.confined(0, False), asked, process)
             self.assertEqual((finding.status, finding.verdict), expected)
             self.assertEqual("weren't checked" in "".join(finding.lines()), bool(others))
 
@@ -540,7 +540,8 @@ class Inside(Hook):
         kernel = FakeKernel([refusing(MOUNT)])
         kernel.threads_of = lambda _: [child.pid]
         process.kernel, process.members = kernel, processes.Container(None, lambda: [child.pid])
-        self.assertEqual(self.text_of_error(processes.Unreadable, process.look), f"process {child.pid} has ended")
+        self.assertEqual(self.text_of_error(processes.Unreadable, process.confined, 0, False),
+                         f"process {child.pid} has ended")
         with mock.patch("os.kill") as kill:
             self.assertEqual(process.kill(), hooks.Kill(False, f"process {child.pid} has ended already"))
         kill.assert_not_called()
