@@ -42,26 +42,49 @@ result = library.syscall(*call)
 os.write(1, b"%d %d" % (result, ctypes.get_errno()))
 os._exit(0)
 """
-# The same by int 0x80 of i386, for an answer to socket (359 in asm/unistd_32.h), where the process is one of i386.
-OF_I386 = r"""
+# A program in C puts itself under a filter that gives an answer to a syscall.
+CONFINES = r"""
 #include <linux/filter.h>
 #include <linux/seccomp.h>
+#include <pthread.h>
 #include <stdlib.h>
 #include <sys/prctl.h>
 #include <sys/resource.h>
+#include <sys/socket.h>
 #include <sys/syscall.h>
 #include <unistd.h>
+static void confine(int number, char *answer)
+{
+    struct sock_filter code[] = {{BPF_LD | BPF_W | BPF_ABS, 0, 0, 0}, {BPF_JMP | BPF_JEQ | BPF_K, 0, 1, number},
+        {BPF_RET, 0, 0, strtoul(answer, 0, 0)}, {BPF_RET, 0, 0, SECCOMP_RET_ALLOW}};
+    struct sock_fprog program = {4, code};
+    prctl(PR_SET_NO_NEW_PRIVS, 1, 0, 0, 0);
+    if (prctl(PR_SET_SECCOMP, SECCOMP_MODE_FILTER, &program))
+        _exit(99);
+}
+"""
+# The same by int 0x80 of i386, for an answer to socket (359 in asm/unistd_32.h), where the process is one of i386.
+OF_I386 = CONFINES + r"""
 int main(int count, char **words)
 {
     struct rlimit core = {1 << 28, 1 << 28};
-    struct sock_filter code[] = {{BPF_LD | BPF_W | BPF_ABS, 0, 0, 0}, {BPF_JMP | BPF_JEQ | BPF_K, 0, 1, 359},
-        {BPF_RET, 0, 0, strtoul(words[1], 0, 0)}, {BPF_RET, 0, 0, SECCOMP_RET_ALLOW}};
-    struct sock_fprog program = {4, code};
     setrlimit(RLIMIT_CORE, &core);
-    prctl(PR_SET_NO_NEW_PRIVS, 1, 0, 0, 0);
-    if (prctl(PR_SET_SECCOMP, SECCOMP_MODE_FILTER, &program))
-        return 99;
+    confine(359, words[1]);
     return syscall(359, 16, -3, 9, 0x77777777, 5, 6) < 0;
+}
+"""
+# One of several threads makes the call.
+THREADS = CONFINES + r"""
+static void *waits(void *none) { pause(); return none; }
+static void *fails(void *none) { usleep(100000); socket(16, 3, 9); return none; }
+int main(int count, char **words)
+{
+    pthread_t thread;
+    confine(41, words[1]);
+    pthread_create(&thread, 0, waits, 0);
+    pthread_create(&thread, 0, fails, 0);
+    pthread_join(thread, 0);
+    return 0;
 }
 """
 
@@ -124,9 +147,9 @@ class Causes(Case):
     def profile(self, *entries, default="SCMP_ACT_ALLOW", **members):
         return self.file("p.json", json.dumps({"defaultAction": default, "syscalls": list(entries), **members}))
 
-    def of_i386(self):
-        """The program of OF_I386, if it can be built."""
-        return self.built(OF_I386, "-m32")
+    def of_filter(self, text, data, status=0):
+        """What the tool prints of a text, judged by a filter."""
+        return self.why("-", self.file("f.bpf", data), given=text.encode("latin-1"), status=status)
 
 
 @heard
@@ -168,13 +191,13 @@ class Records(Causes):
 
     def test_an_action_without_a_name(self):
         process, line = self.record(answering(UNNAMED | 5))
-        lines = self.why(line, self.file("f.bpf", answering(UNNAMED | 9)), status=0)
+        lines = self.of_filter(line, answering(UNNAMED | 9))
         self.assertEqual(lines[1], "# the action is UNNAMED 0x12340000: the process is killed, since seccomp(2) has no "
                                    "such action")
         self.assertIn("UNNAMED 0x12340009", " ".join(lines))
         self.assertIn(f"process {process} ", lines[0])
         self.assertIn("# the filter is more permissive: another filter of the process answered so, or it "
-                      "isn't under the filter", self.why(line, self.file("g.bpf", answering(ERRNO | 1, 42)), status=1))
+                      "isn't under the filter", self.of_filter(line, answering(ERRNO | 1, 42), status=1))
 
     def test_a_condition(self):
         """The record doesn't have the arguments: a call is shown that the profile answers so."""
@@ -209,7 +232,7 @@ class Records(Causes):
     def test_a_number_that_a_tracer_sets(self):
         _, line = self.record(answering(KILL_PROCESS, 0xFFFFFFFF), call=(-1, 0))
         self.assertIn("syscall=-1 ", line)
-        lines = self.why(line, self.file("f.bpf", answering(KILL_PROCESS, 0xFFFFFFFF)), status=0)
+        lines = self.of_filter(line, answering(KILL_PROCESS, 0xFFFFFFFF))
         self.assertIn("the syscall is number -1, which a tracer sets to skip a syscall", lines[0])
 
     def test_a_number_of_x32(self):
@@ -304,7 +327,7 @@ class Cores(Causes):
             os.remove(core)
 
     def test_i386(self):
-        program = self.of_i386()
+        program = self.built(OF_I386, "-m32")
         self.require_cores()
         subprocess.run([program, hex(KILL_PROCESS | 3)], cwd=self.folder, check=False)
         event = cores.read_core(self.found_core())
@@ -412,108 +435,75 @@ class Strace(Causes):
         for answer, forms in ((KILL_PROCESS, ((), ("-f", "-X", "raw"))), (KILL_THREAD, (("-n", "-tt", "-i"),)),
                               (UNNAMED, (("-yy", "-T"),))):
             for options in forms:
-                log = self.traced(answering(answer), options=options)
-                lines = self.why("-", self.file("f.bpf", answering(answer)), given=log.encode("latin-1"), status=0)
+                lines = self.of_filter(self.traced(answering(answer), options=options), answering(answer))
                 self.assertIn("the syscall is socket (41)", lines[0])
-                self.assertEqual(lines[1], "# the action is KILL_THREAD, KILL_PROCESS or UNNAMED")
-                self.assertEqual(lines[2], "# its arguments, as far as they are shown: 0 is 0x10, 1 is 0x3, 2 is 0x9")
+                self.assertEqual(lines[1:3], [
+                    "# the action is KILL_THREAD, KILL_PROCESS or UNNAMED",
+                    "# its arguments, as far as they are shown: 0 is 0x10, 1 is 0x3, 2 is 0x9"])
                 self.assertIn("# so the filter answers it", lines)
 
     def test_trap(self):
         for data, options in ((0, ()), (5, ("-f",)), (4000, ("-i",)), (38, ("-n",))):
             log = self.traced(answering(TRAP | data), options=options)
-            lines = self.why("-", self.file("f.bpf", answering(TRAP | data)), given=log.encode(), status=0)
+            lines = self.of_filter(log, answering(TRAP | data))
             self.assertEqual(lines[1], f"# the action is TRAP {data}: the syscall isn't executed, and the thread gets "
                                        "SIGSYS")
-            self.why("-", self.file("g.bpf", answering(TRAP | data ^ 1)), given=log.encode(), status=1)
+            self.of_filter(log, answering(TRAP | data ^ 1), status=1)
             # the line of the signal alone says it, too
             line = next(each for each in log.split("\n") if "--- SIGSYS" in each)
-            lines = self.why(line, self.file("f.bpf", answering(TRAP | data)), status=0)
-            self.assertIn("the syscall is socket (41)", lines[0])
+            self.assertIn("the syscall is socket (41)", self.of_filter(line, answering(TRAP | data))[0])
 
     def test_a_syscall_that_fails(self):
-        log = self.traced(answering(ERRNO | 77))
-        line = next(each for each in log.split("\n") if each.startswith("socket(AF_NETLINK"))
-        lines = self.why(line, self.file("f.bpf", answering(ERRNO | 77)), status=0)
-        self.assertEqual(lines[1], "# it failed with EBADFD: by ERRNO 77, by a tracer or a supervisor, or by the "
-                                   "kernel itself, which strace doesn't show")
+        def line_of(answer):
+            return next(each for each in self.traced(answering(answer)).split("\n")
+                        if each.startswith("socket(AF_NETLINK"))
+
+        line = line_of(ERRNO | 77)
+        self.assertEqual(self.of_filter(line, answering(ERRNO | 77))[1], "# it failed with EBADFD: by ERRNO 77, by a "
+                         "tracer or a supervisor, or by the kernel itself, which strace doesn't show")
         self.assertIn("# the filter answers otherwise: another filter of the process answered so, or it isn't under "
-                      "the filter", self.why(line, self.file("f.bpf", answering(ERRNO | 76)), status=1))
+                      "the filter", self.of_filter(line, answering(ERRNO | 76), status=1))
         self.assertIn("# the filter is more permissive: the kernel itself, or another filter of the process "
-                      "answered so, or it isn't under the filter",
-                      self.why(line, self.file("f.bpf", answering(ALLOW)), status=1))
+                      "answered so, or it isn't under the filter", self.of_filter(line, answering(ALLOW), status=1))
         # TRACE and USER_NOTIF without whom they ask
         for answer in (TRACE | 1, USER_NOTIF):
-            log = self.traced(answering(answer))
-            line = next(each for each in log.split("\n") if each.startswith("socket(AF_NETLINK"))
+            line = line_of(answer)
             self.assertIn(" = -1 ENOSYS ", line)
-            self.why(line, self.file("f.bpf", answering(answer)), status=0)
+            self.of_filter(line, answering(answer))
 
     def test_i386(self):
-        program = self.of_i386()
+        program = self.built(OF_I386, "-m32")
         for answer in (KILL_PROCESS, TRAP | 5):
-            data = bytes_of(self.strace("--quiet=none", program, hex(answer))[0])
-            lines = self.why("-", self.file("f.bpf", answering(answer, 359)), given=data, status=0)
-            self.assertEqual(lines[0], "# a process: the syscall is socket (359) of the architecture i386")
-            self.assertEqual(lines[2], "# its arguments, as far as they are shown: 0 is 0x10, 1 is 0xfffffffd, "
-                                       "2 is 0x9")
+            log = text_of(self.strace("--quiet=none", program, hex(answer))[0])
+            lines = self.of_filter(log, answering(answer, 359))
+            self.assertEqual(lines[::2][:2], [
+                "# a process: the syscall is socket (359) of the architecture i386",
+                "# its arguments, as far as they are shown: 0 is 0x10, 1 is 0xfffffffd, 2 is 0x9"])
             self.assertIn("# so the filter answers it", lines)
-
-    def test_numbers_of_i386_without_a_name(self):
-        """As strace prints those that it doesn't know."""
-        log = ("7  [ Process PID=7 runs in 32 bit mode. ]\n"
-               "7  syscall_0x1f4(0x1, 0x2, 0x3, 0x4, 0x5, 0x6) = -1 EPERM (Operation not permitted)\n")
-        lines = self.why("-", self.file("f.bpf", answering(0x50001, 500)), given=log.encode(), status=0)
-        self.assertEqual(lines[0], "# process 7: the syscall is number 500 of the architecture i386")
-        self.assertIn("# so the filter answers it", lines)
 
     def test_architectures_that_strace_tells(self):
         """By -n: socket is 359 on i386 (asm/unistd_32.h), and 102 socketcall. A record of x32 has 0x40000000 added."""
-        text = "socket(AF_INET, SOCK_STREAM, 0) = -1 EPERM (Operation not permitted)\n"
-        mode = "7  [ Process PID=7 runs in {}. ]\n"
+        failed = "= -1 EPERM (Operation not permitted)\n"
+        text = f"socket(AF_INET, SOCK_STREAM, 0) {failed}"
+        mode = "7  [ Process PID=7 runs in {}. ]\n7  "
         for log, shown in ((f"7 [359] {text}", "socket (359) of the architecture i386"),
                            (f"7 [ 41] {text}", "socket (41)"),
-                           (f"{mode.format('x32 mode')}7  {text}", "socket (0x40000000 + 41), an x32 syscall")):
-            lines = self.why("-", self.file("f.bpf", ret(0x50001)), given=log.encode(), status=0)
+                           (f"{mode.format('x32 mode')}{text}", "socket (0x40000000 + 41), an x32 syscall"),
+                           # as strace prints a number that it doesn't know
+                           (f"{mode.format('32 bit mode')}syscall_0x1f4(0x1, 0x2, 0x3, 0x4, 0x5, 0x6) {failed}",
+                            "number 500 of the architecture i386")):
+            lines = self.of_filter(log, ret(0x50001))
             self.assertEqual(lines[0], f"# process 7: the syscall is {shown}")
-        for log in (f"7 [102] {text}", f"{mode.format('odd mode')}7  {text}"):
-            lines = self.why("-", self.file("f.bpf", ret(0x50001)), given=log.encode(), status=4)
+            self.assertIn("# so the filter answers it", lines)
+        for log in (f"7 [102] {text}", f"{mode.format('odd mode')}{text}"):
+            lines = self.of_filter(log, ret(0x50001), status=4)
             self.assertTrue(lines[0].startswith("# no syscall that a filter may have answered is in it"), lines)
 
-    THREADS = r"""
-#include <linux/filter.h>
-#include <linux/seccomp.h>
-#include <pthread.h>
-#include <stdlib.h>
-#include <sys/prctl.h>
-#include <sys/socket.h>
-#include <unistd.h>
-static void *waits(void *none) { pause(); return none; }
-static void *fails(void *none) { usleep(100000); socket(16, 3, 9); return none; }
-int main(int count, char **words)
-{
-    pthread_t thread;
-    struct sock_filter code[] = {{BPF_LD | BPF_W | BPF_ABS, 0, 0, 0}, {BPF_JMP | BPF_JEQ | BPF_K, 0, 1, 41},
-        {BPF_RET, 0, 0, strtoul(words[1], 0, 0)}, {BPF_RET, 0, 0, SECCOMP_RET_ALLOW}};
-    struct sock_fprog program = {4, code};
-    prctl(PR_SET_NO_NEW_PRIVS, 1, 0, 0, 0);
-    if (prctl(PR_SET_SECCOMP, SECCOMP_MODE_FILTER, &program))
-        return 99;
-    pthread_create(&thread, 0, waits, 0);
-    pthread_create(&thread, 0, fails, 0);
-    pthread_join(thread, 0);
-    return 0;
-}
-"""
-
-    @unittest.skipUnless(shutil.which("cc"), "there is no C compiler here")
     def test_one_of_several_threads(self):
         """All are killed by SIGSYS, and one is the cause."""
-        program = os.path.join(self.folder, "threads")
-        subprocess.run(["cc", "-x", "c", "-o", program, "-", "-lpthread"], input=self.THREADS.encode(), check=True)
+        program = self.built(THREADS, "-pthread")
         for answer in (KILL_PROCESS, KILL_THREAD):
-            data = bytes_of(self.strace("-f", program, hex(answer))[0])
-            lines = self.why("-", self.file("f.bpf", answering(answer)), given=data, status=0)
+            lines = self.of_filter(text_of(self.strace("-f", program, hex(answer))[0]), answering(answer))
             self.assertEqual([each for each in lines if "the syscall is " in each], [lines[0]])
             self.assertIn("the syscall is socket (41)", lines[0])
 
@@ -798,8 +788,7 @@ class Words(Causes):
         for name, data, line in (("q.json", b"{", "fault profile Json"), ("f.bpf", jeq(0, 9, 0) + ret(ALLOW),
                                                                          "fault filter Jump at 0")):
             self.assertIn(f"{line}\n# ", self.output_of(2, "why", WRITTEN, self.file(name, data)))
-        status, out, err = self.run_tool("why", WRITTEN, "none")
-        self.assertEqual((status, out, err), (2, "", "why: there is no file 'none'\n"))
+        self.is_refused("why: there is no file 'none'\n", "why", WRITTEN, "none")
 
     def test_a_profile_without_a_filter(self):
         """One that takes more than 4096 instructions is judged, but no change of it is proved."""
@@ -810,9 +799,7 @@ class Words(Causes):
 
     def test_json(self):
         profile = self.profile(entry("socket", action="SCMP_ACT_KILL_PROCESS"))
-        status, out, err = self.run_tool("why", "--json", WRITTEN, profile, self.file("f.bpf", ret(ALLOW)))
-        self.assertEqual((status, err, out.count("\n")), (1, "", 1))
-        value = json.loads(out)
+        value = json.loads(self.output_of(1, "why", "--json", WRITTEN, profile, self.file("f.bpf", ret(ALLOW))))
         event = value["events"][0]
         self.assertEqual((value["status"], event["process"], event["name"], event["call"]["number"], event["actions"]),
                          (1, 12551, "python3", 41, ["KILL_PROCESS"]))
@@ -825,11 +812,8 @@ class Words(Causes):
         self.assertEqual(json.loads(out)["faults"],
                          [{"line": 1, "why": "syscall=x: the table has no such name: print the record without -i"}])
 
-
-class Exceptions(Causes):
-    """The filters by which scf is asked: an exception before a filter."""
-
-    def test_they_answer_so(self):
+    def test_an_exception_before_a_filter(self):
+        """The filters by which scf is asked answer so."""
         conditions = ((0, (1 << 64) - 1, 0x100000010), (2, 0xFFFFFFFF, 9), (5, 0xF0, 0x37))
         filters = [Filter("", bpf.with_exception(ret(ERRNO | 1), SOCKET, conditions, TRAP))]
         for number, first, third, last in ((SOCKET, 0x100000010, 9, 0x30), (SOCKET, 0x100000010, 1 << 32 | 9, 0x13F),
