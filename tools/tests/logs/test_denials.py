@@ -1,6 +1,5 @@
 """tools/why: the failed syscalls of a strace log, judged by a profile: counted by syscall and entry, in order."""
 import json
-import os
 import re
 import shutil
 import sys
@@ -45,9 +44,7 @@ HEAD = re.compile(r"# (?:process \d+|a process): the syscall is (\w+) \(\d+\)(?:
 class Denials(Case):
     def why(self, log, *words, profile=None):
         given = self.file("p.json", json.dumps(PROFILE if profile is None else profile))
-        status, out, err = self.run_tool("why", *words, "-", given, given=log.encode("latin-1"))
-        self.assertEqual(err, "")
-        return status, out.split("\n")[:-1]
+        return self.told("why", *words, "-", given, given=log.encode("latin-1"))
 
     def denied(self, log, *words, **settings):
         """The status, and each denied syscall with its count, in order."""

@@ -7,7 +7,7 @@ from support.common import (ALLOW, ENOSYS, EPERM, KILL_PROCESS, LOG, X32, X86_64
                             profile_of, ret)
 from support.confined import NEWEST, OLDEST, Confined, here
 
-READ, WRITE, SOCKET, CLONE = 0, 1, 41, 56
+READ, WRITE, CLONE = 0, 1, 56
 # The options of each relation, and what is printed if it holds.
 RELATIONS = {"": "same", "--no-more": "no more", "--no-less": "no less", "--disposition": "same disposition"}
 
@@ -28,10 +28,8 @@ class Tools(Case):
         for words, verdict in (((), "same"), (("--no-more",), "no more"), (("--calls",), "same"),
                                (("--disposition", "--native"), "same disposition")):
             for limit in ((), ("--limit", "0"), ("--limit", "10")):
-                status, out, err = self.run_tool("diff", *words, *limit, first, second, seconds=5)
-                self.assertEqual((status, out, err), (0, f"{verdict}\n", ""), (words, limit))
-        status, out, _ = self.run_tool("compare", "--limit", "0", first, first, "--beside", first, first)
-        self.assertEqual((status, out), (0, "same\n"))
+                self.assertEqual(self.told("diff", *words, *limit, first, second, seconds=5), (0, [verdict]))
+        self.assertEqual(self.told("compare", "--limit", "0", first, first, "--beside", first, first), (0, ["same"]))
         bad = self.file("bad.bpf", ret(ALLOW)[:-1])
         self.assertEqual(self.run_tool("diff", bad, bad)[1].split("\n")[0], "fault filter Truncated offset 0")
         self.assertEqual(self.run_tool("diff", "--limit", "x", first, first)[0], 2)
@@ -44,31 +42,25 @@ class Tools(Case):
                                    ("log", clone_of(0x10000000, EPERM, LOG), {"ALLOW 0", "LOG 0"})):
             path = self.file(f"{name}.bpf", second)
             for words in (("compare", first, "--beside", path), ("diff", first, path)):
-                status, out, err = self.run_tool(*words)
-                lines = out.split("\n")
-                self.assertEqual((status, err, lines[0]), (1, "", "differs"), words)
+                status, lines = self.told(*words)
+                self.assertEqual((status, lines[0]), (1, "differs"), words)
                 self.assertEqual({line.partition(" ")[2] for line in lines[2:4]}, both)
-                self.assertIn(f"# the last tests on the path in {first}:", out)
-                self.assertIn(f"# the last tests on the path in {path}:", out)
-            status, lines = self.said("surface", first, "--beside", path)
+                self.assertIn(f"# the last tests on the path in {first}:", lines)
+                self.assertIn(f"# the last tests on the path in {path}:", lines)
+            status, lines = self.told("surface", first, "--beside", path)
             self.assertEqual((status, lines.count("syscalls that differ: 0")), (1, 0), name)
-
-    def said(self, *words):
-        status, out, err = self.run_tool(*words)
-        self.assertEqual(err, "")
-        return status, out.split("\n")[:-1]
 
     def test_which_is_more_permissive(self):
         less, more = self.file("1.bpf", filter_of([READ])), self.file("2.bpf", filter_of([READ, WRITE]))
-        status, lines = self.said("compare", less, "--beside", more)
+        status, lines = self.told("compare", less, "--beside", more)
         self.assertEqual((status, lines[4]), (1, "# it is stricter, and never more permissive than the other filter"))
         self.assertEqual(lines[-2:], ["# syscalls in the table that differ: 1",
                                       "# 1 write differs args 0x0 0x0 0x0 0x0 0x0 0x0 filter ERRNO 1 beside ALLOW 0"])
-        status, lines = self.said("diff", less, more)
+        status, lines = self.told("diff", less, more)
         self.assertEqual((status, lines[4]), (1, "# it is more permissive, and never stricter than the old filter"))
         errno = self.file("3.bpf", filter_of([READ]).replace(ret(EPERM), ret(ENOSYS)))
-        self.assertEqual(self.said("diff", "--disposition", less, errno), (0, ["same disposition"]))
-        self.assertEqual(self.said("diff", less, errno)[1][4],
+        self.assertEqual(self.told("diff", "--disposition", less, errno), (0, ["same disposition"]))
+        self.assertEqual(self.told("diff", less, errno)[1][4],
                          "# it is neither more permissive nor stricter than the old filter: only the answers differ")
 
     def test_an_old_one_judges_a_new_one(self):
@@ -78,38 +70,38 @@ class Tools(Case):
                     for path, names in ((less, ["read"]), (more, ["read", "write"]))}
         line = "1 write {} args 0x0 0x0 0x0 0x0 0x0 0x0 old {} new {}"
         for word, old, new, failing in (("--no-more", less, more, "more"), ("--no-less", more, less, "less")):
-            self.assertEqual(self.said("diff", word, new, old), (0, [word[2:].replace("-", " ")]))
-            status, lines = self.said("diff", word, old, new)
+            self.assertEqual(self.told("diff", word, new, old), (0, [word[2:].replace("-", " ")]))
+            status, lines = self.told("diff", word, old, new)
             self.assertEqual((status, lines[0]), (1, failing))
             answers = ("ERRNO 1", "ALLOW 0") if failing == "more" else ("ALLOW 0", "ERRNO 1")
             self.assertEqual(lines[2:4], [f"{age} {answer}" for age, answer in zip(("old", "new"), answers)])
             self.assertIn(f"# the old filter answers {answers[0][:5]}", "\n".join(lines))
             self.assertEqual(lines[-1], f"# {line.format(failing, *answers)}")
-            self.assertEqual(self.said("diff", "--calls", word, old, new)[1][1], line.format(failing, *answers))
+            self.assertEqual(self.told("diff", "--calls", word, old, new)[1][1], line.format(failing, *answers))
             for first, second in ((old, new), (new, old)):
-                self.assertEqual(self.said("compare-profiles", word, profiles[first], profiles[second])[0],
-                                 self.said("diff", word, first, second)[0])
+                self.assertEqual(self.told("compare-profiles", word, profiles[first], profiles[second])[0],
+                                 self.told("diff", word, first, second)[0])
 
     def test_filters_beside_themselves(self):
         """Splits don't decide whether two free words are equal, but a stack answers as itself."""
         equal = load(16) + insn(0x07, 0) + load(24) + insn(0x1D, 0, 0, 1) + ret(ALLOW) + ret(EPERM)
         paths = [self.file(f"{at}.bpf", item) for at, item in enumerate((equal, filter_of([READ, WRITE]), equal))]
         for option, holds in RELATIONS.items():
-            self.assertEqual(self.said("diff", *option.split(), "--splits=0", paths[0], paths[2]), (0, [holds]))
-        self.assertEqual(self.said("compare", *paths[:2], "--beside", paths[2], paths[1]), (0, ["same"]))
+            self.assertEqual(self.told("diff", *option.split(), "--splits=0", paths[0], paths[2]), (0, [holds]))
+        self.assertEqual(self.told("compare", *paths[:2], "--beside", paths[2], paths[1]), (0, ["same"]))
 
     def test_more_splits_and_steps(self):
         """Two halves are added, in one order and in the other."""
         first, second = (self.file(f"{at}.bpf", load(item[0]) + insn(0x54, 0x3FFF) + insn(0x07, 0) + load(item[1])
                                    + insn(0x54, 0x3FFF) + insn(0x0C, 0) + jeq(0x1234, 0, 1) + ret(ALLOW) + ret(EPERM))
                          for at, item in enumerate(((16, 24), (24, 16))))
-        status, lines = self.said("diff", first, second)
+        status, lines = self.told("diff", first, second)
         self.assertEqual((status, lines[0], lines[-1]), (
             4, "undecided at 7", "# not known: allow more splits and steps, --splits N --limit N"))
         few = "--limit=100000"
-        self.assertEqual(self.said("diff", few, first, second)[0], 4)
-        self.assertEqual(self.said("diff", few, "--splits=10000000", first, second)[0], 4)
-        self.assertEqual(self.said("diff", "--limit=100000000", "--splits=10000000", first, second), (0, ["same"]))
+        self.assertEqual(self.told("diff", few, first, second)[0], 4)
+        self.assertEqual(self.told("diff", few, "--splits=10000000", first, second)[0], 4)
+        self.assertEqual(self.told("diff", "--limit=100000000", "--splits=10000000", first, second), (0, ["same"]))
 
     def test_json(self):
         first, second = self.file("1.bpf", filter_of([READ])), self.file("2.bpf", filter_of([WRITE]))
@@ -126,7 +118,7 @@ class Tools(Case):
     def test_faults(self):
         good, bad = self.file("1.bpf", filter_of([READ])), self.file("2.bpf", jeq(0, 0, 9) + ret(ALLOW))
         for words, source in (((good, bad), "filter"), ((bad, good), "beside")):
-            status, lines = self.said("diff", *words)
+            status, lines = self.told("diff", *words)
             self.assertEqual((status, lines[0].split()[:2]), (2, ["fault", source]))
             self.assertEqual(lines[-1], f"# the filter is {bad}")
         profile = self.file("p.json", b'{"defaultAction": "SCMP_ACT_ALLOW"}')
@@ -134,14 +126,14 @@ class Tools(Case):
                       ("-", "--beside", "-")):
             self.assertEqual(self.run_tool("compare", *words)[0], 2, words)
         self.assertEqual(self.run_tool("diff", good)[0], 2)
-        self.assertEqual(self.said("diff", good, profile)[1][0], "differs")
+        self.assertEqual(self.told("diff", good, profile)[1][0], "differs")
 
     def test_disposition_of_a_profile(self):
         profile = self.file("p.json", json.dumps({"defaultAction": "SCMP_ACT_ERRNO", "syscalls": [
             {"names": ["read"], "action": "SCMP_ACT_LOG"}]}).encode())
         first = self.file("1.bpf", filter_of([READ]))
-        self.assertEqual(self.said("compare", "--disposition", first, profile), (0, ["same disposition"]))
-        self.assertEqual(self.said("compare", first, profile)[1][0], "differs")
+        self.assertEqual(self.told("compare", "--disposition", first, profile), (0, ["same disposition"]))
+        self.assertEqual(self.told("compare", first, profile)[1][0], "differs")
 
     def test_the_most_telling_syscall_is_shown(self):
         """A native one with a name that one side allows and the other denies, before x32 numbers without a name; where
@@ -175,13 +167,12 @@ class Saved(Confined):
         child = self.child([OLDEST, NEWEST])
         folder = os.path.join(self.folder, "saved")
         self.assertEqual(self.run_tool("filters-of", str(child.pid), folder)[0], 0)
-        status, out, err = self.run_tool("verify-process", str(child.pid), "--beside", folder)
-        self.assertEqual((status, err, out.split("\n")[0]), (0, "", "same"))
-        self.assertRegex(out.split("\n")[1], rf"\A# process {child.pid} \(.*\) has ")
+        status, lines = self.told("verify-process", str(child.pid), "--beside", folder)
+        self.assertEqual((status, lines[0]), (0, "same"))
+        self.assertRegex(lines[1], rf"\A# process {child.pid} \(.*\) has ")
         os.remove(os.path.join(folder, "1.bpf"))
-        status, out, err = self.run_tool("verify-process", "--json", str(child.pid), "--beside", folder)
-        value = json.loads(out)
-        self.assertEqual((status, err, value["verdict"], value["stacks"][0]["no_more"]), (1, "", "differs", "no more"))
+        value = json.loads(self.output_of(1, "verify-process", "--json", str(child.pid), "--beside", folder))
+        self.assertEqual((value["verdict"], value["stacks"][0]["no_more"]), ("differs", "no more"))
         self.assertEqual(value["stacks"][0]["processes"][0]["process"], child.pid)
 
     @here

@@ -58,9 +58,7 @@ class Compare(Case):
 
     def compare(self, filters, given, *options):
         names = [self.file(f"{at}.bpf", data) for at, data in enumerate(filters)]
-        status, out, err = self.run_tool("compare", *options, *names, self.file("p.json", given))
-        self.assertEqual(err, "")
-        return status, out.split("\n")[:-1]
+        return self.told("compare", *options, *names, self.file("p.json", given))
 
     def test_no_more_and_no_less(self):
         for words in (["--no-more"], ["--no-more", "--native"], ["--no-more", "--calls"]):
@@ -82,16 +80,14 @@ class Compare(Case):
             "# syscalls in the table answered more strictly than by the profile: 1",
             "# 1 write less args 0x0 0x0 0x0 0x0 0x0 0x0 filter TRACE 0 profile ALLOW 0"])
 
-    def test_native_calls_without_a_name(self):
-        """400 has none."""
-        _, lines = self.compare([filter_of([READ, 400])], ALLOWS_READ, "--no-more", "--native")
-        self.assertEqual(lines[-1], "# no syscall in the table is among those answered more permissively than by the "
-                                    "profile")
-
     def test_calls_by_name(self):
         status, lines = self.compare([filter_of([READ, WRITE])], ALLOWS_READ, "--no-more", "--calls")
         self.assertEqual((status, lines), (1, [
             "more", "1 write more args 0x0 0x0 0x0 0x0 0x0 0x0 filter ALLOW 0 profile ERRNO 1"]))
+        # 400 has none
+        _, lines = self.compare([filter_of([READ, 400])], ALLOWS_READ, "--no-more", "--native")
+        self.assertEqual(lines[-1], "# no syscall in the table is among those answered more permissively than by the "
+                                    "profile")
 
     def test_the_first_line_behind_a_difference(self):
         """Over each scope; not where more is let through, and not where it isn't told."""
@@ -138,9 +134,7 @@ class Compare(Case):
 
     def test_both_flags(self):
         for name, words in (("compare", ["f", "p"]), ("verify-process", ["1", "p"])):
-            status, out, err = self.run_tool(name, "--no-more", "--no-less", *words)
-            self.assertEqual((status, out), (2, ""))
-            self.assertIn("not allowed with argument", err)
+            self.is_refused("not allowed with argument", name, "--no-more", "--no-less", *words)
 
 
 class Foreign(Case):
@@ -226,14 +220,12 @@ class VerifyProcess(Confined):
         refuses_more = gate(jeq(165, 2, 0) + jeq(166, 1, 0) + ret(ALLOW) + ret(EPERM))
         given = self.file("p.json", profile(("mount", "ERRNO", {}), default="ALLOW"))
         child = self.child([refuses_more])
-        status, out, _ = self.run_tool("verify-process", str(child.pid), given)
-        self.assertEqual((status, out.split("\n")[0], out.split("\n")[4]),
-                         (1, "differs", "# it is stricter, and never more permissive than the profile"))
-        status, out, _ = self.run_tool("verify-process", "--no-more", str(child.pid), given)
-        self.assertEqual((status, out.split("\n")[0]), (0, "no more"))
-        status, out, _ = self.run_tool("verify-process", "--no-less", str(child.pid), given)
-        self.assertEqual((status, out.split("\n")[0]), (1, "less"))
-        self.assertIn("\n# the syscall is denied by the filter, and allowed by the profile\n", out)
+        for words, status, verdict, says in (
+                ([], 1, "differs", "# it is stricter, and never more permissive than the profile\n"),
+                (["--no-more"], 0, "no more", ""),
+                (["--no-less"], 1, "less", "\n# the syscall is denied by the filter, and allowed by the profile\n")):
+            done = self.run_tool("verify-process", *words, str(child.pid), given)
+            self.assertIn(says, self.begins(status, verdict, done))
         report = json.loads(self.run_tool("verify-process", "--no-more", "--json", str(child.pid), given)[1])
         stack = report["stacks"][0]
         self.assertEqual((report["verdict"], stack["relation"]), ("no more", "no more"))

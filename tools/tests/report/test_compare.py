@@ -32,11 +32,12 @@ class Compare(Case):
 
     def test_usage(self):
         self.says_usage("compare", "one.bpf")
-        self.says_usage("compare", "one")
 
     def test_same(self):
         for words in ((), ("--native",), ("--all",), ("--calls",)):
             self.assertEqual(self.run_tool("compare", *words, self.same, self.profile), (0, "same\n", ""))
+            if words != ("--all",):
+                self.assertEqual(self.run_tool("compare", *words, self.lax, self.profile), (0, "same\n", ""))
 
     def test_differs_by_the_name_of_a_call(self):
         status, out, err = self.run_tool("compare", self.wrong, self.profile)
@@ -75,7 +76,6 @@ class Compare(Case):
     def test_foreign_calls_are_said_to_be_left_out_by_native(self):
         out = self.output_of(1, "compare", "--all", self.lax, self.profile)
         self.assertIn("# --native leaves out ", out)
-        self.assertEqual(self.run_tool("compare", self.lax, self.profile), (0, "same\n", ""))
 
         def on_one_call(arch, number):
             """Allows one number of one architecture, and is the profile's filter elsewhere."""
@@ -111,18 +111,18 @@ class Compare(Case):
                 self.assertEqual(members["call"]["pointer"], pointer, (words, report))
 
     def test_faults_have_their_sentence(self):
-        out = self.output_of(2, "compare", self.file("jump.bpf", jeq(0, 9, 0) + ret(ALLOW)), self.profile)
-        self.assertTrue(out.startswith("fault filter Jump at 0\n# This jump leaves the filter"), out)
-        out = self.output_of(2, "compare", self.file("cut.bpf", b"\6\0\0"), self.profile)
-        self.assertTrue(out.startswith("fault filter Truncated offset 0\n# The input ends inside the instruction"),
-                        out)
-        out = self.output_of(2, "compare", self.same, self.file("p",
-            b'{"defaultAction":"SCMP_ACT_ALLOW","syscalls":[{"action":"SCMP_ACT_LOG"}]}'))
-        self.assertTrue(out.startswith("fault profile Missing entry 0\n# A member is missing"), out)
+        missing = b'{"defaultAction":"SCMP_ACT_ALLOW","syscalls":[{"action":"SCMP_ACT_LOG"}]}'
         entries = b'{"names":["socket"],"action":"SCMP_ACT_LOG"},{"names":["socket"],"action":"SCMP_ACT_ERRNO"}'
         conflict = b'{"defaultAction":"SCMP_ACT_ALLOW","syscalls":[%s]}' % entries
-        out = self.output_of(2, "compare", self.same, self.file("c", conflict))
-        self.assertTrue(out.startswith("fault profile Conflict number 41 first 0 second 1\n# Two entries"), out)
+        for name, data, line, sentence in (
+                ("jump.bpf", jeq(0, 9, 0) + ret(ALLOW), "filter Jump at 0", "This jump leaves the filter"),
+                ("cut.bpf", b"\6\0\0", "filter Truncated offset 0", "The input ends inside the instruction"),
+                ("p", missing, "profile Missing entry 0", "A member is missing"),
+                ("c", conflict, "profile Conflict number 41 first 0 second 1", "Two entries")):
+            path = self.file(name, data)
+            words = (path, self.profile) if name.endswith(".bpf") else (self.same, path)
+            out = self.output_of(2, "compare", *words)
+            self.assertTrue(out.startswith(f"fault {line}\n# {sentence}"), out)
         columns = [match.start() + 1 for match in re.finditer(rb'\{"names"', conflict)]
         self.assertTrue(out.endswith("# the syscall is socket (41)\n# the entries begin at line 1, column "
                                      f"{columns[0]} and at line 1, column {columns[1]}\n"), out)
@@ -130,10 +130,9 @@ class Compare(Case):
     def test_unfinished_and_limit(self):
         out = self.output_of(4, "compare", "--limit", "0", self.same, self.profile)
         self.assertTrue(out.startswith("unfinished\n# The comparison, or the walk of `answers`, took as many"), out)
-        status, out, err = self.run_tool("compare", "--limit", "-1", self.same, self.profile)
-        self.assertEqual((status, out.split("\n")[0], err), (2, "fault number limit", ""))
-        out = self.output_of(2, "compare", "--limit", "x", self.same, self.profile)
-        self.assertTrue(out.startswith("fault number limit\n# The option's text isn't a number"), out)
+        for limit in ("-1", "x"):
+            out = self.output_of(2, "compare", "--limit", limit, self.same, self.profile)
+            self.assertTrue(out.startswith("fault number limit\n# The option's text isn't a number"), out)
 
     def of_each(self, data):
         """The command lines that compare a filter with one that allows each x86-64 syscall, or a profile that does."""
@@ -157,14 +156,6 @@ class Compare(Case):
                                        (["--splits", str(2**64 - 1)], 0, "same"), (["--splits=none"], 0, "same")):
                 status_of, out, _ = self.run_tool(*words, *more)
                 self.assertEqual((status_of, out.split("\n")[0].split(" ")[0]), (status, word), more)
-
-    def test_a_computation_that_is_decided(self):
-        """A is the number times the number. Four words have the square 49, of which 7 alone is below 0x40000000."""
-        square = NATIVE + insn(0x07, 0) + insn(0x2C, 0) + jeq(49, 0, 1) + ret(EPERM) + ret(ALLOW)
-        status, out, _ = self.run_tool("compare", self.file("square.bpf", square),
-                                       self.file("p", b'{"defaultAction":"SCMP_ACT_ALLOW"}'))
-        self.assertEqual((status, out.split("\n")[0]), (1, "differs"))
-        self.assertRegex(out.split("\n")[1], r"\Acall nr 7 arch 0xc000003e ")
 
     def test_skipped_names_and_other_architectures(self):
         profile = profile_of("read", "gone", "write").replace(b"{",
@@ -220,15 +211,7 @@ class Compare(Case):
             out = self.output_of(1, "compare", "--native", self.wrong, profile)
             self.assertTrue(out.endswith(f"{added}# syscalls in the table that differ: 1\n# {call}\n"), out)
 
-    def test_native(self):
-        self.assertEqual(self.run_tool("compare", "--native", self.lax, self.profile), (0, "same\n", ""))
-        out = self.output_of(1, "compare", "--native", self.wrong, self.profile)
-        self.assertTrue(out.startswith("differs\n"))
-        self.assertIn("# the syscall is exit_group (231)\n", out)
-        self.assertNotIn("--native", out)
-
     def test_calls(self):
-        self.assertEqual(self.run_tool("compare", "--calls", self.lax, self.profile), (0, "same\n", ""))
         answers = "args 0x0 0x0 0x0 0x0 0x0 0x0 filter ALLOW 0 profile ERRNO 1\n"
         self.assertEqual(self.run_tool("compare", "--calls", self.wrong, self.profile),
                          (1, f"differs\n231 exit_group differs {answers}", ""))
@@ -241,8 +224,9 @@ class Compare(Case):
     def test_native_calls_that_differ_are_told_by_name(self):
         line = "231 exit_group differs args 0x0 0x0 0x0 0x0 0x0 0x0 filter ALLOW 0 profile ERRNO 1"
         heading = "syscalls in the table that differ"
-        self.assertTrue(self.run_tool("compare", "--native", self.wrong, self.profile)[1].endswith(
-            f"# {heading}: 1\n# {line}\n"))
+        out = self.run_tool("compare", "--native", self.wrong, self.profile)[1]
+        self.assertTrue(out.endswith(f"# {heading}: 1\n# {line}\n"), out)
+        self.assertNotIn("--native", out)
         # as runc puts in front of a filter: numbers that it doesn't know fail with ENOSYS
         stub = load(0) + jge(500, 0, 1) + ret(0x00050026)
         out = self.output_of(1, "compare", "--native",
@@ -284,9 +268,7 @@ class OtherAbis(Case):
         return self.file("p.json", json.dumps({**json.loads(profile_of("read")), "architectures": names}))
 
     def said(self, *words):
-        status, out, err = self.run_tool("compare", *words)
-        self.assertEqual(err, "")
-        return status, out.split("\n")
+        return self.told("compare", *words)
 
     def test_native_leaves_them_out(self):
         for filters in (self.lets_i386, self.lets_x32, self.lets_both):
@@ -301,7 +283,7 @@ class OtherAbis(Case):
         """A line of another architecture than x86-64 has its name first."""
         profile = self.profile("X86", "X32")
         status, lines = self.said("--calls", self.lets_both, profile)
-        named = [line for line in lines if not line.startswith("#")][1:-1]
+        named = [line for line in lines if not line.startswith("#")][1:]
         numbers = sorted(set(tables.architecture_table("SCMP_ARCH_X32").numbers()) - {READ})
         self.assertEqual((status, lines[0]), (1, "differs"))
         self.assertEqual(named[0], "i386 3 read differs args 0x0 0x0 0x0 0x0 0x0 0x0 filter ERRNO 1 profile ALLOW 0")
@@ -375,7 +357,7 @@ class OtherAbis(Case):
         status, lines = self.said("--native", self.lets_both, self.profile("X86", "X32"))
         self.assertEqual((status, lines), (0, [
             "same", "other SCMP_ARCH_X86", "other SCMP_ARCH_X32",
-            "# --native leaves out SCMP_ARCH_X86 and SCMP_ARCH_X32, which the profile also names", ""]))
+            "# --native leaves out SCMP_ARCH_X86 and SCMP_ARCH_X32, which the profile also names"]))
         fits = self.file("f.bpf", of_abis(load(0) + jeq(READ, 1, 0) + ret(EPERM) + ret(ALLOW),
                                           load(0) + jeq(3, 1, 0) + ret(EPERM) + ret(ALLOW), ret(ALLOW)))
         shown = "call nr 1073741824 arch 0xc000003e ip 0x0 args 0x0 0x0 0x0 0x0 0x0 0x0"
@@ -389,8 +371,8 @@ class OtherAbis(Case):
             self.assertIn(open_abi, lines)
         self.assertEqual(self.said("--calls", fits, self.profile("X86")), (1, [
             "differs", "x32 0 read differs args 0x0 0x0 0x0 0x0 0x0 0x0 filter ALLOW 0 profile KILL_PROCESS 0",
-            open_abi, ""]))
-        self.assertEqual(self.said("--no-less", fits, self.profile("X86")), (0, ["no less", ""]))
+            open_abi]))
+        self.assertEqual(self.said("--no-less", fits, self.profile("X86")), (0, ["no less"]))
         report_json = json.loads(self.run_tool("compare", "--json", fits, self.profile("X86"))[1])
         self.assertEqual((report_json["call"]["number"], report_json["profile"]["action"], report_json["no_more"]),
                          (0x40000000, "KILL_PROCESS", "more"))
@@ -402,7 +384,7 @@ class OtherAbis(Case):
         native = load(0) + jeq(READ, 1, 0) + ret(EPERM) + ret(ALLOW)
         x32 = load(0) + jeq(0xFFFFFFFF, 0, 1) + ret(ALLOW) + ret(EPERM)
         self.assertEqual(self.said(self.file("f.bpf", of_abis(native, ret(EPERM), x32, 0)), self.profile()),
-                         (0, ["same", ""]))
+                         (0, ["same"]))
         status, lines = self.said(self.file("f.bpf", of_abis(native, ret(EPERM), ret(EPERM))), self.profile())
         self.assertEqual((status, lines[1].split(" ip ")[0]), (1, "call nr 2147483648 arch 0xc000003e"))
 
@@ -414,7 +396,7 @@ class OtherAbis(Case):
         i386 = {"architectures": ["SCMP_ARCH_X86"]}
         writes, reads = (self.file(f"{name}.json", json.dumps({**json.loads(profile_of(name)), **i386}))
                          for name in ("write", "read"))
-        self.assertEqual(self.said("--also", writes, fits, ours), (0, ["same", ""]))
+        self.assertEqual(self.said("--also", writes, fits, ours), (0, ["same"]))
         self.assertEqual(self.said(fits, ours)[1][0], "differs")
         status, lines = self.said("--also", reads, fits, ours)
         self.assertEqual((status, lines[1][:26]), (1, "call nr 4 arch 0x40000003 "))
@@ -538,13 +520,6 @@ class Decide(Case):
                                    f"# the path in {files[1]}: 0 2\n", ""))
         self.assertEqual(text_of(kept), "decide --nr=41 --path\n")
 
-    def test_filters_stand_oldest_first(self):
-        first, two = self.file("one.bpf", ret(0x00050001)), self.file("two.bpf", ret(0x00050002))
-        self.assertTrue(self.run_tool("decide", "--nr=0", first, two)[1].startswith("ERRNO 2\n"))
-        self.assertTrue(self.run_tool("decide", "--nr=0", two, first)[1].startswith("ERRNO 1\n"))
-        out = self.run_tool("decide", "--nr=0", first, "-", given=ret(KILL_PROCESS))[1]
-        self.assertTrue(out.startswith("KILL_PROCESS 0\n"))
-
     def test_faults_and_wrong_words(self):
         out = self.output_of(2, "decide", "--nr=0", self.file("e.bpf", b""))
         self.assertTrue(out.startswith("fault filter Empty\n# The filter has no instruction"), out)
@@ -552,9 +527,7 @@ class Decide(Case):
         self.assertTrue(out.startswith("fault number nr\n# The option's text isn't a number below 2^32"), out)
         for words in (("none.bpf",), (self.folder,), ("--table", "none", self.filter), ("-", "-"),
                       ("--table", "-", "-")):
-            status, out, err = self.run_tool("decide", *words)
-            self.assertEqual((status, out), (2, ""), words)
-            self.assertNotIn("Traceback", err)
+            self.is_refused("decide: ", "decide", *words)
 
 
 class Explain(Case):
@@ -565,13 +538,9 @@ class Explain(Case):
         return out.split("\n")[:-1]
 
     def test_usage(self):
-        out = self.output_of(0, "explain", "--help")
-        self.assertIn("usage: explain ", out)
-        for words, status in ((["no", "such", "line"], 2), (["a page fault in kernel mode"], 2), (["fault x Y"], 2),
-                              (["299"], 2), (["--no-such"], 2)):
-            exit_status, out, err = self.run_tool("explain", *words)
-            self.assertEqual((exit_status, out), (status, ""), words)
-            self.assertIn("explain: ", err)
+        self.assertIn("usage: explain ", self.output_of(0, "explain", "--help"))
+        for words in (["no", "such", "line"], ["a page fault in kernel mode"], ["fault x Y"], ["299"], ["--no-such"]):
+            self.is_refused("explain: ", "explain", *words)
 
     def test_lines_of_logs(self):
         """A fault, a verdict or a status is found behind what a log puts before it."""
@@ -620,30 +589,20 @@ class Explain(Case):
         self.assertEqual(len(self.explained("ERRNO 38 stub")), 2)
 
     def test_what_each_answer_does(self):
-        for answer, line, means in ((0x7FFC0000, "LOG 0", "LOG: the syscall is executed, and logged"),
-                                    (0x00030007, "TRAP 7",
-                                     "TRAP 7: the syscall isn't executed, and the thread gets SIGSYS"),
-                                    (0x7FC00000, "USER_NOTIF 0", "USER_NOTIF: a supervisor handles the syscall; "
-                                                                 "without one it fails with ENOSYS"),
-                                    (0x7FF00000, "TRACE 0",
-                                     "TRACE 0: a tracer handles the syscall; without one it fails with ENOSYS"),
-                                    (0, "KILL_THREAD 0", "KILL_THREAD: the thread is killed"),
-                                    (0x00050000, "ERRNO 0", "ERRNO 0: the syscall isn't executed, and returns 0 as "
-                                                              "if it had succeeded"),
-                                    (0x00050026, "ERRNO 38", "ERRNO 38: the syscall fails with ENOSYS"),
-                                    (0x0005000B, "ERRNO 11", "ERRNO 11: the syscall fails with EAGAIN"),
-                                    (0x00050023, "ERRNO 35",
-                                     "ERRNO 35: the syscall fails with EDEADLK"),
-                                    (0x0005005F, "ERRNO 95",
-                                     "ERRNO 95: the syscall fails with EOPNOTSUPP"),
-                                    (0x00050FFF, "ERRNO 4095",
-                                     "ERRNO 4095: the syscall fails with errno 4095"),
-                                    (0x00051000, "ERRNO 4096",
-                                     "ERRNO 4096: the syscall fails with errno 4095, the greatest that "
-                                     "the kernel returns"),
-                                    (0x12340000, "UNNAMED 0x12340000",
-                                     "UNNAMED 0x12340000: the process is killed, since seccomp(2) has no such "
-                                     "action")):
+        for answer, line, means in (
+                (0x7FFC0000, "LOG 0", "LOG: the syscall is executed, and logged"),
+                (0x00030007, "TRAP 7", "TRAP 7: the syscall isn't executed, and the thread gets SIGSYS"),
+                (0x7FC00000, "USER_NOTIF 0",
+                 "USER_NOTIF: a supervisor handles the syscall; without one it fails with ENOSYS"),
+                (0x7FF00000, "TRACE 0", "TRACE 0: a tracer handles the syscall; without one it fails with ENOSYS"),
+                (0, "KILL_THREAD 0", "KILL_THREAD: the thread is killed"),
+                (0x00050000, "ERRNO 0", "ERRNO 0: the syscall isn't executed, and returns 0 as if it had succeeded"),
+                (0x12340000, "UNNAMED 0x12340000",
+                 "UNNAMED 0x12340000: the process is killed, since seccomp(2) has no such action"),
+                *((0x50000 | number, f"ERRNO {number}", f"ERRNO {number}: the syscall fails with {name}")
+                  for number, name in ((38, "ENOSYS"), (11, "EAGAIN"), (35, "EDEADLK"), (95, "EOPNOTSUPP"),
+                                       (4095, "errno 4095"),
+                                       (4096, "errno 4095, the greatest that the kernel returns")))):
             self.assertEqual(self.run_words([*CORE, "run"], ret(answer))[1], f"{line} steps 1\n")
             self.assertEqual(self.run_tool("explain", f"{line} steps 1"),
                              (0, f"{means}\nthe filter ran 1 instruction\n", ""))

@@ -37,10 +37,8 @@ def degree(answer):
 class Program(Case):
     def compared(self, old, new, *words, given=b""):
         """The status and the lines, of two texts."""
-        status, out, err = self.run_tool("compare-profiles", *words, self.file("old.json", old),
-                                         self.file("new.json", new), given=given)
-        self.assertEqual(err, "")
-        return status, out.split("\n")[:-1]
+        names = self.file("old.json", old), self.file("new.json", new)
+        return self.told("compare-profiles", *words, *names, given=given)
 
     def test_usage(self):
         self.says_usage("compare-profiles", "one")
@@ -208,12 +206,11 @@ class Program(Case):
                 self.assertTrue(all(line.startswith("# ") for line in lines[1:]), lines)
                 report = json.loads(self.compared(old, new, "--json")[1][0])
                 self.assertEqual((report["status"], report["verdict"], report["fault"]["side"]), (2, None, side))
-        self.assertEqual(self.compared(READ_WRITE, READ_WRITE, "--table", self.file("t", b"read\n"))[1][0],
-                         "fault table Form line 1")
-        status, lines = self.compared(READ_WRITE, READ_WRITE, "--limit", "x")
-        self.assertEqual((status, lines[0]), (2, "fault number limit"))
-        status, out, err = self.run_tool("compare-profiles", "none", "none")
-        self.assertEqual((status, out, err), (2, "", "compare-profiles: there is no file 'none'\n"))
+        for words, line in ((("--table", self.file("t", b"read\n")), "fault table Form line 1"),
+                            (("--limit", "x"), "fault number limit")):
+            status, lines = self.compared(READ_WRITE, READ_WRITE, *words)
+            self.assertEqual((status, lines[0]), (2, line))
+        self.is_refused("compare-profiles: there is no file 'none'\n", "compare-profiles", "none", "none")
 
     def test_unfinished(self):
         status, lines = self.compared(READ_WRITE, READ_WRITE, "--limit", "0", "--table",
@@ -267,32 +264,26 @@ class Engines(Case):
         return status, [line.split()[:3] for line in out.split("\n") if line[:1].isdigit()], err
 
     def test_the_options_resolve_both(self):
+        """The same profile by itself is the same, whatever it leaves out; what is left out of one alone is said."""
         for words, expected in ((["--caps", "none"], ["write"]), (["--caps", "SYS_BOOT"], ["write", "reboot"]),
                                 (["--kernel", "4.0"], ["write"]), (["--arch-map", "native"], ["write"]),
                                 (["--keep-first"], ["write"])):
             status, exit_status, _ = self.compared(*words)
             self.assertEqual((status, [line[1] for line in exit_status]), (1, expected), words)
-
-    def test_without_an_option_scf_refuses_an_engines_form(self):
-        status, out, err = self.run_tool("compare-profiles", *[self.file("old.json", json.dumps(self.OLD))] * 2)
-        self.assertEqual((status, err, out.split("\n")[0]), (2, "", "fault profile EngineForm"))
-        self.assertTrue(out.endswith("# it is the old profile\n# --caps and the like resolve both profiles as an "
-                                     "engine does\n"), out)
-
-    def test_what_a_setting_changes(self):
-        """The same profile by itself is the same, whatever it leaves out."""
         for words in (["--caps", "none"], ["--caps", "docker,SYS_ADMIN", "--kernel", "6.1"]):
             self.assertEqual(self.compared(*words, new=self.OLD), (0, [], ""))
-
-    def test_what_is_left_out_of_one_alone_is_said(self):
-        err = self.compared("--caps", "none")[2]
-        self.assertEqual(err, "compare-profiles: new: entry 4 (reboot) left out: only with CAP_SYS_BOOT\n")
-
-    def test_two_answers(self):
+        self.assertEqual(self.compared("--caps", "none")[2],
+                         "compare-profiles: new: entry 4 (reboot) left out: only with CAP_SYS_BOOT\n")
         twice = {"defaultAction": ERRNO, "syscalls": [{"names": ["read"], "action": ALLOW},
                                                       {"names": ["read"], "action": "SCMP_ACT_LOG"}]}
         self.assertEqual(self.compared("--keep-first", old=twice, new={**twice, "syscalls": twice["syscalls"][:1]})[:2],
                          (0, []))
+
+    def test_without_an_option_scf_refuses_an_engines_form(self):
+        out = self.output_of(2, "compare-profiles", *[self.file("old.json", json.dumps(self.OLD))] * 2)
+        self.assertTrue(out.startswith("fault profile EngineForm\n"), out)
+        self.assertTrue(out.endswith("# it is the old profile\n# --caps and the like resolve both profiles as an "
+                                     "engine does\n"), out)
 
     def test_what_the_engines_refuse(self):
         status, exit_status, err = self.compared("--caps", "none", new={"defaultAction": ERRNO, "syscalls": 1})

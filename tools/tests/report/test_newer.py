@@ -21,9 +21,9 @@ class Newer(Case):
     def added(self, *codes, scope="--native", profile=None):
         """The verdict's call, and what is added behind scf's lines."""
         names = [self.file(f"{at}.bpf", code) for at, code in enumerate(codes)]
-        status, out, err = self.run_tool("compare", scope, *names, profile or self.profile)
-        self.assertEqual((status, err, out.split("\n")[0]), (1, "", "differs"))
-        return out.split("\n")[1], [line[2:] for line in out.split("\n") if line.startswith("# ")]
+        status, lines = self.told("compare", scope, *names, profile or self.profile)
+        self.assertEqual((status, lines[0]), (1, "differs"))
+        return lines[1], [line[2:] for line in lines if line.startswith("# ")]
 
     def test_only_newer_calls(self):
         call, added = self.added(stub(450) + filter_of(self.rules))

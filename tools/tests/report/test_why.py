@@ -8,7 +8,7 @@ import shutil
 import subprocess
 import unittest
 
-from support.common import (ALLOW, CORE, EPERM, I386, KILL_PROCESS, X86_64, Case, comes, filter_of, insn, jeq, load,
+from support.common import (ALLOW, EPERM, I386, KILL_PROCESS, X86_64, Case, comes, filter_of, insn, jeq, load,
                             profile_of, ret, text_of)
 from support.stand_in import StandIn
 import kernel_profiles
@@ -100,13 +100,6 @@ class Path(Case):
         path = listing.path_of(jeq(0, 9, 0) + ret(ALLOW), Call(0).words())
         self.assertEqual((path.status, path.indexes, path.decision.fault.kind), (2, (), "Jump"))
 
-    def test_without_the_flag_nothing_changes(self):
-        data = filter_of([0, 1])
-        plain = self.run_words([*CORE, "run", "--nr=1"], data)
-        self.assertEqual(plain, (0, "ALLOW 0 steps 7\n", ""))
-        self.assertEqual(self.run_words([*CORE, "run", "--nr=1", "--path"], data),
-                         (0, plain[1] + "path 0 1 3 4 6 7 9\n", ""))
-
 
 class List(Case):
     def listed(self, data, *words):
@@ -146,15 +139,11 @@ class List(Case):
         self.assertNotIn(">", self.listed(data)[1])
 
     def test_what_cannot_be_run(self):
-        status, out, err = self.listed(jeq(0, 9, 0) + ret(ALLOW), "--nr=0")
-        self.assertEqual((status, err), (2, ""))
-        self.assertTrue(out.startswith("fault filter Jump at 0\n# This jump leaves the filter"), out)
-        status, out, _ = self.listed(ret(ALLOW), "--nr=99999999999")
-        self.assertEqual((status, out.split("\n")[0]), (2, "fault number nr"))
-        status, out, err = self.listed(ret(ALLOW), "--nr=raed")
-        self.assertEqual((status, out), (2, ""))
-        self.assertIn("the nearest name is 'read'", err)
-        self.assertEqual(self.listed(b"", "--nr=0")[1].split("\n")[0], "fault filter Empty")
+        out = self.begins(2, "fault filter Jump at 0", self.listed(jeq(0, 9, 0) + ret(ALLOW), "--nr=0"))
+        self.assertIn("\n# This jump leaves the filter", out)
+        self.begins(2, "fault number nr", self.listed(ret(ALLOW), "--nr=99999999999"))
+        self.begins(2, "fault filter Empty", self.listed(b"", "--nr=0"))
+        self.is_refusal("the nearest name is 'read'", self.listed(ret(ALLOW), "--nr=raed"))
 
 
 def reading(profile, call):
@@ -182,9 +171,7 @@ class Ask(Case):
         self.profile = self.file("p.json", json.dumps(self.own))
 
     def asked(self, *words, profile=None, given=b""):
-        status, out, err = self.run_tool("ask", *words, profile or self.profile, given=given)
-        self.assertEqual(err, "")
-        return status, out.split("\n")[:-1]
+        return self.told("ask", *words, profile or self.profile, given=given)
 
     def test_usage(self):
         self.says_usage("ask", "one", "two")
@@ -200,17 +187,15 @@ class Ask(Case):
             "ALLOW 0 entry 0", "# the syscall is write (1)", "# ALLOW: the syscall is executed",
             '# by entry 0 of syscalls: {"names": ["read", "write"], "action": "SCMP_ACT_ALLOW"}']))
 
-    def test_the_default(self):
-        for words in (("--nr", "socket", "--a0", "40"), ("--nr=socket", "--a1=2"), ("--nr=open",),
-                      ("--nr=0x3fffffff",), ("--nr=0x3fffffff", "--arch=0xc000003e")):
-            status, lines = self.asked(*words)
-            self.assertEqual((status, lines[0], lines[-1]), (0, "ERRNO 1 default", "# by the default"), words)
-
-    def test_foreign_calls(self):
-        for words in (("--nr=0x40000000",), ("--nr=0xffffffff",), ("--arch=0x40000003",), ("--nr=0", "--arch=0")):
-            status, lines = self.asked(*words)
-            self.assertEqual((status, lines[0], lines[-1]),
-                             (0, "KILL_PROCESS 0 foreign", "# by no entry: the syscall is of another ABI"), words)
+    def test_the_default_and_foreign_calls(self):
+        for first, last, *calls in (
+                ("ERRNO 1 default", "# by the default", "--nr socket --a0 40", "--nr=socket --a1=2", "--nr=open",
+                 "--nr=0x3fffffff", "--nr=0x3fffffff --arch=0xc000003e"),
+                ("KILL_PROCESS 0 foreign", "# by no entry: the syscall is of another ABI", "--nr=0x40000000",
+                 "--nr=0xffffffff", "--arch=0x40000003", "--nr=0 --arch=0")):
+            for words in calls:
+                status, lines = self.asked(*words.split())
+                self.assertEqual((status, lines[0], lines[-1]), (0, first, last), words)
 
     def test_several_calls_and_json(self):
         calls = self.file("calls", "socket 16 1\nread\n0x40000000\n")
@@ -234,11 +219,6 @@ class Ask(Case):
         self.assertEqual(self.asked("--nr=socket", "--a1=1", profile="-", given=config.encode()), expected)
         self.is_refused("only one input can be '-'", "ask", "--table=-", "-")
 
-    def test_a_table_of_ones_own(self):
-        table = self.file("t", b"look 7\n")
-        lines = self.asked("--table", table, "--nr=look", profile=self.file("q.json", profile_of("look")))[1]
-        self.assertEqual(lines[:2], ["ALLOW 0 entry 0", "# the syscall is look (7)"])
-
     def test_inputs_without_an_end(self):
         for words, status, says in ((("/dev/zero",), 2, "fault profile TooMany"),
                                     (("--table=/dev/zero", self.profile), 2, "has more than 4194304 bytes"),
@@ -246,10 +226,6 @@ class Ask(Case):
             found, out, err = self.run_tool("ask", "--nr=0", *words)
             self.assertEqual(found, status, words)
             self.assertIn(says, out + err)
-
-    def test_output_that_fails(self):
-        status, _, err = self.closed_output("ask", "--nr=read", self.profile)
-        self.assertEqual((status, err), (2, "ask: the output failed: No space left on device\n"))
 
     def test_refusals(self):
         for text, says in ((b"{", ["fault profile Json", "the JSON is malformed at line 1, column 2"]),
@@ -259,8 +235,7 @@ class Ask(Case):
             self.assertTrue(all(line.startswith("# ") for line in lines[1:]) and says[-1] in "\n".join(lines), lines)
         status, lines = self.asked("--nr=99999999999")
         self.assertEqual((status, lines[0]), (2, "fault number nr"))
-        status, out, err = self.run_tool("ask", "none")
-        self.assertEqual((status, out, err), (2, "", "ask: there is no file 'none'\n"))
+        self.is_refused("ask: there is no file 'none'\n", "ask", "none")
 
     def test_a_strangers_entry(self):
         """What an entry holds is one line without a control character, and bounded."""
@@ -421,11 +396,6 @@ class Behind(Case):
         self.assertEqual((status, found["reason"], found["entry"], found["definition"]), (1, "entry", 1, entry))
         call = Call(1, arguments=tuple(int(it, 16) for it in found["call"]["arguments"]))
         self.assertEqual(found["path"]["indexes"], StandIn().path(filter_of([0]), call))
-
-    def test_a_foreign_call(self):
-        lines = self.added("--all", self.file("f.bpf", filter_of([0], foreign=EPERM)),
-                           self.file("p.json", profile_of("read")))
-        self.assertIn("by no entry: the syscall is of another ABI", lines)
 
     def test_nothing_is_added_to_same(self):
         """Nor is anything run for it but the comparison."""

@@ -311,6 +311,12 @@ class Case(unittest.TestCase):
         """What a tool prints that ends with a status and says nothing else."""
         return self.out_of(status, self.run_tool(*words, **settings))
 
+    def told(self, *words, **settings):
+        """The status of a tool that says nothing on standard error, and the lines that it prints."""
+        status, out, err = self.run_tool(*words, **settings)
+        self.assertEqual(err, "")
+        return status, out.split("\n")[:-1]
+
     def is_refusal(self, says, done):
         """Something ended with status 2, and said so on standard error alone."""
         self.assertEqual(done[:2], (2, ""), says)
