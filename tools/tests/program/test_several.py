@@ -2,14 +2,11 @@
 and what the tools say of each."""
 import collections
 import functools
-import itertools
 import json
 import os
 import random
-import re
 import subprocess
 import unittest
-from unittest import mock
 
 from support import judged, several
 from support.common import TOP, Case, insn, jeq, jge, load, ret
@@ -110,89 +107,12 @@ def draw(seed):
     return several.draw(random_of), random_of
 
 
-class SecondReadingAlone(unittest.TestCase):
-    def test_is_possible(self):
-        """By all numbers of few bits."""
-        for conditions in itertools.product(((op, value, two) for op in several.OPERATORS for value in (0, 1, 5, 9)
-                                             for two in ((0, 1, 4, 8) if op == "MASKED_EQ" else (0,))), repeat=2):
-            by_trial = any(all(several.OPERATORS[op](index, value, two) for op, value, two in conditions)
-                           for index in range(8))
-            self.assertEqual(several.is_possible(conditions, 3), by_trial, conditions)
-
-
 # By scf's relation: what it prints where it holds and where it fails, and whether two answers have it.
 VERDICTS = tuple(judged.RELATIONS.values())
 # The instructions of a filter that computes nothing. scf decides each question of one without masks.
 PLAIN = {0x20, 0x05, 0x15, 0x25, 0x35, 0x06}
 # Records of no architecture.
 FOREIGN = [(0x80000016, 3, [0] * 6), (0, 0, [0] * 6)]
-
-
-def compile_wrong(right, scf):
-    data = right(scf)
-    return data if data.startswith(b"fault") else several.change_filter(random.Random(0), data, range(len(data) // 8))
-
-
-def compare_to_hold(right, scf, data, relation=0):
-    verdict, *lines = right(scf, data, relation).decode().split("\n")
-    holds, fails, _ = VERDICTS[relation]
-    return "\n".join([holds, *lines[3:]] if verdict == fails else [verdict, *lines]).encode()
-
-
-def compare_from_last(right, scf, data, relation=0):
-    """The verdict is that of the last architecture in which the relation fails."""
-    lines = right(scf, data, relation).decode().split("\n")
-    for name in reversed(scf.order if lines[0] == VERDICTS[relation][1] else ()):
-        alone = right(ByLibrary(several.Reading(scf.reading.profile, [name])), data, relation).decode().split("\n")
-        if alone[0] == lines[0]:
-            return "\n".join([*alone[:4], *lines[4:]]).encode()
-    return "\n".join(lines).encode()
-
-
-# What can be made wrong, in the second reading and in scf: a function of the right one and what that is given.
-WRONG = {
-    "each two rules overlap": (several, "overlap", lambda *_: True),
-    "no two rules overlap": (several, "overlap", lambda *_: False),
-    "allowed is delegated": (several, "disposition", lambda right, answer: min(right(answer), 1)),
-    "the last conflict": (several.Reading, "conflicts", lambda right, *given: sorted(right(*given))[-1:]),
-    "the next table": (several.Reading, "fault",
-                       lambda right, reading_again: (right(reading_again) or "").replace("table 0", "table 1") or None),
-    "a note is missing": (several.Reading, "notes", lambda right, reading_again: right(reading_again)[:-1]),
-    "each answer is by default": (several.Reading, "answer", lambda right, *given: (right(*given)[0], "default")),
-    "another filter is compiled": (ByLibrary, "compile", compile_wrong),
-    "each record is of x86-64": (ByLibrary, "ask", lambda right, scf, _, *given: right(scf, X86_64, *given)),
-    "what fails holds": (ByLibrary, "compare", compare_to_hold),
-    "the next number": (ByLibrary, "compare", lambda right, *given: re.sub(
-        rb"call nr (\d+)", lambda match: b"call nr %d" % (int(match[1]) + 1), right(*given))),
-    "the last architecture": (ByLibrary, "compare", compare_from_last),
-}
-WRONG_OPERATORS = {
-    "NE": lambda argument, value, two: argument % 2 ** 32 != value % 2 ** 32, "LT": lambda argument, value,
-    two: argument <= value,
-    "EQ": lambda argument, value, two: argument % 2 ** 32 == value % 2 ** 32, "LE": lambda argument, value,
-    two: argument < value,
-    "GE": lambda argument, value, two: argument > value, "GT": lambda argument, value, two: argument >= value,
-    "MASKED_EQ": lambda argument, value, two: argument & value == two,
-}
-
-
-def patch_function(place, name, wrong):
-    right = getattr(place, name)
-    return mock.patch.object(place, name, lambda *given: wrong(right, *given))
-
-
-def plants():
-    """What is made wrong, and a patch that does it."""
-    # (arguments of 64 bits, x32's first number and x86-64's last)
-    for name, at, value in (("X86", 3, 64), ("X32", 3, 64), ("ARM", 3, 64), ("X32", 1, X32 + 1),
-                            ("X86_64", 2, 0xFFFFFFFF)):
-        row = list(several.ARCHITECTURES[f"SCMP_ARCH_{name}"])
-        row[at] = value
-        yield (name, at), mock.patch.dict(several.ARCHITECTURES, {f"SCMP_ARCH_{name}": tuple(row)})
-    for op, wrong in WRONG_OPERATORS.items():
-        yield op, mock.patch.dict(several.OPERATORS, {op: wrong})
-    for what, (place, name, wrong) in WRONG.items():
-        yield what, patch_function(place, name, wrong)
 
 
 class SecondReading(unittest.TestCase):
@@ -297,19 +217,6 @@ class SecondReading(unittest.TestCase):
         # what scf finds, the second reading mostly finds by itself
         self.assertGreater(counts["fails", True], 4 * counts["fails", False])
 
-    @IN_PROCESS
-    def test_that_it_would_be_noticed(self):
-        """A second reading that is wrong in one rule disagrees with scf, and so does scf where an answer is wrong."""
-        for what, patch in plants():
-            with self.subTest(what), patch:
-                try:
-                    several.is_possible.cache_clear()
-                    several.edges.cache_clear()
-                    self.assertRaises(AssertionError, self.hold, ByLibrary, PROFILES)
-                finally:
-                    several.is_possible.cache_clear()
-                    several.edges.cache_clear()
-
 
 WORKED = """ld 4; jeq 0xc000003e 2 0; jeq 0x40000003 11 0; ret 0x80000000; ld 0; jge 0x40000000 6 0; jeq 0x0 12 0;
 jeq 0x87 0 12; ld 20; jeq 0x0 0 10; ld 16; jeq 0x8 7 8; jeq 0x40000000 6 0; jeq 0x40000087 3 6; ld 0; jeq 0x3 3 0;
@@ -336,12 +243,10 @@ class Worked(Case):
         return self.file("f.bpf", b"".join(insn(*fields) for fields in words))
 
     def said(self, *words, at=None, text="", profile=None):
-        status, out, err = self.run_tool("compare", *words, self.filter(at, text), profile or self.profile)
-        self.assertEqual(err, "")
-        return status, out.split("\n")
+        return self.told("compare", *words, self.filter(at, text), profile or self.profile)
 
     def test_what_is_the_same(self):
-        self.assertEqual(self.said("--limit", "612"), (0, ["same", ""]))
+        self.assertEqual(self.said("--limit", "612"), (0, ["same"]))
 
     def test_what_differs(self):
         for at, text, arch, numbers, name in (

@@ -14,6 +14,7 @@ it with status 1.
 import argparse
 import functools
 import json
+import operator
 import os
 import random
 import subprocess
@@ -533,18 +534,10 @@ def is_least(value):
 
 # Rewrites: each returns the instructions of both filters, which test the record's words at two offsets
 
-def sum_turned(dice, word, other_word):
-    """Of bytes."""
-    value = dice.randrange(0x1FF)
-    made = [[(LD, first), (AND, 0xFF), (TAX, 0), (LD, second), (AND, 0xFF), (ADD | X, 0), is_equal(value)]
-            for first, second in ((word, other_word), (other_word, word))]
-    return made
-
-
-def product_turned(dice, word, other_word):
-    """Of four bits each."""
-    value = dice.randrange(16) * dice.randrange(16)
-    return [[(LD, first), (AND, 0xF), (TAX, 0), (LD, second), (AND, 0xF), (MUL | X, 0), is_equal(value)]
+def turned(code, mask, value_of, dice, word, other_word):
+    """A sum or a product of some low bits of each."""
+    value = value_of(dice.randint(0, mask), dice.randint(0, mask))
+    return [[(LD, first), (AND, mask), (TAX, 0), (LD, second), (AND, mask), (code | X, 0), is_equal(value)]
             for first, second in ((word, other_word), (other_word, word))]
 
 
@@ -674,10 +667,13 @@ def steps_of_order(dice, word, other_word):
             [(LD, word), (TAX, 0), (ADD | X, 0), (ADD | X, 0), is_least(value)])
 
 
-REWRITES = {rewrite.__name__.replace("_", " "): rewrite for rewrite in (
-    sum_turned, product_turned, tests_turned, mask_split, masks_joined, product_by_shifts, quotient_by_orders,
-    remainder_by_orders, difference_by_sum, negation_by_complement, sum_under_mask, bits_of_sum, xor_by_masks,
-    shift_by_word, branch_by_product, returned, steps_of_order)}
+REWRITES = {
+    "sum turned": functools.partial(turned, ADD, 0xFF, operator.add),
+    "product turned": functools.partial(turned, MUL, 0xF, operator.mul),
+    **{rewrite.__name__.replace("_", " "): rewrite for rewrite in (
+        tests_turned, mask_split, masks_joined, product_by_shifts, quotient_by_orders, remainder_by_orders,
+        difference_by_sum, negation_by_complement, sum_under_mask, bits_of_sum, xor_by_masks, shift_by_word,
+        branch_by_product, returned, steps_of_order)}}
 
 
 def placed(code):
@@ -862,32 +858,11 @@ def verdict(pair, difference, printed):
     return word
 
 
-@dataclass
-class Measured:
-    """Of equal pairs and of those that differ, how many there are and how many scf leaves undecided; the most seconds
-    and megabytes that a pair takes."""
-
-    equal: list = field(default_factory=lambda: [0, 0])
-    differ: list = field(default_factory=lambda: [0, 0])
-    seconds: float = 0
-    memory: float = 0
-
-    def count(self, difference, word, seconds, memory):
-        """Counts a pair, by where it is known to differ, and by what scf says of it."""
-        counts = self.differ if difference or word == "differs" else self.equal
-        counts[0] += 1
-        counts[1] += word not in ("same", "differs")
-        self.seconds, self.memory = max(self.seconds, seconds), max(self.memory, memory)
-
-    def __str__(self):
-        counts = (f"{name} {undecided}/{count} undecided"
-                  for name, (count, undecided) in (("equal", self.equal), ("differ", self.differ)))
-        return "   ".join((*counts, f"{self.seconds:6.3f} s", f"{self.memory:5.1f} MB"))
-
-
 def measured(kind, construct, dice, pairs):
-    """Draws pairs of a class by a construct or a rewrite, every other one changed, and compares them."""
-    measurement = Measured()
+    """Draws pairs of a class by a construct or a rewrite, every other one changed, and compares them. Of equal pairs,
+    and of those that differ, how many there are and how many scf leaves undecided; the most seconds and megabytes that
+    a pair takes."""
+    counts, most = ([0, 0], [0, 0]), (0, 0)
     for count in range(pairs):
         pair, is_changed = kind.drawn(dice, construct), count % 2 == 1
         if is_changed:
@@ -895,9 +870,13 @@ def measured(kind, construct, dice, pairs):
         difference = pair.difference(dice)
         if difference and not is_changed:
             raise Wrong(f"the pair isn't what it is made for: {vars(pair)}")
-        printed, seconds, memory = compared(pair)
-        measurement.count(difference, verdict(pair, difference, printed), seconds, memory)
-    return measurement
+        printed, *taken = compared(pair)
+        word = verdict(pair, difference, printed)
+        of_kind = counts[bool(difference) or word == "differs"]
+        of_kind[0] += 1
+        of_kind[1] += word not in ("same", "differs")
+        most = tuple(map(max, most, taken))
+    return *counts, *most
 
 
 def main():
@@ -909,11 +888,13 @@ def main():
     for kind, constructs in ((ProfilePair, CONSTRUCTS), (FilterPair, REWRITES)):
         for name, construct in constructs.items():
             try:
-                measurement = measured(kind, construct, random.Random(f"{words.seed} {name}"), words.pairs)
+                equal, differ, seconds, memory = measured(kind, construct, random.Random(f"{words.seed} {name}"),
+                                                          words.pairs)
             except Wrong as wrong:
                 print(f"{name}: {wrong}")
                 return 1
-            print(f"{name:30} {measurement}", flush=True)
+            print(f"{name:30} equal {equal[1]}/{equal[0]} undecided   differ {differ[1]}/{differ[0]} undecided   "
+                  f"{seconds:6.3f} s   {memory:5.1f} MB", flush=True)
     return 0
 
 
