@@ -1,7 +1,7 @@
 """What `answers` prints of filters, of profiles and, with `--differences`, of two sides. The lines were worked out by
 hand."""
 from support.on_parts import (ALLOW, ALLOW_ALL, ARCH_GATE, ONE_CALL, READ_TABLE, WITHOUT_WRITE, OnProgram, a_filter,
-                              a_profile, a_table, beside)
+                              a_profile, a_table, beside, each_of)
 
 GATED, DENIES = a_filter(ARCH_GATE), a_filter("ret #0x50001")
 # Loads a word behind the record's end.
@@ -135,17 +135,12 @@ DIFFERENCES = (
     ("--beside", [BAD_LOAD, beside("ld #0")], "fault filter Load at 0\n", 1),
 )
 # Flags that exclude each other, and ranges that no call has.
-EXCLUDED = (
-    ("--architectures --native", "fault command Flags\n"),
-    ("--beside", "fault command Flags\n"),
-    ("--differences --beside --architectures", "fault command Flags\n"),
-    ("--differences --architectures --native", "fault command Flags\n"),
-    ("--differences --architectures --nr-to 5", "fault command Flags\n"),
-    ("--nr-from 5 --nr-to 4", "fault command Range\n"),
-    ("--nr-from 0x40000000", "fault command Range\n"),
-    ("--architectures --nr-from 2 --nr-to 1", "fault command Range\n"),
-    ("--differences --nr-from 5 --nr-to 4", "fault command Range\n"),
-)
+EXCLUDED = {
+    "fault command Flags\n": ("--architectures --native", "--beside", "--differences --beside --architectures",
+                              "--differences --architectures --native", "--differences --architectures --nr-to 5"),
+    "fault command Range\n": ("--nr-from 5 --nr-to 4", "--nr-from 0x40000000", "--architectures --nr-from 2 --nr-to 1",
+                              "--differences --nr-from 5 --nr-to 4"),
+}
 
 
 class AnswerRows(OnProgram):
@@ -156,5 +151,5 @@ class AnswerRows(OnProgram):
         self.print_each(DIFFERENCES, "answers", "--differences")
 
     def test_excluded_flags(self):
-        for options, text in EXCLUDED:
+        for options, text in each_of(EXCLUDED):
             self.refuses(["answers", *options.split()], text)

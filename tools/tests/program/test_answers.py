@@ -4,7 +4,7 @@ import struct
 
 from support.common import I386, X32, X86_64, insn
 from support.on_parts import (ALLOW_ALL, ARCH_GATE, OnProgram, a_filter, a_profile, a_table, assembled, behind_gate,
-                              bundle, ran)
+                              bundle, each_of, ran)
 from support.stand_in import StandIn
 from support.worked import FAILS, KILLS, MADE
 
@@ -79,17 +79,8 @@ PATHS = (
 )
 # The options of a call, and where their words stand in its record (Linux uapi seccomp.h, struct seccomp_data): the low
 # one, and the high one where the option has 64 bits.
-OPTIONS = (
-    ("--nr", 0, None),
-    ("--arch", 4, None),
-    ("--ip", 8, 12),
-    ("--a0", 16, 20),
-    ("--a1", 24, 28),
-    ("--a2", 32, 36),
-    ("--a3", 40, 44),
-    ("--a4", 48, 52),
-    ("--a5", 56, 60),
-)
+OPTIONS = (("--nr", 0, None), ("--arch", 4, None), ("--ip", 8, 12),
+           *((f"--a{at}", 16 + 8 * at, 20 + 8 * at) for at in range(6)))
 # Allow where the low word of argument 0 is 5.
 ARGUMENT_IS_5 = "ld [16]; jeq #5, 0, 1; ret #0x7fff0000; ret #0"
 # The first entry has no name that the table has, two entries allow `read`, and one answers `write` by an argument.
@@ -115,33 +106,23 @@ ROWS = (
     # What a profile answers: its parts in either order, no more and no fewer, and the table before the profile.
     ("ask --nr 1 --a1 41", [ENTRIES, TABLE], "TRACE 7 entry 3\n", 0),
     ("ask --nr 0", [TABLE, ENTRIES], "ALLOW 0 entry 1\n", 0),
-    ("ask", [], "fault bundle Parts\n", 3),
-    ("ask", [ENTRIES], "fault bundle Parts\n", 3),
-    ("ask", [TABLE], "fault bundle Parts\n", 3),
-    ("ask", [ENTRIES, TABLE, TABLE], "fault bundle Parts\n", 3),
-    ("ask", [ENTRIES, ENTRIES, TABLE], "fault bundle Parts\n", 3),
-    ("ask", [a_filter(ALLOW_ALL), ENTRIES, TABLE], "fault bundle Parts\n", 3),
+    *(("ask", parts, "fault bundle Parts\n", 3) for parts in (
+        [], [ENTRIES], [TABLE], [ENTRIES, TABLE, TABLE], [ENTRIES, ENTRIES, TABLE],
+        [a_filter(ALLOW_ALL), ENTRIES, TABLE])),
     ("ask", [a_profile("{"), a_table("read")], "fault table Form line 1\n", 1),
     ("ask", [a_profile("{"), TABLE], "fault profile Json\n", 1),
     ("ask", b"profile 9\nshort", "fault bundle Short offset 0\n", 3),
     ("decide", TWO_FILTERS, "KILL_THREAD 0\n", 0),
-    ("decide", b"filter 8\n\x06\0\0\0\0\0\0\0filter 8\n\x06\0\0\0\0\0\xff", "fault bundle Short offset 17\n", 3),
-    ("decide", b"", "ALLOW 0\n", 0),
-    ("decide", b"table 0\n", "fault bundle Parts\n", 3),
-    ("decide", b"filter 123456789\n", "fault bundle Header offset 0\n", 3),
-    ("decide", b"filter 8\n\x06\0\0\0\0\0\xff\x7fx", "fault bundle Header offset 17\n", 3),
-    ("decide", b"filter 0\n", "fault filter Empty\n", 1),
-    ("decide", b"filter 7\n\x06\0\0\0\0\0\xff", "fault filter Truncated offset 0\n", 3),
-    ("decide", b"filter 00000008\n\x06\0\0\0\0\0\xff\x7f", "ALLOW 0\n", 0),
-    ("decide", b"filter  8\n\x06\0\0\0\0\0\xff\x7f", "fault bundle Header offset 0\n", 3),
-    ("decide", b"filter 8 \x06\0\0\0\0\0\xff\x7f", "fault bundle Header offset 0\n", 3),
     ("decide --at", TWO_FILTERS, "KILL_THREAD 0 at 0:0\n", 0),
     ("decide --at", 2 * TWO_FILTERS, "KILL_THREAD 0 at 2:0\n", 0),
-    ("decide --at", b"", "ALLOW 0\n", 0),
-    ("decide --at", b"table 0\n", "fault bundle Parts\n", 3),
-    ("decide --at", b"filter 0\n", "fault filter Empty\n", 1),
-    ("decide --path", b"", "ALLOW 0\n", 0),
-    ("decide --path", b"filter 0\n", "fault filter Empty\n", 1),
+    *((words, *row) for words in ("decide", "decide --at", "decide --path") for row in (
+        (b"", "ALLOW 0\n", 0), (b"filter 0\n", "fault filter Empty\n", 1), (b"table 0\n", "fault bundle Parts\n", 3))),
+    ("decide", b"filter 7\n\x06\0\0\0\0\0\xff", "fault filter Truncated offset 0\n", 3),
+    ("decide", b"filter 00000008\n\x06\0\0\0\0\0\xff\x7f", "ALLOW 0\n", 0),
+    ("decide", b"filter 8\n\x06\0\0\0\0\0\0\0filter 8\n\x06\0\0\0\0\0\xff", "fault bundle Short offset 17\n", 3),
+    ("decide", b"filter 8\n\x06\0\0\0\0\0\xff\x7fx", "fault bundle Header offset 17\n", 3),
+    *(("decide", given, "fault bundle Header offset 0\n", 3) for given in (
+        b"filter 123456789\n", b"filter  8\n\x06\0\0\0\0\0\xff\x7f", b"filter 8 \x06\0\0\0\0\0\xff\x7f")),
 )
 # Words that are refused before any input is read.
 REFUSED_WORDS = (
@@ -211,32 +192,19 @@ SPELLED = (
     # Names of registers and mnemonics as labels, and two labels of one place.
     (b"jset #1, len, ret; ret: ja a\na:\nlen: add x", ((0x45, 1, 1, 0), (0x05, 0), (0x0C, 0))),
 )
-# Texts that spell nothing, and their faults.
-FAULTS = (
-    ("bad\n// \u00e9", "NotAscii line 2"),
-    ("ret a\nmod #3\nld [0", "Mnemonic line 2"),
-    ("ret a; LD [0]", "Mnemonic line 1"),
-    ("ret a\r\nbad\r\n", "Mnemonic line 2"),
-    ("\na: b: ret a", "Mnemonic line 2"),
-    ("\n12: ret a", "Mnemonic line 2"),
-    ("ret a;; ret a\nld [0\nmod #3", "Operand line 2"),
-    ("ret a\rbad", "Operand line 1"),
-    ("ld #12ab; ld #4294967296", "Operand line 1"),
-    ("\nld #0x", "Operand line 2"),
-    ("ret a $", "Operand line 1"),
-    ("jeq #1, 1", "Operand line 1"),
-    ("raw 6, up, 0, 0; up:", "Operand line 1"),
-    ("ret a\nld #4294967296; bad", "NumberRange line 2"),
-    ("jeq #1, 256, lost", "NumberRange line 1"),
-    ("raw 0x10000, 0, 0, 0", "NumberRange line 1"),
-    ("\nld #1" + "0" * 60, "NumberRange line 2"),
-    ("p: ret a\np: ret a", "Label line 2"),
-    ("p: ret a\nq:\np: bad", "Label line 3"),
-    ("ret a\njeq #1, q, 0", "Label line 2"),
-    ("back: ret a\njeq #1, lost, back", "Label line 2"),
-    ("back: ret a\njeq #1, back, lost", "JumpTooFar line 2"),
-    ("ret a\nback: ja back\nja lost", "JumpTooFar line 2"),
-)
+# Faults, and the texts that have them.
+FAULTS = {
+    "NotAscii line 2": ("bad\n// \u00e9",),
+    "Mnemonic line 1": ("ret a; LD [0]",),
+    "Mnemonic line 2": ("ret a\nmod #3\nld [0", "ret a\r\nbad\r\n", "\na: b: ret a", "\n12: ret a"),
+    "Operand line 1": ("ret a\rbad", "ld #12ab; ld #4294967296", "ret a $", "jeq #1, 1", "raw 6, up, 0, 0; up:"),
+    "Operand line 2": ("ret a;; ret a\nld [0\nmod #3", "\nld #0x"),
+    "NumberRange line 1": ("jeq #1, 256, lost", "raw 0x10000, 0, 0, 0"),
+    "NumberRange line 2": ("ret a\nld #4294967296; bad", "\nld #1" + "0" * 60),
+    "Label line 2": ("p: ret a\np: ret a", "ret a\njeq #1, q, 0", "back: ret a\njeq #1, lost, back"),
+    "Label line 3": ("p: ret a\nq:\np: bad",),
+    "JumpTooFar line 2": ("back: ret a\njeq #1, back, lost", "ret a\nback: ja back\nja lost"),
+}
 
 
 class Runs(OnProgram):
@@ -263,16 +231,13 @@ class Runs(OnProgram):
 
 
 class Checks(OnProgram):
-    def test_first_instructions(self):
+    def test_each(self):
         for code, jt, jf, k, fault in REFUSED_FIRST:
             self.prints(["check"], insn(code, k, jt, jf) + insn(0x16, 0), f"fault filter {fault}\n", 1)
-
-    def test_texts(self):
         for text, fault in REFUSED:
             self.prints(["check"], assembled(text), f"fault filter {fault}\n", 1)
         for text, _, _ in RUNS:
             self.prints(["check"], assembled(text), f"accepted {len(assembled(text)) // 8}\n")
-
 
 class Paths(OnProgram):
     def takes(self, filter_, words, answer, path):
@@ -291,12 +256,10 @@ class Paths(OnProgram):
             self.takes(assembled(text), options.split(), StandIn().printed(answer), path)
 
     def test_the_longest_filter(self):
-        """Loads and jumps to the next place by turns: each place."""
+        """Loads and jumps to the next place by turns: each place. And tests that jump over one place each; from 4094 on
+        each place is come to."""
         filter_ = (insn(0x00, 9) + insn(0x05, 0)) * 2047 + insn(0x00, 9) + insn(0x06, 0x7FFF0000)
         self.takes(filter_, [], MADE, " ".join(map(str, range(4096))))
-
-    def test_over_each_second_place(self):
-        """Tests jump over one place each; from 4094 on each place is come to."""
         filter_ = (insn(0x15, 0, 1, 1) + insn(0x06, 0)) * 2047 + insn(0x00, 9) + insn(0x06, 0x00050001)
         self.takes(filter_, [], FAILS, " ".join(map(str, [*range(0, 4095, 2), 4095])))
 
@@ -393,7 +356,7 @@ class Texts(OnProgram):
             self.prints(["asm"], text, b"".join(insn(*each) for each in program))
 
     def test_faults(self):
-        for text, fault in FAULTS:
+        for text, fault in each_of(FAULTS):
             self.prints(["asm"], text.encode(), f"fault text {fault}\n", 1)
 
     def test_limits(self):

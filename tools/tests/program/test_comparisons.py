@@ -10,12 +10,12 @@ from support.judged import LONG, MACHINE, RELATIONS, SCOPES, Judged, Pair, Profi
 from support.on_parts import (ALL, ALLOW_ALL, ARCH_GATE, CLONE, CLONE_BY_AND, CLONE_BY_FEWER_BITS, CLONE_BY_JSET,
                               CLONE_TABLE, DEFAULT_ALLOW, NATIVE, NO_TABLE, ONE_CALL, READ_TABLE, READ_WRITE_TABLE,
                               WITHOUT_WRITE, a_filter, a_profile, a_table, assembled, behind_gate, beside, bundle,
-                              long_filter, ran)
+                              each_of, long_filter, ran)
 from support.on_parts import ALLOW as ALLOWING
 from support.several import ACTIONS
 from support.stand_in import unpacked
 from support.worked import (ALL_BUT_TWO, EXTREMES, MOST, SOCKET_NOT_40, SOCKET_RULES, SOCKET_TABLE, WITHOUT_READ,
-                            allowing, effort, size_of_paths, spread)
+                            allowing, effort)
 
 READ, WRITE, SOCKET = 0, 1, 41
 TABLE = "read 0\nwrite 1\nsocket 41\ngetpid 39\nexit_group 231\n"
@@ -215,13 +215,6 @@ class Efforts(Judged):
     """Steps of a comparison: more paths than can be counted, and long filters that aren't plain, decided within the
     limit that stands where none is given."""
 
-    def test_the_formula(self):
-        """The effort that the tests work out."""
-        for filter_, size in ((ALLOWING, 1), (a_filter(ARCH_GATE), 4), (NATIVE, 7), (CLONE_BY_AND, 13)):
-            self.assertEqual(size_of_paths(assembled(filter_[1])), size)
-        for text, table, size in ((DEFAULT_ALLOW, "", 8), (ONE_CALL, READ_TABLE, 10), (CLONE[1], CLONE_TABLE[1], 16)):
-            self.assertEqual(spread(text, table), size)
-
     def test_more_paths_than_can_be_counted(self):
         """Tests of a word for many numbers, each of which goes both ways to the next one, and of each bit of an
         argument."""
@@ -268,15 +261,11 @@ LOGS, EMPTY, NO_PROFILE, NO_NAME = a_filter("ret #0x7ffc0000"), a_filter(""), a_
 # Options and parts, what is printed, and the status. What the parts of a bundle hold isn't looked at where they are
 # too few or too many; the table is looked at before the profile, and a filter before both.
 PRINTED = (
-    ("", [], "fault bundle Parts\n", 3),
-    ("", [ALL, NO_TABLE], "fault bundle Parts\n", 3),
+    *(("", parts, "fault bundle Parts\n", 3) for parts in (
+        [], [ALL, NO_TABLE], [ALLOWING, ALLOWING, ALL], [ALLOWING, ALLOWING, NO_TABLE], [ALLOWING, ALL, ALL, NO_TABLE],
+        [ALLOWING, ALL, NO_TABLE, NO_TABLE], [EMPTY, ALLOWING, ALL, NO_TABLE, CLONE_TABLE])),
     ("--native", [ALL, NO_TABLE], "fault bundle Parts\n", 3),
-    ("", [ALLOWING, ALLOWING, ALL], "fault bundle Parts\n", 3),
-    ("", [ALLOWING, ALLOWING, NO_TABLE], "fault bundle Parts\n", 3),
-    ("", [ALLOWING, ALL, ALL, NO_TABLE], "fault bundle Parts\n", 3),
     ("--native", [EMPTY, ALLOWING, ALL, ALL, NO_TABLE], "fault bundle Parts\n", 3),
-    ("", [ALLOWING, ALL, NO_TABLE, NO_TABLE], "fault bundle Parts\n", 3),
-    ("", [EMPTY, ALLOWING, ALL, NO_TABLE, CLONE_TABLE], "fault bundle Parts\n", 3),
     ("", [NO_NAME, NO_PROFILE, UNLOADED], "fault filter LastNotReturn\n", 1),
     ("", [LOGS, LOGS, NO_PROFILE, NO_NAME], "fault table Name line 1\n", 1),
     ("", [LOGS, LOGS, NO_PROFILE, NO_TABLE], "fault profile Missing\n", 1),
@@ -397,9 +386,8 @@ class Printed(Judged):
                          ("", [ALL, beside_profile(ONE_CALL), NO_TABLE], "fault bundle Parts\n", 3)], "compile")
 
     def test_excluded_flags(self):
-        for text, rows in EXCLUDED.items():
-            for words in rows:
-                self.refuses(["compare", *words.split()], text)
+        for words, text in each_of(EXCLUDED):
+            self.refuses(["compare", *words.split()], text)
 
     def test_refused_filters(self):
         """The oldest filter that is refused is named, at each place of three, before a profile and a table that are

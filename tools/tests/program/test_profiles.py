@@ -6,7 +6,7 @@ import struct
 
 from support.common import I386, X32, X86_64, part
 from support.on_parts import (ALL, ALLOW, CLONE, CLONE_TABLE, DEFAULT_ALLOW, ONE_CALL, READ_TABLE, READ_WRITE_TABLE,
-                              OnProgram, a_profile, a_table, behind_gate, bundle, ran)
+                              OnProgram, a_profile, a_table, behind_gate, bundle, each_of, ran)
 from support.worked import (FAILS, KILLS, MADE, MOST, SOCKET_RULES, SOCKET_TABLE, WHOLE_CONFIG, allowing, effort,
                             refusing)
 from scftools.ask import verdicts
@@ -14,24 +14,16 @@ from scftools.ask import verdicts
 BIT_32, LAST = 1 << 32, X32 - 1
 # The most instructions that a conditional jump passes.
 FARTHEST = 255
-# Texts of tables, and their faults.
-TABLES = (
-    ("", None),
-    ("# x\n\na 5\nb 5", None),
-    ("read 0\r\n \twrite\t 1 \r\n", None),
-    ("a 0000000000000000000000001\nA 1073741823", None),
-    ("read 0\nread 1", "Repeated line 2"),
-    ("read 1073741824", "Number line 1"),
-    ("read 18446744073709551616", "Number line 1"),
-    ("read 0x1", "Number line 1"),
-    ("read 0\r", "Number line 1"),
-    ("9p 1", "Name line 1"),
-    ("r\u00e9ad 1", "Name line 1"),
-    ("a 1\n9p x", "Name line 2"),
-    ("read", "Form line 1"),
-    ("\r", "Form line 1"),
-    ("a 1\n\n9p 1 1\na 1", "Form line 3"),
-)
+# Faults, and the texts of tables that have them.
+TABLES = {
+    None: ("", "# x\n\na 5\nb 5", "read 0\r\n \twrite\t 1 \r\n", "a 0000000000000000000000001\nA 1073741823"),
+    "Repeated line 2": ("read 0\nread 1",),
+    "Number line 1": ("read 1073741824", "read 18446744073709551616", "read 0x1", "read 0\r"),
+    "Name line 1": ("9p 1", "r\u00e9ad 1"),
+    "Name line 2": ("a 1\n9p x",),
+    "Form line 1": ("read", "\r"),
+    "Form line 3": ("a 1\n\n9p 1 1\na 1",),
+}
 # Texts of tables, and what is said of their calls, by their numbers.
 CALLS = (
     ("read 0", "0 read"),
@@ -47,73 +39,56 @@ CALLS = (
     # Names of two numbers among each other.
     ("b 5\nd 4\na 4\nc 5", "4 a,d; 5 b,c"),
 )
-# Texts of profiles, and their faults.
-PROFILES = (
-    ("[]", "Kind"),
-    ('{"linux":3}', "Kind"),
-    ('{"linux":{"seccomp":3}}', "Kind"),
-    ('{"defaultAction":3}', "Kind"),
-    ("{}", "Missing"),
-    ('{"linux":{}}', "Missing"),
-    ('{"linux":null}', "Missing"),
-    ('{"defaultAction":null}', "Missing"),
-    ('{"defaultAction":"X","defaultErrnoRet":"x"}', "Action"),
-    ('{"defaultAction":"SCMP_ACT_ERRNO","defaultErrnoRet":1.5,"architectures":3}', "Kind"),
-    ('{"defaultAction":"SCMP_ACT_ALLOW","defaultErrnoRet":-1,"architectures":3}', "Errno"),
-    ('{"defaultAction":"SCMP_ACT_ERRNO","defaultErrnoRet":65536,"architectures":3}', "ErrnoRange"),
-    ('{"defaultAction":"SCMP_ACT_ERRNO","defaultErrnoRet":-1}', "ErrnoRange"),
-    ('{"defaultAction":"SCMP_ACT_TRACE","defaultErrnoRet":-1}', "ErrnoRange"),
-    ('{"defaultAction":"SCMP_ACT_LOG","architectures":["SCMP_ARCH_X86_64",null],"archMap":3}', "Kind"),
-    ('{"defaultAction":"SCMP_ACT_LOG","architectures":["SCMP_ARCH_X86"],"archMap":3}', "NoX8664"),
-    ('{"defaultAction":"SCMP_ACT_LOG","archMap":[{}],"syscalls":3}', "EngineForm"),
-    ('{"defaultAction":"SCMP_ACT_LOG","archMap":[],"syscalls":3}', "Kind"),
-    ('{"defaultAction":"SCMP_ACT_LOG","defaultErrnoRet":1e999}', "Json"),
-    ('{"defaultAction":"SCMP_ACT_LOG"}x', "Json"),
-    ("", "Json"),
-    # no text of UTF-8
-    (b'{"defaultAction":"\xff"}', "Json"),
-)
-# Texts of entries, and the fault of a profile that has them.
-ENTRIES = (
-    ("3", "Kind entry 0"),
-    ("null", "Kind entry 0"),
-    ('{"includes":{"caps":["CAP_SYS_ADMIN"]},"names":3}', "EngineForm entry 0"),
-    ('{"includes":{},"excludes":false}', "EngineForm entry 0"),
-    ('{"name":"read","action":"SCMP_ACT_LOG"}', "Missing entry 0"),
-    ('{"names":3}', "Kind entry 0"),
-    ('{"names":[]}', "EmptyNames entry 0"),
-    ('{"names":[null]}', "Kind entry 0"),
-    ('{"names":["a"],"errnoRet":"x"}', "Missing entry 0"),
-    ('{"names":["a"],"action":"SCMP_ACT_NONE","errnoRet":"x"}', "Action entry 0"),
-    ('{"names":["a"],"action":"SCMP_ACT_KILL","errnoRet":0,"args":3}', "Errno entry 0"),
-    ('{"names":["a"],"action":"SCMP_ACT_TRACE","errnoRet":65536,"args":3}', "ErrnoRange entry 0"),
-    ('{"names":["a"],"action":"SCMP_ACT_LOG","args":{}}', "Kind entry 0"),
-    ('{"names":["a"],"action":"SCMP_ACT_LOG"},{"names":["a"],"action":"SCMP_ACT_TRAP"},{"names":3}', "Kind entry 2"),
-    ('{"names":["a"],"action":"SCMP_ACT_ALLOW"},{"names":["a"],"action":"SCMP_ACT_LOG"}',
-     "Conflict number 1 first 0 second 1"),
-    ('{"names":["a","b"],"action":"SCMP_ACT_ALLOW"},{"names":["c"],"action":"SCMP_ACT_ERRNO"},'
-     '{"names":["b","a"],"action":"SCMP_ACT_ERRNO"}', "Conflict number 1 first 0 second 2"),
-    ('{"names":["d"],"action":"SCMP_ACT_ALLOW"},{"names":["e"],"action":"SCMP_ACT_LOG"}',
-     "Conflict number 5 first 0 second 1"),
-)
-# Texts of conditions, and the fault of a profile that has them.
-ARGS = (
-    ("null", "Kind entry 0"),
-    ('{"op":"X"}', "Missing entry 0"),
-    ('{"index":1.0,"op":"X"}', "Kind entry 0"),
-    ('{"index":18446744073709551616}', "Kind entry 0"),
-    ('{"index":6}', "Index entry 0"),
-    ('{"index":-1}', "Index entry 0"),
-    ('{"index":5,"value":-1}', "Missing entry 0"),
-    ('{"index":5,"op":3,"value":-1}', "Kind entry 0"),
-    ('{"index":5,"op":"SCMP_CMP_XX","value":-1}', "Operator entry 0"),
-    ('{"index":5,"op":"SCMP_CMP_GT","valueTwo":-1}', "Missing entry 0"),
-    ('{"index":5,"op":"SCMP_CMP_GT","value":-1}', "Kind entry 0"),
-    ('{"index":5,"op":"SCMP_CMP_GT","value":18446744073709551616}', "Kind entry 0"),
-    ('{"index":0,"op":"SCMP_CMP_GT","value":0},{"index":0,"op":"SCMP_CMP_GT","value":0,"valueTwo":"0"}',
-     "Kind entry 0"),
-    ('{"index":0,"op":"SCMP_CMP_GT","value":0},{"index":0,"op":"SCMP_CMP_LT","value":9},3', "RepeatedIndex entry 0"),
-)
+# Faults, and the texts of profiles that have them.
+PROFILES = {
+    "Kind": ("[]", '{"linux":3}', '{"linux":{"seccomp":3}}', '{"defaultAction":3}',
+             '{"defaultAction":"SCMP_ACT_ERRNO","defaultErrnoRet":1.5,"architectures":3}',
+             '{"defaultAction":"SCMP_ACT_LOG","architectures":["SCMP_ARCH_X86_64",null],"archMap":3}',
+             '{"defaultAction":"SCMP_ACT_LOG","archMap":[],"syscalls":3}'),
+    "Missing": ("{}", '{"linux":{}}', '{"linux":null}', '{"defaultAction":null}'),
+    "Action": ('{"defaultAction":"X","defaultErrnoRet":"x"}',),
+    "Errno": ('{"defaultAction":"SCMP_ACT_ALLOW","defaultErrnoRet":-1,"architectures":3}',),
+    "ErrnoRange": ('{"defaultAction":"SCMP_ACT_ERRNO","defaultErrnoRet":65536,"architectures":3}',
+                   '{"defaultAction":"SCMP_ACT_ERRNO","defaultErrnoRet":-1}',
+                   '{"defaultAction":"SCMP_ACT_TRACE","defaultErrnoRet":-1}'),
+    "NoX8664": ('{"defaultAction":"SCMP_ACT_LOG","architectures":["SCMP_ARCH_X86"],"archMap":3}',),
+    "EngineForm": ('{"defaultAction":"SCMP_ACT_LOG","archMap":[{}],"syscalls":3}',),
+    # the last is no text of UTF-8
+    "Json": ('{"defaultAction":"SCMP_ACT_LOG","defaultErrnoRet":1e999}', '{"defaultAction":"SCMP_ACT_LOG"}x', "",
+             b'{"defaultAction":"\xff"}'),
+}
+# The same of the texts of entries.
+ENTRIES = {
+    "Kind entry 0": ("3", "null", '{"names":3}', '{"names":[null]}',
+                     '{"names":["a"],"action":"SCMP_ACT_LOG","args":{}}'),
+    "EngineForm entry 0": ('{"includes":{"caps":["CAP_SYS_ADMIN"]},"names":3}', '{"includes":{},"excludes":false}'),
+    "Missing entry 0": ('{"name":"read","action":"SCMP_ACT_LOG"}', '{"names":["a"],"errnoRet":"x"}'),
+    "EmptyNames entry 0": ('{"names":[]}',),
+    "Action entry 0": ('{"names":["a"],"action":"SCMP_ACT_NONE","errnoRet":"x"}',),
+    "Errno entry 0": ('{"names":["a"],"action":"SCMP_ACT_KILL","errnoRet":0,"args":3}',),
+    "ErrnoRange entry 0": ('{"names":["a"],"action":"SCMP_ACT_TRACE","errnoRet":65536,"args":3}',),
+    "Kind entry 2": (
+        '{"names":["a"],"action":"SCMP_ACT_LOG"},{"names":["a"],"action":"SCMP_ACT_TRAP"},{"names":3}',),
+    "Conflict number 1 first 0 second 1": (
+        '{"names":["a"],"action":"SCMP_ACT_ALLOW"},{"names":["a"],"action":"SCMP_ACT_LOG"}',),
+    "Conflict number 1 first 0 second 2": (
+        '{"names":["a","b"],"action":"SCMP_ACT_ALLOW"},{"names":["c"],"action":"SCMP_ACT_ERRNO"},'
+        '{"names":["b","a"],"action":"SCMP_ACT_ERRNO"}',),
+    "Conflict number 5 first 0 second 1": (
+        '{"names":["d"],"action":"SCMP_ACT_ALLOW"},{"names":["e"],"action":"SCMP_ACT_LOG"}',),
+}
+# The same of the texts of conditions.
+ARGS = {
+    "Kind entry 0": (
+        "null", '{"index":1.0,"op":"X"}', '{"index":18446744073709551616}', '{"index":5,"op":3,"value":-1}',
+        '{"index":5,"op":"SCMP_CMP_GT","value":-1}', '{"index":5,"op":"SCMP_CMP_GT","value":18446744073709551616}',
+        '{"index":0,"op":"SCMP_CMP_GT","value":0},{"index":0,"op":"SCMP_CMP_GT","value":0,"valueTwo":"0"}'),
+    "Missing entry 0": ('{"op":"X"}', '{"index":5,"value":-1}', '{"index":5,"op":"SCMP_CMP_GT","valueTwo":-1}'),
+    "Index entry 0": ('{"index":6}', '{"index":-1}'),
+    "Operator entry 0": ('{"index":5,"op":"SCMP_CMP_XX","value":-1}',),
+    "RepeatedIndex entry 0": (
+        '{"index":0,"op":"SCMP_CMP_GT","value":0},{"index":0,"op":"SCMP_CMP_LT","value":9},3',),
+}
 # How often the one entry has a name, the entries behind it, and the fault.
 COUNTS = (
     (4096, "", None),
@@ -159,68 +134,34 @@ ENGINE_RULES = '''{"defaultAction":"SCMP_ACT_ERRNO","defaultErrnoRet":38,"syscal
     "args":[{"index":0,"value":16,"valueTwo":0,"op":"SCMP_CMP_NE"}]},
     {"names":["socket"],"action":"SCMP_ACT_ALLOW",
     "args":[{"index":2,"value":9,"valueTwo":0,"op":"SCMP_CMP_NE"}]}]}'''
-# A table and a profile, the architecture and the number of a call, its first arguments, and its answer with the
-# reason.
-ANSWERS = [(READ_TABLE, ONE_CALL, *row) for row in (
-    (X86_64, 0, (), f"{MADE} entry 0"),
-    (X86_64, 1, (), f"{FAILS} default"),
-    (X86_64, LAST, (), f"{FAILS} default"),
-    (X86_64, X32, (), f"{KILLS} foreign"),
-    (X86_64, 0xFFFFFFFF, (), f"{KILLS} foreign"),
-    (I386, 0, (), f"{KILLS} foreign"),
-)] + [(CONDITIONS_TABLE, CONDITIONS, X86_64, *row) for row in (
-    (0, (0,), f"{FAILS} default"),
-    (0, (MOST,), f"{FAILS} default"),
-    (1, (0,), f"{MADE} entry 1"),
-    (1, (MOST,), f"{MADE} entry 1"),
-    (41, (40,), f"{FAILS} default"),
-    (41, (BIT_32 | 40,), f"{MADE} entry 2"),
-    (56, (255, 0, 7), f"{MADE} entry 3"),
-    (56, (511, 0, 7), f"{MADE} entry 3"),
-    (56, (510, 0, 7), f"{FAILS} default"),
-    (56, (255, 7, 0), f"{FAILS} default"),
-)] + [(REASONS_TABLE, REASONS, *row) for row in (
-    (X86_64, 1, (1, 0), f"{MADE} entry 1"),
-    (X86_64, 1, (2, 0), f"{MADE} entry 4"),
-    (X86_64, 1, (6, 3), f"{MADE} entry 2"),
-    (X86_64, 1, (MOST, 3), f"{MADE} entry 2"),
-    (X86_64, 1, (BIT_32 | 1, 0), f"{MADE} entry 2"),
-    (X86_64, 1, (3, 3), f"{FAILS} default"),
-    (X86_64, 0, (6, 0), f"{MADE} entry 2"),
-    (X86_64, 0, (0, 0), "ERRNO 7 entry 6"),
-    (X86_64, 0, (1, 0), f"{FAILS} default"),
-    (X86_64, 2, (0, 0), f"{FAILS} default"),
-    (X86_64, LAST - 1, (0, 0), f"{FAILS} default"),
-    (X86_64, LAST, (0, 0), "ERRNO 7 entry 5"),
-    (X86_64, LAST, (9, 0), "ERRNO 7 entry 5"),
-    (X86_64, X32, (0, 0), f"{KILLS} foreign"),
-    (X86_64, X32 + 1, (1, 0), f"{KILLS} foreign"),
-    (X86_64, 0xFFFFFFFF, (1, 0), f"{KILLS} foreign"),
-    (I386, 1, (1, 0), f"{KILLS} foreign"),
-    (0xC000003F, LAST, (0, 0), f"{KILLS} foreign"),
-)] + [(READ_TABLE, WHOLE_CONFIG, *row) for row in (
-    (X86_64, 0, (), f"{MADE} entry 0"),
-    (X86_64, 1, (), "ERRNO 38 default"),
-)] + [("", DEFAULT_ALLOW, *row) for row in (
-    (X86_64, 0, (), f"{MADE} default"),
-    (X86_64, LAST, (), f"{MADE} default"),
-    (X86_64, X32, (), f"{KILLS} foreign"),
-    (I386, 0, (), f"{KILLS} foreign"),
-)] + [(CLONE_TABLE[1], CLONE[1], X86_64, 56, (first,), text) for first, text in (
-    (0, f"{MADE} entry 0"), (BIT_32, f"{MADE} entry 0"), (0x02000000, f"{FAILS} default"),
-)] + [(READ_TABLE, ESCAPED, X86_64, number, (), text) for number, text in (
-    (0, f"{MADE} entry 0"), (1, f"{FAILS} default"),
-)] + [(SOCKET_TABLE, profile, X86_64, 41, arguments, text) for profile, arguments, text in (
+# A table, a profile, and its answers with their reasons to calls of x86-64: a call's number and first arguments.
+ANSWERS = (
+    (READ_TABLE, ONE_CALL, {f"{MADE} entry 0": [(0,)], f"{FAILS} default": [(1,), (LAST,)],
+                            f"{KILLS} foreign": [(X32,), (0xFFFFFFFF,)]}),
+    (CONDITIONS_TABLE, CONDITIONS, {
+        f"{FAILS} default": [(0, 0), (0, MOST), (41, 40), (56, 510, 0, 7), (56, 255, 7, 0)],
+        f"{MADE} entry 1": [(1, 0), (1, MOST)], f"{MADE} entry 2": [(41, BIT_32 | 40)],
+        f"{MADE} entry 3": [(56, 255, 0, 7), (56, 511, 0, 7)]}),
+    (REASONS_TABLE, REASONS, {
+        f"{MADE} entry 1": [(1, 1, 0)], f"{MADE} entry 4": [(1, 2, 0)],
+        f"{MADE} entry 2": [(1, 6, 3), (1, MOST, 3), (1, BIT_32 | 1, 0), (0, 6, 0)],
+        f"{FAILS} default": [(1, 3, 3), (0, 1, 0), (2, 0, 0), (LAST - 1, 0, 0)],
+        "ERRNO 7 entry 6": [(0, 0, 0)], "ERRNO 7 entry 5": [(LAST, 0, 0), (LAST, 9, 0)],
+        f"{KILLS} foreign": [(X32, 0, 0), (X32 + 1, 1, 0), (0xFFFFFFFF, 1, 0)]}),
+    (READ_TABLE, WHOLE_CONFIG, {f"{MADE} entry 0": [(0,)], "ERRNO 38 default": [(1,)]}),
+    ("", DEFAULT_ALLOW, {f"{MADE} default": [(0,), (LAST,)], f"{KILLS} foreign": [(X32,)]}),
+    (CLONE_TABLE[1], CLONE[1], {f"{MADE} entry 0": [(56, 0), (56, BIT_32)], f"{FAILS} default": [(56, 0x02000000)]}),
+    (READ_TABLE, ESCAPED, {f"{MADE} entry 0": [(0,)], f"{FAILS} default": [(1,)]}),
     # rules that answer differently and don't conflict
-    (SOCKET_RULES, (16, 0, 9), "ERRNO 22 entry 0"),
-    (SOCKET_RULES, (16, 0, 1), f"{MADE} entry 1"),
-    (SOCKET_RULES, (2, 0, 9), "ERRNO 1 default"),
-    (ENGINE_RULES, (16, 3, 9), "ERRNO 22 entry 0"),
-    (ENGINE_RULES, (16, 3, 0), f"{MADE} entry 1"),
-    (ENGINE_RULES, (2, 1, 9), f"{MADE} entry 2"),
-    (ENGINE_RULES, (2, 1, 6), f"{MADE} entry 1"),
-    (ENGINE_RULES, (BIT_32 | 16, 3, 9), f"{MADE} entry 2"),
-)]
+    (SOCKET_TABLE, SOCKET_RULES, {"ERRNO 22 entry 0": [(41, 16, 0, 9)], f"{MADE} entry 1": [(41, 16, 0, 1)],
+                                  "ERRNO 1 default": [(41, 2, 0, 9)]}),
+    (SOCKET_TABLE, ENGINE_RULES, {"ERRNO 22 entry 0": [(41, 16, 3, 9)],
+                                  f"{MADE} entry 1": [(41, 16, 3, 0), (41, 2, 1, 6)],
+                                  f"{MADE} entry 2": [(41, 2, 1, 9), (41, BIT_32 | 16, 3, 9)]}),
+)
+# Calls of other architectures.
+FOREIGN = ((READ_TABLE, ONE_CALL, I386, 0, ()), (REASONS_TABLE, REASONS, I386, 1, (1, 0)),
+           (REASONS_TABLE, REASONS, 0xC000003F, LAST, (0, 0)), ("", DEFAULT_ALLOW, I386, 0, ()))
 # An operator with its value and second value, arguments of which it holds, and others.
 OPERATORS = (
     ("NE", (40, 0), (0, 39, 41, BIT_32 | 40, MOST), (40,)),
@@ -245,31 +186,18 @@ OPERATORS = (
     ("MASKED_EQ", (255, 511), (255, 511, BIT_32 | 255, MOST), (510, 0)),
 )
 # How the first of two rules asks an argument (OCI runtime specification, `op`; a value, and the second one of a mask),
-# how the second does, None where it doesn't, and whether some number meets both.
-PAIRS = (
-    (("LT", 10), ("GE", 10), False),
-    (("LE", 10), ("GE", 10), True),
-    (("MASKED_EQ", 1, 1), ("MASKED_EQ", 1, 0), False),
-    (("MASKED_EQ", 255, 16), ("LT", 16), False),
-    (("MASKED_EQ", 255, 16), ("LT", 17), True),
-    (("MASKED_EQ", 18446744073709551600, 32), ("GT", 47), False),
-    (("MASKED_EQ", 18446744073709551600, 32), ("GT", 46), True),
-    (("NE", 5), ("EQ", 5), False),
-    (("NE", 5), ("NE", 6), True),
-    (("NE", 5), ("EQ", 6), True),
-    (("MASKED_EQ", 0, 0), ("EQ", 3), True),
-    (("MASKED_EQ", 0, 9), ("EQ", 3), True),
-    (("MASKED_EQ", 6, 2), ("MASKED_EQ", 3, 3), True),
-    (("MASKED_EQ", 6, 4), ("MASKED_EQ", 3, 3), False),
-    (("LT", 0), None, False),
-    (("LT", 1), None, True),
-    (("GT", MOST), None, False),
-    (("GE", MOST), None, True),
-    (None, None, True),
-    (("EQ", 3), ("EQ", BIT_32 | 3), False),
-    (("NE", 3), ("EQ", BIT_32 | 3), True),
-    (("GE", BIT_32), ("LE", BIT_32 - 1), False),
-)
+# and how the second does, None where it doesn't, by whether some number meets both.
+PAIRS = {
+    True: ((("LE", 10), ("GE", 10)), (("MASKED_EQ", 255, 16), ("LT", 17)),
+           (("MASKED_EQ", 18446744073709551600, 32), ("GT", 46)), (("NE", 5), ("NE", 6)), (("NE", 5), ("EQ", 6)),
+           (("MASKED_EQ", 0, 0), ("EQ", 3)), (("MASKED_EQ", 0, 9), ("EQ", 3)),
+           (("MASKED_EQ", 6, 2), ("MASKED_EQ", 3, 3)), (("LT", 1), None), (("GE", MOST), None), (None, None),
+           (("NE", 3), ("EQ", BIT_32 | 3))),
+    False: ((("LT", 10), ("GE", 10)), (("MASKED_EQ", 1, 1), ("MASKED_EQ", 1, 0)), (("MASKED_EQ", 255, 16), ("LT", 16)),
+            (("MASKED_EQ", 18446744073709551600, 32), ("GT", 47)), (("NE", 5), ("EQ", 5)),
+            (("MASKED_EQ", 6, 4), ("MASKED_EQ", 3, 3)), (("LT", 0), None), (("GT", MOST), None),
+            (("EQ", 3), ("EQ", BIT_32 | 3)), (("GE", BIT_32), ("LE", BIT_32 - 1))),
+}
 # Entries, with how they ask an argument, and the conflict that is named: the least second entry, then the least first
 # one, then the least number.
 LEAST = (
@@ -311,6 +239,11 @@ def compiled(profile, table):
     return out
 
 
+def words_of(number, arch, arguments):
+    """The options that have a call."""
+    return ["--arch", hex(arch), "--nr", str(number), *(f"--a{at}={value}" for at, value in enumerate(arguments))]
+
+
 def tested(equal, greater):
     """As many rules of `write` that test an argument for a value, and as many that test it for a greater one; and one
     of each for `read`."""
@@ -328,17 +261,13 @@ class OnProfiles(OnProgram):
 
     def asks(self, table, profile, arch, number, arguments, text):
         """That a profile answers a call so, and why; and so does the filter that is compiled of it."""
-        words = ["--arch", hex(arch), "--nr", str(number)]
-        for at, argument in enumerate(arguments):
-            words += [f"--a{at}", str(argument)]
-        self.prints(["ask", *words], bundle([a_profile(profile), a_table(table)]), f"{text}\n")
+        self.prints(["ask", *words_of(number, arch, arguments)], bundle([a_profile(profile), a_table(table)]),
+                    f"{text}\n")
         self.answers(compiled(profile, table), " ".join(text.split()[:2]), number, arch, arguments)
 
     def answers(self, filter_, answer, number, arch=X86_64, arguments=(0,), most=None):
         """That a filter answers a call so, in at most so many steps."""
-        words = ["--nr", str(number), "--arch", hex(arch)]
-        for at, argument in enumerate(arguments):
-            words += [f"--a{at}", str(argument)]
+        words = words_of(number, arch, arguments)
         out, status = ran(["run", *words], filter_)
         actual, _, steps = out.decode().rstrip("\n").partition(" steps ")
         self.assertEqual((actual, status), (answer, 0), words)
@@ -348,7 +277,7 @@ class OnProfiles(OnProgram):
 
 class Tables(OnProfiles):
     def test_tables(self):
-        for table, fault in TABLES:
+        for table, fault in each_of(TABLES):
             self.loads(DEFAULT_ALLOW, table, fault and f"table {fault}")
 
     def test_numbers_of_names(self):
@@ -369,17 +298,11 @@ class Tables(OnProfiles):
 
 
 class Refusals(OnProfiles):
-    def test_profiles(self):
-        for profile, fault in PROFILES:
-            self.loads(profile, "", f"profile {fault}")
-
-    def test_entries(self):
-        for entries, fault in ENTRIES:
-            self.loads(with_entries(entries), "a 1\nb 2\nc 3\nd 5\ne 5", f"profile {fault}")
-
-    def test_args(self):
-        for args, fault in ARGS:
-            self.loads(with_args(args), "a 1", f"profile {fault}")
+    def test_texts(self):
+        for faults, made, table in ((PROFILES, lambda text: text, ""), (ARGS, with_args, "a 1"),
+                                    (ENTRIES, with_entries, "a 1\nb 2\nc 3\nd 5\ne 5")):
+            for text, fault in each_of(faults):
+                self.loads(made(text), table, f"profile {fault}")
 
     def test_counts_of_rules(self):
         for count, remaining, fault in COUNTS:
@@ -393,8 +316,11 @@ class Refusals(OnProfiles):
 
 class Answers(OnProfiles):
     def test_answers(self):
-        for row in ANSWERS:
-            self.asks(*row)
+        for table, profile, answers in ANSWERS:
+            for (number, *arguments), text in each_of(answers):
+                self.asks(table, profile, X86_64, number, arguments, text)
+        for call in FOREIGN:
+            self.asks(*call, f"{KILLS} foreign")
 
     def test_operators(self):
         for operator, (value, second), holds, fails in OPERATORS:
@@ -412,7 +338,7 @@ class Conflicts(OnProfiles):
 
     def test_two_rules(self):
         """Of call 7, ALLOW and then ERRNO, with the one condition first and with the other."""
-        for first, second, is_both in PAIRS:
+        for (first, second), is_both in each_of(PAIRS):
             for index in (0, 5):
                 for item, another in ((first, second), (second, first)):
                     self.conflicts([("a", "ALLOW", index, item), ("a", "ERRNO", index, another)],
@@ -498,21 +424,16 @@ class Steps(OnProfiles):
     """8, and 2 for each binary digit of the count of the numbers, and the greatest sum of 2 and 8 for each condition
     over the rules of a number."""
 
-    def test_a_default(self):
-        self.answers(compiled(DEFAULT_ALLOW, ""), MADE, 0, most=8)
-
-    def test_a_condition(self):
-        for first, answer in ((0, MADE), (0x02000000, FAILS), (BIT_32, MADE)):
-            self.answers(compiled(CLONE[1], CLONE_TABLE[1]), answer, 56, arguments=(first,), most=20)
-
-    def test_many_numbers(self):
-        for number, answer in ((0, MADE), (340, MADE), (680, MADE), (681, FAILS)):
-            self.answers(compiled(*allowing(range(681))), answer, number, most=30)
-
-    def test_rules_that_no_call_meets_both(self):
+    def test_each(self):
         filter_ = compiled(SOCKET_RULES, SOCKET_TABLE)
-        for arguments, answer in (((16, 0, 9), "ERRNO 22"), ((16, 0, 1), MADE), ((2, 0, 9), FAILS)):
-            self.answers(filter_, answer, 41, arguments=arguments, most=38)
+        for data, calls, most in (
+                (compiled(DEFAULT_ALLOW, ""), [(MADE, 0)], 8),
+                (compiled(CLONE[1], CLONE_TABLE[1]), [(MADE, 56, 0), (FAILS, 56, 0x02000000), (MADE, 56, BIT_32)], 20),
+                (compiled(*allowing(range(681))), [(MADE, 0), (MADE, 340), (MADE, 680), (FAILS, 681)], 30),
+                # rules that no call meets both
+                (filter_, [("ERRNO 22", 41, 16, 0, 9), (MADE, 41, 16, 0, 1), (FAILS, 41, 2, 0, 9)], 38)):
+            for answer, number, *arguments in calls:
+                self.answers(data, answer, number, arguments=arguments, most=most)
         given = part("filter", filter_) + bundle([a_profile(SOCKET_RULES), a_table(SOCKET_TABLE)])
         self.prints(["compare", "--limit", str(effort([filter_], SOCKET_RULES, SOCKET_TABLE))], given, "same\n")
 

@@ -13,7 +13,7 @@ import unittest
 from support.common import (ALLOW, CORE, PATIENCE, PROGRAM, SCF, TABLE, TOOLS, TOP, Case, bytes_of, filter_of,
                             for_developers, insn, jeq, load, module, part, profile_of, ret, text_of)
 from program import test_answers, test_profiles
-from support.on_parts import assembled
+from support.on_parts import assembled, each_of
 
 # Of a row of faults: a source or a kind with its number in scf.h, and a kind between its status and its numbers.
 NAME, KIND = r'\(codes "(\w+)", (\d+)\)', r'\(\s*(\w+),\s+\(codes "(\w+)", (\d+)\),\s+([^=]*?),?\s*\)'
@@ -92,18 +92,18 @@ class Faults(Case):
 
         filters = [(insn(code, k, jt, jf) + ret(0), fault) for code, jt, jf, k, fault in test_answers.REFUSED_FIRST]
         filters += [(assembled(text), fault) for text, fault in test_answers.REFUSED]
-        profiles = [*test_profiles.PROFILES,
-                    *((test_profiles.with_entries(entries), fault) for entries, fault in test_profiles.ENTRIES),
-                    *((test_profiles.with_args(args), fault) for args, fault in test_profiles.ARGS)]
+        profiles = [*each_of(test_profiles.PROFILES),
+                    *((test_profiles.with_entries(text), fault) for text, fault in each_of(test_profiles.ENTRIES)),
+                    *((test_profiles.with_args(text), fault) for text, fault in each_of(test_profiles.ARGS))]
         # 8000 conditions, each of a wide value of its own
         many = [{"names": ["read"], "action": "SCMP_ACT_LOG", "args": [
             {"index": at, "value": number, "op": "SCMP_CMP_GT"} for at in range(2)]}
             for number in range(2**40, 2**40 + 4000)]
         cases = [
             *((["check"], data, f"fault filter {fault}") for data, fault in filters),
-            *((["asm"], text.encode(), f"fault text {fault}") for text, fault in test_answers.FAULTS),
+            *((["asm"], text.encode(), f"fault text {fault}") for text, fault in each_of(test_answers.FAULTS)),
             *((["compile"], part("profile", b"{}") + part("table", text.encode()), f"fault table {fault}")
-              for text, fault in test_profiles.TABLES if fault),
+              for text, fault in each_of(test_profiles.TABLES) if fault),
             *((["compile"], part("profile", profile if isinstance(profile, bytes) else profile.encode())
                + part("table", b"a 1\nb 2\nc 3\nd 5\ne 5\n"), f"fault profile {fault}") for profile, fault in profiles),
             (["decide"], b"filter x\n", "fault bundle Header offset 0"),

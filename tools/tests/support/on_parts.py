@@ -12,6 +12,11 @@ import unittest
 from .common import CORE, PATIENCE, PROGRAM, part
 
 
+def each_of(rows):
+    """The items of a table's rows, each with what its row has as its key."""
+    return [(item, key) for key, items in rows.items() for item in items]
+
+
 def a_filter(text):
     return "filter", text
 
