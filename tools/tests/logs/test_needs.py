@@ -47,12 +47,9 @@ class Values(unittest.TestCase):
                             ("0xffffffff80000000 /* CLONE_IO|0xffffffff00000000 */|17 /* SIGCHLD */",
                              0xFFFFFFFF80000011), ("0 /* PER_LINUX */|0x40000 /* ADDR_NO_RANDOMIZE */", 0x40000),
                             ("3</tmp/a>(deleted)", 3), ("0</dev/null<char 1:3>>", 0), ("4<pipe:[7]>", 4),
-                            ('5<UNIX:[7,@"x\\"]>, 9, 9<"]>', 5), ("6<TCPv6:[[::1]:22->[::1]:23]>", 6)):
-            self.assertEqual(strace.values_of(text), (value,), text)
-
-    def test_names(self):
-        """By the manual pages and headers: socket(2), clone(2), personality(2), linux/sched.h, asm/ioctls.h."""
-        for text, value in (("AF_INET", 2), ("AF_VSOCK", 40), ("SOCK_STREAM|SOCK_CLOEXEC", 0o2000001),
+                            ('5<UNIX:[7,@"x\\"]>, 9, 9<"]>', 5), ("6<TCPv6:[[::1]:22->[::1]:23]>", 6),
+                            # by socket(2), clone(2), personality(2), linux/sched.h and asm/ioctls.h
+                            ("AF_INET", 2), ("AF_VSOCK", 40), ("SOCK_STREAM|SOCK_CLOEXEC", 0o2000001),
                             ("NETLINK_AUDIT", 9), ("CLONE_VM|CLONE_VFORK|SIGCHLD", 0x4111), ("PER_LINUX", 0),
                             ("PER_LINUX|ADDR_NO_RANDOMIZE", 0x40000), ("CLONE_NEWUSER|SIGCHLD", 0x10000011),
                             ("O_RDWR|O_CREAT|O_LARGEFILE", 0o100102), ("TIOCSTI", 0x5412), ("PROT_READ|PROT_EXEC", 5),
@@ -60,15 +57,14 @@ class Values(unittest.TestCase):
                             ("CLONE_IO|0xffffffff00000000|SIGCHLD", 0xFFFFFFFF80000011)):
             self.assertEqual(strace.values_of(text), (value,), text)
 
-    def test_an_upper_half_is_zero_or_the_sign(self):
+    def test_upper_bits(self):
+        """An upper half is zero or the sign. The kernel takes a mode as umode_t, which is an unsigned short
+        (linux/types.h), and strace prints that."""
         for text, number in (("-1", -1), ("-100", -100), ("AT_FDCWD", -100), ("AT_FDCWD</tmp>", -100),
                              ("-2147483648", -(1 << 31)), ("0xffffffff", -1), ("4294967295", -1),
                              ("0x80000000", -(1 << 31)), ("CLONE_IO|SIGCHLD", 17 - (1 << 31)),
                              ("0xffffffff /* CAP_??? */", -1), ("PR_SET_PTRACER_ANY", -1)):
             self.assertEqual(strace.values_of(text), (number + (1 << 32), number + HIGH), text)
-
-    def test_the_upper_bits_of_a_mode(self):
-        """The kernel takes a mode as umode_t, which is an unsigned short (linux/types.h), and strace prints that."""
         for text, number in (("0177777", 0xFFFF), ("S_IFREG|0644", 0o100644)):
             self.assertEqual(strace.values_of(text), (number, number | 0xFFFF0000, number | HIGH - 0x10000), text)
 
@@ -120,12 +116,27 @@ class Forms(unittest.TestCase):
             calls, unread, _ = log_of(text)
             self.assertEqual((list(calls.values()), unread), ([1], 0), text)
 
-    def test_what_is_no_call(self):
+    def test_each_form(self):
+        """What is no call; texts that look unfinished, and a message in the midst of a line; arguments by name and in
+        another order; and a call without a name."""
         text = ("--- SIGCHLD {si_signo=SIGCHLD, si_pid=7} ---\n1234  --- SIGINT {si_signo=SIGINT} ---\n"
                 "+++ exited with 0 +++\n[pid 7] +++ killed by SIGKILL (core dumped) +++\n"
                 "strace: Process 12 attached\nstrace: Process 12 detached\n > /usr/lib/x.so(read+0x1) [0x12]\n\n")
-        self.assertEqual(log_of(text), ({}, 0, 0))
-        self.assertEqual(log_of("hello\nread is fine\nread(3\n<... read resumed>) = 3\nRead(3) = 3\n"), ({}, 5, 0))
+        for text, looked_at, calls, unread in (
+                (text, (), {}, 0), ("hello\nread is fine\nread(3\n<... read resumed>) = 3\nRead(3) = 3\n", (), {}, 5),
+                ('1  write(1, " <unfinished ...>", 17) = 17\n1  write(2, "<... read resumed>) = 3", 4) = 1', [0],
+                 {("write", (1,)): 1, ("write", (2,)): 1}, 0),
+                ("clone(child_stack=NULL, flags=CLONE_CHILD_SETTID|SIGCHLDstrace: Process 7 attached\n"
+                 " <unfinished ...>\n[pid 7] close(3) = 0\n[pid 6] <... clone resumed>, child_tidptr=0x7f) = 7\n", (),
+                 {"clone": 1, "close": 1}, 0),
+                ("clone(child_stack=NULL, flags=0x1200000|17, child_tidptr=0x7f) = 7", range(5),
+                 {("clone", (0x1200011,), (0,), None, (0x7F,), None): 1}, 0),
+                ("clone(0x1200011, 0, 0x7, 0x7f, 0) = 0x7", range(5),
+                 {("clone", (0x1200011,), (0,), (7,), (0x7F,), (0,)): 1}, 0),
+                ("other(a=1, 2) = 0", [0, 1], {("other", None, None): 1}, 0),
+                ("preadv2(3, [], 0, 9, 5) = 0", [3, 4, 5], {("preadv2", (9,), None, (5,)): 1}, 0),
+                ("syscall_0x1c3(0x1, 0x2, 0x3, 0, 0, 0) = -1 ENOSYS (x)", [1], {("syscall_0x1c3", (2,)): 1}, 0)):
+            self.assertEqual(log_of(text, looked_at), (calls, unread, 0), text)
 
     def test_unfinished_and_resumed(self):
         for text in ("1  read(3,  <unfinished ...>\n2  close(4) = 0\n1  <... read resumed>\"a\", 1) = 1",
@@ -140,27 +151,6 @@ class Forms(unittest.TestCase):
         self.assertEqual(log_of(text, [0, 1]), ({("socket", (3,), (4,)): 1, ("socket", (1,), (6,)): 1}, 0, 0))
         # the last argument of a call that never ended may not be whole
         self.assertEqual(log_of("1  read(3, 4 <unfinished ...>", [0, 1])[0], {("read", (3,), None): 1})
-
-    def test_a_text_that_looks_unfinished(self):
-        text = '1  write(1, " <unfinished ...>", 17) = 17\n1  write(2, "<... read resumed>) = 3", 4) = 1'
-        self.assertEqual(log_of(text, [0]), ({("write", (1,)): 1, ("write", (2,)): 1}, 0, 0))
-
-    def test_a_message_in_the_midst_of_a_line(self):
-        text = ("clone(child_stack=NULL, flags=CLONE_CHILD_SETTID|SIGCHLDstrace: Process 7 attached\n"
-                " <unfinished ...>\n[pid 7] close(3) = 0\n[pid 6] <... clone resumed>, child_tidptr=0x7f) = 7\n")
-        self.assertEqual(log_of(text), ({"clone": 1, "close": 1}, 0, 0))
-
-    def test_arguments_by_name_and_in_another_order(self):
-        text = "clone(child_stack=NULL, flags=0x1200000|17, child_tidptr=0x7f) = 7"
-        self.assertEqual(log_of(text, range(5))[0], {("clone", (0x1200011,), (0,), None, (0x7F,), None): 1})
-        text = "clone(0x1200011, 0, 0x7, 0x7f, 0) = 0x7"
-        self.assertEqual(log_of(text, range(5))[0], {("clone", (0x1200011,), (0,), (7,), (0x7F,), (0,)): 1})
-        self.assertEqual(log_of("other(a=1, 2) = 0", [0, 1])[0], {("other", None, None): 1})
-        self.assertEqual(log_of("preadv2(3, [], 0, 9, 5) = 0", [3, 4, 5])[0], {("preadv2", (9,), None, (5,)): 1})
-
-    def test_calls_without_a_name(self):
-        self.assertEqual(log_of("syscall_0x1c3(0x1, 0x2, 0x3, 0, 0, 0) = -1 ENOSYS (x)", [1])[0],
-                         {("syscall_0x1c3", (2,)): 1})
 
     def test_other_modes(self):
         mode = "[ Process PID=7 runs in 32 bit mode. ]"
@@ -387,14 +377,6 @@ class Needs(Judgement):
         for log in ("", "\n\n", "what\n"):
             self.assertIn("# the log has no syscall\n", self.judged(log, 4)[2])
 
-    def test_a_call_without_its_beginning(self):
-        for log in ("<... ptrace resumed>) = 0", "7 <... ptrace resumed>, 1) = 0",
-                    "7 read(3 <unfinished ...>\n7 <... ptrace resumed>) = 0"):
-            dispositions, report, out = self.judged(f"read(1) = 1\n{log}\n", 4)
-            self.assertEqual((dispositions, report["not_judged"]["cut"]), ({"read": "allowed"}, 1), log)
-            self.assertIn("# syscalls not judged, since the log lacks their beginning or end: 1\n", out)
-        self.assertEqual(self.judged("read(1) = 1\n<... what resumed>) = 0\n", 4)[1]["not_judged"]["lines"], 1)
-
     def test_a_number_of_another_abi(self):
         """By -n strace prints a call's number: 20 is getpid of i386 (asm/unistd_32.h), and writev of x86-64."""
         both = {**self.PROFILE, "architectures": ["SCMP_ARCH_X86_64", "SCMP_ARCH_X86"]}
@@ -412,16 +394,20 @@ class Needs(Judgement):
         self.assertEqual(self.run_tool("needs", profile, self.file("q", "x"))[:2][1].split("\n")[0],
                          "fault profile Json")
 
-    def test_a_line_that_ends_before_its_result(self):
-        for cut in ('mount("/dev/sda", "/mnt"', "mount(", 'mount("/dev/sda", "/mnt", NULL, 0, NULL)'):
-            for log in (f"read(1) = 1\n{cut}", f"read(1) = 1\n{cut}\nread(1) = 1\n"):
-                dispositions, report, out = self.judged(log, 4)
-                self.assertEqual((dispositions, report["not_judged"]["cut"], report["not_judged"]["lines"]),
-                                 ({"read": "allowed"}, 1, 0))
-                self.assertIn("# syscalls not judged, since the log lacks their beginning or end: 1\n", out)
-                self.assertEqual(self.needs(log, "--profile")[0], 4)
+    def test_a_call_that_is_cut(self):
+        """Without its beginning, and a line that ends before its result."""
+        mounts = ('mount("/dev/sda", "/mnt"', "mount(", 'mount("/dev/sda", "/mnt", NULL, 0, NULL)')
+        for log in ("<... ptrace resumed>) = 0", "7 <... ptrace resumed>, 1) = 0",
+                    "7 read(3 <unfinished ...>\n7 <... ptrace resumed>) = 0", *mounts,
+                    *(f"{cut}\nread(1) = 1\n" for cut in mounts)):
+            dispositions, report, out = self.judged(f"read(1) = 1\n{log}", 4)
+            self.assertEqual((dispositions, report["not_judged"]["cut"], report["not_judged"]["lines"]),
+                             ({"read": "allowed"}, 1, 0), log)
+            self.assertIn("# syscalls not judged, since the log lacks their beginning or end: 1\n", out)
+            self.assertEqual(self.needs(f"read(1) = 1\n{log}", "--profile")[0], 4)
         # what isn't a call's name isn't strace's
-        self.assertEqual(self.judged("read(1) = 1\nwhat(1\n", 4)[1]["not_judged"]["lines"], 1)
+        for log in ("<... what resumed>) = 0", "what(1"):
+            self.assertEqual(self.judged(f"read(1) = 1\n{log}\n", 4)[1]["not_judged"]["lines"], 1)
 
     def test_a_line_longer_than_it_is_looked_at(self):
         for leader in ("", "7 ", "[pid     7] ", "12:00:00 "):
@@ -444,11 +430,9 @@ class Needs(Judgement):
         self.begins(4, "41 socket unfinished", self.needs("socket(AF_NONE) = 3", "--limit=0"))
         self.begins(2, "fault number limit", self.needs("socket(X) = 3", "--limit=x"))
         for text, fault in (("{", "fault profile Json"), ('{"defaultAction":"ALLOW"}', "fault profile Action")):
-            status, out, err = self.run_tool("needs", self.file("log", "read(1) = 1"), self.file("q.json", text))
-            self.assertEqual((status, out.split("\n")[0], err), (2, fault, ""))
-            self.assertTrue(out.split("\n")[1].startswith("# "), out)
-        status, out, err = self.run_tool("needs", self.file("log", "x"), "none")
-        self.assertEqual((status, out, err), (2, "", "needs: there is no file 'none'\n"))
+            self.assertIn(f"{fault}\n# ", self.output_of(2, "needs", self.file("log", "read(1) = 1"),
+                                                         self.file("q.json", text)))
+        self.is_refused("needs: there is no file 'none'\n", "needs", self.file("log", "x"), "none")
         self.is_refused("is a folder", "needs", self.folder, self.file("p.json", profile_of("read")))
 
     def test_inputs(self):
@@ -503,10 +487,9 @@ class InArchitectures(Judgement):
         self.assertEqual(dispositions, {"i386 socketcall": "allowed", "i386 socket": "depends"})
         self.assertEqual(out.split("\n")[0], "i386 359 socket depends on arg 0")
         call = report["calls"][1]
-        self.assertEqual([example["architecture"] for example in (call["allowed"], call["not_allowed"]["call"])],
-                         ["0x40000003"] * 2)
-        self.assertEqual(int(call["not_allowed"]["call"]["arguments"][0], 16) % (1 << 32), 40)
-        self.assertNotEqual(int(call["allowed"]["arguments"][0], 16) % (1 << 32), 40)
+        for example, is_40 in ((call["allowed"], False), (call["not_allowed"]["call"], True)):
+            self.assertEqual((example["architecture"], int(example["arguments"][0], 16) % (1 << 32) == 40),
+                             ("0x40000003", is_40))
 
     def test_x32(self):
         """Numbers in a record have 0x40000000 added (asm/unistd.h); x32's execve is 520, and x86-64's 59."""
@@ -579,9 +562,9 @@ class InArchitectures(Judgement):
         odd = {**self.PROFILE, "syscalls": [entry("read"), *(
             entry("mmap2", action=action) for action in (ALLOW, "SCMP_ACT_LOG"))]}
         self.assertEqual(self.needs("read(3) = 1", profile=odd)[0], 0)
-        status, out, _ = self.needs(f"{self.MODE}read(3) = 1", profile=odd)
-        self.assertEqual((status, out.split("\n")[0]), (2, "fault profile Conflict number 192 first 1 second 2"))
-        self.assertIn("# the syscall is mmap2 (192) of the architecture i386\n", out)
+        self.assertIn("# the syscall is mmap2 (192) of the architecture i386\n",
+                      self.begins(2, "fault profile Conflict number 192 first 1 second 2",
+                                  self.needs(f"{self.MODE}read(3) = 1", profile=odd)))
 
 
 class Least(Judgement):
@@ -914,16 +897,6 @@ class Real(Judgement):
                 self.assertEqual(names, set(BEGUN.findall(text_of(log))), words)
                 self.assertLessEqual({"execve", "wait4", "exit_group", "openat"}, names)
 
-    def test_the_least_profile_lets_it_through(self):
-        log = self.traced("-X", "raw")
-        made = self.run_tool("needs", "--widen", log, self.file("p.json", json.dumps(self.PROFILE)))
-        self.assertEqual(made[0], 0)
-        least = self.file("least.json", made[1])
-        out = self.output_of(0, "needs", log, least)
-        # (what a program calls may be dangerous, have -1 in an `int`, or be clone and not clone3)
-        kinds = ("dangerous-call", "high-half", "no-fallback", "no-restart")
-        self.assertEqual(self.run_tool("lint", "--strict", *(f"--except={kind}" for kind in kinds), least)[0], 0)
-
     def ended(self, profile, *words):
         """How a program ends under a profile's filter, and what it prints."""
         filters = self.filter_file(profile)
@@ -1025,15 +998,6 @@ until curl -s http://127.0.0.1:$p/; do sleep 0.1; done; kill -QUIT $!; wait $!""
                                            "--seccomp", "0", "sh", program], stdin=file, stdout=subprocess.PIPE,
                                           stderr=subprocess.PIPE, timeout=120, check=False)
                 self.assertEqual((done.returncode, done.stdout.decode()), (0, out), done.stderr)
-
-    def test_a_call_that_is_not_made_ends_a_program(self):
-        log, _ = self.strace("-f", "-X", "raw", "ls", self.folder)
-        made = json.loads(self.run_tool("needs", "--widen", log, self.file("p.json", profile_of()))[1])
-        made["syscalls"][0]["names"].remove("getdents64")
-        less = self.file("less.json", json.dumps(made))
-        self.assertIn("217 getdents64 ERRNO 1 default\n", self.run_tool("needs", log, less)[1])
-        status, out = self.ended(less, "ls", self.folder)
-        self.assertEqual((bool(status), b"strace.log" in out), (True, False))
 
     # Makes calls, under a filter where one is given, and prints for each whether it failed with errno 77.
     CALLS = LOADER + """

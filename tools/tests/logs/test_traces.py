@@ -67,13 +67,10 @@ class Written(Case):
         return text, log
 
     def test_perf_trace(self):
-        _, log = self.written("perf", "trace", "-o", "log", *self.PROGRAM)
-        self.assertEqual((log.unjudged["lines"], log.unjudged["lost"]), (0, 0))
-
-    def test_perf_trace_counts(self):
-        # exit_group doesn't return, and isn't counted
-        _, log = self.written("perf", "trace", "-s", "-o", "log", *self.PROGRAM, without=("exit_group",))
-        self.assertEqual((log.unjudged["lines"], log.unjudged["lost"]), (0, 0))
+        # (-s counts what returns, and exit_group doesn't)
+        for options, without in (((), ()), (("-s",), ("exit_group",))):
+            _, log = self.written("perf", "trace", *options, "-o", "log", *self.PROGRAM, without=without)
+            self.assertEqual((log.unjudged["lines"], log.unjudged["lost"]), (0, 0))
 
     def test_perf_script(self):
         """With all arguments; recording begins with the program's execve, which isn't in it."""
@@ -95,11 +92,8 @@ class Written(Case):
         words = ("-o", "log", "-e", program, "-c", f"{shutil.which(self.PROGRAM[0])} /")
         self.written("bpftrace", *words, is_counted=False)
 
-
-class Records(Case):
-    """Records of the kernel: a program under a profile that logs each syscall."""
-
     def test_records_of_seccomp(self):
+        """Of a program under a profile that logs each syscall."""
         try:
             listener = socket.socket(socket.AF_NETLINK, socket.SOCK_RAW, NETLINK_AUDIT)
             listener.setsockopt(socket.SOL_SOCKET, SO_RCVBUFFORCE, 1 << 24)
@@ -203,28 +197,23 @@ class Lines(unittest.TestCase):
                 self.assertEqual((found, log.unjudged["lines"], log.unjudged["lost"]), ({"openat": 1}, 0, 0),
                                  line.format(record))
 
-    def test_trace_pipe(self):
-        """trace_raw_output_sys_enter of the kernel, as its trace and trace_pipe print it."""
-        text = "# tracer: nop\n#\n           <...>-7       [001] .....  5.1: sys_enter: NR 41 (10, 3, 9, 0, 0, 0)\n"
-        found, log = calls_of(text, (0, 2))
-        self.assertEqual((found, log.unjudged["lines"]), ({("socket", (16,), (9,)): 1}, 0))
-
-    def test_maps_of_bpftrace(self):
-        found, log = calls_of("Attaching 2 probes...\n\n@[41]: 3\n@calls[tracepoint:syscalls:sys_enter_openat]: 2\n"
-                              "@[999]: 1\n@[sys_enter_read]: 1\n@[ls, 41]: 9\n@[x]: 1\n@: 7\n@[1073741824]: 1\n")
-        self.assertEqual((found, log.unjudged["lines"], log.unjudged["foreign"]),
-                         ({"socket": 3, "openat": 2, "syscall_0x3e7": 1, "read": 1}, 3, 1))
-
-    def test_sysdig(self):
-        """By *%evt.num %evt.outputtime %evt.cpu %proc.name (%thread.tid) %evt.dir %evt.type %evt.info (sysdig(8))."""
-        lines = ("1 05:35:00.123456789 0 ls (7) > openat dirfd=-100(AT_FDCWD) name=/etc flags=1(O_RDONLY) mode=0 \n"
-                 "2 05:35:00.123456789 0 ls (7) < openat fd=3(<d>/etc) dirfd=-100(AT_FDCWD) name=/etc \n"
-                 "3 05:35:00.123456799 1 a b (8.9) > pread fd=3 \n4 05:35:00.2 1 ls (7) > switch next=0 \n"
-                 "5 05:35:00.2 1 ls (7) > syscall ID=212(set_robust_list) nativeID=273 \n"
-                 "6 05:35:00.3 0 ls (7) > pipe \n")
-        found, log = calls_of(lines)
-        self.assertEqual((found, log.unjudged["lines"]),
-                         ({"openat": 1, "pread64": 1, "set_robust_list": 1, "pipe or pipe2": 1}, 0))
+    def test_other_programs(self):
+        """trace_raw_output_sys_enter of the kernel, as its trace and trace_pipe print it; maps of bpftrace; *%evt.num
+        %evt.outputtime %evt.cpu %proc.name (%thread.tid) %evt.dir %evt.type %evt.info (sysdig(8))."""
+        pipe = "# tracer: nop\n#\n           <...>-7       [001] .....  5.1: sys_enter: NR 41 (10, 3, 9, 0, 0, 0)\n"
+        maps = ("Attaching 2 probes...\n\n@[41]: 3\n@calls[tracepoint:syscalls:sys_enter_openat]: 2\n"
+                "@[999]: 1\n@[sys_enter_read]: 1\n@[ls, 41]: 9\n@[x]: 1\n@: 7\n@[1073741824]: 1\n")
+        sysdig = ("1 05:35:00.123456789 0 ls (7) > openat dirfd=-100(AT_FDCWD) name=/etc flags=1(O_RDONLY) mode=0 \n"
+                  "2 05:35:00.123456789 0 ls (7) < openat fd=3(<d>/etc) dirfd=-100(AT_FDCWD) name=/etc \n"
+                  "3 05:35:00.123456799 1 a b (8.9) > pread fd=3 \n4 05:35:00.2 1 ls (7) > switch next=0 \n"
+                  "5 05:35:00.2 1 ls (7) > syscall ID=212(set_robust_list) nativeID=273 \n"
+                  "6 05:35:00.3 0 ls (7) > pipe \n")
+        for text, looked_at, calls, lines, foreign in (
+                (pipe, (0, 2), {("socket", (16,), (9,)): 1}, 0, 0),
+                (maps, (), {"socket": 3, "openat": 2, "syscall_0x3e7": 1, "read": 1}, 3, 1),
+                (sysdig, (), {"openat": 1, "pread64": 1, "set_robust_list": 1, "pipe or pipe2": 1}, 0, 0)):
+            found, log = calls_of(text, looked_at)
+            self.assertEqual((found, log.unjudged["lines"], log.unjudged["foreign"]), (calls, lines, foreign))
 
     def test_what_strace_prints_is_no_other_log(self):
         """A text that a program writes may look like any of them."""
@@ -245,9 +234,8 @@ class Words(Case):
             out = self.output_of(1, "needs", log, profile)
             self.assertEqual(out.split("\n")[0], "257 openat ERRNO 1 default")
             self.assertIn("allowed 1, not allowed 1, depends 0\n", out)
-        status, out, err = self.run_tool("needs", self.file("x.json", '{"a\x1b": '), self.file("p.json", profile_of()))
-        self.assertEqual((status, out), (2, ""))
-        self.assertTrue(err.endswith("x.json' is a profile that can't be read\n"), err)
+        self.is_refused("x.json' is a profile that can't be read\n", "needs", self.file("x.json", '{"a\x1b": '),
+                        self.file("p.json", profile_of()))
 
     def test_several_logs(self):
         one = self.file("one", "7  openat(3) = 3\n7  [ Process PID=7 runs in 32 bit mode. ]\n7  brk(0) = 0\n")
