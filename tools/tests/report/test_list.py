@@ -84,14 +84,13 @@ class List(Case):
         both = load(0) + jeq(5, 0, 1) + load(0) + jeq(0, 0, 0) + ret(0)
         self.assertEqual(self.meanings(both)[3], "read: to 4, else 4")
 
-    def test_a_test_with_one_target_says_nothing(self):
-        """Behind a test of the architecture whose targets are one, no more is known than before it."""
+    def test_an_architecture_that_is_tested(self):
+        """Behind a test of the architecture whose targets are one, no more is known than before it; calls of another
+        architecture aren't named as x86-64's."""
         data = load(4) + jeq(I386, 0, 0) + load(0) + jeq(1, 0, 0) + ret(0)
         self.assertEqual(self.meanings(data)[1::2], ["i386: to 2, else 2", "write: to 4, else 4"])
         tested = load(4) + jeq(I386, 0, 3) + jeq(X86_64, 0, 0) + load(0) + jeq(1, 0, 0) + ret(0)
         self.assertEqual(self.meanings(tested)[4], "exit of i386: to 5, else 5")
-
-    def test_calls_of_another_architecture_are_not_named(self):
         data = load(4) + jeq(I386, 0, 2) + load(0) + jeq(1, 0, 0) + load(0) + jeq(1, 0, 0) + ret(0)
         self.assertEqual(self.meanings(data), ["the architecture", "i386: to 2, else 4", "the syscall number",
                                                "exit of i386: to 4, else 4", "the syscall number",
@@ -177,8 +176,6 @@ class List(Case):
                                      "the instruction pointer, high half"])
         self.assertEqual(names[4:16], [f"argument {at}, {half} half" for at in range(6) for half in ("low", "high")])
         self.assertEqual(names[16:], ["", ""])
-
-    def test_answers(self):
         self.assertEqual(self.meanings(ret(0x00050000) + ret(0x7FFF0002) + ret(0x12340000)),
                          ["ERRNO 0", "ALLOW 2", "an unknown action"])
 
@@ -192,22 +189,14 @@ class List(Case):
         out = self.output_of(2, "list", "-", given=b"\6\0\0\0")
         self.assertTrue(out.startswith("fault filter Truncated offset 0\n# "), out)
         for words in (("none",), (self.folder,), ("--table", "none", "-")):
-            status, out, err = self.run_tool("list", *words)
-            self.assertEqual((status, out), (2, ""))
-            self.assertNotIn("Traceback", err)
-
-    def test_output_that_fails(self):
-        status, _, err = self.closed_output("list", "-", given=GATE)
-        self.assertEqual(status, 2)
-        self.assertIn("the output failed", err)
+            self.is_refused("list: ", "list", *words)
 
 
 class Graph(Case):
     """--dot: the control flow as a graph."""
 
     def graph_of(self, data, *words):
-        out = self.output_of(0, "list", "--dot", *words, self.file("f.bpf", data))
-        return out
+        return self.output_of(0, "list", "--dot", *words, self.file("f.bpf", data))
 
     def test_a_graph(self):
         """The search for a number is one node, and equal returns are one."""

@@ -1,5 +1,6 @@
 """tools/profile-of: profiles of filters, each beside another machine of filters and another reader of profiles."""
 import json
+import operator
 import os
 import random
 import subprocess
@@ -8,6 +9,7 @@ from unittest import mock
 from support import several
 from support.common import (ALLOW, EPERM, KILL_PROCESS, KILL_THREAD, LOG, TOP, TRACE, TRAP, USER_NOTIF, X32, X86_64,
                             Case, gate, insn, jeq, jge, jgt, jset, load, ret, text_of, tool)
+from support.judged import by_disposition
 from support.seccomp_library import NEEDED, Library
 from support.stand_in import StandIn, unpacked
 from scftools.model import bundles
@@ -19,6 +21,9 @@ MOST = (1 << 64) - 1
 NAMES = {"read": 0, "write": 1, "ioctl": 16, "socket": 41, "personality": 135}
 OWN = "".join(f"{name} {number}\n" for name, number in NAMES.items())
 SAID, SANDBOX = f"profile-of: {TRAP_DATA_TEXT}\n", ("--runtime", "sandbox")
+# Answers by the instruction pointer, and by two arguments.
+POINTER = load(8) + jeq(7, 0, 1) + ret(ALLOW) + ret(EPERM)
+PAIR = load(24) + insn(0x07, 0) + load(16) + insn(0x1D, 0, 0, 1) + ret(ALLOW) + ret(EPERM)
 HOLDS = {f"SCMP_CMP_{name}": holds for name, holds in several.OPERATORS.items()}
 
 
@@ -45,12 +50,6 @@ def has_trap_data(profile):
     holders = [(profile["defaultAction"], profile.get("defaultErrnoRet")),
                *((entry["action"], entry.get("errnoRet")) for entry in profile["syscalls"])]
     return any(action == "SCMP_ACT_TRAP" and errno is not None for action, errno in holders)
-
-
-def rank_of(word):
-    """Denied, delegated or allowed, by what the kernel does with an action (`__seccomp_filter` of kernel/seccomp.c)."""
-    action = word & 0xFFFF0000
-    return 2 if action in (LOG, ALLOW) else 1 if action in (USER_NOTIF, TRACE) else 0
 
 
 def corners(filters):
@@ -211,11 +210,11 @@ class Profiles(Case):
             if status == 0 or len(profiles) == 2:
                 self.assertEqual(err, SAID if status == 0 and has_trap_data(profiles[0]) else "")
             if status == 0:
-                self.is_judged(filters, profiles[0], lambda ours, theirs: ours == theirs, records)
+                self.is_judged(filters, profiles[0], operator.eq, records)
             else:
                 self.assertIn(len(profiles), (1, 2))
-                self.is_judged(filters, profiles[0], lambda ours, theirs: rank_of(ours) <= rank_of(theirs), records)
-                self.is_judged(filters, profiles[-1], lambda ours, theirs: rank_of(ours) >= rank_of(theirs), records)
+                self.is_judged(filters, profiles[0], by_disposition(operator.le), records)
+                self.is_judged(filters, profiles[-1], by_disposition(operator.ge), records)
         self.assertGreater(counts[0], 5)
         self.assertGreater(counts[4], 2)
 
@@ -302,11 +301,15 @@ class Profiles(Case):
         return profiles
 
     def test_data_that_no_profile_says(self):
-        """One profile is on both sides, since only the answer's data differs."""
+        """One profile is on both sides, since only the answer's data differs. Profiles on both sides have data that one
+        says, too, and a remark."""
         profiles = self.is_bounded([of_numbers({41: ret(ALLOW | 9)}, EPERM)],
-                                "# proved: nowhere stricter and nowhere more permissive than the filters\n"
-                                "# only other answers, since no profile gives ALLOW 9: socket\n")
+                                   "# proved: nowhere stricter and nowhere more permissive than the filters\n"
+                                   "# only other answers, since no profile gives ALLOW 9: socket\n")
         self.assertEqual([given["syscalls"] for given in profiles], [[entry("ALLOW", "socket")]])
+        profiles = self.is_bounded([of_numbers({41: POINTER, 0: ret(TRAP | 9)}, KILL_PROCESS)],
+                                   SAID.replace("profile-of: ", "# "))
+        self.assertEqual([entry("TRAP 9", "read") in given["syscalls"] for given in profiles], [True, True])
 
     def test_a_browsers_filter(self):
         """TRAP with data, also as the default, is errnoRet, which a sandbox's reading alone takes as such."""
@@ -349,27 +352,18 @@ class Profiles(Case):
                                      for entry in profile["syscalls"]) for name, errno in (
             ("personality", None), ("personality", 1), ("personality", 4), ("socket", None), ("socket", 2))}
         self.assertEqual(list(counts.values()), [1, 2, 63, 2, 33])
-        self.is_judged(filters, profile, lambda ours, theirs: ours == theirs, (
+        self.is_judged(filters, profile, operator.eq, (
             (name, Call(NAMES[name], X86_64, 0, (value ^ 1 << low ^ 1 << high, *[0] * 5)))
             for name in ("personality", "socket") for value in (of_pthread, MOST, 0, vm, thread)
             for high in range(64) for low in range(high + 1)))
 
-    def test_bounds_with_data(self):
-        """Profiles on both sides have it, too, and a remark."""
-        pointer = load(8) + jeq(7, 0, 1) + ret(ALLOW) + ret(EPERM)
-        profiles = self.is_bounded([of_numbers({41: pointer, 0: ret(TRAP | 9)}, KILL_PROCESS)],
-                                   SAID.replace("profile-of: ", "# "))
-        self.assertEqual([entry("TRAP 9", "read") in given["syscalls"] for given in profiles], [True, True])
-
     def test_the_instruction_pointer_and_two_arguments(self):
         """Between what a call always gets and what it may get."""
-        pointer = load(8) + jeq(7, 0, 1) + ret(ALLOW) + ret(EPERM)
-        profiles = self.is_bounded([of_numbers({41: pointer}, KILL_PROCESS)],
+        profiles = self.is_bounded([of_numbers({41: POINTER}, KILL_PROCESS)],
                                 "# socket: its answer depends on the instruction pointer\n")
         self.assertEqual([given["syscalls"] for given in profiles],
                          [[entry("ALLOW", "socket")], [entry("ERRNO 1", "socket")]])
-        pair = load(24) + insn(0x07, 0) + load(16) + insn(0x1D, 0, 0, 1) + ret(ALLOW) + ret(EPERM)
-        both = where(2, "SCMP_CMP_EQ", 3, 0, pair, ret(EPERM))
+        both = where(2, "SCMP_CMP_EQ", 3, 0, PAIR, ret(EPERM))
         profiles = self.is_bounded([of_numbers({41: both}, EPERM)], "# socket: its answer depends on a comparison or "
                                 "computation that no operator makes\n")
         self.assertEqual([given["syscalls"] for given in profiles],
@@ -377,8 +371,7 @@ class Profiles(Case):
 
     def test_an_argument_compared_with_a_known_one(self):
         """The second argument is 3 where the first one's low half is compared with it."""
-        pair = load(24) + insn(0x07, 0) + load(16) + insn(0x1D, 0, 0, 1) + ret(ALLOW) + ret(EPERM)
-        both = where(1, "SCMP_CMP_EQ", 3, 0, pair, ret(EPERM))
+        both = where(1, "SCMP_CMP_EQ", 3, 0, PAIR, ret(EPERM))
         self.is_read([of_numbers({41: both}, EPERM)], "ERRNO 1", {
             **entry("ALLOW", "socket"),
             "args": [{"index": 0, "value": 0xFFFFFFFF, "valueTwo": 3, "op": "SCMP_CMP_MASKED_EQ"},
@@ -386,9 +379,8 @@ class Profiles(Case):
 
     def test_one_side(self):
         """With an option one profile is printed, as JSON, and what is said of it goes to standard error."""
-        pointer = of_numbers({41: load(8) + jeq(7, 0, 1) + ret(ALLOW) + ret(EPERM)}, KILL_PROCESS)
         for word, answer in (("--no-less", "ALLOW"), ("--no-more", "ERRNO 1")):
-            status, out, err = self.run_on([pointer], word)
+            status, out, err = self.run_on([of_numbers({41: POINTER}, KILL_PROCESS)], word)
             self.assertEqual((status, json.loads(out)["syscalls"]), (0, [entry(answer, "socket")]))
             self.assertIn("socket: its answer depends on the instruction pointer\n", err)
         self.is_read([of_numbers({0: ret(EPERM)}, ALLOW)], "ALLOW", entry("ERRNO 1", "read"), words=("--no-more",))
@@ -414,14 +406,11 @@ class Profiles(Case):
         self.assertIn("profile-of: if runc loaded the filter, --runtime runc expects the ENOSYS that it adds\n", err)
 
     def test_refusals(self):
-        for filters, table, status, says in (
-                ([jeq(0, 9, 0) + ret(ALLOW)], OWN, 2, "profile-of: fault filter Jump at 0\nprofile-of: This jump"),
-                ([b"\6\0"], OWN, 2, "profile-of: fault filter Truncated"),
-                ([ret(ALLOW)], "read\n", 2, "profile-of: fault table Form line 1\n")):
+        for data, table, says in ((jeq(0, 9, 0) + ret(ALLOW), OWN, "fault filter Jump at 0\nprofile-of: This jump"),
+                                  (b"\6\0", OWN, "fault filter Truncated"),
+                                  (ret(ALLOW), "read\n", "fault table Form line 1\n")):
             self.table = self.file("own.table", table)
-            exit_status, out, err = self.run_on(filters)
-            self.assertEqual((exit_status, out), (status, ""))
-            self.assertTrue(err.startswith(says), err)
+            self.is_refusal(f"profile-of: {says}", self.run_on([data]))
         self.table = self.file("own.table", OWN)
         self.assertEqual(self.run_on([ret(ALLOW)], "--limit", "x")[0], 2)
 
@@ -429,7 +418,6 @@ class Profiles(Case):
         self.says_usage("profile-of")
         self.assertEqual(self.run_tool("profile-of", "--no-more", "--no-less", "x")[0], 2)
         self.assertEqual(self.run_tool("profile-of", "-", "-")[0], 2)
-        self.assertEqual(self.closed_output("profile-of", self.file("f.bpf", ret(ALLOW)))[0], 2)
 
     def test_an_argument_beside_many_values(self):
         """Each value has an errno of its own, whatever the number: what is known of one number is known of all."""
@@ -539,33 +527,26 @@ class OtherArchitectures(Case):
     def test_halves(self):
         """Of an argument with 32 bits a condition compares the lower half, with one of 64 bits all of it."""
         low = load(16) + jeq(2, 0, 1) + ret(ALLOW) + ret(EPERM)
-        for name, number in ((X86, 359), (X32_NAME, X32 + 41), (ARM, 281)):
+        of_32 = {"index": 0, "value": 2, "op": "SCMP_CMP_EQ"}
+        of_64 = {"index": 0, "value": 0xFFFFFFFF, "valueTwo": 2, "op": "SCMP_CMP_MASKED_EQ"}
+        for name, number, condition in ((X86, 359, of_32), (X32_NAME, X32 + 41, of_32), (ARM, 281, of_32),
+                                        (NATIVE, 41, of_64), (AARCH64, 198, of_64)):
             with self.subTest(name):
                 self.is_read(of_records({name: tests_of({number: low}, EPERM)}), name, "ERRNO 1",
-                             entry("ALLOW", "socket", index=0, value=2, op="SCMP_CMP_EQ"))
-        for name, number in ((NATIVE, 41), (AARCH64, 198)):
-            with self.subTest(name):
-                self.is_read(of_records({name: tests_of({number: low}, EPERM)}), name, "ERRNO 1", entry(
-                    "ALLOW", "socket", index=0, value=0xFFFFFFFF, valueTwo=2, op="SCMP_CMP_MASKED_EQ"))
+                             entry("ALLOW", "socket", **condition))
 
     def test_operators_of_32_bits(self):
         """What each operator tests of the lower half is read back as that condition."""
-        def tested(code):
-            return of_records({X86: tests_of({359: load(24) + code}, EPERM)})
-
-        at = {"index": 1}
-        self.is_read(tested(jeq(16, 1, 0) + ret(ALLOW) + ret(EPERM)), X86, "ERRNO 1",
-                     entry("ALLOW", "socket", **at, value=16, op="SCMP_CMP_NE"))
-        self.is_read(tested(jge(16, 0, 1) + ret(ALLOW) + ret(EPERM)), X86, "ERRNO 1",
-                     entry("ALLOW", "socket", **at, value=16, op="SCMP_CMP_GE"))
-        self.is_read(tested(jgt(16, 1, 0) + ret(ALLOW) + ret(EPERM)), X86, "ERRNO 1",
-                     entry("ALLOW", "socket", **at, value=16, op="SCMP_CMP_LE"))
-        self.is_read(tested(insn(0x54, 0xF0) + jeq(16, 0, 1) + ret(ALLOW) + ret(EPERM)), X86, "ERRNO 1",
-                     entry("ALLOW", "socket", **at, value=0xF0, valueTwo=16, op="SCMP_CMP_MASKED_EQ"))
-        # from 6 to 15: 6 and 7, and 8 to 15
-        self.is_read(tested(jge(6, 0, 2) + jgt(15, 1, 0) + ret(ALLOW) + ret(EPERM)), X86, "ERRNO 1",
-                     *(entry("ALLOW", "socket", **at, value=mask, valueTwo=value, op="SCMP_CMP_MASKED_EQ")
-                       for mask, value in ((0xFFFFFFFE, 6), (0xFFFFFFF8, 8))))
+        # the last one from 6 to 15: 6 and 7, and 8 to 15
+        for code, *conditions in (
+                (jeq(16, 1, 0), ("NE", 16)), (jge(16, 0, 1), ("GE", 16)), (jgt(16, 1, 0), ("LE", 16)),
+                (insn(0x54, 0xF0) + jeq(16, 0, 1), ("MASKED_EQ", 0xF0, 16)),
+                (jge(6, 0, 2) + jgt(15, 1, 0), ("MASKED_EQ", 0xFFFFFFFE, 6), ("MASKED_EQ", 0xFFFFFFF8, 8))):
+            with self.subTest(conditions):
+                data = of_records({X86: tests_of({359: load(24) + code + ret(ALLOW) + ret(EPERM)}, EPERM)})
+                self.is_read(data, X86, "ERRNO 1", *(
+                    entry("ALLOW", "socket", index=1, value=value, **({"valueTwo": two[0]} if two else {}),
+                          op=f"SCMP_CMP_{op}") for op, value, *two in conditions))
 
     def test_upper_halves(self):
         """No condition of an architecture with 32 bits tests them."""

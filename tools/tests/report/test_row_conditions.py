@@ -9,7 +9,7 @@ from support import several
 from support.common import ALLOW, EPERM, KILL_PROCESS, Case, jeq, jge, load, ret
 from support.stand_in import StandIn
 from report.test_profile_of import (AARCH64, ARM, FILES, HOLDS, NATIVE, OWN, TRAP, X32_NAME, X86, Drawn, compiled, jset,
-                                    of_numbers, of_records, rank_of, tests_of, where)
+                                    of_numbers, of_records, tests_of, where)
 from scftools.model import answers, constants, tables
 from scftools.model.calls import Call
 from scftools.report import condition_texts
@@ -163,7 +163,8 @@ class Lines(Case):
                     ours = answers.Answer.read(StandIn().decide(filters, call))
                     theirs = self.answer_of(rows[call.number], call.arguments)
                     self.assertEqual(theirs.get("answer", ours.as_json()), ours.as_json(), (seed, call))
-                    self.assertEqual(RANKS.index(theirs["disposition"]), rank_of(ours.word), (seed, call))
+                    self.assertEqual(RANKS.index(theirs["disposition"]), several.disposition(ours.word),
+                                     (seed, call))
         self.assertGreater(seen, 15)
 
     def is_said_of(self, name, number, code, text):

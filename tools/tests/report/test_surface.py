@@ -15,6 +15,7 @@ import termios
 import unittest
 from unittest import mock
 
+from support import several
 from support.common import (ALLOW, EPERM, I386, KILL_PROCESS, KILL_THREAD, LOG, TOP, TRACE, TRAP, UNKNOWN_ZERO,
                             USER_NOTIF, X32, X86_64, Case, filter_of, gate, insn, jeq, jge, jgt, load, ret, text_of,
                             tool)
@@ -101,25 +102,17 @@ POINTERS = (0, 0x1234, 0x1235)
 
 def disposition(answer):
     """What becomes of a call by the action of an answer (`__seccomp_filter` of kernel/seccomp.c)."""
-    action = answer & 0xFFFF0000
-    return F if action in (USER_NOTIF, TRACE) else M if action in (LOG, ALLOW) else R
+    return (R, F, M)[several.disposition(answer)]
 
 
 def disposition_by_hand(filters, call):
     return disposition(StandIn().decision(filters, call))
 
 
-def dispositions_by_hand(filters, number):
-    """The dispositions of the calls of a number, at each corner of the filters here."""
-    calls = (Call(number, X86_64, pointer, (argument, high, 0, 0, 0, 0))
-             for argument, high, pointer in itertools.product(ARGUMENTS, (0, 4), POINTERS))
-    return {disposition_by_hand(filters, call) for call in calls}
-
-
 @functools.lru_cache(None)
 def answers_by_hand(name, number):
-    """The answers of known filters to the calls of a number, at the same corners."""
-    return [StandIn().decide(KNOWN[name][0], Call(number, X86_64, pointer, (argument, high, 0, 0, 0, 0)))
+    """The answers of known filters to the calls of a number, at each corner of the filters here."""
+    return [StandIn().decision(KNOWN[name][0], Call(number, X86_64, pointer, (argument, high, 0, 0, 0, 0)))
             for argument, high, pointer in itertools.product(ARGUMENTS, (0, 4), POINTERS)]
 
 
@@ -156,7 +149,7 @@ class Rows(Case):
         """As its row says, and as the other machine answers at each corner."""
         for name, (filters, expected) in KNOWN.items():
             with self.subTest(name):
-                by_hand = [dispositions_by_hand(filters, number) for number in NUMBERS]
+                by_hand = [{*map(disposition, answers_by_hand(name, number))} for number in NUMBERS]
                 self.assertEqual([D if len(dispositions) > 1 else next(iter(dispositions)) for dispositions in by_hand],
                                  expected)
                 surface = surface_of(name)
@@ -250,55 +243,37 @@ class Rows(Case):
 class Unnamed(unittest.TestCase):
     """Numbers that the table doesn't name."""
 
-    def describe(self, *filters, **more):
-        return of(filters, **more).unnamed.describe()
+    def describe(self, *filters):
+        return of(filters).unnamed.describe()
 
-    def test_none_and_all(self):
-        self.assertEqual(self.describe(filter_of([READ, EXIT_GROUP])), "all denied")
-        self.assertEqual(self.describe(ret(ALLOW)), "all allowed")
-        self.assertEqual(self.describe(of_number(READ, EPERM, LOG)), "all allowed")
-        self.assertEqual(self.describe(ret(USER_NOTIF)), f"all {OTHERS} {SOME} 2: USER_NOTIF")
-
-    def test_some(self):
+    def test_each(self):
         """Counted on both sides of each test, and over what the table names."""
-        some = gate(jge(400, 0, 2) + jge(410, 1, 0) + ret(ALLOW) + ret(EPERM))
-        self.assertEqual(self.describe(some), f"10 of {OTHERS} {SOME} 400: ALLOW")
-        self.assertEqual(self.describe(filter_of([READ, 400])), f"1 of {OTHERS} {SOME} 400: ALLOW")
-        self.assertEqual(self.describe(gate(jgt(X32 - 3, 0, 1) + ret(ALLOW) + ret(EPERM))),
-                         f"2 of {OTHERS} {SOME} {X32 - 2}: ALLOW")
-        below = gate(jge(42, 1, 0) + ret(ALLOW) + ret(EPERM))
-        self.assertEqual(self.describe(below), f"{42 - 4} of {OTHERS} {SOME} 2: ALLOW")
-        self.assertEqual(self.describe(filter_of([*range(0, 80, 2)])),
-                         f"{40 - 1} of {OTHERS} {SOME} 2: ALLOW")
-        all_but = of_number(300, EPERM, ALLOW)
-        self.assertEqual(self.describe(all_but), f"{OTHERS - 1} of {OTHERS} {SOME} 2: ALLOW")
-
-    def test_where_no_test_of_the_number_turns(self):
-        """The odd ones below 64, but for those that have a name."""
+        # the odd ones below 64, but for those that have a name
         odd = gate(jge(64, 3, 0) + insn(0x45, 1, 0, 2) + ret(ALLOW) * 2 + ret(EPERM))
-        self.assertEqual(StandIn().decide([odd], Call(63)), "ALLOW 0")
         self.assertEqual({StandIn().decide([odd], Call(number)) for number in (62, 64, 65)}, {"ERRNO 1"})
-        self.assertEqual(self.describe(odd), f"{32 - 3} of {OTHERS} {SOME} 3: ALLOW")
-
-    def test_by_an_argument(self):
-        self.assertEqual(self.describe(of_number(400, by_argument(7, ALLOW, EPERM), EPERM)),
-                         f"1 of {OTHERS} {SOME} 400: ALLOW")
-
-    def test_a_stack(self):
-        self.assertEqual(self.describe(filter_of([400, 401]), filter_of([401, 402])),
-                         f"1 of {OTHERS} {SOME} 401: ALLOW")
+        self.assertEqual(StandIn().decide([odd], Call(63)), "ALLOW 0")
+        long = gate(jeq(400, 0, 1) + ret(ALLOW) + jeq(0, 0, 0) * 4087 + ret(EPERM))
+        self.assertEqual(StandIn().check(long), "accepted 4096")
+        many = allowing(range(300, 1500, 4), more=jge(X32 // 2, 0, 1) + ret(ALLOW))
+        for filters, text in (
+                ([filter_of([READ, EXIT_GROUP])], "all denied"), ([ret(ALLOW)], "all allowed"),
+                ([of_number(READ, EPERM, LOG)], "all allowed"),
+                ([ret(USER_NOTIF)], f"all {OTHERS} {SOME} 2: USER_NOTIF")):
+            self.assertEqual(self.describe(*filters), text)
+        for count, first, *filters in (
+                (10, 400, gate(jge(400, 0, 2) + jge(410, 1, 0) + ret(ALLOW) + ret(EPERM))),
+                (1, 400, filter_of([READ, 400])), (2, X32 - 2, gate(jgt(X32 - 3, 0, 1) + ret(ALLOW) + ret(EPERM))),
+                (42 - 4, 2, gate(jge(42, 1, 0) + ret(ALLOW) + ret(EPERM))), (40 - 1, 2, filter_of([*range(0, 80, 2)])),
+                (OTHERS - 1, 2, of_number(300, EPERM, ALLOW)), (32 - 3, 3, odd),
+                (1, 400, of_number(400, by_argument(7, ALLOW, EPERM), EPERM)),
+                (1, 401, filter_of([400, 401]), filter_of([401, 402])),
+                (500, 300, allowing(range(300, 1300, 2))), (300 + X32 // 2, 300, many), (1, 400, long)):
+            self.assertEqual(self.describe(*filters), f"{count} of {OTHERS} {SOME} {first}: ALLOW")
 
     def test_what_could_not_be_told(self):
-        """A filter that isn't decided; more ranges than are looked at; of the longest filter everything is known."""
         unnamed = of([UNKNOWN], table=FEW).unnamed
         self.assertEqual((unnamed.not_denied, unnamed.undecided), (0, X32 - 3))
         self.assertRegex(unnamed.describe(), r"[0-9]+ are undecided\Z")
-        self.assertEqual(self.describe(allowing(range(300, 1300, 2))), f"500 of {OTHERS} {SOME} 300: ALLOW")
-        many = allowing(range(300, 1500, 4), more=jge(X32 // 2, 0, 1) + ret(ALLOW))
-        self.assertEqual(self.describe(many), f"{300 + X32 // 2} of {OTHERS} {SOME} 300: ALLOW")
-        long = gate(jeq(400, 0, 1) + ret(ALLOW) + jeq(0, 0, 0) * 4087 + ret(EPERM))
-        self.assertEqual(StandIn().check(long), "accepted 4096")
-        self.assertEqual(self.describe(long), f"1 of {OTHERS} {SOME} 400: ALLOW")
 
     def test_gaps(self):
         self.assertEqual(list(questions.gaps(tables.Table(OWN))), [(2, 39), (40, 41), (42, 231), (232, X32)])
@@ -316,9 +291,7 @@ class Program(Case):
 
     def said(self, filters, *words, table=True):
         names = [self.file(f"{at}.bpf", data) for at, data in enumerate(filters)]
-        status, out, err = self.run_tool("surface", *(["--table", self.table] if table else []), *names, *words)
-        self.assertEqual(err, "")
-        return status, out.split("\n")[:-1]
+        return self.told("surface", *(["--table", self.table] if table else []), *names, *words)
 
     def test_usage(self):
         self.says_usage("surface")
@@ -403,9 +376,7 @@ class Program(Case):
         status, out, _ = self.run_tool(*words)
         self.assertEqual((status, out.splitlines()[0].split(",")[0]), (0, "aarch64: allowed 1"))
         self.assertTrue(out.splitlines()[1].startswith("arm: allowed 1, "), out)
-        status, out, err = self.run_tool("surface", self.file("p.json", json.dumps(engines)))
-        self.assertEqual((status, out), (2, ""))
-        self.assertIn("surface: 'p.json': fault profile EngineForm", err.replace(f"{self.folder}/", ""))
+        self.is_refused("p.json': fault profile EngineForm", "surface", self.file("p.json", json.dumps(engines)))
 
     def test_the_filter_of_libseccomp(self):
         """It lets -1 through on purpose, and no x32 call."""
@@ -461,7 +432,7 @@ class Program(Case):
                     self.assertEqual(StandIn().decide(filters, call), "{action} {data}".format(**example["answer"]))
                     self.assertIn(f"args {' '.join(example['arguments'])} ", lines[number])
                 self.assertEqual({"{action} {data}".format(**example["answer"]) for example in shown},
-                                 set(answers_by_hand(name, number)))
+                                 {*map(StandIn().printed, answers_by_hand(name, number))})
         self.assertEqual(self.run_tool("surface", "--examples", "--conditions", "f")[0], 2)
 
     def test_names_that_no_group_has(self):
@@ -489,12 +460,11 @@ class Program(Case):
             lines = self.said([only], table=False)[1]
             counted = f"{shown}: allowed 1, depends 0, denied {denied} (--arch {shown} lists them)"
             self.assertEqual(counted in lines, word in ("i386", "x32"), lines[:4])
-        status, _, err = self.run_tool("surface", "--arch", "sparc", self.file("f", ret(ALLOW)))
-        self.assertEqual((status, err),
-                         (2, "surface: no table of the architecture 'sparc': scf has those of x86-64, i386, x32, "
-                             "aarch64, arm, riscv64, ppc64le, mipsel, mipsel64, mipsel64n32, loongarch64\n"))
-        status, _, err = self.run_tool("surface", "--arch", "i386", self.file("f", ret(ALLOW)), "--beside", "f")
-        self.assertEqual((status, "either --arch or --beside" in err), (2, True))
+        filter_file = self.file("f", ret(ALLOW))
+        self.is_refused("surface: no table of the architecture 'sparc': scf has those of x86-64, i386, x32, aarch64, "
+                        "arm, riscv64, ppc64le, mipsel, mipsel64, mipsel64n32, loongarch64\n", "surface", "--arch",
+                        "sparc", filter_file)
+        self.is_refused("either --arch or --beside", "surface", "--arch", "i386", filter_file, "--beside", "f")
 
     def test_json(self):
         filters = KNOWN["all dispositions"][0]
@@ -520,29 +490,24 @@ class Program(Case):
                          [(kind, []) for kind in ("i386", "x32")])
 
     def test_statuses(self):
-        good = filter_of([READ])
-        bad = self.file("bad\x1b[2J.bpf", jeq(0, 9, 0) + ret(ALLOW))
-        status, lines = self.said([good], bad)
-        self.assertEqual((status, lines[0]), (2, "fault filter Jump at 0"))
+        good = [filter_of([READ])]
+        bad, table = self.file("bad\x1b[2J.bpf", jeq(0, 9, 0) + ret(ALLOW)), self.file("t", b"read\n")
+        for filters, words, status, first in (
+                (good, (bad,), 2, "fault filter Jump at 0"), (good, ("--beside", bad), 2, "fault filter Jump at 0"),
+                ([b"\6\0"], (), 2, "fault filter Truncated offset 0"),
+                (good, ("--table", table), 2, "fault table Form line 1"),
+                (good, ("--limit", "x"), 2, "fault number limit"),
+                (good, ("--limit", "0"), 4, "allowed 0, depends 0, denied 0, unfinished 5"),
+                ([BY_UNKNOWN], (), 4, "allowed 4, depends 0, denied 0, undecided 1"),
+                ([BY_SQUARE], (), 0, "allowed 4, depends 1, denied 0")):
+            ended, lines = self.said(filters, *words)
+            self.assertEqual((ended, lines[0]), (status, first))
+        lines = self.said(good, bad)[1]
         self.assertTrue(all(line.startswith("# ") and line.isprintable() for line in lines[1:]), lines)
         self.assertTrue(lines[-1].startswith("# the filter is ") and lines[-1].endswith("bad\\x1b[2J.bpf"), lines)
-        status, lines = self.said([good], "--beside", bad)
-        self.assertEqual((status, lines[0]), (2, "fault filter Jump at 0"))
-        status, lines = self.said([good], "--json", "--beside", bad)
+        status, lines = self.said(good, "--json", "--beside", bad)
         self.assertEqual((status, json.loads(lines[0])["fault"]["kind"]), (2, "Jump"))
-        self.assertEqual(self.said([b"\6\0"])[0], 2)
-        self.assertEqual(self.said([good], "--table", self.file("t", b"read\n"))[1][0], "fault table Form line 1")
-        self.assertEqual(self.said([good], "--limit", "x"), (2, ["fault number limit", *self.said([good], "--limit",
-                                                                                                   "x")[1][1:]]))
-        status, lines = self.said([good], "--limit", "0")
-        self.assertEqual((status, lines[0]), (4, "allowed 0, depends 0, denied 0, unfinished 5"))
-        status, lines = self.said([BY_UNKNOWN])
-        self.assertEqual((status, lines[0]), (4, "allowed 4, depends 0, denied 0, undecided 1"))
-        status, lines = self.said([BY_SQUARE])
-        self.assertEqual((status, lines[0]), (0, "allowed 4, depends 1, denied 0"))
-        self.assertEqual(self.run_tool("surface", "none"), (2, "", "surface: there is no file 'none'\n"))
-        status, _, err = self.closed_output("surface", self.file("f", good))
-        self.assertEqual((status, err.split("\n")[0]), (2, "surface: the output failed: No space left on device"))
+        self.is_refused("surface: there is no file 'none'\n", "surface", "none")
 
     def test_what_is_not_understood_ends_it(self):
         """Of a call without a line the relation is taken to hold: so each line must be understood, and the status."""
@@ -648,42 +613,36 @@ class Beside(Case):
             self.assertIn((str(verdict.filters), str(verdict.profile)), (answered, answered[::-1]), name)
             self.assertRegex(pair.example, r"\Asuch as socket\(.*\): .* beside ")
 
-    def test_syscalls_that_depend_and_are_the_same(self):
-        filters = [gate(jeq(SOCKET, 0, 6) + by_argument(40, EPERM, ALLOW) + ret(EPERM))]
-        beside = stack_surfaces.compared_surfaces(surface_of("by an argument"), of(filters))
-        self.assertEqual((beside.status, beside.pairs), (0, ()))
+    def beside(self, filters, others, table=OWN):
+        """The status, and the numbers of the syscalls that differ with what is said of each side."""
+        beside = stack_surfaces.compared_surfaces(of(filters, table=table), of(others, table=table))
+        return beside.status, [(pair.number, *(row.said for row in pair.rows)) for pair in beside.pairs], beside
 
-    def test_the_same_filters(self):
+    def test_the_same(self):
         for name in ("by an argument", "a stack"):
             self.assertEqual(self.pairs(name, name)[:2], (0, []))
-        beside = stack_surfaces.compared_surfaces(*(of([UNKNOWN], table=FEW) for _ in range(2)))
-        self.assertEqual((beside.status, beside.pairs), (0, ()))
+        depends = gate(jeq(SOCKET, 0, 6) + by_argument(40, EPERM, ALLOW) + ret(EPERM))
+        for filters, others in ((KNOWN["by an argument"][0], [depends]), ([SQUARE], [SQUARE]),
+                                ([BY_SQUARE], [BY_SQUARE])):
+            self.assertEqual(self.beside(filters, others)[:2], (0, []))
+        self.assertEqual(self.beside([UNKNOWN], [UNKNOWN], FEW)[:2], (0, []))
         # one more filter, which allows all, changes no answer, but the filters aren't the same
-        both = (of(filters, table=FEW) for filters in ([UNKNOWN], [UNKNOWN, ret(ALLOW)]))
-        beside = stack_surfaces.compared_surfaces(*both)
-        self.assertEqual((beside.status, [pair.number for pair in beside.pairs]), (4, [0, 1, 2]))
-        self.assertEqual(stack_surfaces.compared_surfaces(of([SQUARE]), of([SQUARE])).pairs, ())
-        beside = stack_surfaces.compared_surfaces(of([BY_SQUARE]), of([BY_SQUARE]))
-        self.assertEqual((beside.status, beside.pairs), (0, ()))
+        status, pairs, _ = self.beside([UNKNOWN], [UNKNOWN, ret(ALLOW)], FEW)
+        self.assertEqual((status, [number for number, *_ in pairs]), (4, [0, 1, 2]))
 
     def test_what_could_not_be_told(self):
-        beside = stack_surfaces.compared_surfaces(of([BY_UNKNOWN]), of([ret(ALLOW)]))
-        self.assertEqual([(pair.number, *(row.said for row in pair.rows)) for pair in beside.pairs],
-                         [(SOCKET, "undecided", M)])
-        beside = stack_surfaces.compared_surfaces(of([BY_SQUARE]), of([ret(ALLOW)]))
-        self.assertEqual([(pair.number, *(row.said for row in pair.rows)) for pair in beside.pairs], [(SOCKET, D, M)])
+        self.assertEqual(self.beside([BY_UNKNOWN], [ret(ALLOW)])[1], [(SOCKET, "undecided", M)])
+        self.assertEqual(self.beside([BY_SQUARE], [ret(ALLOW)])[1], [(SOCKET, D, M)])
         with mock.patch.dict(client.limits, {"limit": "0"}):
-            beside = stack_surfaces.compared_surfaces(of([gate(ret(ALLOW))]), of([gate(ret(EPERM))]))
-        self.assertEqual((beside.status, [pair.number for pair in beside.pairs]), (4, NUMBERS))
+            status, pairs, _ = self.beside([gate(ret(ALLOW))], [gate(ret(EPERM))])
+        self.assertEqual((status, [number for number, *_ in pairs]), (4, NUMBERS))
 
     def test_foreign_calls_and_numbers_without_a_name(self):
         inner = jeq(READ, 0, 1) + ret(ALLOW) + ret(EPERM)
-        beside = stack_surfaces.compared_surfaces(of([gate(inner)]), of([gate(inner, ALLOW)]))
-        self.assertEqual((beside.status, beside.pairs, beside.foreign_differ, beside.unnamed_differ),
-                         (1, (), True, False))
-        beside = stack_surfaces.compared_surfaces(of([filter_of([READ])]), of([filter_of([READ, 400])]))
-        self.assertEqual((beside.status, beside.pairs, beside.foreign_differ, beside.unnamed_differ),
-                         (1, (), False, True))
+        for filters, others, differ in (([gate(inner)], [gate(inner, ALLOW)], (True, False)),
+                                        ([filter_of([READ])], [filter_of([READ, 400])], (False, True))):
+            status, pairs, beside = self.beside(filters, others)
+            self.assertEqual((status, pairs, beside.foreign_differ, beside.unnamed_differ), (1, [], *differ))
 
     def test_lines_and_json(self):
         first, second = self.file("1.bpf", filter_of([READ, 400])), self.file("2.bpf", filter_of([WRITE]))
@@ -710,9 +669,7 @@ class Process(Confined):
     """--pid: the stacks of a process's threads."""
 
     def surface(self, *words):
-        status, out, err = self.run_tool("surface", "--table", self.file("own.table", OWN), *words)
-        self.assertEqual(err, "")
-        return status, out.split("\n")[:-1]
+        return self.told("surface", "--table", self.file("own.table", OWN), *words)
 
     @here
     def test_one_stack(self):
