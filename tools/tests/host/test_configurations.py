@@ -142,7 +142,8 @@ class Configurations(Confined):
 
 
 class Owners(unittest.TestCase):
-    """Which process a configuration is known not to be of, by the groups and namespaces of the process."""
+    """Which process a configuration is known not to be of, by the groups and namespaces of the process; the runtime
+    that a container really has; and a container by its name, or by the beginning of its ID."""
 
     def why_not(self, groups, linux, spaces=((4, 0xEFFFFFFC),)):
         kernel = FakeKernel()
@@ -176,28 +177,21 @@ class Owners(unittest.TestCase):
                               ({"namespaces": [{"type": "mount"}]}, [(4, 0xEFFFFFFC)])):
             self.assertIsNone(self.why_not("/", linux, spaces))
 
+    def test_the_folders_of_runtimes(self):
+        """Those that runc and crun keep for root."""
+        def other(actual, runtime):
+            with mock.patch("os.path.exists", lambda path: path == actual):
+                return configurations.other_runtime([TWO, ONE], runtime)
 
-class OtherRuntimes(unittest.TestCase):
-    """The runtime that a container really has, by the folders that runc and crun keep for root."""
-
-    def other(self, actual, runtime):
-        with mock.patch("os.path.exists", lambda path: path == actual):
-            return configurations.other_runtime([TWO, ONE], runtime)
-
-    def test_the_folders(self):
         for name, state in (("runc", f"/run/runc/{ONE}/state.json"), ("crun", f"/run/crun/{ONE}/status")):
             for runtime in (None, "runc", "crun", "docker", "podman"):
                 is_it = runtime in {"runc": ("runc", "docker"), "crun": ("crun", "podman")}[name]
-                self.assertEqual(self.other(state, runtime), None if is_it else (
+                self.assertEqual(other(state, runtime), None if is_it else (
                     f"the container's runtime is {name}, by /run/{name}/{ONE}: --runtime {name} reads the profile as "
                     "it does"))
-        self.assertIsNone(self.other("/run/runc/x/state.json", "crun"))
+        self.assertIsNone(other("/run/runc/x/state.json", "crun"))
 
-
-class Names(unittest.TestCase):
-    """A container by its name, or by the beginning of its ID."""
-
-    def test_none_or_several_are_listed(self):
+    def test_names_of_none_or_several(self):
         made = [ContainerDescription(identifier, "podman", "crun", 1, "config.json", name=name) for identifier, name in
                 (("abc1" + "0" * 60, "box"), ("abd2" + "0" * 60, "web"), ("bo" + "0" * 62, None), ("abc1", "ab"))]
         for word, found in (("box", 0), ("web", 1), ("abd", 1), ("bo", 2), ("bo0", 2), ("abc1", 3), ("ab", 3),

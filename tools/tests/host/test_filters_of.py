@@ -61,41 +61,24 @@ class Programs(Confined):
         self.assertEqual(self.run_tool("filters-of", "--thread", "0", "1", "out")[0], 2)
         self.assertEqual(self.run_tool("verify-process", "--native", "--calls", "1", "p")[0], 2)
 
-    def test_a_process_that_is_not_there(self):
-        child = subprocess.Popen(["true"])
-        child.wait()
-        profile = self.file("p", ALLOWS_ALL)
-        self.assertEqual(self.run_tool("filters-of", str(child.pid), "out"),
-                         (2, "", f"filters-of: {NO_PROCESS.format(child.pid)}\n"))
-        for words in ((), ("--all",)):
-            self.assertEqual(self.run_tool("verify-process", *words, str(child.pid), profile),
-                             (2, "", f"verify-process: {NO_PROCESS.format(child.pid)}\n"))
-
     @here
-    def test_json_of_a_process_that_has_ended(self):
-        """It is an object that says so, and the line on standard error is as ever."""
-        ended_child = subprocess.Popen(["true"])
-        ended_child.wait()
-        zombie = self.child([OLDEST])
+    def test_a_process_that_has_ended(self):
+        """Also a zombie. With --json it is an object that says so, and the line on standard error is as ever."""
+        gone, zombie = subprocess.Popen(["true"]), self.child([OLDEST])
+        gone.wait()
         zombie.kill()
         self.wait_for(zombie.pid, "Z")
         profile = self.file("p", ALLOWS_ALL)
-        for pid, why in ((ended_child.pid, NO_PROCESS.format(ended_child.pid)),
-                         (zombie.pid, f"process {zombie.pid} is a zombie: it has ended, and waits for its parent")):
-            for name, words in (("verify-process", (str(pid), profile)), ("surface", ("--pid", str(pid)))):
+        zombies = f"process {zombie.pid} is a zombie: it has ended, and waits for its parent"
+        for pid, why in ((str(gone.pid), NO_PROCESS.format(gone.pid)), (str(zombie.pid), zombies)):
+            for name, *words in (("filters-of", pid, "out"), ("verify-process", pid, profile)):
+                self.assertEqual(self.run_tool(name, *words), (2, "", f"{name}: {why}\n"))
+            for name, *words in (("verify-process", pid, profile), ("surface", "--pid", pid)):
                 status, out, err = self.run_tool(name, "--json", *words)
                 self.assertEqual((status, err), (2, f"{name}: {why}\n"))
                 self.assertEqual(json.loads(out), {"status": 2, "verdict": None, "stacks": [], "why": why, "schema": 3})
-
-    @here
-    def test_a_zombie(self):
-        child = self.child([OLDEST])
-        child.kill()
-        self.wait_for(child.pid, "Z")
-        for name, last in (("filters-of", "out"), ("verify-process", self.file("p", ALLOWS_ALL))):
-            self.assertEqual(self.run_tool(name, str(child.pid), last),
-                             (2, "", f"{name}: process {child.pid} is a zombie: it has ended, and waits for its "
-                                     f"parent\n"))
+        self.assertEqual(self.run_tool("verify-process", "--all", str(gone.pid), profile),
+                         (2, "", f"verify-process: {NO_PROCESS.format(gone.pid)}\n"))
 
     @here
     def test_the_first_process_of_a_namespace(self):
@@ -651,5 +634,4 @@ class Containers(Confined):
         """Its own config.json is a profile, too."""
         profile = json.loads(refuses("mount", "ptrace", architectures=["SCMP_ARCH_X86_64"]))
         box, pid = self.container(profile, "crun", "runc")
-        status, out, err = self.run_tool("verify-process", str(pid), box.config)
-        self.assertEqual((status, err, out.split("\n")[0]), (0, "", "same"))
+        self.begins(0, "same", self.run_tool("verify-process", str(pid), box.config))

@@ -96,18 +96,15 @@ class OfStates(Hook):
         self.assertEqual((actual.status, actual.verdict), (70, None))
         self.assertRegex(actual.lines()[0], "^internal error: .* itself failed: KeyError; please report it$")
 
-    def test_a_process_that_is_gone(self):
-        child = subprocess.Popen(["true"])
-        child.wait()
-        self.fails(self.state(child.pid, self.bundle(refuses("mount"))), f"there is no process {child.pid}", "--kill")
-
     @here
-    def test_a_zombie(self):
-        child = self.child([refusing(MOUNT)])
-        child.kill()
-        self.wait_for(child.pid, "Z")
-        lines = self.fails(self.state(child.pid, self.bundle(refuses("mount"))), "has ended already", "--kill")
-        self.assertIn(f"process {child.pid} is a zombie: it has ended", lines[2])
+    def test_a_process_that_has_ended(self):
+        gone, zombie = subprocess.Popen(["true"]), self.child([refusing(MOUNT)])
+        gone.wait()
+        self.fails(self.state(gone.pid, self.bundle(refuses("mount"))), f"there is no process {gone.pid}", "--kill")
+        zombie.kill()
+        self.wait_for(zombie.pid, "Z")
+        lines = self.fails(self.state(zombie.pid, self.bundle(refuses("mount"))), "has ended already", "--kill")
+        self.assertIn(f"process {zombie.pid} is a zombie: it has ended", lines[2])
 
     def test_hostile_names(self):
         """Of a container, of a bundle: no line is forged, and nothing reaches a terminal."""

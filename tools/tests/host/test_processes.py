@@ -71,15 +71,11 @@ class Asked(Case):
         self.assertEqual([request for request, _, _ in kernel.asked[:2]], [SEIZE, INTERRUPT])
         self.assertEqual(kernel.let_go(), [0])
 
-    def test_threads_that_come_while_others_are_stopped(self):
-        kernel = FakeKernel([OLDEST], listings=[(7,), (7, 8), (7, 8, 9), (7, 8, 9)])
-        self.assertEqual(self.look(kernel).stacks[0].threads, {7: [7, 8, 9]})
-        self.assertEqual(kernel.held, set())
-
-    def test_threads_that_go_meanwhile(self):
-        kernel = FakeKernel([OLDEST], listings=[(7, 8), (7,)])
-        self.assertEqual(self.look(kernel).stacks[0].threads, {7: [7]})
-        self.assertEqual(kernel.held, set())
+    def test_threads_that_come_or_go_meanwhile(self):
+        for listings, threads in (([(7,), (7, 8), (7, 8, 9), (7, 8, 9)], [7, 8, 9]), ([(7, 8), (7,)], [7])):
+            kernel = FakeKernel([OLDEST], listings=listings)
+            self.assertEqual(self.look(kernel).stacks[0].threads, {7: threads})
+            self.assertEqual(kernel.held, set())
 
     def test_a_thread_that_ends_before_it_is_read(self):
         """The others are read, and one that is begun meanwhile, too."""
@@ -133,15 +129,10 @@ class Asked(Case):
             kernel.filter = changing
             self.refused(kernel, f"changed its length from {len(first) // 8} to {len(second) // 8} while it was read")
 
-    def test_a_filter_that_is_too_long(self):
-        kernel = FakeKernel([ret(ALLOW) * 4097])
-        self.refused(kernel, "filter 0 of process 7 has 4097 instructions")
-
-    def test_the_longest_filter(self):
+    def test_lengths_and_counts(self):
         longest = ret(ALLOW) * 4096
         self.assertEqual(self.look(FakeKernel([longest])).stacks[0].filters, (longest,))
-
-    def test_another_count_than_the_kernel_tells(self):
+        self.refused(FakeKernel([longest + ret(ALLOW)]), "filter 0 of process 7 has 4097 instructions")
         self.refused(FakeKernel([OLDEST], status={"Seccomp_filters": "2"}),
                      "the kernel counts 2 filters of process 7 and shows 1")
         self.assertEqual(len(self.look(FakeKernel([OLDEST], status={"Seccomp_filters": "1"})).stacks), 1)
@@ -380,25 +371,6 @@ class Real(Confined):
         kernel = processes.Kernel()
         return processes.look_at_process(kernel, processes.process_of(kernel, child.pid), patience=PATIENCE, **settings)
 
-    def test_threads_with_filters_of_their_own(self):
-        """Filters of one length, in threads of one count of filters, are told apart; a thread has none."""
-        child = self.child([OLDEST, NEWEST], [OLDEST, OTHER], [], [OLDEST, NEWEST])
-        actual = {stack.filters: stack.threads for stack in self.look(child).stacks}
-        main, second, free, alike = child.threads
-        self.assertEqual(actual, {(OLDEST, NEWEST): {child.pid: sorted([main, alike])},
-                                  (OLDEST, OTHER): {child.pid: [second]}, (): {child.pid: [free]}})
-        self.runs_on(child)
-
-    def test_one_thread(self):
-        child = self.child([OLDEST], [NEWEST])
-        inspection = self.look(child, thread=child.threads[1])
-        self.assertEqual([(stack.filters, stack.threads) for stack in inspection.stacks],
-                         [((NEWEST,), {child.pid: [child.threads[1]]})])
-        said = self.text_of_error(processes.Unreadable, self.look, child, thread=os.getpid())
-        self.assertEqual(said, f"process {child.pid} has no thread {os.getpid()}")
-        self.assertEqual(processes.process_of(processes.Kernel(), child.threads[1]), child.pid)
-        self.runs_on(child)
-
     def test_threads_that_come_while_others_are_stopped(self):
         """While all are held the process has just the threads that are found, though it begins one after another."""
         child = self.child([OLDEST])
@@ -416,20 +388,6 @@ class Real(Confined):
                 inspection = processes.look_at_process(kernel, child.pid, patience=PATIENCE)
             self.assertEqual([stack.threads for stack in inspection.stacks], [{child.pid: held[-1]}])
         self.assertGreater(len(held[-1]), 1)
-
-    def test_a_zombie(self):
-        child = self.child([OLDEST])
-        child.kill()
-        self.wait_for(child.pid, "Z")
-        said = self.text_of_error(processes.Unreadable, self.look, child)
-        self.assertEqual(said, f"process {child.pid} is a zombie: it has ended, and waits for its parent")
-
-    def test_a_main_thread_that_has_ended(self):
-        child = self.child([OLDEST], [NEWEST])
-        self.do(child, "library.syscall(60, 0)")
-        self.wait_for(child.pid, "Z")
-        self.assertEqual([(stack.filters, stack.threads) for stack in self.look(child).stacks],
-                         [((NEWEST,), {child.pid: [child.threads[1]]})])
 
     def test_a_thread_of_the_kernel(self):
         kernel = processes.Kernel()
@@ -451,16 +409,6 @@ class Real(Confined):
         os.waitpid(child.pid, ptrace.WALL)
         kernel.ptrace(DETACH, child.pid, None, None)
         self.runs_on(child)
-
-    def test_no_process_and_this_one(self):
-        said = self.text_of_error(processes.Unreadable, processes.process_of, processes.Kernel(), 2**22 + 1)
-        self.assertRegex(said, f"^there is no process {2**22 + 1}: it has ended, or ")
-        said = self.text_of_error(processes.Unreadable, processes.look_at_process, processes.Kernel(), os.getpid())
-        self.assertIn("is this tool itself", said)
-
-    def test_strict_mode(self):
-        child = self.strict_child()
-        self.assertEqual([(stack.filters, stack.is_strict) for stack in self.look(child).stacks], [((), True)])
 
     def test_a_stopped_process_stays_stopped(self):
         child = self.child([OLDEST], [OLDEST])
