@@ -39,9 +39,8 @@ class Bundle(Case):
                     self.assertEqual(self.run_tool("bundle", kind + architecture, self.file("a", text)),
                                      (0, f"{kind}{architecture} {len(text)}\n{text.decode()}", ""))
         for text in (b"", b"449\n", b" 449", b"0x1c1", b"-1", b"4294967296", "٣".encode()):
-            status, out, err = self.run_tool("bundle", "stub-table-x86", self.file("a", text))
-            self.assertEqual((status, out), (2, ""), text)
-            self.assertIn("isn't a stub-table-x86: one decimal number below 4294967296, without a line end", err)
+            self.is_refused("isn't a stub-table-x86: one decimal number below 4294967296, without a line end", "bundle",
+                            "stub-table-x86", self.file("a", text))
 
     def test_names_that_look_like_options(self):
         for name in ("-", "-n", "--", "a b", "*"):
@@ -49,29 +48,20 @@ class Bundle(Case):
             self.assertEqual(self.run_tool("bundle", "filter", name), (0, f"filter {len(name)}\n{name}", ""))
 
     def test_pipe(self):
-        status, out, err = self.run_tool("bundle", "filter", "/dev/stdin", "table", self.file("t", b"x 1\n"),
-                                         given=b"\0\1")
-        self.assertEqual((status, out, err), (0, "filter 2\n\0\1table 4\nx 1\n", ""))
+        self.assertEqual(self.output_of(0, "bundle", "filter", "/dev/stdin", "table", self.file("t", b"x 1\n"),
+                                        given=b"\0\1"), "filter 2\n\0\1table 4\nx 1\n")
         os.mkfifo(os.path.join(self.folder, "pipe"))
-
-        def write():
-            with open(os.path.join(self.folder, "pipe"), "wb") as file:
-                file.write(b"y" * 100000)
-
-        writer = threading.Thread(target=write)
+        writer = threading.Thread(target=self.file, args=("pipe", b"y" * 100000))
         writer.start()
-        status, out, err = self.run_tool("bundle", "profile", "pipe")
+        out = self.output_of(0, "bundle", "profile", "pipe")
         writer.join()
-        self.assertEqual((status, out, err), (0, "profile 100000\n" + "y" * 100000, ""))
+        self.assertEqual(out, "profile 100000\n" + "y" * 100000)
 
     def test_wrong_words_print_nothing(self):
         good = self.file("good", b"x")
         for words in (("filter",), ("filter", good, "profile"), ("flter", good), ("filter", good, "table", "none"),
-                      ("filter", "none"),
-                      ("filter", self.folder), ("filter", good, "filter", self.folder)):
-            status, out, err = self.run_tool("bundle", *words)
-            self.assertEqual((status, out), (2, ""), words)
-            self.assertTrue(err.startswith("bundle: "), err)
+                      ("filter", "none"), ("filter", self.folder), ("filter", good, "filter", self.folder)):
+            self.is_refused("bundle: ", "bundle", *words)
 
     def test_too_long(self):
         """Each kind has the limit that scf has for it, and all together the one of scf's input."""
@@ -80,17 +70,10 @@ class Bundle(Case):
             self.assertEqual(self.run_tool("bundle", kind, path)[0::2], (0, ""))
             with open(path, "ab") as file:
                 file.write(b"\0")
-            status, out, err = self.run_tool("bundle", kind, path)
-            self.assertEqual((status, out), (2, ""))
-            self.assertIn(f"the {kind.partition('-')[0]} '{path}' has more than {limit} bytes", err)
+            self.is_refused(f"the {kind.partition('-')[0]} '{path}' has more than {limit} bytes", "bundle", kind, path)
         whole = self.file("whole", bytes(4194304))
-        status, out, err = self.run_tool("bundle", *["profile", whole] * 4, "table", self.file("one", b"x"))
-        self.assertEqual((status, out), (2, ""))
-        self.assertIn("more than 16777216 bytes together", err)
-
-    def test_output_that_fails(self):
-        status, _, err = self.closed_output("bundle", "filter", self.file("a", b"x"))
-        self.assertEqual((status, err), (2, "bundle: the output failed: No space left on device\n"))
+        self.is_refused("more than 16777216 bytes together", "bundle", *["profile", whole] * 4, "table",
+                        self.file("one", b"x"))
 
     def test_nothing_is_left_behind(self):
         room = os.path.join(self.folder, "room")

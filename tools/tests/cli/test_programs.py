@@ -7,8 +7,8 @@ import re
 import subprocess
 import sys
 
-from support.common import (ALLOW, CORE, EPERM, I386, KILL_PROCESS, TABLE, TOP, UNKNOWN_ZERO, X86_64, Case, filter_of,
-                            insn, jeq, jge, load, part, profile_of, ret, tool)
+from support.common import (ALLOW, CORE, EPERM, I386, KILL_PROCESS, TABLE, TOP, UNKNOWN_ZERO, X86_64, Case, bytes_of,
+                            filter_of, insn, jeq, jge, load, part, profile_of, ret, text_of, tool)
 from scftools.cli.commands import NAMES
 from scftools.model import tables
 
@@ -37,13 +37,11 @@ class Check(Case):
     def test_one_and_several(self):
         good, bad, cut = (self.file(name, data) for name, data in (
             ("good.bpf", ret(ALLOW)), ("bad.bpf", jeq(0, 9, 0) + ret(ALLOW)), ("cut.bpf", b"\6\0")))
-        self.assertEqual(self.run_tool("check", good), (0, "accepted 1\n", ""))
-        status, out, err = self.run_tool("check", bad)
-        self.assertEqual((status, err), (1, ""))
+        self.assertEqual(self.output_of(0, "check", good), "accepted 1\n")
+        out = self.output_of(1, "check", bad)
         self.assertTrue(out.startswith("fault filter Jump at 0\n# This jump leaves the filter"), out)
         self.assertNotIn("bad.bpf", out)
-        status, out, err = self.run_tool("check", good, bad)
-        self.assertEqual((status, err), (1, ""))
+        out = self.output_of(1, "check", good, bad)
         self.assertTrue(out.startswith(f"{good}: accepted 1\n{bad}: fault filter Jump at 0\n# This jump"), out)
         self.assertEqual(self.run_tool("check", bad, cut)[0], 1)
         self.assertEqual(self.run_tool("check", good, cut)[0], 2)
@@ -59,8 +57,7 @@ class Compile(Case):
         self.says_usage("compile", "one", "two")
 
     def test_it_is_the_filter_of_scf(self):
-        with open(TABLE, "rb") as file:
-            given = part("profile", profile_of("read", "openat")) + part("table", file.read())
+        given = part("profile", profile_of("read", "openat")) + part("table", bytes_of(TABLE))
         expected = subprocess.run([*CORE, "compile"], input=given, stdout=subprocess.PIPE, check=True).stdout
         profile = self.file("p.json", profile_of("read", "openat"))
         self.assertEqual(self.compiled(profile), (0, expected, ""))
@@ -94,14 +91,13 @@ class Compile(Case):
             self.assertEqual(self.compiled(self.file("p.json", json.dumps(given)))[2], says)
 
     def test_refusals_go_to_standard_error(self):
-        for profile, status, says in ((b"{", 2, "fault profile Json\ncompile: the JSON is malformed at line 1"),
-                                      (b'{"defaultAction":"ALLOW"}', 2, "fault profile Action\ncompile: An action")):
-            actual, out, err = self.compiled(self.file("p.json", profile))
-            self.assertEqual((actual, out), (status, b""))
+        table = self.file("t", b"read\n")
+        for words, profile, says in (([], b"{", "fault profile Json\ncompile: the JSON is malformed at line 1"),
+                                     ([], b'{"defaultAction":"ALLOW"}', "fault profile Action\ncompile: An action"),
+                                     (["--table", table], profile_of("read"), "fault table Form line 1\n")):
+            status, out, err = self.compiled(*words, self.file("p.json", profile))
+            self.assertEqual((status, out), (2, b""))
             self.assertTrue(err.startswith(f"compile: {says}"), err)
-        actual, out, err = self.compiled("--table", self.file("t", b"read\n"), self.file("q.json", profile_of("read")))
-        self.assertEqual((actual, out), (2, b""))
-        self.assertTrue(err.startswith("compile: fault table Form line 1\n"), err)
 
     def test_a_terminal_is_no_place_for_a_filter(self):
         ours, theirs = os.openpty()
@@ -115,7 +111,9 @@ class Compile(Case):
         self.assertIn(b"redirect the output into a file", done.stderr)
 
 
-class Run(Case):
+class Calls(Case):
+    """The calls that a tool is given, of which one run answers several."""
+
     def setUp(self):
         super().setUp()
         self.filter = self.file("f.bpf", filter_of([0]))
@@ -127,50 +125,35 @@ class Run(Case):
         """Number 0 is answered of standard input alone, as by the program."""
         for words in (("run", self.filter), ("run", "--path", self.filter), ("decide", self.filter, self.filter),
                       ("decide", "--a0=1", self.filter), ("run", "-")):
-            status, out, err = self.run_tool(*words, given=filter_of([0]))
-            self.assertEqual((status, out), (2, ""), words)
-            self.assertIn("no syscall is given: ", err)
-        for name in ("run", "decide"):
-            self.assertEqual(self.run_tool(name, given=filter_of([0]))[:2],
-                             (0, f"ALLOW 0{' steps 6' if name == 'run' else ''}\n"))
-
-
-class Several(Case):
-    """Several calls in one run of a tool."""
-
-    def setUp(self):
-        super().setUp()
-        self.filter = self.file("f.bpf", filter_of([0]))
-        asks = load(16) + jeq(7, 0, 1) + ret(ALLOW) + ret(EPERM)
-        self.asks = self.file("asks.bpf", asks)
+            self.is_refused("no syscall is given: ", *words, given=filter_of([0]))
+        for name, steps in (("run", " steps 6"), ("decide", "")):
+            self.assertEqual(self.run_tool(name, given=filter_of([0]))[:2], (0, f"ALLOW 0{steps}\n"))
 
     def test_by_options(self):
         path = "# the path in the filter: 0 1 3 4 6 "
         for name, steps, paths in (("decide", "", [f"{path}8\n", f"{path}7\n"]), ("run", " steps 6", ["", ""])):
-            status, out, err = self.run_tool(name, "--nr", "read", "--nr=1", self.filter)
-            self.assertEqual((status, err), (0, ""))
-            self.assertEqual(out, f"ALLOW 0{steps}\n# the syscall is read (0)\n# ALLOW: the syscall is executed\n"
-                                  f"{paths[0]}ERRNO 1{steps}\n# the syscall is write (1)\n# ERRNO 1: the syscall fails "
-                                  f"with EPERM\n{paths[1]}")
+            self.assertEqual(self.output_of(0, name, "--nr", "read", "--nr=1", self.filter),
+                             f"ALLOW 0{steps}\n# the syscall is read (0)\n# ALLOW: the syscall is executed\n{paths[0]}"
+                             f"ERRNO 1{steps}\n# the syscall is write (1)\n# ERRNO 1: the syscall fails with EPERM\n"
+                             f"{paths[1]}")
 
     def test_by_a_file(self):
+        asks = self.file("asks.bpf", load(16) + jeq(7, 0, 1) + ret(ALLOW) + ret(EPERM))
         calls = self.file("calls", "# arguments\nread 7\n\n 1   0x7\nwrite\nclose 8 7\n")
-        status, out, err = self.run_tool("decide", "--calls-from", calls, "--a0=9", "--nr", "mmap", self.asks)
-        self.assertEqual((status, err), (0, ""))
+        out = self.output_of(0, "decide", "--calls-from", calls, "--a0=9", "--nr", "mmap", asks)
         self.assertEqual([line for line in out.split("\n") if line and line[0] != "#"],
                          ["ERRNO 1", "ALLOW 0", "ALLOW 0", "ERRNO 1", "ERRNO 1"])
         self.assertEqual(re.findall(r"# the syscall is (\w+)", out), ["mmap", "read", "write", "write", "close"])
-        self.assertEqual(self.run_tool("decide", "--calls-from", self.file("none", ""), self.asks), (0, "", ""))
+        self.assertEqual(self.output_of(0, "decide", "--calls-from", self.file("none", ""), asks), "")
 
     def test_wrong_lines(self):
-        for text, status, says in (("raed\n", 2, "the table has no syscall 'raed'; the nearest name is 'read'"),
-                                   ("read 1 2 3 4 5 6 7\n", 2, "isn't a syscall and up to six numbers"),
-                                   ("read\0\n", 2, "isn't a syscall and up to six numbers"),
-                                   ("9" * 300, 2, "isn't a syscall and up to six numbers"),
-                                   ("read 1x\n", 2, "fault number a0"), ("read x\n", 2, "no constant is known"),
-                                   ("99999999999\nread\n", 2, "fault number nr")):
-            actual, out, err = self.run_tool("decide", "--calls-from", self.file("calls", text), self.filter)
-            self.assertEqual(actual, status, text)
+        for text, says in (("raed\n", "the table has no syscall 'raed'; the nearest name is 'read'"),
+                           ("read 1 2 3 4 5 6 7\n", "isn't a syscall and up to six numbers"),
+                           ("read\0\n", "isn't a syscall and up to six numbers"),
+                           ("9" * 300, "isn't a syscall and up to six numbers"), ("read 1x\n", "fault number a0"),
+                           ("read x\n", "no constant is known"), ("99999999999\nread\n", "fault number nr")):
+            status, out, err = self.run_tool("decide", "--calls-from", self.file("calls", text), self.filter)
+            self.assertEqual(status, 2, text)
             self.assertIn(says, out + err)
 
     def test_the_worst_status(self):
@@ -185,11 +168,9 @@ class Several(Case):
         tree = self.made_tree("#!/bin/sh\necho \"$@\" >>\"$KEPT\"\necho ALLOW 0\n")
         path = os.path.join(self.folder, "kept")
         words = [word for number in range(29) for word in ("--nr", str(number))]
-        done = self.run_words([os.path.join(tree, "tools", "decide"), *words, self.filter],
-                              env={**os.environ, "KEPT": path})
-        self.assertEqual(done[0], 0)
-        with open(path, encoding="ascii") as file:
-            self.assertEqual(file.read(), "".join(f"decide --nr={number} --path\n" for number in range(29)))
+        self.assertEqual(self.run_words([os.path.join(tree, "tools", "decide"), *words, self.filter],
+                                        env={**os.environ, "KEPT": path})[0], 0)
+        self.assertEqual(text_of(path), "".join(f"decide --nr={number} --path\n" for number in range(29)))
 
 
 class WhichFilter(Case):
@@ -202,32 +183,29 @@ class WhichFilter(Case):
         self.profile = self.file("p.json", b'{"defaultAction":"SCMP_ACT_ALLOW"}')
 
     def test_the_answer(self):
-        status, out, _ = self.run_tool("decide", "--nr=0", self.allow, self.one, self.two)
-        self.assertEqual((status, out.split("\n")[0]), (0, "ERRNO 2"))
-        self.assertTrue(out.endswith(f"# the filter that answers so is {self.two}\n"
-                                     f"# the path in {self.two}: 0\n"), out)
-        out = self.run_tool("decide", "--nr=0", self.one, self.allow, self.one)[1]
-        self.assertTrue(out.endswith(f"# the filters that answer so are {self.one} and {self.one}\n"
-                                     f"# the path in {self.one}: 0\n"), out)
-        self.assertIn("\n# both filters answer so\n", self.run_tool("decide", "--nr=0", self.one, self.one)[1])
-        self.assertIn("\n# all 3 filters answer so\n", self.run_tool("decide", "--nr=0", *[self.allow] * 3)[1])
-        self.assertTrue(self.run_tool("decide", "--nr=0", self.one)[1].endswith("\n# the path in the filter: 0\n"))
+        for stack, answer, says in (
+                ((self.allow, self.one, self.two), "ERRNO 2",
+                 f"# the filter that answers so is {self.two}\n# the path in {self.two}: 0\n"),
+                ((self.one, self.allow, self.one), "ERRNO 1",
+                 f"# the filters that answer so are {self.one} and {self.one}\n# the path in {self.one}: 0\n"),
+                ((self.one, self.one), "ERRNO 1", f"# both filters answer so\n# the path in {self.one}: 0\n"),
+                ([self.allow] * 3, "ALLOW 0", f"# all 3 filters answer so\n# the path in {self.allow}: 0\n"),
+                ((self.one,), "ERRNO 1", "# the path in the filter: 0\n")):
+            out = self.begins(0, answer, self.run_tool("decide", "--nr=0", *stack))
+            self.assertTrue(out.endswith(f"\n{says}"), out)
 
     def test_a_fault(self):
         bad = self.file("bad.bpf", jeq(0, 9, 0) + ret(ALLOW))
         for words in (("compare", self.allow, bad, self.one, self.profile),
                       ("decide", "--nr=0", self.allow, bad, self.one)):
-            status, out, _ = self.run_tool(*words)
-            self.assertEqual(status, 2)
-            self.assertTrue(out.startswith("fault filter Jump at 0\n# This jump"), out)
-            self.assertTrue(out.endswith(f"# the filter is {bad}\n"), out)
+            out = self.begins(2, "fault filter Jump at 0", self.run_tool(*words))
+            self.assertRegex(out, rf"\A.*\n# This jump(.|\n)*\n# the filter is {re.escape(bad)}\n\Z")
         self.assertNotIn("bad.bpf", self.run_tool("compare", bad, self.profile)[1])
 
     def test_a_stack_that_is_too_long(self):
         long = [self.file(f"{at}.bpf", ret(ALLOW) * 4096) for at in range(8)]
         for words in (("decide", "--nr=0", *long), ("compare", *long, self.profile)):
-            status, out, _ = self.run_tool(*words)
-            self.assertEqual((status, out.split("\n")[0]), (2, "fault stack TooMany total 32796"))
+            out = self.begins(2, "fault stack TooMany total 32796", self.run_tool(*words))
             self.assertTrue(out.endswith(f"# the filter is {long[7]}\n"), out)
 
     def test_an_undecided_place(self):
@@ -235,13 +213,11 @@ class WhichFilter(Case):
         place = self.run_tool("compare", "--limit=100000", unknown, self.profile)[1].split("\n")[0].split(" ")[-1]
         # that of ERRNO 1, which no call gets
         self.assertEqual(int(place), len(UNKNOWN) // 8 - 2)
-        status, out, _ = self.run_tool("compare", "--limit=100000", self.allow, unknown, self.allow, self.profile)
-        self.assertEqual((status, out.split(" ")[0]), (4, "undecided"))
-        self.assertTrue(out.endswith(f"# alone, {unknown} is undecided at {place}\n"), out)
         twice = self.file("twice.bpf", UNKNOWN)
-        out = self.run_tool("compare", "--limit=100000", unknown, twice, self.profile)[1]
-        self.assertTrue(out.endswith(f"# alone, {unknown} is undecided at {place}\n"
-                                     f"# alone, {twice} is undecided at {place}\n"), out)
+        for stack, alone in (((self.allow, unknown, self.allow), [unknown]), ((unknown, twice), [unknown, twice])):
+            status, out, _ = self.run_tool("compare", "--limit=100000", *stack, self.profile)
+            self.assertEqual((status, out.split(" ")[0]), (4, "undecided"))
+            self.assertTrue(out.endswith("".join(f"# alone, {path} is undecided at {place}\n" for path in alone)), out)
         value = json.loads(self.run_tool("compare", "--json", "--limit=100000", self.allow, unknown, self.profile)[1])
         self.assertEqual(value["files"], [unknown])
         status, out, _ = self.run_tool("compare", self.allow, square, self.allow, self.profile)
@@ -249,8 +225,8 @@ class WhichFilter(Case):
         self.assertNotIn("# alone, ", out)
 
 
-class Names(Case):
-    """Names of a profile that the table doesn't have."""
+class Profiles(Case):
+    """Names of a profile that the table doesn't have, and where it stops being JSON."""
 
     def setUp(self):
         super().setUp()
@@ -260,31 +236,25 @@ class Names(Case):
         out = self.run_tool("compare", *words, self.same, self.file("p.json", profile_of(*names, default=default)))[1]
         return [line for line in out.split("\n") if line.startswith("# ")]
 
-    def test_names_of_other_architectures(self):
+    def test_names_that_no_table_has(self):
+        skipped = "# names in the profile that were skipped because no table has them: "
         self.assertEqual(self.added(["read", "waitpid", "_llseek"]),
-                         ["# names in the profile that were skipped because no table has them: 2, all "
-                          "of them syscalls of other architectures"])
-
-    def test_names_that_no_call_has(self):
+                         [f"{skipped}2, all of them syscalls of other architectures"])
         self.assertEqual(self.added(["read", "umont2", "waitpid", "raed", "gone", "frobnicate"]),
-                         ["# names in the profile that were skipped because no table has them: 5",
+                         [f"{skipped}5",
                           "# no known syscall is named umont2; the nearest name in the table is umount2",
                           "# no known syscall is named raed; the nearest name in the table is read",
                           "# no known syscall is named gone",
                           "# no known syscall is named frobnicate"])
-
-    def test_many_of_them(self):
-        added = self.added(["read", *(f"x{at}_y" for at in range(30))])
-        self.assertEqual(len(added), 22)
-        self.assertEqual(added[-1], "# more such names: 10")
+        many = self.added(["read", *(f"x{at}_y" for at in range(30))])
+        self.assertEqual((len(many), many[-1]), (22, "# more such names: 10"))
 
     def test_rules_that_are_lost(self):
         """Where the default lets calls through, a name that is skipped is a rule that isn't there."""
-        for default, is_lost in (("SCMP_ACT_ALLOW", True), ("SCMP_ACT_LOG", True), ("SCMP_ACT_ERRNO", False),
-                                 ("SCMP_ACT_KILL", False), ("SCMP_ACT_TRACE", False)):
-            added = self.added(["read", "umont2"], default=default)
-            self.assertEqual(LOST.rstrip() in added, is_lost, default)
-            self.assertNotIn(LOST.rstrip(), self.added(["read", "waitpid"], default=default))
+        for action, is_lost in (("ALLOW", True), ("LOG", True), ("ERRNO", False), ("KILL", False), ("TRACE", False)):
+            for name, counts in (("umont2", is_lost), ("waitpid", False)):
+                added = self.added(["read", name], default=f"SCMP_ACT_{action}")
+                self.assertEqual(LOST.rstrip() in added, counts, (action, name))
 
     def test_names_that_a_table_of_ones_own_leaves_out(self):
         table = self.file("own.table", b"read 0\n")
@@ -298,11 +268,7 @@ class Names(Case):
         self.assertIsNone(tables.nearest("read" * 1000, tables.read_table(TABLE)))
 
 
-class Json(Case):
-    """Where a profile stops being JSON."""
-
-    def test_line_and_column(self):
-        same = self.file("same.bpf", filter_of([0]))
+    def test_where_it_stops_being_json(self):
         for text, says in ((b'{\n  "defaultAction": "SCMP_ACT_ALLOW",\n  "syscalls": [}\n}\n', "line 3, column 16: "),
                            (b" \n", "the profile is empty"), (b'{"a": "\x01"}', "line 1, column 8: "),
                            (b'{"a"\n: tru}', "line 2, column 3: "), (b'{"a": 1,}', "line 1, column "),
@@ -317,14 +283,9 @@ class Json(Case):
                            (b'{"a": "\\ud800"}', "a has an unpaired surrogate")):
             profile = self.file("p.json", text)
             # (what is blank may be meant as either)
-            words = ("compare", same) if text.strip() else ("compare-profiles", profile)
-            status, out, _ = self.run_tool(*words, profile)
-            self.assertEqual((status, out.split("\n")[0]), (2, "fault profile Json"), text)
-            self.assertIn(says, out)
-            done = subprocess.run([tool("compile"), profile], stdout=subprocess.PIPE, stderr=subprocess.PIPE,
-                                  check=False)
-            self.assertEqual((done.returncode, done.stdout), (2, b""))
-            self.assertIn(says, done.stderr.decode())
+            words = ("compare", self.same) if text.strip() else ("compare-profiles", profile)
+            self.assertIn(says, self.begins(2, "fault profile Json", self.run_tool(*words, profile)))
+            self.is_refused(says, "compile", profile)
 
 
 class Objects(Case):
@@ -337,8 +298,7 @@ class Objects(Case):
 
         def found(*words):
             status, out, err = self.run_tool("compare", "--json", *words)
-            self.assertEqual(err, "")
-            self.assertEqual((out.count("\n"), out[-1]), (1, "\n"))
+            self.assertEqual((err, out.count("\n"), out[-1]), ("", 1, "\n"))
             self.assertEqual(json.loads(out)["status"], status)
             return {name: value for name, value in json.loads(out).items() if name != "schema"}
 
@@ -392,12 +352,10 @@ class Objects(Case):
         call = {"number": 0, "names": ["read"], "c": "read(7, NULL, 0)", "architecture": "0xc000003e", "pointer": "0x0",
                 "arguments": ["0x7", *["0x0"] * 5]}
         answer = {"action": "ERRNO", "data": 2, "errno": "ENOENT", "does": "the syscall fails with ENOENT"}
-        status, out, _ = self.run_tool("decide", "--nr=0", "--json", "--a0=7", item, two)
-        self.assertEqual((status, json.loads(out)), (0, {"schema": 3, "status": 0, "calls": [
-            {"status": 0, "call": call, "answer": answer, "filters": [two],
-             "path": {"filter": two, "indexes": [0]}}]}))
-        status, out, _ = self.run_tool("run", "--json", "--a0=7", "--nr", "read", "--nr", "x", two)
-        self.assertEqual(status, 2)
+        self.assertEqual(json.loads(self.output_of(0, "decide", "--nr=0", "--json", "--a0=7", item, two)), {
+            "schema": 3, "status": 0, "calls": [{"status": 0, "call": call, "answer": answer, "filters": [two],
+                                                 "path": {"filter": two, "indexes": [0]}}]})
+        self.assertEqual(self.run_tool("run", "--json", "--a0=7", "--nr", "read", "--nr", "x", two)[0], 2)
         status, out, _ = self.run_tool("run", "--json", "--a0=7", "--nr=read", "--nr=99999999999", two)
         self.assertEqual(status, 2)
         first, second = json.loads(out)["calls"]
@@ -412,6 +370,8 @@ class Objects(Case):
 
 
 class Programs(Case):
+    """How the tools start, and the Pythons that lack what they need."""
+
     def test_a_name_of_a_stranger(self):
         link = os.path.join(self.folder, "\x1b[2J%s\\1")
         os.symlink(tool("check"), link)
@@ -445,10 +405,6 @@ class Programs(Case):
             with open(path, encoding="utf-8") as file:
                 first = next(line for line in file if not line.startswith("#!"))
             self.assertRegex(first, r'^"""\w.{20}', path)
-
-
-class Python(Case):
-    """A Python without what the tools need."""
 
     def test_python3_minimal(self):
         starts = self.file("lacking.py", LACKING)

@@ -216,6 +216,13 @@ class Texts(Case):
         self.assertIn("can be read as hexadecimal text and as decimals of tcpdump -ddd",
                       self.text_of_error(program.ToolError, filters.form_of, both, "it"))
 
+    def test_values_of_expressions(self):
+        for text, value in (("1 | 2 & 3", 3), ("1 + 2 << 3", 24), ("~0 & 0xff", 255), ("010", 8), ("-1", (1 << 64) - 1),
+                            ("(1 | 2) + 4", 7), ("0x10U - 6", 10), ("7 - 2 - 1", 4), ("EPERM", 1), ("1 << 2 | 1", 5)):
+            self.assertEqual(c_arrays.value_of(text), value, text)
+        self.assertEqual(EPERM, c_arrays.value_of("SECCOMP_RET_ERRNO | EPERM"))
+        self.assertEqual(jeq(1, 0, 0), insn(c_arrays.value_of("BPF_JMP | BPF_JEQ"), 1))
+
 
 class Raw(Case):
     """A raw filter stays one, whatever its bytes."""
@@ -260,9 +267,8 @@ class Tools(Case):
                 status, out, err = self.run_tool(*words, path)
                 self.assertEqual((status, out), expected[:2], (words, name))
                 self.assertRegex(err, rf"^{words[0]}: '{path}' is read as [\w' -]+, instructions: 11\n$")
-        status, out, err = self.run_tool("compare", "-", self.profile, given=ARRAY.encode())
-        self.assertEqual((status, out), (0, "same\n"))
-        self.assertEqual(err, "compare: standard input is read as a C array, instructions: 11\n")
+        self.assertEqual(self.run_tool("compare", "-", self.profile, given=ARRAY.encode()),
+                         (0, "same\n", "compare: standard input is read as a C array, instructions: 11\n"))
 
     def test_what_is_no_filter(self):
         bundle = part("filter", FILTER)
@@ -292,12 +298,3 @@ class Tools(Case):
                 self.assertEqual((status, out, err.count("\n")), (2, "", 1), words)
                 self.assertIn(f"{words[0]}: '{path}' ", err)
                 self.assertIn(says, err)
-
-
-class Expressions(unittest.TestCase):
-    def test_values(self):
-        for text, value in (("1 | 2 & 3", 3), ("1 + 2 << 3", 24), ("~0 & 0xff", 255), ("010", 8), ("-1", (1 << 64) - 1),
-                            ("(1 | 2) + 4", 7), ("0x10U - 6", 10), ("7 - 2 - 1", 4), ("EPERM", 1), ("1 << 2 | 1", 5)):
-            self.assertEqual(c_arrays.value_of(text), value, text)
-        self.assertEqual(EPERM, c_arrays.value_of("SECCOMP_RET_ERRNO | EPERM"))
-        self.assertEqual(jeq(1, 0, 0), insn(c_arrays.value_of("BPF_JMP | BPF_JEQ"), 1))

@@ -150,22 +150,9 @@ class Stretches(Judged):
             self.assertLessEqual(len(path), bound, record)
         self.assertEqual(self.judge(pair), "same")
 
-    def are_compiled(self, subjects, arguments):
-        for default, patterns in subjects:
-            with self.subTest(default=default, patterns=patterns):
-                self.is_compiled(default, patterns, arguments)
-
-    def test_dense_numbers(self):
-        self.are_compiled(DENSE, NO_ARGUMENTS)
-
-    def test_sparse_numbers(self):
-        self.are_compiled(SPARSE, NO_ARGUMENTS)
-
-    def test_mixed_numbers(self):
-        self.are_compiled(MIXED, NO_ARGUMENTS)
-
-    def test_rules_with_conditions(self):
-        self.are_compiled(CONDITIONS, FEW_ARGUMENTS)
-
-    def test_long_rules(self):
-        self.are_compiled(LONG, SIX_ARGUMENTS)
+    def test_each(self):
+        for subjects, arguments in ((DENSE + SPARSE + MIXED, NO_ARGUMENTS), (CONDITIONS, FEW_ARGUMENTS),
+                                    (LONG, SIX_ARGUMENTS)):
+            for default, patterns in subjects:
+                with self.subTest(default=default, patterns=patterns):
+                    self.is_compiled(default, patterns, arguments)
