@@ -204,9 +204,7 @@ class Words(Case):
         for words in (("run", self.folder), ("check", self.folder), ("compile", self.folder), ("run", ""),
                       ("compare", self.folder, self.profile), ("compare", self.filter, self.folder),
                       ("compare", "--table", self.folder, self.filter, self.profile)):
-            status, out, err = self.run_tool(*words)
-            self.assertEqual((status, out), (2, ""), words)
-            self.assertNotIn("Traceback", err)
+            self.is_refused(f"{words[0]}: ", *words)
 
     def test_names_that_are_not_utf_8(self):
         name = self.file(os.fsdecode(b"odd\xff\x1b[2J.bpf"), filter_of([0]))
@@ -217,9 +215,7 @@ class Words(Case):
         self.assertIn("/\\xfe\\x0a.bpf: fault filter Jump at 0\n# This jump", out)
         out = self.out_of(2, self.run_words([tool("decide"), "--nr=0", name, broken]))
         self.assertTrue(out.endswith("/\\xfe\\x0a.bpf\n"), out)
-        status, out, err = self.run_words([tool("check"), name + "\n"])
-        self.assertEqual((status, out), (2, ""))
-        self.assertTrue(err.endswith("/odd\\xff\\x1b[2J.bpf\\x0a'\n"), err)
+        self.is_refusal("/odd\\xff\\x1b[2J.bpf\\x0a'\n", self.run_words([tool("check"), name + "\n"]))
 
 
 class Garbage(Measured):

@@ -4,7 +4,7 @@ import ctypes.util
 import os
 import unittest
 
-from support.common import I386, TABLE, TOP, Case, limited, part, text_of, tool
+from support.common import I386, TABLE, TOP, Case, limited, text_of, tool
 from scftools.model import architectures, tables
 
 HEADER = """#ifndef _ASM_UNISTD_64_H
@@ -115,17 +115,13 @@ class CallTable(Case):
                          (0, "read 0\nexit 60\nfile_setattr 469\nrt_sigaction 512\npwritev2 547\n"))
         # x86-64's have nothing added, and those of one aren't taken for another's
         for name, text in (("x86_64", OF_X32), ("x86_64", OF_ARM_EABI), ("x32", OF_ARM_EABI), ("i386", SOURCE)):
-            status, out, err = printed(name, text)
-            self.assertEqual((status, out), (2, ""), name)
-            self.assertIn("has no syscall", err)
+            self.is_refusal("has no syscall", printed(name, text))
         self.assertEqual(self.run_tool("call-table", "--architecture", "mips")[:2], (2, ""))
-        self.assertIn("only one input can be '-'", self.run_tool("call-table", "-", "-")[2])
+        self.is_refused("only one input can be '-'", "call-table", "-", "-")
 
     def refuses(self, given, message):
         done = self.run_tool("call-table", given=given)
-        self.assertEqual(done[:2], (2, ""))
-        self.assertIn(message, done[2])
-        self.assertNotIn("Traceback", done[2])
+        self.is_refusal(message, done)
         self.assertRegex(done[2], r"^call-table: [ -~]*\n$")
 
     def test_a_wrong_table_of_the_source(self):
@@ -146,14 +142,11 @@ class CallTable(Case):
             self.assertEqual(self.run_tool("call-table", given=given % (b"0" * 5000)), (0, "read 7\n", ""))
             self.refuses(given % (b"1" * 5000), "the number of read isn't below 1073741824")
 
-    def test_a_header_without_calls(self):
+    def test_a_wrong_header(self):
         for given in (b"", b"#define __NR_syscalls 3\n", b"/* #define __NR_a 1 */\n", b"\x7fELF\0\0", b"read 0\n",
                       b"/* #define __NR_a 1\n", b"\n" * 1000):
             self.refuses(given, "has no syscall")
-
-    def test_a_wrong_header(self):
         self.refuses(b"#define __NR_read 0\n#define __NR_read 1\n", "read has two numbers, 0 and 1")
-        self.refuses(b"#define __NR_read " + b"1" * 5000, "the number of read isn't below 1073741824")
         self.assertEqual(self.run_tool("call-table", given=b"#define __NR_a 1\n#define __NR_a 1\n"), (0, "a 1\n", ""))
 
     def test_inputs_without_an_end(self):
@@ -190,8 +183,7 @@ class CallTable(Case):
         self.assertEqual([row for row in unlike if int(row.split(" ")[1]) <= 469], [])
         self.assertIn("read 0", rows)
         self.assertIn("pidfd_getfd 438", rows)
-        status, out, err = self.run_tool("call-table", "--libseccomp", "--comment", "mine")
-        self.assertEqual(out.splitlines()[0], "# mine")
+        self.assertEqual(self.output_of(0, "call-table", "--libseccomp", "--comment", "mine").splitlines()[0], "# mine")
 
 
 class Table(Case):
@@ -206,10 +198,8 @@ class Table(Case):
     def lines(self):
         return text_of(TABLE).split("\n")
 
-    def test_it_says_what_it_is_of(self):
-        self.assertRegex(self.lines()[0], r"^# .*syscall_64\.tbl of Linux 6\.18\.$")
-
     def test_what_came_since(self):
+        self.assertRegex(self.lines()[0], r"^# .*syscall_64\.tbl of Linux 6\.18\.$")
         newer = [line.strip() for line in self.NEWER.replace("\n", " ").split(",")]
         rows = [line for line in self.lines() if line and line[0] != "#"]
         self.assertEqual(rows, sorted(rows, key=lambda row: int(row.split(" ")[1])))
@@ -218,13 +208,8 @@ class Table(Case):
     def test_it_is_what_the_tool_makes(self):
         header = "".join(f"#define __NR_{name} {number}\n" for name,
                          number in (line.split() for line in self.lines()[1:] if line))
-        status, out, err = self.run_words([tool("call-table"), "--comment", self.lines()[0][2:]], header.encode())
-        self.assertEqual((status, out, err), (0, "\n".join(self.lines()), ""))
-
-    def test_scf_takes_it(self):
-        given = part("profile", b'{"defaultAction":"SCMP_ACT_ALLOW"}') + part("table", text_of(TABLE).encode())
-        status, _, _ = self.run_words([os.path.join(TOP, "scf"), "compile"], given, stdout=-3)
-        self.assertEqual(status, 0)
+        self.assertEqual(self.run_words([tool("call-table"), "--comment", self.lines()[0][2:]], header.encode()),
+                         (0, "\n".join(self.lines()), ""))
 
 
 class OtherTables(Case):

@@ -49,9 +49,8 @@ class Headers(Case):
     def test_usage(self):
         self.assertEqual(self.run_words([for_developers("symbol-table"), "a"])[:2], (2, ""))
         self.assertEqual(self.run_words([for_developers("symbol-table"), "--help"])[::2], (0, ""))
-        status, out, err = self.run_words([sys.executable, for_developers("symbol-table")], env={"PATH": self.folder})
-        self.assertEqual((status, out), (2, ""))
-        self.assertEqual(err, "symbol-table: cc can't be run: No such file or directory\n")
+        self.assertEqual(self.run_words([sys.executable, for_developers("symbol-table")], env={"PATH": self.folder}),
+                         (2, "", "symbol-table: cc can't be run: No such file or directory\n"))
 
 
 class Arguments(Case):

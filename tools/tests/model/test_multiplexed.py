@@ -36,10 +36,11 @@ def answer_to(resolved, call):
 
 
 class Words(Case):
-    """What pages say of architectures: those whose socketcall and ipc make others' syscalls, and those of whose
-    arguments libseccomp compares 32 bits (arch-*.c and ARCH_SIZE of libseccomp)."""
+    """What pages and headers say."""
 
     def test_the_architectures(self):
+        """Those whose socketcall and ipc make others' syscalls, and those of whose arguments libseccomp compares 32
+        bits (arch-*.c and ARCH_SIZE of libseccomp)."""
         page = text_of(TOP, "docs", "RUNTIMES.md")
         of_page = {word: line for line in page.split("\n") for word in ("`socketcall` and `ipc` make, too", "`wide`")
                    if word in line}
@@ -49,6 +50,12 @@ class Words(Case):
                                  kinds.meanings()["wide"], of_page["`wide`"]))):
             for text in texts:
                 self.assertEqual([name for name in names if not re.search(rf"\b{name}\b", text)], [], text)
+
+    @unittest.skipUnless(all(os.path.exists(path) for path, _ in HEADERS.values()), "there are no kernel headers here")
+    def test_the_numbers_are_those_of_the_headers(self):
+        for name, (path, pattern) in HEADERS.items():
+            numbers = {name.lower(): int(number) for name, number in re.findall(pattern, text_of(path), re.M)}
+            self.assertEqual(multiplexed.CALL_NUMBERS[name], numbers)
 
 
 class Multiplexed(Case):
@@ -112,14 +119,6 @@ class Multiplexed(Case):
                               args=[condition(1, "NE", value) for value in range(4000)]))
         self.is_refused("the rules of socketcall and ipc have more than 65536 conditions", "resolve-profile",
                         "--multiplexed", "-", given=json.dumps(given).encode())
-
-
-class Numbers(unittest.TestCase):
-    @unittest.skipUnless(all(os.path.exists(path) for path, _ in HEADERS.values()), "there are no kernel headers here")
-    def test_they_are_those_of_the_headers(self):
-        for name, (path, pattern) in HEADERS.items():
-            numbers = {name.lower(): int(number) for name, number in re.findall(pattern, text_of(path), re.M)}
-            self.assertEqual(multiplexed.CALL_NUMBERS[name], numbers)
 
 
 class RandomProfile:
