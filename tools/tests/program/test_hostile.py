@@ -12,7 +12,7 @@ import string
 from support.common import ALLOW, CORE, GATE, KILL_PROCESS, X86_64, insn, jeq, jge, jset, load, part, ret
 from support.measured import MeasuredCase
 
-LIMIT_OF_FILTER, LIMIT_OF_TEXT, LIMIT_OF_INPUT = 32768, 4194304, 16777216
+LIMIT_OF_TEXT, LIMIT_OF_INPUT = 4194304, 16777216
 # Seconds of a processor: 3 are measured of a text of many labels in no order, and 0.9 of a million steps.
 SECONDS, MEGABYTES = 30, 640
 ALLOWS = b'{"defaultAction":"SCMP_ACT_ALLOW"}'
@@ -22,6 +22,12 @@ ALLOWS_COMPILED = GATE + ret(ALLOW)
 def with_table(profile, table=b"read 0\n"):
     return part("profile", profile) + part("table", table)
 
+
+def each_allowed(numbers):
+    """A profile that allows each of these numbers by an entry of its own, and its table."""
+    table = b"".join(b"c%d %d\n" % (number, number) for number in numbers)
+    entries = b",".join(b'{"names":["c%d"],"action":"SCMP_ACT_ALLOW"}' % number for number in numbers)
+    return with_table(b'{"defaultAction":"SCMP_ACT_KILL","syscalls":[%s]}' % entries, table)
 
 def beside(value):
     """A profile that allows all, with a member that means nothing."""
@@ -89,27 +95,17 @@ class Hostile(MeasuredCase):
             self.assertTrue(out.startswith(b"differs\n"))
 
     def test_many_numbers(self):
-        table = b"".join(b"c%d %d\n" % (number, number) for number in range(4096))
-        entries = b",".join(b'{"names":["c%d"],"action":"SCMP_ACT_ALLOW"}' % number for number in range(4096))
-        profile = b'{"defaultAction":"SCMP_ACT_KILL","syscalls":[%s]}' % entries
-        out = self.ends(["compare"], part("filter", GATE + ret(ALLOW)) + with_table(profile, table), (1, None))
+        """And each call that the table names is compared by itself, with a profile that has rules for all of them."""
+        both = each_allowed(range(4096))
+        out = self.ends(["compare"], part("filter", GATE + ret(ALLOW)) + both, (1, None))
         self.assertTrue(out.startswith(b"differs\n"))
-        self.ends(["compile"], with_table(profile, table), (0, None), (1, b"fault compile TooLarge\n"))
-
-    def test_each_of_many_calls(self):
-        """Each call that the table names is compared by itself, with a profile that has rules for all of them."""
-        table = b"".join(b"c%d %d\n" % (number, number) for number in range(4096))
-        entries = b",".join(b'{"names":["c%d"],"action":"SCMP_ACT_ALLOW"}' % number for number in range(4096))
-        profile = b'{"defaultAction":"SCMP_ACT_KILL","syscalls":[%s]}' % entries
-        bundle = part("filter", GATE + ret(ALLOW)) + with_table(profile, table)
-        self.ends(["compare", "--calls"], bundle, (0, b"same\n"))
+        self.ends(["compare", "--calls"], part("filter", GATE + ret(ALLOW)) + both, (0, b"same\n"))
+        self.ends(["compile"], both, (0, None), (1, b"fault compile TooLarge\n"))
 
     def test_numbers_apart(self):
         """Behind the search of a filter only the numbers of its stretch are asked: all of them behind each would take
         more than a million steps."""
-        table = b"".join(b"c%d %d\n" % (number, number) for number in range(0, 3600, 3))
-        entries = b",".join(b'{"names":["c%d"],"action":"SCMP_ACT_ALLOW"}' % number for number in range(0, 3600, 3))
-        both = with_table(b'{"defaultAction":"SCMP_ACT_KILL","syscalls":[%s]}' % entries, table)
+        both = each_allowed(range(0, 3600, 3))
         compiled = self.run_core(["compile"], both)
         self.assertEqual(compiled.status, 0)
         self.ends(["compare", "--limit", "20000"], part("filter", compiled.out) + both, (0, b"same\n"))
