@@ -183,7 +183,6 @@ class Programs(Audited, OwnMachine):
                      f"# gone since {value['time']}: program /bin/gone (was stricter)"):
             self.assertIn(line, lines)
 
-
     def test_many_threads_and_hostile_names(self):
         """A process with many threads, and names that try to be lines and labels: each is one text."""
         hostile = ["x\n# done", 'a"} 1\nb', "\x1b[2J", "y\\", "\udcff"]
@@ -786,8 +785,6 @@ class Belonging(Case):
                      f"/system.slice/crio-conmon-{IDENTIFIER}.scope"):
             self.assertIsNone(container_files.named_container(process(groups={"": path.encode()}), self.kernel), path)
 
-
-class IncludedFiles(Case):
     def test_files_that_include_each_other(self):
         """A configuration of LXC names its policy last, through some files, but not without end."""
         names = [f"{self.folder}/{at}" for at in range(70)]
@@ -1029,33 +1026,27 @@ class Files(unittest.TestCase):
     """What the annotations of engines say of a container (pkg/cri/annotations of containerd, pkg/annotations of CRI-O,
     libpod/annotations.go of podman), by where these keep their bundles."""
 
-    def of(self, bundle, **annotations):
-        container = container_files.ContainerDescription(IDENTIFIER, "runc", "runc", 7, f"{bundle}/config.json")
-        described = container_files.Reader(print, is_root=True).with_engine(container, {"annotations": annotations})
-        return described.engine, described.name, described.image, described.pod
-
-    def test_containerd(self):
+    def test_each_engine(self):
         cri = {f"io.kubernetes.cri.{name}": item for name, item in (
             ("container-type", "container"), ("container-name", "web"), ("image-name", "docker.io/library/nginx:1"),
             ("sandbox-id", "ab" * 32), ("sandbox-name", "web-1"), ("sandbox-namespace", "default"))}
-        for top in ("/run/containerd", "/run/k3s/containerd"):
-            bundle = f"{top}/io.containerd.runtime.v2.task/k8s.io/{IDENTIFIER}"
-            self.assertEqual(self.of(bundle, **cri),
-                             ("containerd", "web", "docker.io/library/nginx:1", "default/web-1"))
-        self.assertEqual(self.of("/run/containerd/io.containerd.runtime.v2.task/default/box"),
-                         ("containerd", None, None, None))
-
-    def test_cri_o(self):
-        container = self.of(f"/run/containers/storage/overlay-containers/{IDENTIFIER}/userdata", **{
-            "io.container.manager": "cri-o", "io.kubernetes.container.name": "web",
-            "io.kubernetes.cri-o.ImageName": "docker.io/library/nginx:1", "io.kubernetes.pod.name": "web-1",
-            "io.kubernetes.pod.namespace": "default", "io.kubernetes.cri-o.SandboxID": "ab" * 32})
-        self.assertEqual(container, ("CRI-O", "web", "docker.io/library/nginx:1", "default/web-1"))
-
-    def test_podman(self):
-        container = self.of(f"/var/lib/containers/storage/overlay-containers/{IDENTIFIER}/userdata", **{
-            "io.container.manager": "libpod", "io.kubernetes.cri-o.SandboxID": "ab" * 32})
-        self.assertEqual(container, ("podman", None, None, "ab" * 32))
+        crio = {"io.container.manager": "cri-o", "io.kubernetes.container.name": "web",
+                "io.kubernetes.cri-o.ImageName": "docker.io/library/nginx:1", "io.kubernetes.pod.name": "web-1",
+                "io.kubernetes.pod.namespace": "default", "io.kubernetes.cri-o.SandboxID": "ab" * 32}
+        libpod = {"io.container.manager": "libpod", "io.kubernetes.cri-o.SandboxID": "ab" * 32}
+        task, overlay = "containerd/io.containerd.runtime.v2.task", "containers/storage/overlay-containers"
+        web = "web", "docker.io/library/nginx:1", "default/web-1"
+        for bundle, annotations, expected in (
+                (f"/run/{task}/k8s.io/{IDENTIFIER}", cri, ("containerd", *web)),
+                (f"/run/k3s/{task}/k8s.io/{IDENTIFIER}", cri, ("containerd", *web)),
+                (f"/run/{task}/default/box", {}, ("containerd", None, None, None)),
+                (f"/run/{overlay}/{IDENTIFIER}/userdata", crio, ("CRI-O", *web)),
+                (f"/var/lib/{overlay}/{IDENTIFIER}/userdata", libpod, ("podman", None, None, "ab" * 32))):
+            with self.subTest(bundle):
+                container = container_files.ContainerDescription(IDENTIFIER, "runc", "runc", 7, f"{bundle}/config.json")
+                reader = container_files.Reader(print, is_root=True)
+                described = reader.with_engine(container, {"annotations": annotations})
+                self.assertEqual((described.engine, described.name, described.image, described.pod), expected)
 
 
 class Kept(Case):
@@ -1351,10 +1342,8 @@ class Words(Case):
                 status, out, err = self.run_tool("audit", *words)
                 self.assertEqual((status, out), (2, ""), words)
                 self.assertRegex(err, f"\\Aaudit: '{name}': {says}")
-        status, out, err = self.run_tool("audit", "--limit", "x")
-        self.assertEqual((status, out, err.split(":")[1]), (2, "", " fault number limit"))
-        status, out, err = self.run_tool("audit", "--table", self.file("t", "x y z\n"))
-        self.assertEqual((status, out, err.split(":")[1]), (2, "", " fault table Form line 1"))
+        self.is_refused("audit: fault number limit:", "audit", "--limit", "x")
+        self.is_refused("audit: fault table Form line 1:", "audit", "--table", self.file("t", "x y z\n"))
 
     def test_what_runtimes_accept(self):
         """Two answers to a syscall are no reason to look at nothing."""
@@ -1363,8 +1352,7 @@ class Words(Case):
         self.assertIn(self.run_tool("audit", "--expect", name)[0], (0, 1, 4))
 
     def test_places_that_are_not_there(self):
-        status, out, err = self.run_tool("audit", "--html", self.folder)
-        self.assertEqual((status, out, err), (2, "", f"audit: '{self.folder}': Is a directory\n"))
+        self.is_refused(f"audit: '{self.folder}': Is a directory\n", "audit", "--html", self.folder)
         self.assertEqual(os.listdir(self.folder), [])
         out = self.run_tool("audit", "--runtime-root", f"{self.folder}/no*")[1]
         self.assertTrue(out.endswith(f"# no folder is --runtime-root {self.folder}/no*\n"), out)
