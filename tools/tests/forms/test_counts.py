@@ -173,8 +173,8 @@ class Hot(Case):
 class Needs(Case):
     def test_counts_of_a_log(self):
         log = self.file("log", "".join(["7 read(3) = 0\n"] * 3 + ["7 write(1) = 0\n", "7 close(3) = 0\n"]))
-        status, out, err = self.run_tool("needs", "--counts", log, self.file("p.json", profile_of("read")))
-        self.assertEqual((status, out, err), (0, "read 3\nclose 1\nwrite 1\n", ""))
+        out = self.output_of(0, "needs", "--counts", log, self.file("p.json", profile_of("read")))
+        self.assertEqual(out, "read 3\nclose 1\nwrite 1\n")
         hot, profile = self.file("hot", out), os.path.join(self.folder, "p.json")
         self.assertEqual(self.run_tool("compile", "--json", "--hot", hot, profile)[::2], (0, ""))
 

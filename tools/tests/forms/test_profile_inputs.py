@@ -246,10 +246,6 @@ class Caps(Case):
             self.assertIn(says, done[1] + done[2])
         self.assertIn("isn't JSON", self.run_tool("ask", "--caps=none", self.file("x", "{"))[2])
 
-
-class Made(Case):
-    """Faults of what a tool made of a file."""
-
     def test_made_profiles_have_no_lines(self):
         """A line of what a tool made of a file would be none of that file."""
         wrong = {**OBJECT, "spec": {**SPEC, "defaultAction": "ALLOW"}}
