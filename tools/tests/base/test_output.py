@@ -134,10 +134,6 @@ class Hostile(Case):
         status, out, err = self.run_tool("decide", "--calls-from", calls, self.same)
         self.assertTrue(all(line.isprintable() for line in (out + err).split("\n")), (out, err))
 
-
-class Filters(Case):
-    """Bytes that aren't text."""
-
     def test_nothing_is_added_to_a_filter(self):
         """A filter may begin as any line does."""
         text = b"fault x!"
@@ -146,9 +142,7 @@ class Filters(Case):
         for words in ([*CORE, "asm"], [SCF, "asm"], [SCF, "asm", self.file("spelled", spelled)]):
             done = subprocess.run(words, input=spelled, stdout=subprocess.PIPE, check=False)
             self.assertEqual((done.returncode, done.stdout), (0, text))
-        status, out, err = self.run_tool("asm", self.file("text", "LD"))
-        self.assertEqual((status, out), (2, ""))
-        self.assertTrue(err.startswith("asm: fault text Mnemonic line 1\nasm: 'LD' is no mnemonic"), err)
+        self.is_refused("asm: fault text Mnemonic line 1\nasm: 'LD' is no mnemonic", "asm", self.file("text", "LD"))
 
 
 class Failing(Case):
@@ -166,7 +160,8 @@ class Failing(Case):
                 ("explain", "--help"), ("surface", self.same), ("surface", "--json", self.same),
                 ("compare-profiles", self.profile, self.profile), ("compare", "--version"),
                 ("resolve-profile", self.profile), ("needs", self.file("log", "read(0) = 0\n"), self.profile),
-                ("why", RECORD), ("unit-profile", "--set", "~read"),
+                ("why", RECORD), ("unit-profile", "--set", "~read"), ("ask", "--nr=read", self.profile),
+                ("lint", self.profile), ("profile-of", self.same),
                 ("call-table", self.file("asm.h", "#define __NR_read 0\n")))
 
     def test_a_reader_that_goes_away(self):
