@@ -10,19 +10,13 @@ import subprocess
 import unittest
 from unittest import mock
 
-from support.common import (CORE, PROGRAM, SCF, TABLE, TOOLS, TOP, Case, filter_of, for_developers, jeq, load, part,
-                            profile_of, ret, source_of)
+from support.common import (CORE, PROGRAM, SCF, TABLE, TOOLS, TOP, Case, bytes_of, filter_of, for_developers, jeq, load,
+                            part, profile_of, ret, source_of, text_of)
 from support.confined import OLDEST, Confined, here
 from scftools.cli import commands
 
 
-
-def text_of(*path):
-    with open(os.path.join(TOP, *path), encoding="utf-8") as file:
-        return file.read()
-
-
-LIST = text_of("tables", "commands")
+LIST = text_of(TOP, "tables", "commands")
 # What people type who know other programs, and the command that they mean.
 SLIPS = (("COMPARE", "compare"), ("validate", "lint"), ("disassemble", "list"), ("show", "list"),
          ("dump", "filters-of"), ("generate", "needs"), ("trace", "record"), ("unit", "profile-of"), ("test", "decide"))
@@ -38,12 +32,24 @@ class Dispatch(Case):
     def setUp(self):
         super().setUp()
         self.filter, self.profile = self.file("f.bpf", filter_of([0])), self.file("p.json", profile_of("read"))
-        with open(TABLE, "rb") as file:
-            compilation = part("profile", profile_of("read")) + part("table", file.read())
-        self.bundle = part("filter", filter_of([0])) + compilation
+        self.compilation = part("profile", profile_of("read")) + part("table", bytes_of(TABLE))
+        self.bundle = part("filter", filter_of([0])) + self.compilation
 
     def scf(self, *words, given=b"", **settings):
         return self.run_words([SCF, *words], given, **settings)
+
+    def terminal(self):
+        """Our end of a terminal, and theirs."""
+        ends = pty.openpty()
+        for end in ends:
+            self.addCleanup(os.close, end)
+        return ends
+
+    def same(self, first, second, words, given, **settings):
+        """Two commands end alike with some words, and print and say the same bytes."""
+        done = [subprocess.run([*command, *words], input=given, capture_output=True, cwd=self.folder, check=False,
+                               **settings) for command in (first, second)]
+        self.assertEqual(*((item.returncode, item.stdout, item.stderr) for item in done), words)
 
     def test_core_is_the_program(self):
         """It prints what the program does, and needs nothing of the path."""
@@ -53,15 +59,11 @@ class Dispatch(Case):
                              (["compare", "--help"], b""), (["run", "--no-such", "1"], b""), ([], b""),
                              (["dis"], filter_), (["asm"], b"ret a\n"), (["--version"], b""), (["--no-such"], b""),
                              (["decide", "--nr=1", "--a0", "0x5"], part("filter", filter_)), (["check", "-h"], b"")):
-            done = [subprocess.run([*name, *words], input=given, stdout=subprocess.PIPE, stderr=subprocess.PIPE,
-                                   env={"PATH": "/nowhere"}, cwd=self.folder, check=False)
-                    for name in ([PROGRAM], CORE)]
-            self.assertEqual(*((item.returncode, item.stdout, item.stderr) for item in done), words)
+            self.same([PROGRAM], CORE, words, given, env={"PATH": "/nowhere"})
 
     def test_without_a_file_the_program_answers_standard_input(self):
         """Its lines and its status, and nothing else."""
-        profile, filter_ = profile_of("read"), filter_of([0])
-        compilation = self.bundle[self.bundle.index(b"profile "):]
+        profile, filter_, compilation = profile_of("read"), filter_of([0]), self.compilation
         for words, given in ((["check"], filter_), (["run"], filter_), (["run", "--nr", "1"], filter_),
                              (["dis"], filter_), (["run", "--nr=0x1", "--path"], filter_), (["asm"], b"ret a\n"),
                              (["asm"], b"no\n"),
@@ -76,9 +78,7 @@ class Dispatch(Case):
                              (["ask"], compilation), (["ask", "--nr", "1", "--architectures"], compilation),
                              (["run", "--nr", "4294967296"], filter_), (["run", "--a0", "0x"], filter_),
                              (["decide"], b"filter 8\r\n"), (["ask"], b"profile 123456789\n"), (["compile"], b"")):
-            done = [subprocess.run([*name, *words], input=given, stdout=subprocess.PIPE, stderr=subprocess.PIPE,
-                                   cwd=self.folder, check=False) for name in (CORE, [SCF])]
-            self.assertEqual(*((item.returncode, item.stdout, item.stderr) for item in done), words)
+            self.same(CORE, [SCF], words, given)
         # with names, and a filter or a profile in place of a bundle
         for words, given, out in ((["run", "--nr", "read"], filter_, "ALLOW 0 steps 6\n"),
                                   (["run", "--nr", "read,write"], filter_, "ALLOW 0 steps 6\nERRNO 1 steps 6\n"),
@@ -151,17 +151,13 @@ class Dispatch(Case):
                             ("--path f.bpf read", "--path goes with --steps"),
                             ("--steps --nr 1 f.bpf f.bpf", "the instructions of one filter")):
             with self.subTest(words):
-                status, out, err = self.scf("decide", *words.split())
-                self.assertEqual((status, out), (2, ""))
-                self.assertIn(says, err)
+                self.is_refusal(says, self.scf("decide", *words.split()))
 
     def test_help_and_usage_errors_are_the_same_everywhere(self):
         """Whatever standard input is, and where the program was never built."""
         tree = self.made_tree("#!/bin/sh\nexit 99\n")
         shutil.copy2(SCF, tree)
-        ours, theirs = pty.openpty()
-        self.addCleanup(os.close, ours)
-        self.addCleanup(os.close, theirs)
+        theirs = self.terminal()[1]
         for command, words, status in (("run", ["--help"], 0), ("asm", ["-h"], 0), ("compare", ["--version"], 0),
                                        ("decide", ["--no-such"], 2), ("run", ["--nr"], 2), ("dis", ["--no-such"], 2),
                                        ("compile", ["--help"], 0)):
@@ -171,14 +167,11 @@ class Dispatch(Case):
         self.assertEqual(self.scf("--version"), self.run_words([*CORE, "--version"]))
 
     def test_without_a_file_at_a_terminal(self):
-        ours, theirs = pty.openpty()
-        self.addCleanup(os.close, ours)
-        self.addCleanup(os.close, theirs)
+        theirs = self.terminal()[1]
         for command, names in (("compare", "ACTUAL, WANTED"), ("check", "FILTER"), ("run", "X"), ("dis", "FILTER"),
                                ("decide", "X"), ("ask", "X"), ("compile", "PROFILE")):
-            status, out, err = self.scf(command, given=theirs)
-            self.assertEqual((status, out), (2, ""), command)
-            self.assertTrue(err.endswith(f"scf {command}: the following arguments are required: {names}\n"), err)
+            self.is_refusal(f"scf {command}: the following arguments are required: {names}\n",
+                            self.scf(command, given=theirs))
         for words in (["compare", "f.bpf"], ["compare", "--json"]):
             self.assertIn("arguments are required: ", self.scf(*words, given=self.bundle)[2])
         self.assertIn("--nr-from goes with a bundle", self.scf("compare", "--nr-from=1", "f.bpf", "p.json")[2])
@@ -189,19 +182,14 @@ class Dispatch(Case):
         self.assertEqual(self.scf("dis", "none"), (2, "", "scf dis: there is no file 'none'\n"))
 
     def test_no_filter_is_printed_on_a_terminal(self):
-        ours, theirs = pty.openpty()
-        self.addCleanup(os.close, ours)
+        ours, theirs = self.terminal()
         self.file("text", b"ret a\n")
-        bundle = part("profile", profile_of("read")) + self.bundle.partition(profile_of("read"))[2]
-        for words, given in ((["asm"], b"ret a\n"), (["asm", "text"], b""), (["compile"], bundle),
+        for words, given in ((["asm"], b"ret a\n"), (["asm", "text"], b""), (["compile"], self.compilation),
                              (["compile", "p.json"], b"")):
-            status, _, err = self.scf(*words, given=given, stdout=theirs)
-            self.assertEqual(status, 2, words)
-            says = f"scf {words[0]}: a filter isn't text: redirect the output into a file\n"
-            self.assertTrue(err.endswith(says), err)
-        self.assertEqual(self.scf("compile", given=bundle, stdout=subprocess.DEVNULL)[0], 0)
+            self.is_refusal(f"scf {words[0]}: a filter isn't text: redirect the output into a file\n",
+                            self.scf(*words, given=given, stdout=theirs))
+        self.assertEqual(self.scf("compile", given=self.compilation, stdout=subprocess.DEVNULL)[0], 0)
         self.assertEqual(self.scf("asm", "--help", stdout=theirs)[0], 0)
-        os.close(theirs)
         self.assertNotIn(b"\0", os.read(ours, 9999))
 
     def test_without_python(self):
@@ -223,6 +211,23 @@ class Dispatch(Case):
         for word in ("./other", "link", "other"):
             self.assertEqual(self.run_words([word, "check", "f.bpf"], env=env), (0, "accepted 9\n", ""))
         self.assertEqual(self.run_words(["sh", "scf", "check", self.filter], cwd=TOP), (0, "accepted 9\n", ""))
+
+    def test_color(self):
+        self.file("q.json", profile_of())
+        green = "\x1b[1;32msame\x1b[0m\n"
+        words = [SCF, "compare", "f.bpf", "p.json"]
+        self.assertEqual(self.run_words(words)[1], "same\n")
+        for always in (["--color=always"], ["--color", "always"]):
+            self.assertEqual(self.run_words([*words, *always])[1], green)
+        self.assertEqual(self.run_words([*words, "--color=blue"])[0], 2)
+        out = self.run_words([SCF, "compare", "--color=always", "f.bpf", "q.json"])[1].split("\n")
+        self.assertEqual(out[0], "\x1b[1;31mdiffers\x1b[0m")
+        self.assertTrue(all(re.fullmatch(r"\x1b\[2m# .*\x1b\[0m", line) for line in out[4:-1]), out)
+        ours, theirs = self.terminal()
+        env = {name: value for name, value in os.environ.items() if name != "NO_COLOR"}
+        for more, printed in (({}, green), ({"NO_COLOR": "1"}, "same\n")):
+            self.run_words(words, stdout=theirs, env={**env, **more})
+            self.assertEqual(os.read(ours, 99).decode().replace("\r", ""), printed)
 
 
 class Help(Case):
@@ -250,8 +255,7 @@ class Help(Case):
     def test_each_command_has_help_that_names_it(self):
         for name in sorted({*TOOLS} - {"help"}):
             with self.subTest(name):
-                status, out, err = self.scf("help", name)
-                self.assertEqual((status, err), (0, ""))
+                out = self.out_of(0, self.scf("help", name))
                 self.assertRegex(out, rf"(?m)^usage: scf {name}\b")
                 self.assertEqual(self.scf(name, "--help")[1], out)
 
@@ -278,10 +282,8 @@ class Help(Case):
                             (["surface", "--condition", "f"], "--conditions"), (["run", "--Path"], "--path"),
                             (["check", "--jsn=1"], "--json"), (["lint", "--strcit"], "--strict"),
                             (["diff", "--jsno", "a"], "--json")):
-            status, out, err = self.scf(*words)
-            self.assertEqual((status, out), (2, ""))
-            self.assertTrue(err.endswith(f"; the nearest is {near}\n"), err)
-        self.assertTrue(self.scf("run", "--zzz")[2].endswith("unrecognized arguments: --zzz\n"))
+            self.is_refusal(f"; the nearest is {near}\n", self.scf(*words))
+        self.is_refusal("unrecognized arguments: --zzz\n", self.scf("run", "--zzz"))
 
     def test_a_wrong_word_names_the_nearest(self):
         for word, near in (("comapre", "compare"), ("compare-profile", "compare-profiles"), ("verfy", "verify"),
@@ -305,11 +307,9 @@ class Help(Case):
                             ("why p.json", "hand it over as standard input"),
                             ("profile-of p.json pid:1", "stands alone")):
             with self.subTest(words):
-                status, out, err = self.run_words([SCF, *words.split()], cwd=self.folder)
-                self.assertEqual((status, out), (2, ""))
-                self.assertIn(says, err.splitlines()[-1])
+                self.is_refusal(says, self.scf(*words.split()))
         self.file("test/f.bpf", filter_of([0]))
-        self.assertIn("the nearest is 'decide'", self.run_words([SCF, "test"], cwd=self.folder)[2])
+        self.assertIn("the nearest is 'decide'", self.scf("test")[2])
         self.assertEqual(self.scf("--help", "list"), self.scf("help", "list"))
         self.assertEqual(self.scf("-V"), self.scf("--version"))
         for word in ("qqq", "scftools", "tests", "../scf", "plain_profile"):
@@ -370,8 +370,7 @@ class Hook(Case):
 
     def test_a_commit(self):
         profile = {"defaultAction": "SCMP_ACT_ERRNO", "syscalls": [{"names": ["read"], "action": "SCMP_ACT_ALLOW"}]}
-        status, out, _ = self.committed(json.dumps(profile))
-        self.assertEqual((status, out.split("\n")[0]), (0, "# a seccomp.json"))
+        self.begins(0, "# a seccomp.json", self.committed(json.dumps(profile)))
         profile["syscalls"][0]["args"] = [{"index": 0, "value": 0, "op": "SCMP_CMP_MASKED_EQ"}]
         for words in ((), ("$HOOK", "'a seccomp.json'")):
             status, out, _ = self.committed(json.dumps(profile), *words)
@@ -479,26 +478,3 @@ class Completion(Case):
                                  (f"scf surface pid:{os.getpid()}", [f"pid:{os.getpid()}"])):
                 out = self.run_words(["fish", "-c", f"source {self.paths[2]}; complete -C '{line}'"])[1]
                 self.assertEqual([it.split("\t")[0] for it in out.splitlines()], values)
-
-
-class Color(Case):
-    def test_where_it_is(self):
-        self.file("f.bpf", filter_of([0]))
-        self.file("p.json", profile_of("read"))
-        self.file("q.json", profile_of())
-        green = "\x1b[1;32msame\x1b[0m\n"
-        words = [SCF, "compare", "f.bpf", "p.json"]
-        self.assertEqual(self.run_words(words)[1], "same\n")
-        self.assertEqual(self.run_words([*words, "--color=always"])[1], green)
-        self.assertEqual(self.run_words([*words, "--color", "always"])[1], green)
-        self.assertEqual(self.run_words([*words, "--color=blue"])[0], 2)
-        out = self.run_words([SCF, "compare", "--color=always", "f.bpf", "q.json"])[1].split("\n")
-        self.assertEqual(out[0], "\x1b[1;31mdiffers\x1b[0m")
-        self.assertTrue(all(re.fullmatch(r"\x1b\[2m# .*\x1b\[0m", line) for line in out[4:-1]), out)
-        for more, is_green in (({}, True), ({"NO_COLOR": "1"}, False)):
-            ours, theirs = pty.openpty()
-            env = {name: value for name, value in os.environ.items() if name != "NO_COLOR"}
-            self.run_words(words, stdout=theirs, env={**env, **more})
-            os.close(theirs)
-            self.assertEqual(os.read(ours, 99).decode().replace("\r", ""), green if is_green else "same\n")
-            os.close(ours)
