@@ -286,8 +286,7 @@ class TrustedBase(Case):
     def test_its_lists_are_what_the_sources_have(self):
         """Where this fails, `dev/believe --page docs/trusted-base.txt --write` writes the lists anew."""
         page = os.path.join(TOP, "docs", "trusted-base.txt")
-        status, out, err = self.run_words([for_developers("believe"), "--page", page])
-        self.assertEqual((status, out, err), (0, "", ""))
+        self.assertEqual(self.run_words([for_developers("believe"), "--page", page]), (0, "", ""))
 
     def test_it_has_a_list_for_each_part_of_the_headline(self):
         for call in ("compare_stack holds", "check safe beside compare_stack holds",
