@@ -196,19 +196,17 @@ class Texts(MeasuredCase):
             self.assertLess(done.megabytes, MEGABYTES)
         return done.status
 
-    def test_filters(self):
-        for what, text in FILTERS.items():
-            self.ends(what, tool("check"), self.file("f", text))
+    def test_each(self):
+        for texts, name, *words in ((FILTERS, "f", tool("check")), (PROFILES, "p.json", tool("ask"), "--nr=0"),
+                                    (HEADERS, "unistd.h", tool("call-table")), (CORES, "core", tool("why"), "--core")):
+            for what, text in texts.items():
+                self.ends(what, *words, self.file(name, text))
 
     def test_every_reader_of_filters(self):
         name, allows = self.file("f", FILTERS["a dump without an end"]), self.file("p.json", ALLOWS % b"")
         for words in (("list",), ("decide",), ("run",), ("surface",), ("profile-of",), ("diff", name),
                       ("compare", allows)):
             self.ends("a dump without an end", tool(words[0]), name, *words[1:])
-
-    def test_profiles(self):
-        for what, text in PROFILES.items():
-            self.ends(what, tool("ask"), "--nr=0", self.file("p.json", text))
 
     def test_every_reader_of_profiles(self):
         """With objects that scf has memory for, so that each reads on."""
@@ -240,10 +238,6 @@ class Texts(MeasuredCase):
             self.ends(few, tool("why"), "-", asks, given=name)
         self.ends("a profile of a log", tool("needs"), self.file("log", LOG_OF_A_PROFILE), asks)
 
-    def test_headers(self):
-        for what, text in HEADERS.items():
-            self.ends(what, tool("call-table"), self.file("unistd.h", text))
-
     def test_tables(self):
         allows = self.file("p.json", ALLOWS % b"")
         for what, text in TABLES.items():
@@ -256,7 +250,3 @@ class Texts(MeasuredCase):
             actual = self.ends(f"{count} syscalls", tool("decide"), "--calls-from", self.file("list", b"1\n" * count),
                                filters)
             self.assertEqual(actual, expected)
-
-    def test_cores(self):
-        for what, data in CORES.items():
-            self.ends(what, tool("why"), "--core", self.file("core", data))
