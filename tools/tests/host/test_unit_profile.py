@@ -10,6 +10,7 @@ import unittest
 
 from support.common import CORE, SCF, TABLE, Case, part, text_of, tool
 from support.own_machine import Systemd
+from support.several import OPERATORS
 from scftools.forms.lists import unit_restrictions
 from scfhost import units
 from host.test_audit import Audited
@@ -20,9 +21,6 @@ OPEN, EPERM, ENOSYS, NO_FAMILY = (ALLOW, None), (ERRNO, 1), (ERRNO, 38), (ERRNO,
 OTHERS = ("LockPersonality", "MemoryDenyWriteExecute", "PrivateDevices", "ProtectClock", "ProtectHostname",
           "ProtectKernelLogs", "ProtectKernelModules", "ProtectKernelTunables", "RestrictAddressFamilies",
           "RestrictNamespaces", "RestrictRealtime", "RestrictSUIDSGID")
-HOLDS = {"EQ": lambda argument, value, _: argument == value, "NE": lambda argument, value, _: argument != value,
-         "LT": lambda argument, value, _: argument < value, "GT": lambda argument, value, _: argument > value,
-         "MASKED_EQ": lambda argument, value, two: argument & value == two & value}
 # The flags of namespaces (linux/sched.h).
 CGROUP, IPC, NET, MNT, PID, USER, UTS, TIME = (0x2000000, 0x8000000, 0x40000000, 0x20000, 0x20000000, 0x10000000,
                                                0x4000000, 0x80)
@@ -160,20 +158,20 @@ class UnitProfile(Case):
         self.stand_in("systemctl", f'[ "$SYSTEMD_IGNORE_CHROOT" = 1 ] || exit 0\n{script}')
         self.assertEqual(self.printed("box.service")[1], {(ALLOW, None): {"read"}})
 
-    def test_a_unit_that_lists_what_is_allowed(self):
-        for number, default in ((KILLED, (KILL, None)), ("0", (KILL, None)), ("1", (ERRNO, 1)),
-                                ("4095", (ERRNO, 4095))):
-            self.assertEqual(self.of_unit(SystemCallFilter="_llseek read write", SystemCallErrorNumber=number),
-                             (default, {(ALLOW, None): {"_llseek", "read", "write"}}, ALL, ""))
-
-    def test_a_unit_that_lists_what_is_denied(self):
-        shown = "~add_key:4094 keyctl:0 mount ptrace:E2BIG reboot:EACCES swapon:kill"
-        self.assertEqual(self.of_unit(SystemCallFilter=shown, SystemCallErrorNumber="7"),
-                         ((ALLOW, None), {(ERRNO, 4094): {"add_key"}, (ERRNO, 0): {"keyctl"},
-                                          (ERRNO, 7): {"mount", "ptrace"}, (ERRNO, 13): {"reboot"},
-                                          (KILL, None): {"swapon"}}, ALL, ""))
-        calls = self.of_unit(SystemCallFilter="~mount swapon:EPERM")[1]
-        self.assertEqual(calls, {(KILL, None): {"mount"}, (ERRNO, 1): {"swapon"}})
+    def test_lists(self):
+        """What a unit allows, what it denies, and none."""
+        denies = "~add_key:4094 keyctl:0 mount ptrace:E2BIG reboot:EACCES swapon:kill"
+        says = "unit-profile: there is no SystemCallFilter: every syscall is allowed\n"
+        for calls, number, default, answers, said in (
+                *(("_llseek read write", number, default, {OPEN: {"_llseek", "read", "write"}}, "")
+                  for number, default in ((KILLED, (KILL, None)), ("0", (KILL, None)), ("1", EPERM),
+                                          ("4095", (ERRNO, 4095)))),
+                (denies, "7", OPEN, {(ERRNO, 4094): {"add_key"}, (ERRNO, 0): {"keyctl"}, (ERRNO, 13): {"reboot"},
+                                     (ERRNO, 7): {"mount", "ptrace"}, (KILL, None): {"swapon"}}, ""),
+                ("~mount swapon:EPERM", KILLED, OPEN, {(KILL, None): {"mount"}, EPERM: {"swapon"}}, ""),
+                ("~", KILLED, OPEN, {}, says), ("~", "1", OPEN, {}, says), ("", KILLED, (KILL, None), {}, "")):
+            self.assertEqual(self.of_unit(SystemCallFilter=calls, SystemCallErrorNumber=number),
+                             (default, answers, ALL, said), calls)
 
     def denied(self, *texts, **members):
         """What a unit denies by an errno of their own whose file and drop-ins have these texts."""
@@ -246,12 +244,6 @@ class UnitProfile(Case):
                 is_known = self.run_words(["scmp_sys_resolver", name])[1].strip() != "-1"
                 self.assertEqual(bool(self.printed("--set", f"~{name}")[1]), is_known, name)
 
-    def test_a_unit_without_a_filter(self):
-        says = "unit-profile: there is no SystemCallFilter: every syscall is allowed\n"
-        for number in (KILLED, "1"):
-            self.assertEqual(self.of_unit(SystemCallErrorNumber=number), ((ALLOW, None), {}, ALL, says))
-        self.assertEqual(self.of_unit(SystemCallFilter=""), ((KILL, None), {}, ALL, ""))
-
     def test_architectures(self):
         for shown, expected in (("", ALL), ("native", NATIVE), ("x86-64", NATIVE), ("x32 x86", [*NATIVE, ALL[2],
                                 ALL[1]]), ("arm64", [*NATIVE, "SCMP_ARCH_AARCH64"]),
@@ -298,7 +290,7 @@ class UnitProfile(Case):
             values = [*arguments, *[0] * 6]
             answers = {(entry["action"], entry.get("errnoRet")) for entry in profile["syscalls"]
                        if name in entry["names"] and all(
-                           HOLDS[condition["op"].removeprefix("SCMP_CMP_")](
+                           OPERATORS[condition["op"].removeprefix("SCMP_CMP_")](
                                values[condition["index"]], condition["value"], condition["valueTwo"])
                            for condition in entry.get("args", ()))}
             self.assertLessEqual(len(answers), 1, (name, arguments))
