@@ -81,17 +81,17 @@ class Child(Case):
         pid = os.fork()
         if not pid:
             try:
-                child.run_in_child(waits, 0.2)
+                child.run_in_child(waits, 3)
             finally:
                 os._exit(0)
+        os.close(ends[1])
         number = int(os.read(ends[0], 10))
         os.kill(pid, signal.SIGSTOP)
         # a zombie, since its parent is stopped
         self.assertTrue(comes(lambda: b"\nState:\tZ" in bytes_of(f"/proc/{number}/status")))
         os.kill(pid, signal.SIGCONT)
         os.waitpid(pid, 0)
-        for end in ends:
-            os.close(end)
+        os.close(ends[0])
 
     def answers(self, work, seconds=600.0):
         """What a child answers, and why there is no more."""
