@@ -111,20 +111,9 @@ pub(crate) fn known_outcome(test: Test, first: Bits, second: Bits) -> Option<boo
     }
     match test {
         Test::Equal => is_zero(xor_bits(first, second)),
-        Test::CommonBit => negated(is_zero(and_bits(first, second))),
+        Test::CommonBit => is_zero(and_bits(first, second)).map(|is_zero| !is_zero),
         Test::Greater => is_above(first, second),
-        Test::GreaterOrEqual => negated(is_above(second, first)),
-    }
-}
-
-/// The other answer, if there is one.
-fn negated(answer: Option<bool>) -> Option<bool>
-    ensures { (fact : Bool) → IfSome answer (λ known. fact ≡ known)
-        → IfSome result (λ known. not fact ≡ known) }
-{
-    match answer {
-        Some(known) => Some(!known),
-        None => None,
+        Test::GreaterOrEqual => is_above(second, first).map(|is_above| !is_above),
     }
 }
 

@@ -1,6 +1,6 @@
 //! Where the answer of a side comes from.
 
-ghost use Rattle.std.specs.Prelude.{◌≡◌, ◌↔◌, IsTrue};
+ghost use Rattle.std.specs.Prelude.{◌≡◌};
 ghost use Rattle.scf_compare.specs.Sides.{origin_index};
 
 use scf_profile::Reason;
@@ -24,12 +24,5 @@ impl Origin {
             Origin::Filter { index, .. } => index,
             Origin::Profile(_) => 0,
         }
-    }
-
-    /// Whether a profile answers so because the call is of another architecture.
-    pub(crate) fn is_foreign(self) -> bool
-        ensures { IsTrue result ↔ self ≡ Origin.Profile Reason.Foreign }
-    {
-        matches!(self, Origin::Profile(Reason::Foreign))
     }
 }

@@ -9,6 +9,7 @@ ghost use Rattle.scf_compare.specs.internal.Profiles.{EndsForeign};
 ghost use Rattle.scf_compare.specs.internal.SeveralProfiles.{IsOfNoneBefore, profiles_tree};
 
 use crate::by_number::ByNumber;
+use crate::origin::Origin;
 use crate::profile::{ProfileNode, leaf_by};
 use crate::side_tree::{SideLeaf, SideTree};
 use crate::sources::OpenTest;
@@ -130,5 +131,11 @@ impl<'a> ProfilesSide<'a> {
 fn ends_foreign(step: &Step<ProfileNode, SideLeaf>) -> bool
     ensures { IsTrue result ↔ EndsForeign step.now }
 {
-    matches!(step, Step::Leaf(leaf) if leaf.origin.is_foreign())
+    matches!(
+        step,
+        Step::Leaf(SideLeaf {
+            origin: Origin::Profile(Reason::Foreign),
+            ..
+        })
+    )
 }
