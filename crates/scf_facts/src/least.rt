@@ -49,14 +49,18 @@ fn least_from(low: u32, bits: Bits) -> Option<u32>
 
 /// The first value of sorted intervals that lies in a range and has the bits.
 ///
-/// The least value with the bits from a bound on may lie before the first interval that reaches it; then that
-/// interval's low end is the next bound.
+/// Mostly it is the least value of all. Else the least value with the bits from a bound on may lie before the first
+/// interval that reaches it; then that interval's low end is the next bound.
 pub(crate) fn first_number(intervals: &[Interval], range: Interval, bits: Bits) -> Option<u32>
     requires { AreApart intervals.now }
     ensures found { IfSome result (λ x. LiesInOne intervals.now x × LiesIn range x × HasBits bits x) }
     ensures none { IfNone result ((x : ℕ) → x < 2 ^ 32
         → LiesInOne intervals.now x → LiesIn range x → HasBits bits x → ⊥) }
 {
+    let least = intervals.first()?.low;
+    if range.low <= least && least <= range.high && bits.are_in(least) {
+        return Some(least);
+    }
     let mut bound = range.low;
     while let Some(x) = least_from(bound, bits) {
         if x > range.high {
