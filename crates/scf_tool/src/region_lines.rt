@@ -12,7 +12,7 @@ use crate::reporting::CallLine;
 use scf_compare::{Origin, PairLeaf, Region, Regions, SideLeaf};
 use scf_facts::{Bits, Interval, Snapshot, WordSet};
 use std::alloc::{AllocError, Global};
-use std::fmt;
+use std::fmt::{self, Display};
 
 /// How regions are printed.
 #[derive(Clone, Copy)]
@@ -63,7 +63,7 @@ impl fmt::Display for IntervalsText<'_> {
             return Ok(());
         }
         if let [first, later @ ..] = self.0 {
-            f.write(IntervalText(*first))?;
+            IntervalText(*first).fmt(f)?;
             for interval in later {
                 write!(f, ",{}", IntervalText(*interval))?;
             }
@@ -127,7 +127,7 @@ impl fmt::Display for WordsText<'_> {
 
     fn fmt<W: fmt::Write>(&self, f: &mut fmt::Formatter<W>) -> fmt::Result {
         for index in 0..16u8 {
-            f.write(WordText(index, self.0.word(index)))?;
+            WordText(index, self.0.word(index)).fmt(f)?;
         }
         Ok(())
     }
@@ -142,12 +142,12 @@ impl fmt::Display for SideText {
 
     fn fmt<W: fmt::Write>(&self, f: &mut fmt::Formatter<W>) -> fmt::Result {
         match self.0.answer {
-            Some(answer) => f.write(AnswerText(answer))?,
+            Some(answer) => AnswerText(answer).fmt(f)?,
             None => f.write_str("unknown")?,
         }
         match self.0.origin {
-            Origin::Filter { filter, index } => f.write(InsnText(filter, index)),
-            Origin::Profile(reason) => f.write(ReasonText(reason)),
+            Origin::Filter { filter, index } => InsnText(filter, index).fmt(f),
+            Origin::Profile(reason) => ReasonText(reason).fmt(f),
         }
     }
 }
@@ -164,7 +164,7 @@ impl fmt::Display for LeafText {
         if self.0 {
             write!(f, "{left} beside {}", SideText(self.1.right))
         } else {
-            f.write(left)
+            left.fmt(f)
         }
     }
 }
@@ -194,7 +194,7 @@ impl fmt::Display for RegionLines<'_> {
         let line = RegionLine(self.0.has_both, self.1);
         match self.1.example {
             Some(call) if self.0.has_examples => write!(f, "{line}{}", CallLine(call)),
-            _ => f.write(line),
+            _ => line.fmt(f),
         }
     }
 }
@@ -209,7 +209,7 @@ impl fmt::Display for RegionList<'_> {
     fn fmt<W: fmt::Write>(&self, f: &mut fmt::Formatter<W>) -> fmt::Result {
         for walk in self.1 {
             for region in walk.list.as_slice() {
-                f.write(RegionLines(self.0, region))?;
+                RegionLines(self.0, region).fmt(f)?;
             }
         }
         Ok(())
