@@ -19,17 +19,13 @@ FIRST_UPPER, FIRST_OPEN = FIRST_UNTESTED + 32 * ARGUMENTS, FIRST_UNTESTED + 32 *
 Answers = "tuple[tuple[int | None, int], ...]"
 
 
-def _variables(sets: Sets, word: int) -> range:
-    """The variables of a word of a record, the highest bit first."""
+def _of_word(sets: Sets, word: int, values: Word) -> int:
+    """Where a word has one of these values."""
     index, half = divmod(word - ARGUMENTS, 2)
     is_tested = index >= 0 and 32 * half < sets.bits
     first = sets.bits * (index + 1) - 32 * (half + 1) if is_tested else FIRST_UNTESTED + 32 * word
-    return range(first, first + 32)
-
-
-def _of_word(sets: Sets, word: int, values: Word) -> int:
-    """Where a word has one of these values."""
-    variables, node = _variables(sets, word), EMPTY_SET
+    # the word's variables, the highest bit first
+    variables, node = range(first, first + 32), EMPTY_SET
 
     def where(value: int, mask: int = GREATEST_WORD, greater: int = EMPTY_SET) -> int:
         # a node and its parts for each bit
@@ -66,13 +62,6 @@ def of_numbers(sets: Sets, by_number: Numbers, numbers: Sequence[int]) -> list[A
             memo[id(region)] = sets.both(which, arguments_of(sets, region))
         return memo[id(region)]
 
-    def of(regions: Sequence[Region]) -> Answers:
-        answers: dict[int | None, int] = {}
-        for region in regions:
-            word = None if region.answer is None else region.answer.word
-            answers[word] = sets.either(answers.get(word, EMPTY_SET), of_region(region))
-        return tuple(answers.items())
-
     # many numbers have the same regions
     alike: dict[tuple[int, ...], Answers] = {}
     listed: list[Answers] = []
@@ -80,6 +69,10 @@ def of_numbers(sets: Sets, by_number: Numbers, numbers: Sequence[int]) -> list[A
         here = by_number.of(number)
         key = tuple(map(id, here))
         if key not in alike:
-            alike[key] = of(here)
+            answers: dict[int | None, int] = {}
+            for region in here:
+                word = None if region.answer is None else region.answer.word
+                answers[word] = sets.either(answers.get(word, EMPTY_SET), of_region(region))
+            alike[key] = tuple(answers.items())
         listed.append(alike[key])
     return listed

@@ -31,8 +31,7 @@ LIMIT_OPTIONS = {
     "limit": f"at most N steps for each comparison [default: {MOST_STEPS}, 1000000 for regions of answers, and "
              f"{SECONDS} s of CPU time for all together]",
     "splits": "how hard to try before `undecided`; none is no limit [default: 10000]"}
-# The greatest limit, which scf never reaches.
-NO_LIMIT = str((1 << 64) - 1)
+
 limits: dict[str, str] = {}
 SPENT = (f"all comparisons together took {SECONDS} s of CPU time, the most without --limit: what {FEW_STEPS} steps "
          f"don't decide is unfinished")
@@ -49,8 +48,8 @@ _seconds_of_scf: float | None = None
 
 
 def limit_in(text: str) -> str:
-    """The number that an option has, for which scf says if it is none."""
-    return NO_LIMIT if text == "none" else text
+    """The limit that an option has: without one the greatest, which scf never reaches; scf says if it is no number."""
+    return str((1 << 64) - 1) if text == "none" else text
 
 
 def lines_of(text: str) -> list[str]:

@@ -77,7 +77,7 @@ class Differences(Lookup):
 
     def __init__(self, listed: Sequence[Region] | None, beside: str):
         super().__init__(listed)
-        self.regions, self._beside = listed, beside
+        self._beside = beside
 
     @property
     def unknown(self) -> Verdict:

@@ -23,8 +23,6 @@ OF_MACHINES = {row.oci: tuple(JUDGED[abi] for _, abi in row.modes) for row in JU
 ABIS = OF_MACHINES[NATIVE]
 # The OCI names of all of them.
 NAMES = tuple(abi.oci for abis in OF_MACHINES.values() for abi in abis)
-NO_OTHER_ABIS = "other ABIs: the kernel has no others"
-EVERY_SYSCALL_DENIED = "other ABIs: every {} syscall is denied; the kernel has no others"
 
 
 @dataclass(frozen=True)
@@ -103,5 +101,6 @@ def are_none(accesses: Sequence[AbiAccess]) -> bool:
 def access_lines(accesses: Sequence[AbiAccess]) -> list[str]:
     """A line for each ABI of a machine, or one for all that are denied."""
     if are_none(accesses):
-        return [EVERY_SYSCALL_DENIED.format(join_names([access.abi.name for access in accesses]))]
-    return [*(access.describe() for access in accesses), NO_OTHER_ABIS]
+        names = join_names([access.abi.name for access in accesses])
+        return [f"other ABIs: every {names} syscall is denied; the kernel has no others"]
+    return [*(access.describe() for access in accesses), "other ABIs: the kernel has no others"]

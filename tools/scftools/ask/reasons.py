@@ -16,28 +16,31 @@ from ..model.tables import Tables
 from . import client
 from .verdicts import Fault
 
-REASON_LINE = Pattern(r"(\w+ \w+) (?:entry ([0-9]+)|(default)|(foreign)|(stub))")
+REASON_LINE = Pattern(r"(\w+ \w+) (?:(default|foreign|stub)|entry ([0-9]+))")
 # What a profile answers to a syscall of an architecture that it isn't judged for, and why, as scf prints it.
 FOREIGN = "KILL_PROCESS 0 foreign"
-BY_STUB = "by the ENOSYS that runc puts before the filter"
+# What gives an answer if no entry does.
+BY = {"foreign": "by no entry: the syscall is of another ABI", "default": "by the default",
+      "stub": "by the ENOSYS that runc puts before the filter"}
 # At most so many characters of an entry are printed.
 LONGEST_ENTRY = 400
 
 
 @dataclass(frozen=True)
 class Reason:
-    """A profile's answer to a syscall, and the index of the entry that decides; or a fault.
-
-    Without an index the answer is the default's, runc's stub's, or that for a foreign syscall, which no entry covers.
-    """
+    """A profile's answer to a syscall, and what gives it: an `entry` with its index, the `default`, runc's `stub`, or
+    that the syscall is `foreign`, which no entry covers; or a fault."""
 
     status: int
     line: str
     answer: Answer | None = None
+    by: str = ""
     entry: int | None = None
-    is_foreign: bool = False
-    is_stub: bool = False
     fault: Fault | None = None
+
+    @property
+    def is_foreign(self) -> bool:
+        return self.by == "foreign"
 
 
 def profile_reason(profile: bytes, judged: Tables, words: Sequence[str]) -> Reason:
@@ -57,26 +60,13 @@ def _read(status: int, text: str) -> Reason:
     match = REASON_LINE.fullmatch(line)
     if not match:
         return Reason(status, line, fault=Fault.read(line))
-    return Reason(status, line, Answer.read(match[1]), int(match[2]) if match[2] else None, bool(match[4]),
-                  bool(match[5]))
+    return Reason(status, line, Answer.read(match[1]), match[2] or "entry", int(match[3]) if match[3] else None)
 
 
 def members_of(line: str) -> dict[str, object]:
     """The members of `reason_json` that a line of `scf ask` gives, without the profile."""
     word, *index = line.split(" ")[2:]
     return {"reason": word, **({"entry": int(index[0])} if index else {})}
-
-
-def _entry_text(entry: object) -> str:
-    """An entry as JSON on one line, truncated if it is long."""
-    text = json.dumps(entry)
-    more = len(text) - LONGEST_ENTRY
-    return text if more <= 0 else f"{text[:LONGEST_ENTRY]}.. ({more} more characters)"
-
-
-def _conditions(entry: object) -> list[dict[str, object]]:
-    given = entry.get("args") if isinstance(entry, dict) else None
-    return [condition for condition in given if isinstance(condition, dict)] if isinstance(given, list) else []
 
 
 def _condition_text(condition: dict[str, object], call: Call) -> str | None:
@@ -100,23 +90,22 @@ def index_of(reason: Reason, origins: Sequence[Origin] | None) -> int | None:
 def conditions_met(reason: Reason, profile: bytes, call: Call) -> list[str]:
     """Lines on the conditions of the entry that gives the answer, if one does, as far as a call meets them."""
     entry = None if reason.entry is None else profiles.entry_at(profile, reason.entry)
-    return [*filter(None, (_condition_text(condition, call) for condition in _conditions(entry)))]
+    given = entry.get("args") if isinstance(entry, dict) else None
+    conditions = [each for each in given if isinstance(each, dict)] if isinstance(given, list) else []
+    return [*filter(None, (_condition_text(condition, call) for condition in conditions))]
 
 
 def describe_reason(reason: Reason, profile: bytes, call: Call | None,
                     origins: Sequence[Origin] | None = None) -> Iterator[str]:
     """Lines on what gives the answer; for an entry also on which of its conditions hold."""
-    if reason.answer is None:
-        return
-    if reason.is_foreign:
-        yield "by no entry: the syscall is of another ABI"
-    elif reason.is_stub:
-        yield BY_STUB
-    elif reason.entry is None:
-        yield "by the default"
-    else:
-        entry, index = profiles.entry_at(profile, reason.entry), index_of(reason, origins)
-        yield f"by entry {index} of syscalls" + (f": {_entry_text(entry)}" if entry is not None else "")
+    if reason.answer is not None and reason.entry is None:
+        yield BY[reason.by]
+    elif reason.answer is not None:
+        entry = profiles.entry_at(profile, reason.entry)
+        text = "" if entry is None else f": {json.dumps(entry)}"
+        more = len(text) - len(": ") - LONGEST_ENTRY
+        text = text if more <= 0 else f"{text[:-more]}.. ({more} more characters)"
+        yield f"by entry {index_of(reason, origins)} of syscalls{text}"
         yield from conditions_met(reason, profile, call) if call else ()
 
 
@@ -125,10 +114,6 @@ def reason_json(reason: Reason, profile: bytes, call: Call | None,
     """The reason as members of an object."""
     if reason.answer is None:
         return {}
-    index = index_of(reason, origins)
-    word = "foreign" if reason.is_foreign else "stub" if reason.is_stub else "default" if index is None else "entry"
-    members: dict[str, object] = {"reason": word}
-    if reason.entry is not None and word == "entry":
-        members.update(entry=index, definition=profiles.entry_at(profile, reason.entry),
-                       conditions_met=conditions_met(reason, profile, call) if call else [])
-    return members
+    return {"reason": reason.by, **({} if reason.entry is None else {
+        "entry": index_of(reason, origins), "definition": profiles.entry_at(profile, reason.entry),
+        "conditions_met": conditions_met(reason, profile, call) if call else []})}

@@ -120,7 +120,7 @@ class Side:
         """What gives a profile's answer."""
         if self.entry is not None:
             return f"by entry {self.entry}"
-        return reasons.BY_STUB if self.line.endswith(" stub") else "by the default"
+        return reasons.BY["stub" if self.line.endswith(" stub") else "default"]
 
 
 class Region(Side):
@@ -211,9 +211,12 @@ def parse_regions(text: str, places: Sequence[int] | None = None) -> list[Region
     return regions if last.startswith(f"regions {len(regions)} steps ") else None
 
 
-def asked(words: Sequence[str], bundle: bytes, places: Sequence[int] | None = None) -> list[Region] | None:
-    """The regions that scf prints; None if it took as many steps as it may. Raises Refusal."""
-    done = client.answers(["--examples", *words], bundle)
+def asked(words: Sequence[str], bundle: bytes, places: Sequence[int] | None = None,
+          number: int | None = None) -> list[Region] | None:
+    """The regions that scf prints, on request of one of x86-64's numbers alone; None if it took as many steps as it
+    may. Raises Refusal."""
+    scope = [] if number is None else [f"--nr-from={number}", f"--nr-to={number}"]
+    done = client.answers(["--examples", *words, *scope], bundle)
     regions = parse_regions(done.text, places) if done.status == program.SUCCESS else None
     if regions is not None:
         return regions
@@ -225,22 +228,17 @@ def asked(words: Sequence[str], bundle: bytes, places: Sequence[int] | None = No
     raise refusal
 
 
-def _scope_of(number: int | None) -> list[str]:
-    """The options of scf for records with a number of x86-64's alone, or for all."""
-    return [] if number is None else [f"--nr-from={number}", f"--nr-to={number}"]
-
-
 def regions_of_filters(filters: Sequence[bytes], number: int | None = None) -> list[Region] | None:
     """The regions of filters, oldest first, on request of one of x86-64's numbers alone; None if they are unfinished.
     Raises Refusal."""
-    return asked(_scope_of(number), bundles.stack_bundle(filters))
+    return asked([], bundles.stack_bundle(filters), number=number)
 
 
 def regions_of_profile(profile: bytes, judged: Tables, places: Sequence[int] | None = None,
                        number: int | None = None) -> list[Region] | None:
     """The regions of a profile, on request with other places of entries, or of one number alone; None if unfinished.
     Raises Refusal."""
-    return asked([*judged.words, *_scope_of(number)], bundles.compilation_bundle(profile, judged), places)
+    return asked(judged.words, bundles.compilation_bundle(profile, judged), places, number)
 
 
 class Numbers:
@@ -252,23 +250,19 @@ class Numbers:
         self._all = [region for region in regions or () if has(region.words.get(ARCHITECTURE, FREE))]
         # ranges of numbers with the same regions; None if they are too many
         self.ranges: list[tuple[int, int, list[Region]]] | None = None
-        try:
-            self.ranges = self._ranges()
-        except TooManyRanges:
-            pass
-
-    def _ranges(self) -> list[tuple[int, int, list[Region]]]:
-        parts = [(*part, region) for region in self._all
-                 for part in region.words.get(NUMBER, FREE).within(self.first, self.last)]
-        cuts = sorted({self.first, self.last + 1, *(low for low, _, _ in parts), *(high + 1 for _, high, _ in parts)})
         starting: dict[int, list[tuple[int, Region]]] = {}
-        for low, high, numbered_region in parts:
-            starting.setdefault(low, []).append((high, numbered_region))
-        ranges, here = [], []
+        try:
+            for region in self._all:
+                for low, high in region.words.get(NUMBER, FREE).within(self.first, self.last):
+                    starting.setdefault(low, []).append((high, region))
+        except TooManyRanges:
+            return
+        ends = (high + 1 for parts in starting.values() for high, _ in parts)
+        cuts = sorted({self.first, self.last + 1, *starting, *ends})
+        self.ranges, here = [], []
         for low, end in zip(cuts, cuts[1:]):
             here = [part for part in here if part[0] >= low] + starting.get(low, [])
-            ranges.append((low, end - 1, [region for _, region in here]))
-        return ranges
+            self.ranges.append((low, end - 1, [region for _, region in here]))
 
     def of(self, number: int) -> list[Region]:
         """The regions with records of a number."""
@@ -287,30 +281,26 @@ class Numbers:
                 first = next((low + at for at, number in enumerate(within) if number != low + at), low + len(within))
                 yield first - self.first, count, here
 
-    def turns(self) -> list[int]:
-        """The first numbers of ranges."""
-        return [low for low, _, _ in self.ranges or ()]
-
 
 class Lookup:
     """The regions in which records lie, of those that scf prints, or None if they are unfinished."""
 
     def __init__(self, regions: Sequence[Region] | None):
-        self._regions, self.is_finished = regions, regions is not None
+        self.regions, self.is_finished = regions, regions is not None
         # by the OCI names of architectures
         self._numbers: dict[str, Numbers] = {}
 
     def of_architecture(self, architecture: Architecture) -> Numbers:
         """Those of an architecture, by syscall numbers."""
         if architecture.oci not in self._numbers:
-            self._numbers[architecture.oci] = Numbers(self._regions, architecture)
+            self._numbers[architecture.oci] = Numbers(self.regions, architecture)
         return self._numbers[architecture.oci]
 
     def of_number(self, call: Call) -> Sequence[Region]:
         """Those with records of its number and architecture."""
         architecture = call.judged
         return self.of_architecture(architecture).of(call.number) if architecture is not None else \
-            [region for region in self._regions or () if region.is_of(call.number, call.architecture)]
+            [region for region in self.regions or () if region.is_of(call.number, call.architecture)]
 
     def of(self, call: Call) -> Region | None:
         """The decided region of a record, None if there is none."""

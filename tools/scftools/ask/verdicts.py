@@ -7,12 +7,12 @@ have newlines in them.
 from __future__ import annotations
 
 import re
-from collections.abc import Callable, Sequence
+from collections.abc import Sequence
 
 from ..base import program
 from ..base.values import Pattern, dataclass, replace
 from ..model import bundles
-from ..model.answers import ALLOWED, DENIED, Answer
+from ..model.answers import Answer
 from ..model.architectures import JUDGED, NATIVE, Architecture
 from ..model.calls import Call
 from ..model.tables import Table, Tables
@@ -229,22 +229,6 @@ def checked(status: int, checked_report: Report, is_by_call: bool = False) -> Re
     if status != expected or is_by_call and len(checked_report.calls) != len(checked_report.lines) - 1:
         raise program.ToolError(f"scf ended with status {status} and unexpected output")
     return checked_report
-
-
-def most_telling(checked_report: Report, table: Table, calls_of: Callable[[], Sequence[NamedCall]]) -> Report:
-    """A report of a difference with the most telling example: a native syscall with a name that one side allows and the
-    other denies, if there is one among those that differ."""
-    def is_telling(verdict: Verdict) -> bool:
-        dispositions = {answer.disposition for answer in (verdict.filters, verdict.profile) if answer is not None}
-        return verdict.call is not None and verdict.call.is_native and verdict.call.pointer is not None and \
-            dispositions == {ALLOWED, DENIED} and bool(table.names_of(verdict.call.number))
-
-    whole = checked_report.verdict
-    if whole is None or not whole.fails or whole.call is None or is_telling(whole):
-        return checked_report
-    shown = next((named.verdict for named in calls_of() if is_telling(named.verdict)), whole)
-    beside = checked_report.lines[3].partition(" ")[0]
-    return replace(checked_report, lines=Report.of(shown, beside).lines, verdict=shown)
 
 
 def compared(filters: Sequence[bytes], profile: bytes, tables: Tables, words: Sequence[str] = (),

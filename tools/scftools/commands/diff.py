@@ -113,7 +113,7 @@ def tell_changes(judgement, is_json):
         output.put_json(changes.changes_json(found))
     else:
         output.put_lines(changes.change_lines(found))
-    return found.status
+    return found.verdict.status
 
 
 def main():

@@ -4,7 +4,7 @@ from __future__ import annotations
 import math
 from collections.abc import Iterable, Iterator, Sequence
 
-from ..base import output, program
+from ..base import output
 from ..base.values import Any, dataclass, field
 from ..model import constants, tables
 from ..model.answers import DISPOSITIONS, FIRST_X32, Answer
@@ -22,14 +22,13 @@ from .pair import Side
 
 OLD, NEW = "old", "new"
 BOTH_WAYS = (OLD, NEW), (NEW, OLD)
-# The new profile is more permissive, stricter, or only gives another answer; or scf can't decide.
-CHANGE_KINDS = (MORE, LESS, OTHERWISE, UNDECIDED, UNFINISHED)
-# The heading of each kind of change, printed before its count.
+# The kinds of change, or that scf can't decide, each with the heading that is printed before its count.
 KIND_HEADINGS = {MORE: "syscalls for which the new profile is more permissive",
                  LESS: "syscalls for which the new profile is stricter",
                  OTHERWISE: "syscalls that get another answer, neither more permissive nor stricter",
                  UNDECIDED: "syscalls that are undecided",
                  UNFINISHED: "syscalls that are undecided within the limit"}
+CHANGE_KINDS = (*KIND_HEADINGS,)
 
 
 @dataclass
@@ -73,19 +72,12 @@ class Changes:
         return [*self.calls, *filter(None, [self.unnamed])]
 
     @property
-    def fails(self) -> bool:
-        """Whether some syscall fails the relation."""
+    def verdict(self) -> Verdict:
+        """The verdict, which some syscall may fail by an example of the tools' own."""
         failing = {SAME: CHANGE_KINDS, SAME_DISPOSITION: (MORE, LESS)}
         of_relation = failing.get(self.relation, (FAILING_WORDS[self.relation],))
-        return self.whole.fails or any(change.call is not None and change.kind in of_relation for change in self.all)
-
-    @property
-    def verdict(self) -> str:
-        return FAILING_WORDS[self.relation] if self.fails else self.whole.word
-
-    @property
-    def status(self) -> int:
-        return program.NEGATIVE if self.fails else program.SUCCESS if self.whole.holds else program.UNKNOWN
+        fails = any(change.call is not None and change.kind in of_relation for change in self.all)
+        return Verdict(FAILING_WORDS[self.relation]) if fails or self.whole.fails else self.whole
 
     @property
     def counts(self) -> dict[str, int]:
@@ -99,18 +91,6 @@ def _kind(old: Answer, new: Answer) -> str:
     return MORE if before < after else LESS if before > after else OTHERWISE
 
 
-def _kinds_in(here: Sequence[Region]) -> dict[str, Region] | None:
-    """The kinds of change in these differences, each with one that has it; None if they don't tell."""
-    kinds: dict[str, Region] = {}
-    for region in here:
-        if not region.is_decided:
-            return None
-        kinds.setdefault(_kind(region.answer, region.beside.answer), region)
-    if len(kinds) > 1:
-        kinds.pop(OTHERWISE, None)
-    return kinds
-
-
 def _reasons(pair: ProfileComparison, call: Call | None, region: Region | None = None) -> dict[str, Reason]:
     """Each profile's answer to a syscall, if there is one, which may be of a known difference; and its reason."""
     return {name: pair.reason_of(at, call, region) for at, name in enumerate(pair.names)} if call is not None else {}
@@ -120,9 +100,13 @@ def _of_regions(pair: ProfileComparison, architecture: Architecture, table: Tabl
     """The syscalls of an architecture that differ; None if the differences don't tell."""
     changes, numbers = [], pair.differences.of_architecture(architecture)
     for number in sorted(table.numbers()):
-        kinds = _kinds_in(numbers.of(architecture.first + number))
-        if kinds is None:
-            return None
+        kinds: dict[str, Region] = {}
+        for region in numbers.of(architecture.first + number):
+            if not region.is_decided:
+                return None
+            kinds.setdefault(_kind(region.answer, region.beside.answer), region)
+        if len(kinds) > 1:
+            kinds.pop(OTHERWISE, None)
         for kind, region in kinds.items():
             call = region.call_of(architecture.first + number, architecture.number)
             changes.append(Change(number, tuple(table.names_of(number)), kind, call, _reasons(pair, call, region),
@@ -167,21 +151,16 @@ def changes_of(pair: ProfileComparison, report: Report) -> Changes:
                                                                    _of_unnamed(pair))
 
 
-def _by(reason: Reason, side: Side) -> str:
-    """The reason of an answer in a word or two: an entry by its index in the user's profile, or the default or such."""
-    if reason.is_stub or reason.is_foreign:
-        return "stub" if reason.is_stub else "foreign"
-    index = reasons.index_of(reason, side.origins)
-    return "default" if index is None else f"entry {index}"
-
-
 def line_of(change: Change, sides: dict[str, Side]) -> str:
-    """The line of a change: number, names, kind, an example, and for each profile its answer and what gives it."""
+    """The line of a change: number, names, kind, an example, and for each profile its answer and what gives it, an
+    entry by its index in the user's profile."""
     shown = (str(change.number), ",".join(change.names), change.kind)
     words = [change.architecture.marked(" ".join(filter(None, shown)))]
     if change.call is not None:
         words += ["args", *map(hex, change.call.arguments)]
-        words += [f"{name} {reason.answer} {_by(reason, sides[name])}" for name, reason in change.reasons.items()]
+    for name, reason in change.reasons.items():
+        entry = [] if reason.entry is None else [str(reasons.index_of(reason, sides[name].origins))]
+        words += [name, str(reason.answer), reason.by, *entry]
     return " ".join(words)
 
 
@@ -200,7 +179,7 @@ def _entries(changes: Changes) -> Iterator[str]:
         of_side = [change.reasons[name] for change in changes.all
                    if change.reasons and not change.reasons[name].is_foreign]
         # (a stub stands behind all entries)
-        reason_of = {math.inf if reason.is_stub else reason.entry: reason for reason in of_side}
+        reason_of = {math.inf if reason.by == "stub" else reason.entry: reason for reason in of_side}
         for place in sorted(place for place in reason_of if place is not None):
             by = next(iter(reasons.describe_reason(reason_of[place], side.profile, None, side.origins)), "")
             yield f"{name}: {by.partition(' ')[2]}"
@@ -226,7 +205,7 @@ def change_lines(changes: Changes) -> Iterator[str]:
     """The verdict, the counts, and the changes; added lines are marked by `# `."""
     sides, unnamed, left_out = changes.sides, changes.unnamed, changes.by_age(changes.pair.left_out)
     alone = changes.by_age(changes.pair.alone)
-    yield changes.verdict
+    yield changes.verdict.word
     yield ", ".join(f"{kind} {count}" for kind, count in changes.counts.items()
                     if count or kind not in (UNDECIDED, UNFINISHED))
     for kind in CHANGE_KINDS:
@@ -267,7 +246,7 @@ def _change_json(changes: Changes, change: Change) -> dict[str, object]:
 def changes_json(changes: Changes) -> dict[str, object]:
     """The object with everything that `change_lines` prints."""
     unnamed, left_out = changes.unnamed, changes.by_age(changes.pair.left_out)
-    return {"status": changes.status, **relation_json(changes.relation), "verdict": changes.verdict,
+    return {"status": changes.verdict.status, **relation_json(changes.relation), "verdict": changes.verdict.word,
             "counts": changes.counts, "changes": [_change_json(changes, change) for change in changes.calls],
             "unnamed": None if unnamed is None else _change_json(changes, unnamed),
             "skipped": {side: list(report.skipped) for side, report in left_out.items()},

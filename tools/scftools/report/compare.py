@@ -2,6 +2,7 @@
 from __future__ import annotations
 
 import functools
+import itertools
 from collections.abc import Sequence
 
 from ..base import program
@@ -89,8 +90,19 @@ class Comparison(Pair):
         if report.verdict is None:
             return status, report
         beside = left_out(self.profile, self.tables)
-        report = self._of_all(report, relation, beside.architectures) if scope == ALL else \
-            self._with_other_abis(report, scope, relation)
+        if scope == ALL:
+            report = self._of_all(report, relation, beside.architectures)
+        elif scope == CALLS or not report.verdict.fails:
+            # (where one fails other ABIs decide nothing any more, and may take long)
+            others = self.of_other_abis(scope, relation)
+            worst = min((report.verdict, *others), key=lambda verdict: verdict.order)
+            if scope == CALLS:
+                # with a line for each ABI that isn't denied
+                report = Report.by_call(worst, [*report.calls, *(
+                    NamedCall.of(verdict, access.abi, access.names)
+                    for access, verdict in zip(self.accesses, others) if verdict.call is not None)])
+            elif worst is not report.verdict:
+                report = Report.of(worst)
         return report.verdict.status, replace(report, skipped=beside.skipped, architectures=beside.architectures)
 
     def _of_all(self, report: Report, relation: str, without_table: Sequence[str]) -> Report:
@@ -106,19 +118,6 @@ class Comparison(Pair):
             return Report.of(others)
         return replace(report, lines=(FOR_OTHER_ABI, *report.lines[1:3]),
                        verdict=replace(report.verdict, word=UNDETERMINED, profile=None))
-
-    def _with_other_abis(self, report: Report, scope: str, relation: str) -> Report:
-        """The report with the verdict on other ABIs, if that is worse; call by call with a line for each not denied."""
-        if scope != CALLS and report.verdict.fails:
-            # (they decide nothing any more, and may take long)
-            return report
-        others = self.of_other_abis(scope, relation)
-        worst = min((report.verdict, *others), key=lambda verdict: verdict.order)
-        if scope != CALLS:
-            return report if worst is report.verdict else Report.of(worst)
-        calls = [*report.calls, *(NamedCall.of(verdict, access.abi, access.names)
-                                  for access, verdict in zip(self.accesses, others) if verdict.call is not None)]
-        return Report.by_call(worst, calls)
 
     def known_verdict(self, scope: str, relation: str) -> Verdict | None:
         known = super().known_verdict(scope, relation)
@@ -257,15 +256,12 @@ class ProfileComparison(Pair):
         return self.judged[1]
 
     @functools.cached_property
-    def are_judged_alike(self) -> bool:
-        """Whether scf takes both with the same tables, stubs and reading."""
-        left, right = self.judged
-        return (left.words, left.parts) == (right.words, right.parts)
-
-    @functools.cached_property
     def stacks(self) -> list[list[bytes]]:
-        """The left profile's filter, if scf needs it. Raises Refusal."""
-        return [] if self.are_judged_alike else [[client.compile_profile(self.left.data, self.judged[0])]]
+        """The left profile's filter, but where scf takes both with the same tables, stubs and reading. Raises Refusal.
+        """
+        left, right = self.judged
+        is_alike = (left.words, left.parts) == (right.words, right.parts)
+        return [] if is_alike else [[client.compile_profile(self.left.data, left)]]
 
     def bundle(self, judged: Tables, is_by_call: bool = False) -> bytes:
         return bundles.comparison_bundle(self.stacks[0], self.right.data, judged) if self.stacks else \
@@ -329,10 +325,9 @@ class ProfileComparison(Pair):
             if why.fault is None:
                 raise program.ToolError(f"scf ended with status {why.status} on {self.title(0)}") from why
             return why.status, Report((line,), fault=Fault.read(line))
-        skipped, others = ([name for side in self.left_out for name in names(side)]
-                           for names in (lambda side: side.skipped, lambda side: side.architectures))
-        return report.verdict.status, replace(report, skipped=tuple(dict.fromkeys(skipped)),
-                                              architectures=tuple(dict.fromkeys(others)))
+        skipped, others = (dict.fromkeys(itertools.chain(*names))
+                           for names in zip(*((side.skipped, side.architectures) for side in self.left_out)))
+        return report.verdict.status, replace(report, skipped=(*skipped,), architectures=(*others,))
 
     @functools.cached_property
     def _lookups(self) -> dict[int, regions.Lookup]:
@@ -343,7 +338,7 @@ class ProfileComparison(Pair):
         """A profile's answer to a syscall and its reason: by the differences, of which one may be known to have it, by
         its own regions, or else by `ask`."""
         region = region or self.differences.of(call)
-        if region is not None and (at == 1 or self.are_judged_alike):
+        if region is not None and (at == 1 or not self.stacks):
             return reasons.region_reason((region.beside if at else region).line)
         source, judged = self.sources[at], self.judged[at]
         if at not in self._lookups:

@@ -9,13 +9,13 @@ from collections.abc import Iterator, Sequence
 from ..base import output
 from ..base.values import Any, dataclass, replace
 from ..model import profiles, tables
-from ..model.answers import DELEGATED, DENIED, Answer
+from ..model.answers import ALLOWED, DELEGATED, DENIED, Answer
 from ..model.architectures import JUDGED
 from ..model.calls import ARCHITECTURE, NUMBER, Call
 from ..model.tables import Table
-from ..ask import explanation, reasons, verdicts
+from ..ask import explanation, reasons
 from ..ask.explanation import join_names
-from ..ask.regions import Numbers, Region
+from ..ask.regions import Numbers
 from ..ask.verdicts import (ALL, CALLS, DIFFERS, LESS, LISTED, MORE, NO_LESS, NO_MORE, SAME, UNDECIDED, UNDETERMINED,
                             Fault, NamedCall, Report, Verdict, relation_json)
 from ..forms import refusals
@@ -75,15 +75,12 @@ def newer_calls(comparison: Any, scope: str) -> Newer | None:
             part for part in ranges or () if part[1] >= least)))
         if differing:
             firsts[name] = max(differing[0][0], least)
-            answers.update(_answer_to(here) for _, _, here in differing)
+        for _, _, here in differing:
+            # (a known answer to all syscalls of these numbers)
+            is_one = len(here) == 1 and here[0].is_decided and here[0].words.keys() <= {NUMBER, ARCHITECTURE}
+            answers.add(here[0].answer if is_one else None)
     answer = answers.pop() if len(answers) == 1 else None
     return Newer(firsts, answer, default) if answer is not None and answer.denies else None
-
-
-def _answer_to(here: Sequence[Region]) -> Answer | None:
-    """The answer of filters to all syscalls of numbers with these regions; None if it isn't one that is known."""
-    is_one = len(here) == 1 and here[0].is_decided and here[0].words.keys() <= {NUMBER, ARCHITECTURE}
-    return here[0].answer if is_one else None
 
 
 def another_call(comparison: Comparison, above: Newer) -> Verdict | None:
@@ -221,15 +218,6 @@ def _difference_json(comparison: Any, verdict: Verdict) -> dict[str, object]:
     return members
 
 
-def _other_abi_lines(comparison: Pair, scope: str) -> Iterator[str]:
-    """A line for each other ABI that isn't proved to be denied, or of which it isn't known what is configured."""
-    if isinstance(comparison, Comparison):
-        yield from (f"{access.describe()}; the profile doesn't name {access.abi.oci}"
-                    for access in comparison.asked_accesses(scope) if not access.are_denied)
-        yield from (f"{JUDGED[oci].name}: not compared, since its rules aren't known"
-                    for oci in profiles.not_compared_of(comparison.profile))
-
-
 def faulty_side(comparison: Pair, fault: Fault) -> int:
     """The side that has a fault."""
     if fault.source == comparison.beside or isinstance(comparison, Comparison) and fault.source == "profile":
@@ -296,7 +284,12 @@ def comparison_notes(comparison: Any, report: Report, scope: str) -> Iterator[st
         facts = profiles.parse_profile(comparison.profile) if isinstance(comparison, Comparison) else None
         yield from explanation.explain_skipped(report, comparison.tables, bool(facts and facts.allows_by_default))
         yield from explanation.explain_architectures(report)
-        yield from _other_abi_lines(comparison, scope)
+    if verdict and isinstance(comparison, Comparison):
+        # of other ABIs those that aren't proved to be denied
+        yield from (f"{access.describe()}; the profile doesn't name {access.abi.oci}"
+                    for access in comparison.asked_accesses(scope) if not access.are_denied)
+        yield from (f"{JUDGED[oci].name}: not compared, since its rules aren't known"
+                    for oci in profiles.not_compared_of(comparison.profile))
     yield from after
     yield from (line for _, line in _responsible_files(comparison, report, scope))
 
@@ -357,8 +350,20 @@ class Judgement:
 
     @functools.cached_property
     def report(self) -> Report:
-        """The report with the most telling example."""
-        return verdicts.most_telling(self.first, self.comparison.table, lambda: self.comparison.named_calls or ())
+        """The report with the most telling example: a native syscall with a name that one side allows and the other
+        denies, if there is one among those that differ."""
+        def is_telling(verdict: Verdict) -> bool:
+            dispositions = {answer.disposition for answer in (verdict.filters, verdict.profile) if answer is not None}
+            return verdict.call is not None and verdict.call.is_native and verdict.call.pointer is not None and \
+                dispositions == {ALLOWED, DENIED} and bool(self.comparison.table.names_of(verdict.call.number))
+
+        whole = self.first.verdict
+        if whole is None or not whole.fails or whole.call is None or is_telling(whole):
+            return self.first
+        calls = self.comparison.named_calls or ()
+        shown = next((named.verdict for named in calls if is_telling(named.verdict)), whole)
+        beside = self.first.lines[3].partition(" ")[0]
+        return replace(self.first, lines=Report.of(shown, beside).lines, verdict=shown)
 
     def block(self, is_json: bool, is_verbose: bool = False) -> Block:
         """What a command says of it; the verdict doesn't wait for what explains it."""

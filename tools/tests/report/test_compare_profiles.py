@@ -405,7 +405,7 @@ class RandomProfiles(unittest.TestCase):
                 seen.add(change.kind)
             for number in set(kernel_profiles.TABLE.values()):
                 self.is_said(random_of, number, kinds.get(number, set()), old, new)
-            self.assertEqual(profile_changes.fails, bool(kinds) or profile_changes.unnamed is not None)
+            self.assertEqual(profile_changes.verdict.fails, bool(kinds) or profile_changes.unnamed is not None)
         self.assertEqual(seen, {MORE, LESS, OTHERWISE})
 
     def changed(self, random_of, profile_text):
