@@ -44,16 +44,14 @@ Examples:
     scf decide --nr openat --nr 435 old.bpf new.bpf
     scf decide --expect rows filter.bpf
 """
-from ..base import output, program
+from ..base import program
 from ..model import tables
-from ..ask import explanation
-from ..ask.client import Refusal
+
 from ..cli import words
-from ..forms import operands, refusals, runtimes
+from ..forms import operands, runtimes
 from ..forms.profile_inputs import ProfileInput
 from ..report import decisions
-from ..report.blocks import Block, put_blocks
-from ..report.decisions import Numbering
+from ..report.blocks import put_blocks
 
 OF_PROFILES = ("native", "strict", "runtime", "caps", "machine")
 
@@ -100,25 +98,6 @@ def read_input(options):
     return [given] if isinstance(given, operands.Filter) else given
 
 
-def unmet_block(options, table, stack):
-    """The rows that are answered otherwise than they expect, and their number."""
-    numbering = Numbering(table, options.arch)
-    rows = list(decisions.read_expectations(options.expect, numbering, dict(decisions.rest_of(options, numbering))))
-    try:
-        answers = decisions.FilterAnswers([bpf_filter.data for bpf_filter in stack])
-    except Refusal as why:
-        fault = why.fault
-        sentences = [*explanation.explain_fault(fault), *refusals.stack_refusals(stack, fault)] if fault else []
-        return Block(why.status, [why.line, *output.notes(sentences)],
-                     {"calls": [{"status": why.status, "fault": fault.as_json(sentences)}]} if options.json else {})
-    pairs = ((row, answers.of(row.call)) for row in rows)
-    unmet = [decisions.Unmet(row, answer) for row, answer in pairs if not row.is_met_by(answer)]
-    counted = f"rows: {len(rows)}; answered otherwise than expected: {len(unmet)}"
-    return Block(program.NEGATIVE if unmet else program.SUCCESS,
-                 [*(row.describe() for row in unmet), *output.notes([counted])],
-                 {"calls": [row.as_json(table) for row in unmet], "rows": len(rows)})
-
-
 def main():
     options = read_words()
     table = tables.read_table(options.table)
@@ -126,16 +105,16 @@ def main():
 
     def judge(stack):
         if options.expect is not None:
-            return unmet_block(options, table, stack)
+            return decisions.unmet_block(options, table, stack)
         if options.steps and len(stack) > 1:
             raise program.ToolError("--steps counts the instructions of one filter, and there are several")
-        return decisions.replies(options, table, lambda call: decisions.of_run(
-            stack[0], call, table, options.path) if options.steps else decisions.stack_decisions(stack, call, table))
+        return decisions.replies(options, table, lambda query: decisions.of_run(
+            stack[0], query, options.path) if options.steps else decisions.stack_decisions(stack, query))
 
     if not isinstance(given, ProfileInput):
         if options.expect is None:
             decisions.want_a_call(options)
         return put_blocks(given, judge, options.json)
     judged = given.judged(table, options.native)
-    return put_blocks([], lambda _: decisions.replies(options, table, lambda call: decisions.profile_decisions(
-        given.data, call, judged, given.origins)), options.json)
+    return put_blocks([], lambda _: decisions.replies(options, table, lambda query: decisions.profile_decisions(
+        given.data, query, judged, given.origins)), options.json)

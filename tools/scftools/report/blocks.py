@@ -5,7 +5,7 @@ from collections.abc import Callable, Iterator, Sequence
 
 from ..base import output, program
 from ..base.values import Any, dataclass, replace
-from ..ask import client
+from ..ask import client, explanation
 from ..forms.filters import Filter
 from ..forms.stacks import Inspection, Stack, threads_text
 
@@ -52,6 +52,16 @@ class Block:
     is_of_all: bool = False
     # the stack, if it is a process's
     stack: Stack | None = None
+
+
+def refused(why: client.Refusal, stack: Sequence[Filter]) -> Block:
+    """What is said of filters that scf refuses."""
+    from ..forms import refusals  # pylint: disable=import-outside-toplevel
+
+    fault = why.fault
+    sentences = [*explanation.explain_fault(fault), *refusals.stack_refusals(stack, fault)] if fault else []
+    return Block(why.status, [why.line, *output.notes(sentences)],
+                 {"fault": fault.as_json(sentences)} if fault else {}, fault is not None and fault.source in OF_ALL)
 
 
 def put_blocks(given: Sequence[Filter] | Inspection, judge: Callable[[Sequence[Filter]], Block], is_json: bool) -> int:

@@ -16,16 +16,16 @@ from ..model.constants import argument_in, number_in
 from ..model.profiles import Origin
 from ..model.tables import Table, Tables
 from ..ask import client, explanation, reasons
-from ..ask.client import Fault
+from ..ask.client import Fault, Refusal
 from ..ask.explanation import join_names
 from ..ask.reasons import Reason
-from ..ask.verdicts import FOR_OTHER_ABI, UNDETERMINED, Decision
+from ..ask.verdicts import FOR_OTHER_ABI, UNDETERMINED
 from ..cli.words import Parser
 from ..forms import refusals
 from ..forms.filters import Filter
 from ..forms.refusals import faulty_filters
 from . import listing
-from .blocks import Block
+from .blocks import Block, refused
 from .listing import Giver
 
 # No name of a syscall and no number is longer; and the most syscalls of a list, for each of which scf is run, and
@@ -135,20 +135,6 @@ class Numbering:
         return argument_in(text, self.abi)
 
 
-def _lines_of(name: str) -> Iterator[list[str]]:
-    """The words of each line of a list of syscalls; a line that begins with `#` is a comment."""
-    count = 0
-    for line in inputs.read_whole(name, "list of syscalls").decode("utf-8", "surrogateescape").split("\n"):
-        words = line.split()
-        if words and not words[0].startswith("#"):
-            if len(words) > 7 or "\0" in line or max(map(len, words)) > LONGEST_WORD:
-                raise program.ToolError(f"a line of the list isn't a syscall and up to six numbers: {line[:80]}")
-            count += 1
-            if count > MOST_CALLS:
-                raise program.ToolError(f"the list has more than {MOST_CALLS} syscalls")
-            yield words
-
-
 def rest_of(options: Any, numbering: Numbering) -> tuple[tuple[str, str], ...]:
     """The given fields of a record beside its number."""
     texts = {name: getattr(options, name) for name in OPTIONS[1:] if getattr(options, name) is not None}
@@ -166,14 +152,24 @@ def one_query(options: Any, table: Table) -> Query | None:
 
 
 def queries(options: Any, table: Table) -> list[Query]:
-    """The records that a command line gives, in order; without a syscall the program's default, of number 0."""
+    """The records that a command line gives, in order; without a syscall the program's default, of number 0. In a list
+    of syscalls a line that begins with `#` is a comment."""
     numbering = Numbering(table, options.arch)
     fields = rest_of(options, numbering)
     calls = [[number] for text in options.nr for number in text.split(",")] + [options.call] * bool(options.call)
-    if options.calls_from is not None:
-        calls += _lines_of(options.calls_from)
-    elif not calls:
-        calls = [["0"]]
+    if options.calls_from is None:
+        calls = calls or [["0"]]
+    else:
+        before = len(calls)
+        for line in inputs.read_whole(options.calls_from, "list of syscalls").decode(
+                "utf-8", "surrogateescape").split("\n"):
+            words = line.split()
+            if words and not words[0].startswith("#"):
+                if len(words) > 7 or "\0" in line or max(map(len, words)) > LONGEST_WORD:
+                    raise program.ToolError(f"a line of the list isn't a syscall and up to six numbers: {line[:80]}")
+                calls.append(words)
+                if len(calls) - before > MOST_CALLS:
+                    raise program.ToolError(f"the list has more than {MOST_CALLS} syscalls")
     listed = []
     for number, *arguments in calls:
         own_fields = tuple(zip(OPTIONS[3:], map(numbering.argument, arguments)))
@@ -213,13 +209,14 @@ class Reply:
     answer: Answer | None = None
     fault: Fault | None = None
     # what the fault is, and what to do
-    sentences: Callable[[], Iterable[str]] = tuple
+    sentences: Callable[[Fault], Iterable[str]] = explanation.explain_fault
     reasons: Callable[[], Iterable[str]] = tuple
     members: Callable[[], dict[str, object]] = dict
 
     def notes(self, table: Table) -> Iterator[str]:
         """The lines after scf's."""
-        yield from self.sentences()
+        if self.fault:
+            yield from self.sentences(self.fault)
         if self.answer:
             yield from explanation.explain_answer(self.call, self.answer, table)
         yield from self.reasons()
@@ -231,18 +228,11 @@ class Reply:
         if self.answer:
             members["answer"] = self.answer.as_json(explains=True)
         if self.fault:
-            members["fault"] = self.fault.as_json(self.sentences())
+            members["fault"] = self.fault.as_json(self.sentences(self.fault))
         return {**members, **self.members()}
 
 
-def _reply(status: int, lines: Sequence[str], query: Query, decision: Decision, table: Table) -> Reply:
-    """The reply of filters, without what gives the answer."""
-    fault = decision.fault
-    return Reply(status, lines, query.call, decision.answer, fault,
-                 lambda: explanation.explain_fault(fault) if fault else ())
-
-
-def stack_decisions(filters: Sequence[Filter], query: Query, table: Table) -> Reply:
+def stack_decisions(filters: Sequence[Filter], query: Query) -> Reply:
     """The reply of a stack, with the filter that gives the answer, and the path through it."""
     run = listing.run_stack(filters, query.words())
     decision, givers = run.decision, run.givers(run.decision.answer)
@@ -261,17 +251,18 @@ def stack_decisions(filters: Sequence[Filter], query: Query, table: Table) -> Re
         return {**({"filters": files} if len(filters) > 1 and (giver or decision.fault) else {}),
                 **({"path": giver.as_json()} if giver else {})}
 
-    return replace(_reply(run.status, [decision.line] if decision.line else [], query, decision, table),
-                   reasons=reasons, members=members)
+    return Reply(run.status, [decision.line] if decision.line else [], query.call, decision.answer, decision.fault,
+                 reasons=reasons, members=members)
 
 
-def of_run(bpf_filter: Filter, query: Query, table: Table, with_path: bool) -> Reply:
+def of_run(bpf_filter: Filter, query: Query, with_path: bool) -> Reply:
     """The reply of one filter, with the number of instructions that run, and on request their path."""
     path = listing.path_of(bpf_filter.data, query.words(), with_path)
-    members: dict[str, object] = {} if path.decision.steps is None else {"steps": path.decision.steps}
+    decision = path.decision
+    members: dict[str, object] = {} if decision.steps is None else {"steps": decision.steps}
     if path.indexes:
         members["path"] = Giver(bpf_filter, True, path).as_json()
-    return replace(_reply(path.status, path.lines, query, path.decision, table), members=lambda: members)
+    return Reply(path.status, path.lines, query.call, decision.answer, decision.fault, members=lambda: members)
 
 
 def is_undetermined(reason: Reason, call: Call, profile: bytes, judged: Tables) -> bool:
@@ -286,9 +277,8 @@ def profile_decisions(profile: bytes, query: Query, judged: Tables, origins: Seq
         return Reply(program.UNKNOWN, [FOR_OTHER_ABI], call,
                      reasons=lambda: explanation.explain_call(call, judged.native),
                      members=lambda: {"reason": UNDETERMINED})
-    fault = reason.fault
-    return Reply(reason.status, [reason.line] if reason.line else [], call, reason.answer, fault,
-                 lambda: refusals.sentences(fault, profile, judged, origins) if fault else (),
+    return Reply(reason.status, [reason.line] if reason.line else [], call, reason.answer, reason.fault,
+                 lambda fault: refusals.sentences(fault, profile, judged, origins),
                  lambda: reasons.describe_reason(reason, profile, call, origins),
                  lambda: reasons.reason_json(reason, profile, call, origins))
 
@@ -310,7 +300,8 @@ ROW = Pattern(r"([^=]+)=\s*([A-Z_]+)(?:\s+(\S+))?")
 
 @dataclass(frozen=True)
 class ExpectedRow:
-    """A row: its line, from 1 on, the syscall as it is written and as a record, and the answer; without data any."""
+    """A row: its line, from 1 on, the syscall as it is written and as a record, and the answer that is expected;
+    without data any."""
 
     line: int
     text: str
@@ -321,26 +312,14 @@ class ExpectedRow:
     def is_met_by(self, answer: Answer) -> bool:
         return answer.action == self.action and self.data in (None, answer.data)
 
-    @property
-    def shown(self) -> str:
-        return self.action if self.data is None else str(Answer(self.action, self.data))
+    def describe(self, answer: Answer) -> str:
+        """The line on the answer that filters give instead."""
+        expected = self.action if self.data is None else str(Answer(self.action, self.data))
+        return f"line {self.line}: {output.escaped(self.text)} is answered by {answer}, not by {expected}"
 
-
-@dataclass(frozen=True)
-class Unmet:
-    """An expectation, and the answer that the filters give instead."""
-
-    expectation: ExpectedRow
-    answer: Answer
-
-    def describe(self) -> str:
-        row = self.expectation
-        return f"line {row.line}: {output.escaped(row.text)} is answered by {self.answer}, not by {row.shown}"
-
-    def as_json(self, table: Table) -> dict[str, object]:
-        row = self.expectation
-        return {"status": program.NEGATIVE, "call": row.call.as_json(table), "answer": self.answer.as_json(),
-                "line": row.line, "expected": {"action": row.action, "data": row.data}}
+    def as_json(self, answer: Answer, table: Table) -> dict[str, object]:
+        return {"status": program.NEGATIVE, "call": self.call.as_json(table), "answer": answer.as_json(),
+                "line": self.line, "expected": {"action": self.action, "data": self.data}}
 
 
 def _row(line: int, text: str, numbering: Numbering, defaults: dict[str, str]) -> ExpectedRow:
@@ -383,18 +362,26 @@ def read_expectations(name: str, numbering: Numbering, defaults: dict[str, str])
                 yield _row(line, text, numbering, defaults)
 
 
-class FilterAnswers:
-    """The answers of filters, oldest first, to records: by the regions of one start of scf, or where it leaves these
-    undecided by a start for the record. Raises Refusal."""
+def unmet_block(options: Any, table: Table, stack: Sequence[Filter]) -> Block:
+    """The rows of a command line that filters, oldest first, answer otherwise than expected, and their number: by the
+    regions of one start of scf, or where it leaves these undecided by a start for the row."""
+    from ..ask import questions, regions  # pylint: disable=import-outside-toplevel
 
-    def __init__(self, filters: Sequence[bytes]):
-        from ..ask import questions, regions  # pylint: disable=import-outside-toplevel
-
-        self._asker, self._regions = questions.Asker(filters), regions.Lookup(regions.regions_of_filters(filters))
-
-    def of(self, call: Call) -> Answer:
-        region = self._regions.of(call)
-        answer = region.answer if region is not None else self._asker.decided(call)
+    numbering, data = Numbering(table, options.arch), [bpf_filter.data for bpf_filter in stack]
+    rows = list(read_expectations(options.expect, numbering, dict(rest_of(options, numbering))))
+    try:
+        asker, lookup = questions.Asker(data), regions.Lookup(regions.regions_of_filters(data))
+    except Refusal as why:
+        block = refused(why, stack)
+        return replace(block, members={"calls": [{"status": why.status, **block.members}]}, is_of_all=False)
+    unmet = []
+    for row in rows:
+        region = lookup.of(row.call)
+        answer = region.answer if region is not None else asker.decided(row.call)
         if answer is None:
-            raise program.InternalError(f"scf has no answer to {' '.join(call.words())}")
-        return answer
+            raise program.InternalError(f"scf has no answer to {' '.join(row.call.words())}")
+        unmet += [] if row.is_met_by(answer) else [(row, answer)]
+    counted = f"rows: {len(rows)}; answered otherwise than expected: {len(unmet)}"
+    return Block(program.NEGATIVE if unmet else program.SUCCESS,
+                 [*(row.describe(answer) for row, answer in unmet), *output.notes([counted])],
+                 {"calls": [row.as_json(answer, table) for row, answer in unmet], "rows": len(rows)})

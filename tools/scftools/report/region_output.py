@@ -3,19 +3,19 @@ from __future__ import annotations
 
 from collections.abc import Iterator, Sequence
 
-from ..base import output, program
+from ..base import program
 from ..base.values import dataclass, field
 from ..model.architectures import Architecture
 from ..model.calls import ARCHITECTURE, ARGUMENTS
 from ..model.entries import AT_LEAST, AT_MOST, EQUAL, MASKED, NOT_EQUAL, Condition
 from ..model.tables import Table
-from ..ask import explanation, regions
+from ..ask import regions
 from ..ask.client import Refusal
 from ..ask.questions import Asker
 from ..ask.regions import FREE, GREATEST_WORD, POINTER, Numbers, Region, Word
 from ..ask.verdicts import UNFINISHED
 from ..forms.filters import Filter
-from .blocks import OF_ALL, Block
+from .blocks import Block, refused
 from .condition_texts import condition_text, name_of
 
 
@@ -139,12 +139,7 @@ def of_stack(stack: Sequence[Filter], table: Table, architecture: Architecture, 
         region_list = regions.regions_of_filters(data)
         Asker(data, architecture).check(table)
     except Refusal as why:
-        from ..forms import refusals  # pylint: disable=import-outside-toplevel
-
-        fault = why.fault
-        sentences = [*explanation.explain_fault(fault), *refusals.stack_refusals(stack, fault)] if fault else []
-        return Block(why.status, [why.line, *output.notes(sentences)],
-                     {"fault": fault.as_json(sentences)} if fault else {}, fault is not None and fault.source in OF_ALL)
+        return refused(why, stack)
     if region_list is None:
         return Block(program.UNKNOWN, [UNFINISHED], {"verdict": UNFINISHED})
     made = listed(region_list, table, architecture)
