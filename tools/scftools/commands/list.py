@@ -70,7 +70,7 @@ def listed(bpf_filter, options, table, query):
     status = path.status if path else done.status
     if options.json:
         return Block(status, [], members_of(bpf_filter, done.lines, table, query, path))
-    lines = list(listing.listing_lines(data, done.lines, table))
+    lines = list(listing.listing_lines(enumerate(zip(done.lines, listing.meanings(data, table))), len(done.lines)))
     if options.dot:
         drawing = flow_graph.Drawing(flow_graph.Graph(data), lines, table, path.indexes if path else ())
         return Block(status, drawing.text().splitlines(), {})

@@ -234,8 +234,8 @@ class Reply:
 
 def stack_decisions(filters: Sequence[Filter], query: Query) -> Reply:
     """The reply of a stack, with the filter that gives the answer, and the path through it."""
-    run = listing.run_stack(filters, query.words())
-    decision, givers = run.decision, run.givers(run.decision.answer)
+    status, decision, paths = listing.run_stack(filters, query.words())
+    givers = listing.givers(filters, paths, decision.answer)
     giver = listing.to_show(givers)
 
     def reasons() -> Iterator[str]:
@@ -251,7 +251,7 @@ def stack_decisions(filters: Sequence[Filter], query: Query) -> Reply:
         return {**({"filters": files} if len(filters) > 1 and (giver or decision.fault) else {}),
                 **({"path": giver.as_json()} if giver else {})}
 
-    return Reply(run.status, [decision.line] if decision.line else [], query.call, decision.answer, decision.fault,
+    return Reply(status, [decision.line] if decision.line else [], query.call, decision.answer, decision.fault,
                  reasons=reasons, members=members)
 
 

@@ -26,12 +26,6 @@ MARK = ", penwidth=3, color=red"
 COLOURS = {answers.ALLOWED: "palegreen", answers.DELEGATED: "khaki", answers.DENIED: "lightpink"}
 
 
-def split(ranges: Ranges, first: int) -> tuple[Ranges, Ranges]:
-    """The values below `first`, and the others."""
-    return ([(low, min(high, first - 1)) for low, high in ranges if low < first],
-            [(max(low, first), high) for low, high in ranges if high >= first])
-
-
 def merged(first: Ranges, second: Ranges) -> Ranges:
     """The values of both, with neighbours as one range."""
     ranges: Ranges = []
@@ -46,12 +40,10 @@ def merged(first: Ranges, second: Ranges) -> Ranges:
 def _sides(insn: Instruction, ranges: Ranges) -> tuple[Ranges, Ranges]:
     """The values for which a test holds, and the others."""
     test = insn.code & 0xF0
-    if test == JEQ:
-        below, remaining = split(ranges, insn.k)
-        equal, above = split(remaining, insn.k + 1)
-        return equal, merged(below, above)
-    below, remaining = split(ranges, insn.k + (test == JGT))
-    return remaining, below
+    first, last = insn.k + (test == JGT), insn.k if test == JEQ else GREATEST_WORD
+    return ([(max(low, first), min(high, last)) for low, high in ranges if low <= last and high >= first],
+            merged([(low, min(high, first - 1)) for low, high in ranges if low < first],
+                   [(max(low, last + 1), high) for low, high in ranges if high > last]))
 
 
 @dataclass
@@ -182,14 +174,6 @@ class Drawing:
             return "end"
         return f"r{insns[index].k}" if insns[index].code == RETURN_CONSTANT else f"n{index}"
 
-    def _label(self, node: Node) -> str:
-        if node.word is None:
-            return "\n".join(self.lines[index] for index in node.indexes)
-        before = [self.lines[index] for index in node.indexes if not self.graph.insns[index].is_test]
-        tests = len(node.indexes) - len(before)
-        shown = f"{tests} tests, the last is {max(node.indexes)}" if tests > 1 else f"{node.indexes[-1]}"
-        return "\n".join([*before, f"{word_name(node.word)}? ({shown})"])
-
     def _nodes(self) -> Iterator[str]:
         for index, node in sorted(self.graph.nodes.items()):
             name, mark = self.name_of(index), MARK if index in self.way else ""
@@ -198,8 +182,14 @@ class Drawing:
                 answer = answers.Answer.of_word(insn.k)
                 yield (f"{name} [shape=ellipse, style=filled, fillcolor={COLOURS[answer.disposition]}, "
                        f"label={quoted(answer.named())}{mark}];")
-            else:
-                yield f"{name} [label={quoted(self._label(node))}{mark}];"
+                continue
+            before = [at for at in node.indexes if node.word is None or not self.graph.insns[at].is_test]
+            label, tests = [self.lines[at] for at in before], len(node.indexes) - len(before)
+            if node.word is not None:
+                shown = f"{tests} tests, the last is {max(node.indexes)}" if tests > 1 else f"{node.indexes[-1]}"
+                label.append(f"{word_name(node.word)}? ({shown})")
+            text = "\n".join(label)
+            yield f"{name} [label={quoted(text)}{mark}];"
 
     def _edges(self) -> Iterator[str]:
         for index, node in sorted(self.graph.nodes.items()):

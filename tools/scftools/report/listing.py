@@ -97,27 +97,22 @@ class Known:
         return Known(self.word if self.word == other.word else None, self.architectures | other.architectures)
 
 
-def _after(insn: Instruction, facts: Known) -> Iterator[Known]:
-    """The facts after an instruction, for each of its targets."""
-    if insn.changes_a:
-        yield replace(facts, word=insn.word)
-    elif insn.code == JUMP | JEQ and facts.word == ARCHITECTURE:
-        yield replace(facts, architectures=facts.architectures & {insn.k})
-        yield replace(facts, architectures=facts.architectures - {insn.k})
-    else:
-        yield facts
-        yield facts
-
-
 def known_facts(insns: Sequence[Instruction]) -> list[Known]:
     """The facts at each instruction; all jumps go forwards."""
     at_first = Known(None, frozenset([X86_64, None, *(insn.k for insn in insns if insn.code == JUMP | JEQ)]))
     facts: dict[int, Known] = {0: at_first}
     for index, insn in enumerate(insns):
-        if index in facts:
-            for target, after in zip(insn.targets(index), _after(insn, facts[index])):
-                if after.architectures:
-                    facts[target] = facts[target].beside(after) if target in facts else after
+        if index not in facts:
+            continue
+        here = facts[index]
+        # (for each target)
+        behind = [replace(here, word=insn.word)] if insn.changes_a else [here, here]
+        if insn.code == JUMP | JEQ and here.word == ARCHITECTURE:
+            behind = [replace(here, architectures=here.architectures & {insn.k}),
+                      replace(here, architectures=here.architectures - {insn.k})]
+        for target, after in zip(insn.targets(index), behind):
+            if after.architectures:
+                facts[target] = facts[target].beside(after) if target in facts else after
     return [facts.get(index, at_first) for index in range(len(insns))]
 
 
@@ -145,19 +140,6 @@ def word_name(word: int) -> str:
     return WORDS.get(word) or f"argument {at // 2}, {'high' if at % 2 else 'low'} half"
 
 
-def _tested(insn: Instruction, facts: Known, table: Table) -> str | None:
-    """The syscall or architecture that a test compares with."""
-    test = insn.code & 0xF0
-    if insn.code & BY_X or facts.word not in (NUMBER, ARCHITECTURE):
-        return None
-    if facts.word == ARCHITECTURE:
-        return shown_name(insn.k) if test == JEQ else None
-    if insn.k == FIRST_X32 and test in (JGE, JSET) and X86_64 in facts.architectures:
-        return "x32"
-    name = name_of(insn.k, facts.architectures, table)
-    return {JEQ: name, JGT: f"above {name}", JGE: f"from {name} on"}.get(test)
-
-
 def _meaning(index: int, insn: Instruction, facts: Known, table: Table, count: int) -> str | None:
     """The comment on an instruction, or None."""
     if insn.word is not None:
@@ -165,10 +147,18 @@ def _meaning(index: int, insn: Instruction, facts: Known, table: Table, count: i
     if insn.code == RETURN_CONSTANT:
         action, data = ACTIONS.get(insn.k >> 16, "an unknown action"), insn.k & 0xFFFF
         return Answer(action, data).named() if data or action == "ERRNO" else action
-    if insn.kind != JUMPS or (insn.code != JUMP and insn.code & 0xF0 not in (JEQ, JGT, JGE, JSET)):
+    test, what = insn.code & 0xF0, None
+    if insn.kind != JUMPS or (insn.code != JUMP and test not in (JEQ, JGT, JGE, JSET)):
         return None
+    # the syscall or architecture that a test compares with
+    is_of_constant = insn.is_test and not insn.code & BY_X
+    if is_of_constant and facts.word == ARCHITECTURE and test == JEQ:
+        what = shown_name(insn.k)
+    elif is_of_constant and facts.word == NUMBER:
+        name = name_of(insn.k, facts.architectures, table)
+        is_x32 = insn.k == FIRST_X32 and test in (JGE, JSET) and X86_64 in facts.architectures
+        what = "x32" if is_x32 else {JEQ: name, JGT: f"above {name}", JGE: f"from {name} on"}.get(test)
     shown = [f"{target}" if target < count else f"{target}, which is out of range" for target in insn.targets(index)]
-    what = _tested(insn, facts, table) if insn.code != JUMP else None
     return (f"{what}: " if what else "") + f"to {shown[0]}" + (f", else {shown[1]}" if len(shown) > 1 else "")
 
 
@@ -179,14 +169,10 @@ def meanings(data: bytes, table: Table) -> list[str | None]:
             for index, (insn, facts) in enumerate(zip(insns, known_facts(insns)))]
 
 
-def listing_lines(data: bytes, lines: Sequence[str], table: Table) -> Iterator[str]:
-    """The lines of `scf dis`, each after its index and before its comment."""
-    return _lines(enumerate(zip(lines, meanings(data, table))), len(lines), max(map(len, lines), default=0))
-
-
-def _lines(listed: Iterable[tuple[int, tuple[str, str | None]]], count: int, width: int) -> Iterator[str]:
-    """Lines of a listing of so many, given the index of each and its meaning, by their width."""
-    index_width = len(str(count - 1))
+def listing_lines(listed: Iterable[tuple[int, tuple[str, str | None]]], count: int) -> Iterator[str]:
+    """Lines of a listing of so many: each after its index, and before its meaning."""
+    listed, index_width = list(listed), len(str(count - 1))
+    width = max((len(line) for _, (line, _) in listed), default=0)
     for index, (line, meaning) in listed:
         yield f"{index:{index_width}}  " + (f"{line:{width}}  // {meaning}" if meaning else line)
 
@@ -241,48 +227,38 @@ class Giver:
         return {"filter": self.filter.name, "indexes": list(self.path.indexes)}
 
 
-@dataclass(frozen=True)
-class StackRun:
-    """The answer of a stack of filters to a syscall or a fault, and the path of each filter, oldest first."""
+def givers(filters: Sequence[Filter], paths: Sequence[Path], answer: Answer | None) -> list[Giver]:
+    """The filters of a stack, oldest first, that give this answer on their paths; if it is the stack's, the kernel
+    takes it from the last of them.
 
-    status: int
-    filters: Sequence[Filter]
-    decision: Decision
-    paths: Sequence[Path]
-
-    def givers(self, answer: Answer | None) -> list[Giver]:
-        """The filters, oldest first, that give this answer; if it is the stack's, the kernel takes it from the last of
-        them.
-
-        It runs the newest first, and of equal actions keeps the one that it has (seccomp_run_filters in
-        kernel/seccomp.c).
-        """
-        runs = (Giver(bpf_filter, len(self.filters) == 1, path) for bpf_filter, path in zip(self.filters, self.paths))
-        return [giver for giver in runs if giver.path.indexes and giver.path.decision.answer == answer]
+    It runs the newest first, and of equal actions keeps the one that it has (seccomp_run_filters in kernel/seccomp.c).
+    """
+    return [Giver(bpf_filter, len(filters) == 1, path) for bpf_filter, path in zip(filters, paths)
+            if path.indexes and path.decision.answer == answer]
 
 
-def run_stack(filters: Sequence[Filter], words: Sequence[str]) -> StackRun:
-    """What a stack answers to the record that scf's options give, and how each of its filters runs."""
+def run_stack(filters: Sequence[Filter], words: Sequence[str]) -> tuple[int, Decision, list[Path]]:
+    """scf's status, what a stack answers to the record that scf's options give, and the path of each of its filters,
+    oldest first."""
     bundle = bundles.stack_bundle([bpf_filter.data for bpf_filter in filters])
     done = client.run_scf(["decide", *words, "--path"], bundle)
     runs = done.lines[1:]
-    return StackRun(done.status, filters, verdicts.decision(done.text),
-                    [_path(done.status, runs[at:at + 2]) for at in range(0, len(runs), 2)])
+    return done.status, verdicts.decision(done.text), [_path(done.status, runs[at:at + 2])
+                                                       for at in range(0, len(runs), 2)]
 
 
 def deciding_filters(filters: Sequence[Filter], words: Sequence[str], answer: Answer) -> list[Giver]:
     """The filters of a stack, oldest first, that give this answer."""
-    return run_stack(filters, words).givers(answer)
+    return givers(filters, run_stack(filters, words)[2], answer)
 
 
 def deciding_on_sides(sides: Sequence[tuple[Sequence[Filter], Answer]], words: Sequence[str]) -> list[list[Giver]]:
     """The filters of several stacks that give these answers, by one start of scf, if all of them fit into a stack."""
-    run = run_stack([bpf_filter for filters, _ in sides for bpf_filter in filters], words)
-    if run.decision.answer is None:
+    _, decision, run_paths = run_stack([bpf_filter for filters, _ in sides for bpf_filter in filters], words)
+    if decision.answer is None:
         return [deciding_filters(filters, words, answer) for filters, answer in sides]
-    paths = iter(run.paths)
-    return [replace(run, filters=filters, paths=[*itertools.islice(paths, len(filters))]).givers(answer)
-            for filters, answer in sides]
+    paths = iter(run_paths)
+    return [givers(filters, [*itertools.islice(paths, len(filters))], answer) for filters, answer in sides]
 
 
 def to_show(givers: Sequence[Giver]) -> Giver | None:
@@ -298,31 +274,27 @@ def to_show(givers: Sequence[Giver]) -> Giver | None:
     return max(reversed(givers), key=lambda giver: len(giver.path.indexes)) if is_allowed else givers[-1]
 
 
-def _tests(insns: Sequence[Instruction], indexes: Sequence[int], call: Call) -> Iterator[tuple[int, str]]:
-    """The indexes of the tests on a path and of its end, each with the value loaded and the branch taken."""
+def last_tests(data: bytes, path: Path, call: Call, table: Table) -> tuple[int, list[str]]:
+    """The last tests on a path and its end, as lines of the listing, each with the value loaded and the branch taken;
+    and the number of tests before them."""
+    insns, tests, loaded = instructions(data), [], ""
     halves = (half for value in (call.pointer or 0, *call.arguments) for half in (value & 0xFFFFFFFF, value >> 32))
     # the 32-bit words of the record, in order (struct seccomp_data in linux/seccomp.h)
-    words, loaded = [call.number, call.architecture, *halves], ""
-    for at, index in enumerate(indexes):
+    words = [call.number, call.architecture, *halves]
+    for at, index in enumerate(path.indexes):
         insn = insns[index]
         if insn.is_test:
-            yield index, f"; {loaded}went to {indexes[at + 1]}"
+            tests.append((index, f"; {loaded}went to {path.indexes[at + 1]}"))
         elif insn.kind == RETURNS:
-            yield index, ""
+            tests.append((index, ""))
         elif insn.word is not None:
             loaded = f"loaded {words[insn.word]:#x}, "
         elif insn.kind == ALU and loaded:
             loaded = loaded.partition(",")[0] + ", computed with it, "
         elif insn.changes_a:
             loaded = ""
-
-
-def last_tests(data: bytes, path: Path, call: Call, table: Table) -> tuple[int, list[str]]:
-    """The last tests on a path and its end, as lines of the listing; and the number of tests before them."""
-    insns = instructions(data)
     # (no jump goes backwards, so what stands behind the path tells nothing about it)
-    tests, facts = list(_tests(insns, path.indexes, call)), known_facts(insns[:path.indexes[-1] + 1])
-    shown = {index: (insns[index].text, _meaning(index, insns[index], facts[index], table, len(insns)))
-             for index, _ in tests[-MOST_TESTS:]}
-    lines = _lines(shown.items(), len(insns), max((len(text) for text, _ in shown.values()), default=0))
-    return len(tests) - len(shown), [line + way for line, (_, way) in zip(lines, tests[-MOST_TESTS:])]
+    facts, shown = known_facts(insns[:path.indexes[-1] + 1]), tests[-MOST_TESTS:]
+    lines = listing_lines(((index, (insns[index].text, _meaning(index, insns[index], facts[index], table, len(insns))))
+                           for index, _ in shown), len(insns))
+    return len(tests) - len(shown), [line + way for line, (_, way) in zip(lines, shown)]
