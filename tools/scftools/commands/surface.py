@@ -59,10 +59,12 @@ Examples:
     scf surface old.bpf --beside new.bpf
     scf surface --caps docker --machine arm64 engine.json
 """
+import os
 import sys
 import types
 
 from ..base import inputs, output
+from ..base.values import unless_refused
 from ..model import architectures, tables
 from ..ask import client, other_abis
 from ..cli import words
@@ -127,16 +129,17 @@ def main():
 
         return put_blocks(given, lambda stack: region_output.of_stack(
             stack, table, architecture, options.examples, options.json), options.json)
-    from ..report import stack_surfaces, surface_output  # pylint: disable=import-outside-toplevel
+    from ..report import stack_surfaces  # pylint: disable=import-outside-toplevel
 
     beside = operands.read_stack(options.beside, of_engine, compiles=True)
-    settings = stack_surfaces.Settings(table, beside, architecture,
-                                       architecture.oci == machine and machine in other_abis.OF_MACHINES,
-                                       options.conditions, options.examples)
-    made, width = [], surface_output.width_of_terminal()
+    size, made = unless_refused(None, os.get_terminal_size, 1), []
+    # (a terminal may not report its width)
+    width = size and (size.columns or 80)
 
     def judge(stack):
-        made.append(stack_surfaces.surface_of_stack(stack, settings))
+        made.append(stack_surfaces.surface_of_stack(
+            stack, beside, table, architecture, architecture.oci == machine and machine in other_abis.OF_MACHINES,
+            options.conditions, options.examples))
         return made[-1].block(width, options.json)
 
     status = put_blocks(given, judge, options.json)

@@ -217,17 +217,13 @@ class Named:
     """What a stack allows, None if scf refuses it or that wasn't looked at, with what the page calls it."""
 
     name: str
-    surface: ShownSurface | Surface | None
+    shown: ShownSurface | None
     description: str
     digest: str | None = None
 
     @property
     def anchor(self) -> str:
         return self.name.replace(" ", "-")
-
-    @functools.cached_property
-    def shown(self) -> ShownSurface | None:
-        return ShownSurface.of(self.surface) if isinstance(self.surface, Surface) else self.surface
 
 
 def _cell(rows: Sequence[ShownRow]) -> str:
@@ -299,10 +295,10 @@ def of_blocks(blocks: Sequence[StackSurface], beside: Sequence[Filter]) -> Itera
     for at, block in enumerate(stacks):
         known_names, other_names = ([bpf_filter.name for bpf_filter in filters] for filters in (block.filters, beside))
         name = f"stack {at}" if len(stacks) > 1 else output.some(known_names, 1)
-        yield Named(name, block.surface, ", ".join(known_names))
+        yield Named(name, block.surface and ShownSurface.of(block.surface), ", ".join(known_names))
         if block.beside is not None:
             other = name if len(stacks) > 1 else output.some(other_names, 1)
-            yield Named(f"beside {other}", block.beside.sides[1], ", ".join(other_names))
+            yield Named(f"beside {other}", ShownSurface.of(block.beside.sides[1]), ", ".join(other_names))
 
 
 def surfaces_page(blocks: Sequence[StackSurface], table_of: Table, beside: Sequence[Filter]) -> str:

@@ -147,17 +147,18 @@ class Draft:
     # how far it is from the filters, by number; None stands for the numbers that the table doesn't name
     levels: dict[int | None, int] = field(default_factory=dict)
 
-    def _utmost(self) -> Answer:
+    @property
+    def utmost(self) -> Answer:
         return EVERYTHING if self.is_permissive else NOTHING
 
     def default(self) -> Answer:
         """The default: of the utmost answers to numbers without a name the one that most numbers get."""
         if self.levels.get(None):
-            return self._utmost()
+            return self.utmost
         firsts = [self._first(answers) for _, answers in self.filters.numbered(False)]
         ranks = [DISPOSITIONS.index(answer.disposition) for answer in firsts]
         utmost = (max if self.is_permissive else min)(ranks, default=0)
-        able = dict.fromkeys(answer for answer, rank in zip(firsts, ranks) if rank == utmost) or {self._utmost(): None}
+        able = dict.fromkeys(answer for answer, rank in zip(firsts, ranks) if rank == utmost) or {self.utmost: None}
         counts = Counter(map(self._first, self.filters.answers))
         return max(able, key=lambda answer: counts[answer])
 
@@ -175,51 +176,31 @@ class Draft:
                             for alternative in alternatives or ())
                 return
             self.levels.update(dict.fromkeys(numbers, CONSTANT))
-        answer = self._utmost() if level == UTMOST else self._first(answers)
+        answer = self.utmost if level == UTMOST else self._first(answers)
         if answer != default:
             yield answer, ()
-
-    def _add_to(self, entries: dict[tuple[Answer, Alternative], list[str]], default: Answer,
-                known_names: set[str]) -> None:
-        """Adds the names of each entry beside a default, but for syscalls with a known name."""
-        table = self.filters.table
-        # the numbers that get the same entries
-        alike: dict[tuple[Answers, int], dict[int, str]] = {}
-        for number, answers in self.filters.numbered(True):
-            if known_names.isdisjoint(table.names_of(number)):
-                alike.setdefault((answers, self.levels.get(number, EXACT)), {})[number] = table.names_of(number)[0]
-        for (answers, level), names in alike.items():
-            for answer, alternative in self._alternatives(names, answers, level, default):
-                entries.setdefault((answer, alternative), []).extend(names.values())
-        last = table.names_of(self.filters.end - 1)
-        if last and not any(last[0] in names for names in entries.values()):
-            # runc's stub begins after the greatest number that a profile names
-            entries.setdefault((default, ()), []).append(last[0])
-
-    def may_be_same(self) -> bool:
-        """Whether a profile can say the answers to all numbers: no answer is one that profiles lack, the entries of
-        each syscall are found, and all numbers without a name get one answer."""
-        default, filters = self.default(), self.filters
-        named, others = ({answers for _, answers in filters.numbered(are_named)} for are_named in (True, False))
-        return all(filters.unsaid(answers) is None for answers in named | others) and \
-            all(filters.parts(answers, self.is_permissive) == {default: FULL_SET} for answers in others) and \
-            all(filters.has_entries(answers, default) for answers in named)
-
-    def differs_in_a_name(self) -> bool:
-        """Whether some syscall in the table may get another answer than by the filters, or isn't looked at."""
-        filters, default = self.filters, self.default()
-        return any(number >= filters.end for number in filters.table.numbers()) or \
-            any(self.levels.get(number) or filters.why_not(answers, default)
-                for number, answers in filters.numbered(True))
 
     def profile(self, others: Sequence[FilterAnswers] = ()) -> dict[str, object]:
         """The profile, which also lists other architectures, with those names that it and the ones before lack."""
         drafts = [self, *(Draft(filters, self.is_permissive) for filters in others)]
-        default, entries = self.default(), {}
-        known_names: set[str] = set()
+        default, known_names = self.default(), set()
+        # the names of each entry
+        entries: dict[tuple[Answer, Alternative], list[str]] = {}
         for draft in drafts:
-            draft._add_to(entries, default, known_names)
-            known_names.update(draft.filters.table.names())
+            table = draft.filters.table
+            # the numbers that get the same entries
+            alike: dict[tuple[Answers, int], dict[int, str]] = {}
+            for number, answers in draft.filters.numbered(True):
+                if known_names.isdisjoint(table.names_of(number)):
+                    alike.setdefault((answers, draft.levels.get(number, EXACT)), {})[number] = table.names_of(number)[0]
+            for (answers, level), names in alike.items():
+                for answer, alternative in draft._alternatives(names, answers, level, default):
+                    entries.setdefault((answer, alternative), []).extend(names.values())
+            last = table.names_of(draft.filters.end - 1)
+            if last and not any(last[0] in names for names in entries.values()):
+                # runc's stub begins after the greatest number that a profile names
+                entries.setdefault((default, ()), []).append(last[0])
+            known_names.update(table.names())
         order = sorted(entries, key=lambda key: (bool(key[1]), -DISPOSITIONS.index(key[0].disposition)))
         listed = [entry_of(sorted(entries[key]), *key) for key in order]
         return {**default.default(), "architectures": [draft.filters.architecture.oci for draft in drafts],
@@ -318,17 +299,11 @@ class ProfileRequest:
         """The syscalls in the table of which this relation isn't proved, of a profile that scf takes."""
         return self.comparison(profile, relation).calls_of(self.architecture.oci)
 
-    def asked(self) -> ProfileRequest:
-        """The request with the regions of the filters. Raises Refusal if scf refuses the filters or the table."""
-        filter_regions = regions.regions_of_filters(self.data)
-        Asker(self.data, self.architecture).check(self.table)
-        return replace(self, regions=filter_regions)
-
     def answers(self) -> FilterAnswers:
         """The answers of the filters, number by number; nothing is known if that takes too many steps."""
         architecture, is_unfinished = self.architecture, self.regions is None
         sets, numbers = Sets(architecture.bits, self.steps), Numbers(self.regions, architecture)
-        firsts = (turn - architecture.first for turn in numbers.turns())
+        firsts = (low - architecture.first for low, _, _ in numbers.ranges or ())
         listed = sorted({*self.table.numbers(), *(first for first in firsts if first < FIRST_X32),
                          *(first for first, _ in questions.gaps(self.table, architecture))})
         try:
@@ -358,7 +333,12 @@ class ProfileRequest:
 def _same(request: ProfileRequest, answers: FilterAnswers) -> ProvedProfile | None:
     """The profile that answers as the filters do, and the other architectures that it lists, if scf proves it."""
     draft = Draft(answers, True)
-    if not draft.may_be_same():
+    default = draft.default()
+    named, unnamed = ({each for _, each in answers.numbered(are_named)} for are_named in (True, False))
+    # (no answer is one that profiles lack, the entries of each syscall are found, and all other numbers get one answer)
+    if any(answers.unsaid(each) is not None for each in named | unnamed) or \
+            any(answers.parts(each, True) != {default: FULL_SET} for each in unnamed) or \
+            not all(answers.has_entries(each, default) for each in named):
         return None
     others = request.answers_to_others()
     while True:
@@ -383,8 +363,12 @@ def _bound(request: ProfileRequest, answers: FilterAnswers, relation: str) -> Pr
         profile = draft.profile()
         report, _ = request.compared(profile, relation)
         if report.verdict is not None and report.verdict.holds:
-            calls = request.calls(profile, SAME) if draft.differs_in_a_name() else []
-            return ProvedProfile(profile, (relation,), [request.architecture.oci], calls)
+            default = draft.default()
+            # whether some syscall in the table may get another answer than by the filters, or isn't looked at
+            differs = any(number >= answers.end for number in answers.table.numbers()) or any(
+                draft.levels.get(number) or answers.why_not(each, default) for number, each in answers.numbered(True))
+            return ProvedProfile(profile, (relation,), [request.architecture.oci],
+                                 request.calls(profile, SAME) if differs else [])
         failed: Iterable[int | None]
         if report.fault is not None:
             failed = {number for number, number_answers in answers.numbered(True) if len(number_answers) > 1}
@@ -392,17 +376,6 @@ def _bound(request: ProfileRequest, answers: FilterAnswers, relation: str) -> Pr
             failed = {call.number for call in request.calls(profile, relation)}
         draft.levels.update({number: min(draft.levels.get(number, EXACT) + 1, UTMOST) for number in failed or [None]})
     return None
-
-
-def _other_number(answers: FilterAnswers, default: Answer) -> Iterator[str]:
-    """A line with an example of a number that the table doesn't name, if a profile's default isn't its answer."""
-    for number, number_answers in answers.numbered(False):
-        for word, arguments in number_answers:
-            is_known = word is not None and all(variable < FIRST_OPEN for variable in answers.sets.variables(arguments))
-            if is_known and Answer.of_word(word) != default:
-                yield (f"numbers that the table doesn't name differ, such as {number}: filter {Answer.of_word(word)} "
-                       f"profile {default}")
-                return
 
 
 def _differences(request: ProfileRequest, answers: FilterAnswers, proved: ProvedProfile) -> Iterator[str]:
@@ -428,23 +401,25 @@ def _differences(request: ProfileRequest, answers: FilterAnswers, proved: Proved
                 f"as permissive, but not proved to get the same answers ({call.verdict.word})"
             alike.setdefault(how, []).append(call.names[0])
     yield from (f"{how}: {', '.join(names)}" for how, names in alike.items())
-    yield from _other_number(answers, proved.default)
+    for number, word, arguments in ((number, *part) for number, parts in answers.numbered(False) for part in parts):
+        is_known = word is not None and all(variable < FIRST_OPEN for variable in answers.sets.variables(arguments))
+        if is_known and Answer.of_word(word) != proved.default:
+            yield (f"numbers that the table doesn't name differ, such as {number}: filter {Answer.of_word(word)} "
+                   f"profile {proved.default}")
+            break
 
 
 def _covered(request: ProfileRequest, listed: Sequence[str], count: int = 1) -> Iterator[str]:
-    """The architectures that profiles, so many, list, if several, and those of which others are allowed."""
-    others = [line for name in request.others if name not in listed for line in _allowed(request, JUDGED[name])]
+    """The architectures that profiles, so many, list, if several, and those others of which scf doesn't prove that the
+    filters deny every syscall."""
+    accesses = [other_abis.abi_access(request.data, request.regions, JUDGED[name]) for name in request.others
+                if name not in listed]
+    others = [f"{access.describe()}; --arch {access.abi.name} prints its profile" for access in accesses
+              if not access.are_denied]
     if others or len(listed) > 1:
         who = "the profile covers" if count == 1 else "the profiles cover"
         yield f"{who} {join_names(architectures.names_of(listed))} syscalls"
     yield from others
-
-
-def _allowed(request: ProfileRequest, architecture: Architecture) -> Iterator[str]:
-    """A line if scf doesn't prove that the filters deny every syscall of an architecture."""
-    access = other_abis.abi_access(request.data, request.regions, architecture)
-    if not access.are_denied:
-        yield f"{access.describe()}; --arch {architecture.name} prints its profile"
 
 
 @dataclass(frozen=True)
@@ -481,8 +456,10 @@ def _both_sides(request: ProfileRequest, answers: FilterAnswers, bounds: Sequenc
 
 
 def of_request(request: ProfileRequest, relation: str) -> Result:
-    """The profile of filters; with a relation other than the same, the nearest one that has it."""
-    request = request.asked()
+    """The profile of filters; with a relation other than the same, the nearest one that has it. Raises Refusal if scf
+    refuses the filters or the table."""
+    request = replace(request, regions=regions.regions_of_filters(request.data))
+    Asker(request.data, request.architecture).check(request.table)
     try:
         return _of_answers(request, request.answers(), relation)
     except TooMany:

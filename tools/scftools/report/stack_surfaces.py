@@ -6,9 +6,9 @@ from collections.abc import Iterable, Iterator, Sequence
 
 from ..base import output, program
 from ..base.values import dataclass
-from ..model import constants
+from ..model import constants, tables
 from ..model.answers import ALLOW, DEPENDS
-from ..model.architectures import JUDGED, NATIVE, Architecture
+from ..model.architectures import NATIVE, Architecture
 from ..model.bundles import BESIDE
 from ..model.calls import NO_CALL
 from ..model.tables import Table, Tables
@@ -92,17 +92,6 @@ def are_same(surface: Surface, filters: Sequence[bytes]) -> bool:
     return verdict is not None and verdict.holds
 
 
-def _of_abi(comparison: StackComparison, abi: Architecture) -> Verdict:
-    """The verdict on the syscalls of another ABI: by the differences, or else by a comparison behind a filter that
-    allows them alone, since no scope of scf has them."""
-    known = comparison.differences.verdict(SAME, [span_of(abi.oci, last=NO_CALL - 1)])
-    if known is not None:
-        return known
-    alone = client.compile_profile(ALLOW.as_profile([abi.oci]) or b"", Tables({abi.oci: Table(b"")}))
-    return _comparison([[alone, *side] for side in comparison.stacks], comparison.table).run()[1].verdict or \
-        Verdict(UNFINISHED)
-
-
 def compared_surfaces(*sides: Surface) -> Beside:
     """Compares two surfaces."""
     comparison = _comparison([side.asker.filters for side in sides], sides[0].table)
@@ -110,7 +99,15 @@ def compared_surfaces(*sides: Surface) -> Beside:
     pairs = tuple(Pair(rows, lines[rows[0].number]) for rows in zip(*(side.rows for side in sides))
                   if rows[0].number in lines)
     of_unnamed = [comparison.of_numbers(NATIVE, first, end - 1) for first, end in questions.gaps(comparison.table)]
-    return Beside(sides, pairs, of_unnamed, [_of_abi(comparison, abi) for abi in other_abis.ABIS])
+    of_foreign = []
+    for abi in other_abis.ABIS:
+        verdict = comparison.differences.verdict(SAME, [span_of(abi.oci, last=NO_CALL - 1)])
+        if verdict is None:
+            # behind a filter that allows these alone, since no scope of scf has them
+            alone = client.compile_profile(ALLOW.as_profile([abi.oci]) or b"", Tables({abi.oci: Table(b"")}))
+            verdict = _comparison([[alone, *side] for side in comparison.stacks], comparison.table).run()[1].verdict
+        of_foreign.append(verdict or Verdict(UNFINISHED))
+    return Beside(sides, pairs, of_unnamed, of_foreign)
 
 
 def _texts(pair: Pair, is_in_table: bool) -> list[str]:
@@ -169,20 +166,6 @@ def pair_json(pair: Pair, groups: Groups) -> dict[str, object]:
 
 
 @dataclass(frozen=True)
-class Settings:
-    """The settings for each stack, and the filters to compare it with, if any."""
-
-    table: Table
-    beside: Sequence[Filter] = ()
-    architecture: Architecture = JUDGED[NATIVE]
-    # whether the other ABIs of the machine with this architecture are looked at, too
-    is_machine: bool = True
-    # whether to say which arguments get which answer, or to show a call of each region
-    has_conditions: bool = False
-    has_examples: bool = False
-
-
-@dataclass(frozen=True)
 class StackSurface:
     """A stack with its surface, or the fault if scf refuses the stack."""
 
@@ -192,65 +175,62 @@ class StackSurface:
     beside: Beside | None = None
     fault: Fault | None = None
 
-    def lines(self, groups: Groups, width: int | None) -> Iterator[str]:
-        """The text output."""
-        if self.fault is not None:
-            yield self.fault.line
-            yield from output.notes([*explanation.explain_fault(self.fault),
-                                     *refusals.stack_refusals(self.filters, self.fault)])
-        elif self.beside is not None:
-            yield from lines_beside(self.beside, groups, width)
-        elif self.surface is not None:
-            yield from surface_output.surface_lines(self.surface, groups, width)
-
-    def members(self, groups: Groups) -> dict[str, object]:
-        """All that the lines say, as members of an object."""
-        if self.fault is not None:
-            return {"fault": self.fault.as_json(explanation.explain_fault(self.fault)),
-                    "files": refusals.faulty_filters(self.filters, self.fault)}
-        members = {} if self.surface is None else surface_output.surface_json(self.surface, groups)
-        if self.beside is not None:
-            members["beside"] = {**surface_output.surface_json(self.beside.sides[1], groups),
-                                 "differs": [pair_json(pair, groups) for pair in self.beside.pairs],
-                                 "foreign_differ": self.beside.foreign_differ,
-                                 "unnamed_differ": self.beside.unnamed_differ}
-        return members
-
     def block(self, width: int | None, is_json: bool) -> Block:
         """What is printed."""
-        groups, is_of_all = Groups(), self.fault is not None and self.fault.source in OF_ALL
+        groups, fault = Groups(), self.fault
+        if fault is not None:
+            sentences, members = [*explanation.explain_fault(fault)], {}
+            if is_json:
+                members = {"fault": fault.as_json(sentences), "files": refusals.faulty_filters(self.filters, fault)}
+            else:
+                sentences += refusals.stack_refusals(self.filters, fault)
+            return Block(self.status, [fault.line, *output.notes(sentences)], members, fault.source in OF_ALL)
+        if self.surface is None:
+            return Block(self.status, [], {})
         if is_json:
-            return Block(self.status, [], self.members(groups), is_of_all)
-        return Block(self.status, [*self.lines(groups, width)], {}, is_of_all)
+            members = surface_output.surface_json(self.surface, groups)
+            if self.beside is not None:
+                members["beside"] = {**surface_output.surface_json(self.beside.sides[1], groups),
+                                     "differs": [pair_json(pair, groups) for pair in self.beside.pairs],
+                                     "foreign_differ": self.beside.foreign_differ,
+                                     "unnamed_differ": self.beside.unnamed_differ}
+            return Block(self.status, [], members)
+        if self.beside is not None:
+            return Block(self.status, [*lines_beside(self.beside, groups, width)], {})
+        whole, rows = [*whole_lines(self.surface), *surface_output.danger_lines(self.surface)], self.surface.rows
+        return Block(self.status, [*fitted(whole, width), *(
+            surface_output.plain(rows, groups) if width is None else surface_output.as_table(rows, groups, width))], {})
 
 
-def _surface(filters: Sequence[Filter], settings: Settings) -> Surface:
-    data = [bpf_filter.data for bpf_filter in filters]
-    surface = surfaces.surface_of_filters(data, settings.table, settings.architecture, settings.is_machine)
-    if not settings.beside:
-        surface.add_others()
-    for row in surface.rows if settings.has_examples else ():
-        row.has_examples = True
-    if settings.has_conditions:
-        from . import row_conditions  # pylint: disable=import-outside-toplevel
+def surface_of_stack(filters: Sequence[Filter], beside: Sequence[Filter], table: Table, architecture: Architecture,
+                     is_machine: bool, has_conditions: bool, has_examples: bool) -> StackSurface:
+    """The surface of filters, oldest first, to an architecture, or to a machine whose own it is, and its comparison
+    with others, if there are any; on request with which arguments get which answer, or with a call of each region."""
+    def surface_of(stack: Sequence[Filter]) -> Surface:
+        data = [bpf_filter.data for bpf_filter in stack]
+        surface = surfaces.surface_of_filters(data, table, architecture, is_machine)
+        for abi in (access.abi for access in surface.foreign if not access.are_denied and not beside):
+            own_table = tables.architecture_table(abi.oci)
+            if own_table is not None:
+                surface.others.append(surfaces.of_regions(data, surface.regions, own_table, abi))
+        for row in surface.rows:
+            row.has_examples = has_examples
+        if has_conditions:
+            from . import row_conditions  # pylint: disable=import-outside-toplevel
 
-        surface.are_conditions_finished = row_conditions.add(surface)
-        if not surface.are_conditions_finished:
-            program.say(f"conditions: {row_conditions.unfinished()}")
-    return surface
+            surface.are_conditions_finished = row_conditions.add(surface)
+            if not surface.are_conditions_finished:
+                program.say(f"conditions: {row_conditions.unfinished()}")
+        return surface
 
-
-def surface_of_stack(filters: Sequence[Filter], settings: Settings) -> StackSurface:
-    """The surface of filters, oldest first, and its comparison with others."""
     refused = filters
     try:
-        surface = _surface(filters, settings)
-        if not settings.beside:
+        surface = surface_of(filters)
+        if not beside:
             return StackSurface(program.SUCCESS if surface.is_decided else program.UNKNOWN, filters, surface)
-        refused = settings.beside
-        is_same = are_same(surface, [bpf_filter.data for bpf_filter in settings.beside])
-        both = (Beside((surface, surface)) if is_same else
-                compared_surfaces(surface, _surface(settings.beside, settings)))
+        refused = beside
+        is_same = are_same(surface, [bpf_filter.data for bpf_filter in beside])
+        both = Beside((surface, surface)) if is_same else compared_surfaces(surface, surface_of(beside))
     except Refusal as why:
         return StackSurface(why.status, refused, fault=why.fault)
     return StackSurface(both.status, filters, surface, both)

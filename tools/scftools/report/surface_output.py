@@ -1,7 +1,6 @@
 """Surfaces as a table as wide as the terminal, or without one as a line for each syscall; and as JSON."""
 from __future__ import annotations
 
-import os
 from collections.abc import Iterable, Iterator, Sequence
 
 from ..base import program
@@ -9,15 +8,15 @@ from ..base.values import Any
 from ..model.answers import ALLOWED, DENIED, DEPENDS
 from ..model.architectures import NATIVE
 from ..model.dangerous_calls import dangerous
-from ..model.entries import Condition
+
 from ..ask import other_abis
 from ..ask.explanation import join_names
 from ..ask.verdicts import UNDECIDED
 from .condition_texts import condition_text
 from .surfaces import ROW_WORDS, Row, Surface
 
-# The width of a terminal that doesn't report one, and the least width of a column of names beside others.
-USUAL, LEAST_WIDTH = 80, 24
+# The least width of a column of names beside others.
+LEAST_WIDTH = 24
 # What is counted even where it is 0.
 ALWAYS_COUNTED = (ALLOWED, DEPENDS, DENIED)
 # The group of a syscall that the file doesn't name.
@@ -38,24 +37,21 @@ class Groups:
         return next((self.of_names[name] for name in names if name in self.of_names), OTHER_GROUP)
 
 
-def _of_bits(row: Row, name: str, condition: Condition) -> tuple[str, str]:
-    """What becomes of the calls of a syscall that have some bits, and the text of that condition."""
-    met = {region.answer.disposition if region.is_decided else UNDECIDED for region in row.regions
-           if region.has_bits(condition.index, condition.value)}
-    text = condition_text(condition, name, (), row.architecture.oci, row.architecture.bits)
-    return met.pop() if len(met) == 1 else DEPENDS, text.partition(" == ")[0]
-
-
 def dangers(surface: Surface) -> list[dict[str, Any]]:
     """What becomes of dangerous syscalls, as objects: where calls of one differ, of those that are dangerous."""
     rows, found = {name: row for row in surface.rows for name in row.names}, []
     for name, danger in dangerous().items():
-        if name in rows:
-            said, where = rows[name].said, {}
-            if said == DEPENDS and danger.conditions:
-                said, where["where"] = _of_bits(rows[name], name, danger.conditions[0])
-            found.append({"number": rows[name].number, "name": name, "disposition": said, **where,
-                          "reason": danger.reason})
+        if name not in rows:
+            continue
+        row, said, where = rows[name], rows[name].said, {}
+        if said == DEPENDS and danger.conditions:
+            condition = danger.conditions[0]
+            met = {region.answer.disposition if region.is_decided else UNDECIDED for region in row.regions
+                   if region.has_bits(condition.index, condition.value)}
+            said = met.pop() if len(met) == 1 else DEPENDS
+            text = condition_text(condition, name, (), row.architecture.oci, row.architecture.bits)
+            where["where"] = text.partition(" == ")[0]
+        found.append({"number": row.number, "name": name, "disposition": said, **where, "reason": danger.reason})
     return found
 
 
@@ -69,14 +65,6 @@ def danger_lines(surface: Surface) -> list[str]:
         if alike:
             counts.append(f"{said} {len(alike)}" + (f" ({', '.join(names)})" if names else ""))
     return [f"dangerous syscalls: {', '.join(counts)}"] if counts else []
-
-
-def width_of_terminal() -> int | None:
-    """The width of the terminal that shows the output, or None if there is none."""
-    try:
-        return os.get_terminal_size(1).columns or USUAL
-    except OSError:
-        return None
 
 
 def wrapped(words: Iterable[str], width: int) -> list[str]:
@@ -176,12 +164,6 @@ def as_table(rows: Iterable[Row], groups: Groups, width: int) -> Iterator[str]:
                 for at, line in enumerate(_cell(disposition, column, width - before - next_to)):
                     yield f"{heading if at == 0 else '':{before}}{disposition if at == 0 else '':{next_to}}{line}"
             heading = ""
-
-
-def surface_lines(surface: Surface, groups: Groups, width: int | None) -> Iterator[str]:
-    """The text output for a surface."""
-    yield from fitted([*whole_lines(surface), *danger_lines(surface)], width)
-    yield from plain(surface.rows, groups) if width is None else as_table(surface.rows, groups, width)
 
 
 def row_json(row: Row, groups: Groups) -> dict[str, object]:

@@ -7,7 +7,7 @@ from collections import Counter
 from collections.abc import Iterable, Sequence
 
 from ..base.values import dataclass, field
-from ..model import constants, tables
+from ..model import constants
 from ..model.answers import ALLOWED, DELEGATED, DENIED, DEPENDS, Answer
 from ..model.architectures import JUDGED, NATIVE, Architecture
 from ..model.calls import Call
@@ -199,13 +199,6 @@ class Surface:
                 and architecture not in known_abis
                 and other_abis.abi_access(self.asker.filters, self.regions, architecture).not_denied is not None]
 
-    def add_others(self) -> None:
-        """Adds the surfaces of the ABIs that aren't proved to be denied."""
-        for architecture in (access.abi for access in self.foreign if not access.are_denied):
-            table = tables.architecture_table(architecture.oci)
-            if table is not None:
-                self.others.append(of_regions(self.asker.filters, self.regions, table, architecture))
-
 
 def _ask(asker: Asker, rows: Iterable[Row]) -> None:
     """Adds what comparisons say of rows that regions leave undecided. A line lacks its instruction pointer: if a filter
@@ -226,14 +219,6 @@ def _ask(asker: Asker, rows: Iterable[Row]) -> None:
                 row.more.setdefault(verdict.filters.disposition, Shown(verdict.call, verdict.filters))
 
 
-def _of_unnamed(numbers: Numbers, table: Table, architecture: Architecture) -> Unnamed:
-    """The numbers without a name."""
-    unnamed = Unnamed(architecture.last - architecture.first + 1 - len(table.numbers()))
-    for number, count, here in numbers.unnamed(table):
-        unnamed.add(Row(number, [], architecture, here), count)
-    return unnamed
-
-
 def of_regions(filters: Sequence[bytes], filter_regions: Sequence[Region] | None, table: Table,
                architecture: Architecture, is_machine: bool = False) -> Surface:
     """The surface of filters with these regions, None if unfinished, to an architecture, or a whole machine."""
@@ -244,7 +229,10 @@ def of_regions(filters: Sequence[bytes], filter_regions: Sequence[Region] | None
         asker.check(table)
         _ask(asker, rows)
     foreign = other_abis.machine_access(filters, filter_regions, architecture.oci) if is_machine else []
-    return Surface(asker, table, filter_regions, rows, foreign, _of_unnamed(numbers, table, architecture))
+    unnamed = Unnamed(architecture.last - architecture.first + 1 - len(table.numbers()))
+    for number, count, here in numbers.unnamed(table):
+        unnamed.add(Row(number, [], architecture, here), count)
+    return Surface(asker, table, filter_regions, rows, foreign, unnamed)
 
 
 def surface_of_filters(filters: Sequence[bytes], table: Table, architecture: Architecture = JUDGED[NATIVE],
