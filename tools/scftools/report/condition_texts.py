@@ -78,12 +78,6 @@ def _values_of(condition: Condition, bits: int) -> tuple[bool, set[int]] | None:
     return is_half, values
 
 
-def _are_flags(values: set[int], family: Family | None) -> bool:
-    """Whether values differ only in bits that have a name each."""
-    bits = functools.reduce(operator.or_, (value ^ min(values) for value in values), 0)
-    return family is not None and not bits & family.mask and family.bit_names(bits) is not None
-
-
 def _set_text(name: str, is_half: bool, values: set[int], family: Family | None) -> str:
     """That some bits of an argument are one of some values."""
     of_bits = f"{name} & {_number(LOW_HALF)}" if is_half else name
@@ -105,8 +99,11 @@ def condition_text(condition: Condition, syscall: str, others: Alternative, arch
     if op != MASKED:
         return f"{name} {SIGNS[op]} {_value_text(value, family)}"
     met = _values_of(condition, bits)
-    if met is not None and len(met[1]) > 1 and bits_met and not _are_flags(met[1], family):
-        return _set_text(name, met[0], met[1], family)
+    if met is not None and len(met[1]) > 1 and bits_met:
+        differing = functools.reduce(operator.or_, (each ^ bits_met for each in met[1]))
+        # (of bits with a name each the mask is shown)
+        if family is None or differing & family.mask or family.bit_names(differing) is None:
+            return _set_text(name, *met, family)
     is_half = value == LOW_HALF
     is_whole = is_half or family is not None and family.mask and value & family.mask == family.mask
     shown = _value_text(bits_met, family) if is_whole and (bits_met or is_half) else \

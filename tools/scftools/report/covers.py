@@ -171,14 +171,13 @@ class _Joining:
                 sets.either(other, sets.node(variable, zero, one)))
 
     def find(self, whole: int) -> list[Alternative]:
-        return [self._alternative(cube) for cube in self.within(whole, whole)[0]]
-
-    def _alternative(self, cube: Cube) -> Alternative:
-        (mask, value, ranges), width, most = cube, self.sets.bits, self.sets.most
-        of_bits = [Condition(index, "SCMP_CMP_EQ", value >> width * index & most, 0) if own == most else
-                   Condition(index, "SCMP_CMP_MASKED_EQ", own, value >> width * index & most)
-                   for index in range(ARGUMENT_COUNT) for own in [mask >> width * index & most] if own]
-        return tuple(sorted((*ranges, *of_bits), key=lambda condition: condition.index))
+        width, most, alternatives = self.sets.bits, self.sets.most, []
+        for mask, value, ranges in self.within(whole, whole)[0]:
+            of_bits = [Condition(index, "SCMP_CMP_EQ", value >> width * index & most, 0) if own == most else
+                       Condition(index, "SCMP_CMP_MASKED_EQ", own, value >> width * index & most)
+                       for index in range(ARGUMENT_COUNT) for own in [mask >> width * index & most] if own]
+            alternatives.append((*sorted((*ranges, *of_bits), key=lambda condition: condition.index),))
+        return alternatives
 
 
 # The first of several tests of an alternative: a half of an argument, and bits of it with their values.
@@ -252,26 +251,24 @@ class Covers:
         self.sets, self._count = sets, 0
         self._found: dict[int, list[Alternative] | None] = {FULL_SET: [()]}
 
-    def _of(self, arguments: int) -> list[Alternative] | None:
-        if self._count > MOST_ALTERNATIVES:
-            return None
-        steps = Steps(self.sets.steps.remaining // 2)
-        sets = Sets(self.sets.bits, steps)
-        try:
-            whole = sets.copy(arguments, self.sets)
-            alternatives = _Joining(sets).find(whole)
-            if len(alternatives) <= MOST_JOINED:
-                alternatives = _without_needless(sets, _Listing(sets, whole).find() or alternatives)
-            if len(alternatives) > ALL_LISTED:
-                alternatives = _kept_apart(sets, alternatives)
-        except TooMany:
-            alternatives = None
-        self.sets.spend(steps.most - max(steps.remaining, 0))
-        self._count += len(alternatives or ())
-        return alternatives
-
     def of_set(self, arguments: int) -> list[Alternative] | None:
         """Alternatives that together hold of exactly these arguments; None if they are too many."""
-        if arguments not in self._found:
-            self._found[arguments] = self._of(arguments)
-        return self._found[arguments]
+        if arguments in self._found:
+            return self._found[arguments]
+        alternatives = None
+        if self._count <= MOST_ALTERNATIVES:
+            steps = Steps(self.sets.steps.remaining // 2)
+            sets = Sets(self.sets.bits, steps)
+            try:
+                whole = sets.copy(arguments, self.sets)
+                alternatives = _Joining(sets).find(whole)
+                if len(alternatives) <= MOST_JOINED:
+                    alternatives = _without_needless(sets, _Listing(sets, whole).find() or alternatives)
+                if len(alternatives) > ALL_LISTED:
+                    alternatives = _kept_apart(sets, alternatives)
+            except TooMany:
+                alternatives = None
+            self.sets.spend(steps.most - max(steps.remaining, 0))
+            self._count += len(alternatives or ())
+        self._found[arguments] = alternatives
+        return alternatives

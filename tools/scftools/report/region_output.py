@@ -6,7 +6,7 @@ from collections.abc import Iterator, Sequence
 from ..base import program
 from ..base.values import dataclass, field
 from ..model.architectures import Architecture
-from ..model.calls import ARCHITECTURE, ARGUMENTS
+from ..model.calls import ARCHITECTURE, ARGUMENTS, Call
 from ..model.entries import AT_LEAST, AT_MOST, EQUAL, MASKED, NOT_EQUAL, Condition
 from ..model.tables import Table
 from ..ask import regions
@@ -22,11 +22,11 @@ from .condition_texts import condition_text, name_of
 @dataclass
 class Listed:
     """Regions that have the same answer for the same reason under the same conditions: the numbers of their syscalls in
-    the table, how many numbers have no name, and one of the regions with one of its numbers."""
+    the table, how many numbers have no name, one of the regions, and a record of it."""
 
     region: Region
     where: Sequence[str]
-    first: int
+    example: Call | None
     numbers: list[int] = field(default_factory=list)
     unnamed: int = 0
 
@@ -96,14 +96,14 @@ def listed(regions: Sequence[Region], table: Table, architecture: Architecture) 
                                architecture)
             key = region.line, region.is_exact, *where
             if key not in entries:
-                entries[key] = Listed(region, where, (numbers_of_region or others[0])[0])
+                first = (numbers_of_region or others[0])[0]
+                entries[key] = Listed(region, where, region.call_of(architecture.first + first, architecture.number))
             entries[key].numbers += numbers_of_region
             entries[key].unnamed += sum(count for _, count in others)
     return list(entries.values())
 
 
-def region_lines(entries: Sequence[Listed], table: Table, architecture: Architecture,
-                 has_examples: bool) -> Iterator[str]:
+def region_lines(entries: Sequence[Listed], table: Table, has_examples: bool) -> Iterator[str]:
     """A line for each: the answer and its reason, the syscalls, and the conditions; on request with a syscall."""
     for entry in entries:
         answer, reason = entry.region.answer, entry.region.line.split(" ", 1 if entry.region.answer is None else 2)[-1]
@@ -111,24 +111,10 @@ def region_lines(entries: Sequence[Listed], table: Table, architecture: Architec
         names += [f"{entry.unnamed} numbers without a name"] if entry.unnamed else []
         yield (f"{'unknown' if answer is None else answer.named()} {reason}{'' if entry.region.is_exact else ' open'}: "
                f"{', '.join(names)}" + (f" where {' and '.join(entry.where)}" if entry.where else ""))
-        if has_examples:
-            call = entry.region.call_of(architecture.first + entry.first, architecture.number)
-            if call is None:
-                continue
+        call = entry.example
+        if has_examples and call is not None:
             shown = call.as_c(table) or f"{call.describe(table)} args {' '.join(map(hex, call.arguments))}"
             yield f"# such as {shown}" + (f", ip {call.pointer:#x}" if call.pointer else "")
-
-
-def regions_json(entries: Sequence[Listed], table: Table, architecture: Architecture) -> list[dict[str, object]]:
-    """The regions as objects, each with a record."""
-    return [{"answer": None if entry.region.answer is None else entry.region.answer.as_json(),
-             **dict(zip(("filter", "index"), map(int, entry.region.line.rpartition(" ")[2].split(":")))),
-             "is_exact": entry.region.is_exact,
-             "syscalls": [{"number": number, "names": table.names_of(number)} for number in entry.numbers],
-             "unnamed": entry.unnamed, "where": list(entry.where),
-             "example": call.as_json(table) if (call := entry.region.call_of(
-                 architecture.first + entry.first, architecture.number)) else None}
-            for entry in entries]
 
 
 def of_stack(stack: Sequence[Filter], table: Table, architecture: Architecture, has_examples: bool,
@@ -144,7 +130,12 @@ def of_stack(stack: Sequence[Filter], table: Table, architecture: Architecture, 
         return Block(program.UNKNOWN, [UNFINISHED], {"verdict": UNFINISHED})
     made = listed(region_list, table, architecture)
     status = program.SUCCESS if all(entry.region.is_decided for entry in made) else program.UNKNOWN
-    if is_json:
-        return Block(status, [], {"architecture": architecture.name,
-                                  "regions": regions_json(made, table, architecture)})
-    return Block(status, [*region_lines(made, table, architecture, has_examples)], {})
+    if not is_json:
+        return Block(status, [*region_lines(made, table, has_examples)], {})
+    return Block(status, [], {"architecture": architecture.name, "regions": [
+        {"answer": entry.region.answer and entry.region.answer.as_json(),
+         **dict(zip(("filter", "index"), map(int, entry.region.line.rpartition(" ")[2].split(":")))),
+         "is_exact": entry.region.is_exact,
+         "syscalls": [{"number": number, "names": table.names_of(number)} for number in entry.numbers],
+         "unnamed": entry.unnamed, "where": list(entry.where), "example": entry.example and entry.example.as_json(table)}
+        for entry in made]})

@@ -3,7 +3,7 @@ from __future__ import annotations
 
 import functools
 import json
-from collections.abc import Iterator, Sequence
+from collections.abc import Sequence
 
 from ..base.values import dataclass
 from ..model import profiles
@@ -27,14 +27,6 @@ MOST_PARTS, MOST_PRINTED_CONDITIONS = 512, 16
 ANSWERS = {answer.disposition: answer for answer in (EVERYTHING, Answer("TRACE", 0), NOTHING)}
 
 
-def answer_text(answer: Answer) -> str:
-    """A disposition, with what else is to be known of an answer."""
-    word = answer.disposition
-    if answer.action == "ERRNO":
-        return f"{word} ({ERRNOS.get(answer.data, f'ERRNO {answer.data}')})"
-    return word if answer.action == "ALLOW" else f"{word} ({answer})"
-
-
 @dataclass(frozen=True)
 class Conditions:
     """The answers to all calls of an architecture's syscall: one for each of some alternatives, and one for all other
@@ -50,7 +42,11 @@ class Conditions:
     architecture: Architecture
 
     def _answer_text(self, answer: Answer) -> str:
-        return answer_text(answer) if self.is_whole else answer.disposition
+        """A disposition, with what else is to be known of an answer."""
+        if not self.is_whole or answer.action == "ALLOW":
+            return answer.disposition
+        is_errno = answer.action == "ERRNO"
+        return f"{answer.disposition} ({ERRNOS.get(answer.data, answer) if is_errno else answer})"
 
     def describe(self) -> str:
         parts = [f"{self._answer_text(answer)} where "
@@ -66,11 +62,6 @@ class Conditions:
         return {"where": [{**self._json_of(answer),
                            "any_of": [entry_of((), answer, alternative)["args"] for alternative in alternatives]}
                           for answer, alternatives in self.parts], "else": self._json_of(self.otherwise)}
-
-    def entries(self) -> Iterator[dict[str, object]]:
-        """The entries of a profile whose default is the answer to all other arguments."""
-        yield from (entry_of(self.names[:1], answer, alternative) for answer, alternatives in self.parts
-                    for alternative in alternatives)
 
 
 def _fewest(answers: FilterAnswers, parts: dict[Answer, int]) -> tuple[Answer, dict[Answer, Sequence[Alternative]]]:
@@ -113,12 +104,12 @@ def _of_answers(answers: FilterAnswers, number_answers: Answers) -> \
 
 def _failed(asker: Asker, drafts: Sequence[tuple[Row, Conditions]]) -> set[int]:
     """The numbers for which scf doesn't prove these conditions, which have one answer otherwise."""
-    if sum(len(alternatives) for _, conditions in drafts for _, alternatives in conditions.parts) > MOST_ALTERNATIVES:
+    entries = [entry_of(conditions.names[:1], answer, alternative) for _, conditions in drafts
+               for answer, alternatives in conditions.parts for alternative in alternatives]
+    if len(entries) > MOST_ALTERNATIVES:
         return {row.number for row, _ in drafts}
     table = "".join(f"{conditions.names[0]} {row.number}\n" for row, conditions in drafts).encode()
-    profile = {**drafts[0][1].otherwise.default(),
-               "architectures": [asker.architecture.oci],
-               "syscalls": [entry for _, conditions in drafts for entry in conditions.entries()]}
+    profile = {**drafts[0][1].otherwise.default(), "architectures": [asker.architecture.oci], "syscalls": entries}
     data, failed = profiles.read_as(json.dumps(profile).encode(), profiles.SANDBOX), set()
     for relation in (SAME,) if drafts[0][1].is_whole else (NO_MORE, NO_LESS):
         try:
@@ -128,38 +119,26 @@ def _failed(asker: Asker, drafts: Sequence[tuple[Row, Conditions]]) -> set[int]:
     return failed
 
 
-def _drafts(answers: FilterAnswers, rows: Sequence[Row]) -> list[tuple[Row, Conditions]]:
-    """The conditions of the rows that have several answers, as the filters were followed. Raises TooMany."""
-    of_number, drafts = dict(answers.numbered(True)), []
-    found = functools.lru_cache(None)(functools.partial(_of_answers, answers))
-    for row in rows:
-        draft = found(of_number[row.number])
-        if draft is not None:
-            otherwise, others, is_whole = draft
-            drafts.append((row, Conditions(row.names, [*others.items()], otherwise, is_whole, answers.architecture)))
-    return drafts
-
-
-def unfinished() -> str:
-    """The line for filters that weren't followed to their ends."""
-    return UNFINISHED_TEXT.format(own_steps().most)
-
-
-def add(surface: Surface) -> bool:
-    """Adds conditions, where scf proves them, to a surface's rows with several answers. False if unfinished."""
-    asker = surface.asker
+def add(surface: Surface) -> list[str]:
+    """Adds conditions, where scf proves them, to a surface's rows with several answers; a line if the filters weren't
+    followed to their ends."""
+    asker, unfinished = surface.asker, [f"conditions: {UNFINISHED_TEXT.format(own_steps().most)}"]
     request = ProfileRequest([Filter("", data) for data in asker.filters], surface.table, asker.architecture,
-                      regions=surface.regions, has_trap_data=True)
+                             regions=surface.regions, has_trap_data=True)
     answers = request.answers()
-    try:
-        drafts = _drafts(answers, surface.rows)
-    except TooMany:
-        return False
+    of_number, found = dict(answers.numbered(True)), functools.lru_cache(None)(functools.partial(_of_answers, answers))
     groups: dict[tuple[Answer, bool], list[tuple[Row, Conditions]]] = {}
-    for row, conditions in drafts:
-        groups.setdefault((conditions.otherwise, conditions.is_whole), []).append((row, conditions))
-    for drafts_alike in groups.values():
-        failed = _failed(asker, drafts_alike)
-        for row, conditions in drafts_alike:
+    try:
+        for row in surface.rows:
+            draft = found(of_number[row.number])
+            if draft is not None:
+                otherwise, others, is_whole = draft
+                groups.setdefault((otherwise, is_whole), []).append((row, Conditions(
+                    row.names, [*others.items()], otherwise, is_whole, answers.architecture)))
+    except TooMany:
+        return unfinished
+    for drafts in groups.values():
+        failed = _failed(asker, drafts)
+        for row, conditions in drafts:
             row.conditions = None if row.number in failed else conditions
-    return not answers.is_unfinished
+    return unfinished if answers.is_unfinished else []

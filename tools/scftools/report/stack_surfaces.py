@@ -218,9 +218,9 @@ def surface_of_stack(filters: Sequence[Filter], beside: Sequence[Filter], table:
         if has_conditions:
             from . import row_conditions  # pylint: disable=import-outside-toplevel
 
-            surface.are_conditions_finished = row_conditions.add(surface)
-            if not surface.are_conditions_finished:
-                program.say(f"conditions: {row_conditions.unfinished()}")
+            unfinished = row_conditions.add(surface)
+            surface.are_conditions_finished = not unfinished
+            program.say(*unfinished)
         return surface
 
     refused = filters
