@@ -181,42 +181,37 @@ class Parser(argparse.ArgumentParser):
                 self.print_usage(sys.stderr)
         except (OSError, AttributeError):
             pass
-        raise program.ToolError(self._misspelt(message) or message)
-
-    def _misspelt(self, message: str) -> str | None:
-        """The message on an unknown option, with the nearest one if any is near, where words are unknown or too few."""
-        if not message.startswith(("unrecognized arguments: -", "the following arguments are required: ")):
-            return None
-        options = sys.argv[1:sys.argv.index("--")] if "--" in sys.argv else sys.argv[1:]
-        given = (word.partition("=")[0] for word in options)
-        flags = [flag for action in self._actions for flag in action.option_strings]
-        wrong = next((word for word in given
-                      if re.fullmatch("--?[A-Za-z][A-Za-z0-9-]+", word) and word not in flags), None)
-        shown = [flag for action in self._actions if action.help != argparse.SUPPRESS for flag in action.option_strings]
-        if wrong is None:
-            return None
-        near = tables.most_like(wrong.lower(), shown)
-        return f"unrecognized arguments: {wrong}" + (f"; the nearest is {near}" if near else "")
+        if message.startswith(("unrecognized arguments: -", "the following arguments are required: ")):
+            # (where words are unknown or too few, an option may be misspelt)
+            options = sys.argv[1:sys.argv.index("--")] if "--" in sys.argv else sys.argv[1:]
+            flags = {flag: action for action in self._actions for flag in action.option_strings}
+            wrong = next((word for word in (word.partition("=")[0] for word in options)
+                          if re.fullmatch("--?[A-Za-z][A-Za-z0-9-]+", word) and word not in flags), None)
+            if wrong is not None:
+                near = tables.most_like(wrong.lower(), [flag for flag, action in flags.items()
+                                                        if action.help != argparse.SUPPRESS])
+                message = f"unrecognized arguments: {wrong}" + (f"; the nearest is {near}" if near else "")
+        raise program.ToolError(message)
 
     def print_help(self, file: Any = None, is_short: bool = False) -> None:
-        """Prints the help like any other output."""
-        output.put(self._format_short() if is_short else self.format_help())
+        """Prints the help like any other output: on request with few options."""
+        text = "" if is_short else self.format_help()
+        if is_short:
+            shown_actions = [action for action in self._actions if action.help != argparse.SUPPRESS
+                             and not {"-h", "--help"}.union(COMMON).intersection(action.option_strings)]
+            files, options = ([action for action in shown_actions if bool(action.option_strings) == is_option]
+                              for is_option in (False, True))
+            formatter = self._get_formatter()
+            formatter.add_usage(self.usage, self._actions, [])
+            formatter.add_text(self.description)
+            formatter.start_section("options")
+            formatter.add_arguments([*files, *options[:MOST_IN_SHORT]])
+            formatter.end_section()
+            formatter.add_text(f"{self.prog} --help has all.")
+            text = formatter.format_help()
+        output.put(text)
         if self.examples:
             output.put("".join(["\nexamples:\n", *(f"  {example}\n" for example in self.examples)]))
-
-    def _format_short(self) -> str:
-        shown_actions = [action for action in self._actions if action.help != argparse.SUPPRESS
-                         and not {"-h", "--help"}.union(COMMON).intersection(action.option_strings)]
-        files = [action for action in shown_actions if not action.option_strings]
-        options = [action for action in shown_actions if action.option_strings]
-        formatter = self._get_formatter()
-        formatter.add_usage(self.usage, self._actions, [])
-        formatter.add_text(self.description)
-        formatter.start_section("options")
-        formatter.add_arguments([*files, *options[:MOST_IN_SHORT]])
-        formatter.end_section()
-        formatter.add_text(f"{self.prog} --help has all.")
-        return formatter.format_help()
 
     def add(self, *names: str, **changed: Any) -> None:
         """Adds options and arguments of SHARED, on request with another text of help."""

@@ -96,14 +96,6 @@ def read_words():
     return parser, options
 
 
-def actual_of(options):
-    """What is judged: filters, a process or a profile."""
-    if len(options.filters) > 1:
-        return operands.read_stacks(options.filters, options)
-    given = operands.read(options.filters[0], options)
-    return [given] if isinstance(given, Filter) else given
-
-
 def wanted_of(options):
     """What judges it: filters, or the profiles of a unit."""
     if options.beside is not None or operands.is_process(options.profile):
@@ -115,36 +107,30 @@ def wanted_of(options):
             for part in profile.parts]
 
 
-def judge(side, wanted, options, table):
-    """The judgement of one side by those that are wanted."""
-    elsewhere = profiles.elsewhere_of([each.data for each in wanted if isinstance(each, ProfileInput)]) or [()]
-    return Judgement.of([
-        compare.pair_of(side, each, table, options.relation, options.scope == verdicts.NATIVE_SCOPE, elsewhere=names)
-        for each, names in zip(wanted, elsewhere)], options.scope)
-
-
-def write_page(options, judgement):
-    """Writes the page of --html."""
-    from ..report import pages  # pylint: disable=import-outside-toplevel
-
-    comparison, report = judgement.comparison, judgement.comparison.printed(judgement.report)
-    page = pages.comparison_page(comparison, report, [*comparison_notes(comparison, judgement.report, judgement.scope)])
-    output.replace_file(options.html, page)
-
-
 def main():
     parser, options = read_words()
     inputs.kept = {} if options.html is not None else None
-    actual, wanted, table = actual_of(options), wanted_of(options), tables.read_table(options.table)
+    actual = operands.read_stacks(options.filters, options) if len(options.filters) > 1 else \
+        operands.read(options.filters[0], options)
+    actual = [actual] if isinstance(actual, Filter) else actual
+    wanted, table = wanted_of(options), tables.read_table(options.table)
     if not any(isinstance(side, ProfileInput) for side in (actual, *wanted)):
         for name in ("--caps", "--verbose", "--strict", "--runtime", "--machine", "--also"):
             if getattr(options, name[2:]):
                 parser.error(f"{name} speaks of a profile, and no side is one")
 
-    def block_of(side):
-        judgement = judge(side, wanted, options, table)
+    elsewhere = profiles.elsewhere_of([each.data for each in wanted if isinstance(each, ProfileInput)]) or [()]
+
+    def judge(side):
+        judgement = Judgement.of([compare.pair_of(
+            side, each, table, options.relation, options.scope == verdicts.NATIVE_SCOPE, elsewhere=names)
+            for each, names in zip(wanted, elsewhere)], options.scope)
         if options.html is not None:
-            write_page(options, judgement)
+            from ..report import pages  # pylint: disable=import-outside-toplevel
+
+            comparison, report = judgement.comparison, judgement.report
+            output.replace_file(options.html, pages.comparison_page(
+                comparison, comparison.printed(report), [*comparison_notes(comparison, report, judgement.scope)]))
         return judgement.block(options.json, options.verbose)
 
-    return blocks.put_blocks(actual, block_of, options.json)
+    return blocks.put_blocks(actual, judge, options.json)

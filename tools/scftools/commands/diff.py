@@ -98,28 +98,12 @@ def side_of(path, options):
     return profile_inputs.profile_in(data, path, is_runtimes=True).read_by(options.runtime), []
 
 
-def tell_left_out(of_old, of_new):
-    """Says what is left out of one side alone."""
-    for side, notes, others in ((changes.OLD, of_old, set(of_new)), (changes.NEW, of_new, set(of_old))):
-        for note in notes:
-            if note not in others:
-                program.say(f"{side}: {note}")
-
-
-def tell_changes(judgement, is_json):
-    """Prints all changes between two profiles; the status."""
-    found = changes.changes_of(judgement.comparison, judgement.first)
-    if is_json:
-        output.put_json(changes.changes_json(found))
-    else:
-        output.put_lines(changes.change_lines(found))
-    return found.verdict.status
-
-
 def main():
     parser, options = read_words()
     (old, of_old), (new, of_new) = (side_of(path, options) for path in (options.old, options.new))
-    tell_left_out(of_old, of_new)
+    # (what is left out of both is no change)
+    for side, notes, others in ((changes.OLD, of_old, of_new), (changes.NEW, of_new, of_old)):
+        program.say(*(f"{side}: {note}" for note in notes if note not in others))
     old = old if isinstance(old, (list, ProfileInput)) else operands.the_stack(old)
     table, is_native = tables.read_table(options.table), options.scope == verdicts.NATIVE_SCOPE
     if options.is_made and not any(isinstance(side, ProfileInput) for side in (old, new)):
@@ -132,7 +116,12 @@ def main():
     if isinstance(old, ProfileInput) and isinstance(new, ProfileInput) and options.scope != verdicts.CALLS:
         judgement = judge(new)
         if judgement.first.verdict is not None:
-            return tell_changes(judgement, options.json)
+            found = changes.changes_of(judgement.comparison, judgement.first)
+            if options.json:
+                output.put_json(changes.changes_json(found))
+            else:
+                output.put_lines(changes.change_lines(found))
+            return found.verdict.status
         block = judgement.block(options.json)
         members = {name: value for name, value in block.members.items() if name in OF_FAULT}
         return blocks.put_blocks([], lambda _: replace(block, members=members), options.json)

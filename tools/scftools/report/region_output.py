@@ -132,10 +132,10 @@ def of_stack(stack: Sequence[Filter], table: Table, architecture: Architecture, 
     status = program.SUCCESS if all(entry.region.is_decided for entry in made) else program.UNKNOWN
     if not is_json:
         return Block(status, [*region_lines(made, table, has_examples)], {})
-    return Block(status, [], {"architecture": architecture.name, "regions": [
-        {"answer": entry.region.answer and entry.region.answer.as_json(),
-         **dict(zip(("filter", "index"), map(int, entry.region.line.rpartition(" ")[2].split(":")))),
-         "is_exact": entry.region.is_exact,
-         "syscalls": [{"number": number, "names": table.names_of(number)} for number in entry.numbers],
-         "unnamed": entry.unnamed, "where": list(entry.where), "example": entry.example and entry.example.as_json(table)}
-        for entry in made]})
+    return Block(status, [], {"architecture": architecture.name, "regions": [{
+        "answer": entry.region.answer and entry.region.answer.as_json(),
+        **dict(zip(("filter", "index"), map(int, entry.region.line.rpartition(" ")[2].split(":")))),
+        "is_exact": entry.region.is_exact,
+        "syscalls": [{"number": number, "names": table.names_of(number)} for number in entry.numbers],
+        "unnamed": entry.unnamed, "where": list(entry.where),
+        "example": entry.example and entry.example.as_json(table)} for entry in made]})
