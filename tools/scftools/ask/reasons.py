@@ -69,30 +69,28 @@ def members_of(line: str) -> dict[str, object]:
     return {"reason": word, **({"entry": int(index[0])} if index else {})}
 
 
-def _condition_text(condition: dict[str, object], call: Call) -> str | None:
-    """A condition that the record meets, with the argument's value; None if it doesn't, or that is unknown."""
-    index, value, two = condition.get("index"), condition.get("value"), condition.get("valueTwo") or 0
-    op = condition.get("op")
-    if not (isinstance(index, int) and isinstance(value, int) and isinstance(two, int) and 0 <= index < 6):
-        return None
-    argument = call.arguments[index] & (1 << call.bits) - 1
-    if not isinstance(op, str) or op not in HOLDS or not HOLDS[op](argument, value, two):
-        return None
-    second = f" of {two} ({two:#x})" if op == "SCMP_CMP_MASKED_EQ" else ""
-    return f"argument {index} is {argument} ({argument:#x}): {op} {value} ({value:#x}){second} holds"
-
-
 def index_of(reason: Reason, origins: Sequence[Origin] | None) -> int | None:
     """The index of the entry in the user's profile."""
     return reason.entry if reason.entry is None or origins is None else origins[reason.entry].index
 
 
 def conditions_met(reason: Reason, profile: bytes, call: Call) -> list[str]:
-    """Lines on the conditions of the entry that gives the answer, if one does, as far as a call meets them."""
-    entry = None if reason.entry is None else profiles.entry_at(profile, reason.entry)
+    """Lines on the conditions of the entry that gives the answer, if one does, as far as it is known that a call meets
+    them, with the values of its arguments."""
+    entry, lines = None if reason.entry is None else profiles.entry_at(profile, reason.entry), []
     given = entry.get("args") if isinstance(entry, dict) else None
-    conditions = [each for each in given if isinstance(each, dict)] if isinstance(given, list) else []
-    return [*filter(None, (_condition_text(condition, call) for condition in conditions))]
+    for condition in given if isinstance(given, list) else ():
+        if not isinstance(condition, dict):
+            continue
+        index, op, value = (condition.get(name) for name in ("index", "op", "value"))
+        two = condition.get("valueTwo") or 0
+        if not (isinstance(index, int) and isinstance(value, int) and isinstance(two, int) and 0 <= index < 6):
+            continue
+        argument = call.arguments[index] & (1 << call.bits) - 1
+        if isinstance(op, str) and op in HOLDS and HOLDS[op](argument, value, two):
+            second = f" of {two} ({two:#x})" if op == "SCMP_CMP_MASKED_EQ" else ""
+            lines.append(f"argument {index} is {argument} ({argument:#x}): {op} {value} ({value:#x}){second} holds")
+    return lines
 
 
 def describe_reason(reason: Reason, profile: bytes, call: Call | None,

@@ -21,7 +21,7 @@ from ..model.tables import Table, Tables
 from . import client, reasons
 from .verdicts import UNFINISHED
 
-UNKNOWN_ANSWER, OPEN, BESIDE = "unknown", " open", " beside "
+OPEN, BESIDE = " open", " beside "
 # A region, and its record, which an open one may lack.
 SHOWN = Pattern("(.+)\n?(?:(call .+)\n)?")
 # The index of the instruction pointer, whose words stand before those of argument 0.
@@ -174,38 +174,32 @@ class Region(Side):
         return Call(number, architecture, self.call.pointer, arguments)
 
 
-def _side_in(text: str, places: Sequence[int] | None) -> tuple[str, Answer | None, int | None]:
-    """An answer and its reason, also by themselves. Raises ValueError."""
-    words = text.split(" ")
-    count = 1 if words[0] == UNKNOWN_ANSWER else 2
-    answer = Answer.read(" ".join(words[:count]))
-    if not words[count:] or answer is None and count == 2:
-        raise ValueError(text)
-    entry = int(words[-1]) if words[count] == "entry" else None
-    return text, answer, entry if None in (entry, places) else places[entry]
-
-
 def parse_regions(text: str, places: Sequence[int] | None = None) -> list[Region] | None:
     """Parses what `scf answers --examples` prints, None if it isn't that. Entries may get a user's places."""
+    # (what many lines have alike is parsed once)
+    @functools.lru_cache(None)
+    def side_in(text: str) -> tuple[str, Answer | None, int | None]:
+        words = text.split(" ")
+        count = 1 if words[0] == "unknown" else 2
+        answer = Answer.read(" ".join(words[:count]))
+        if not words[count:] or answer is None and count == 2:
+            raise ValueError(text)
+        entry = int(words[-1]) if words[count] == "entry" else None
+        return text, answer, entry if None in (entry, places) else places[entry]
+
+    @functools.lru_cache(None)
+    def word_in(text: str) -> tuple[int, Word]:
+        index, values = text.split(" ")
+        return int(index), Word.read(values)
+
     *shown, (last, _) = SHOWN.findall(text) or [("", "")]
-    # what many lines have alike is parsed once
-    sides: dict[str, tuple[str, Answer | None, int | None]] = {}
-    words: dict[str, tuple[int, Word]] = {}
     regions: list[Region] = []
     try:
         for line, example in shown:
             head, *given = line.split(" w")
-            texts = head.removesuffix(OPEN).split(BESIDE)
-            for text in texts:
-                if text not in sides:
-                    sides[text] = _side_in(text, places)
-            for word in given:
-                if word not in words:
-                    index, values = word.split(" ")
-                    words[word] = int(index), Word.read(values)
-            side, *beside = map(sides.__getitem__, texts)
-            regions.append(Region(*side, not head.endswith(OPEN), dict(map(words.__getitem__, given)),
-                                  example, *(Side(*other) for other in beside)))
+            side, *beside = map(side_in, head.removesuffix(OPEN).split(BESIDE))
+            regions.append(Region(*side, not head.endswith(OPEN), dict(map(word_in, given)), example,
+                                  *(Side(*other) for other in beside)))
     except ValueError:
         return None
     return regions if last.startswith(f"regions {len(regions)} steps ") else None

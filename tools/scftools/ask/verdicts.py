@@ -177,28 +177,23 @@ def _verdict(lines: Sequence[str]) -> Verdict | None:
     return Verdict(UNDECIDED, at=int(place[1])) if word == UNDECIDED and place else None
 
 
-def named_call(line: str, pointer: int | None, architecture: Architecture) -> NamedCall | None:
-    """Parses a line of `--calls` on the table of an architecture, which lacks the instruction pointer."""
-    match = NAMED_CALL_LINE.fullmatch(line) if line[:1].isdigit() else None
-    if not match:
-        return None
-    number, answered = int(match[1]), ANSWERED.fullmatch(match[4])
-    verdict = Verdict(match[3])
-    if verdict.fails and answered:
-        call = Call(architecture.first + number, architecture.number, pointer,
-                    tuple(int(argument, 16) for argument in answered[1].split()))
-        verdict = Verdict(match[3], call, Answer.read(answered[2]), Answer.read(answered[3]))
-    return NamedCall(architecture.marked(line), number, tuple(match[2].split(",")), verdict, architecture)
-
-
 def report(text: str, pointer: int | None = 0, architecture: Architecture = JUDGED[NATIVE]) -> Report:
     """Parses the output of `scf compare`, but for what was left out of a profile. The records of lines get this
     instruction pointer, None if it matters and is unknown, and are of this architecture."""
     lines = client.lines_of(text)
-    count = next((at for at, line in enumerate(lines) if line.startswith(LEFT_OUT)), len(lines))
-    calls = tuple(filter(None, (named_call(line, pointer, architecture) for line in lines[1:count])))
-    verdict, fault = (_verdict(lines[:count]), Fault.read(lines[0])) if count else (None, None)
-    return Report(tuple(lines[:count]), verdict, fault, calls)
+    lines = lines[:next((at for at, line in enumerate(lines) if line.startswith(LEFT_OUT)), len(lines))]
+    calls = []
+    for line in lines[1:]:
+        match = NAMED_CALL_LINE.fullmatch(line) if line[:1].isdigit() else None
+        if not match:
+            continue
+        number, verdict, answered = int(match[1]), Verdict(match[3]), ANSWERED.fullmatch(match[4])
+        if verdict.fails and answered:
+            arguments = tuple(int(argument, 16) for argument in answered[1].split())
+            verdict = Verdict(match[3], Call(architecture.first + number, architecture.number, pointer, arguments),
+                              Answer.read(answered[2]), Answer.read(answered[3]))
+        calls.append(NamedCall(architecture.marked(line), number, (*match[2].split(","),), verdict, architecture))
+    return Report((*lines,), *((_verdict(lines), Fault.read(lines[0])) if lines else (None, None)), (*calls,))
 
 
 def behind_left_out(printed: bytes) -> tuple[Report, bytes]:

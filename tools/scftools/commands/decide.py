@@ -44,7 +44,9 @@ Examples:
     scf decide --nr openat --nr 435 old.bpf new.bpf
     scf decide --expect rows filter.bpf
 """
-from ..base import program
+import os
+
+from ..base import inputs, output, program
 from ..model import tables
 
 from ..cli import words
@@ -112,8 +114,16 @@ def main():
             stack[0], query, options.path) if options.steps else decisions.stack_decisions(stack, query))
 
     if not isinstance(given, ProfileInput):
-        if options.expect is None:
-            decisions.want_a_call(options)
+        # (of standard input alone number 0 is answered, as by the program)
+        is_missing = output.has_notes and not options.nr and not options.call and options.calls_from is None
+        if is_missing and options.expect is None:
+            raise program.ToolError("no syscall is given: name it behind the input, with its arguments, or several "
+                                    "with --nr NUMBER|NAME or --calls-from FILE")
+        if options.call and os.path.exists(options.call[0]):
+            raise program.ToolError(f"no syscall is given: {inputs.label(options.call[0])} is a file, and several "
+                                    "filters go with --nr NUMBER|NAME")
+        if len(options.call) > 7:
+            raise program.ToolError("a syscall has at most six arguments; more filters than one go with --nr")
         return put_blocks(given, judge, options.json)
     judged = given.judged(table, options.native)
     return put_blocks([], lambda _: decisions.replies(options, table, lambda query: decisions.profile_decisions(

@@ -107,7 +107,11 @@ def main():
     if options.plain + options.dot + options.json > 1:
         parser.error("give one of --plain, --dot and --json")
     table = tables.read_table(options.table)
-    query, given = decisions.one_query(options, table), operands.read_stacks([options.filter], options)
+    numbering, query = decisions.Numbering(table, options.arch), None
+    fields = decisions.rest_of(options, numbering)
+    if options.nr is not None or fields:
+        query = decisions.Query((("nr", numbering.number_of("0" if options.nr is None else options.nr)), *fields))
+    given = operands.read_stacks([options.filter], options)
     if options.plain and query is not None:
         parser.error("--plain marks no instructions")
     return put_blocks(given, lambda stack: of_stack(stack, options, table, query), options.json)

@@ -72,17 +72,13 @@ from ..forms import engines, operands
 from ..report.blocks import put_blocks
 
 
-def needs_of_process():
-    """The paragraph of --help on what pid:N needs."""
-    if "--help" not in sys.argv:
-        return ""
-    from scfhost import processes  # pylint: disable=import-outside-toplevel
-
-    return processes.NEEDS.replace("This needs", "A process needs", 1)
-
-
 def read_words():
-    parser = words.Parser(__doc__, needs_of_process(), lambda options: "answers" if options.regions else None)
+    needs = ""
+    if "--help" in sys.argv:
+        from scfhost import processes  # pylint: disable=import-outside-toplevel
+
+        needs = processes.NEEDS.replace("This needs", "A process needs", 1)
+    parser = words.Parser(__doc__, needs, lambda options: "answers" if options.regions else None)
     parser.add_argument("--regions", action="store_true", help="list everything that the filters answer")
     parser.add_argument("--conditions", action="store_true",
                         help="say which arguments get which answer, instead of examples")

@@ -56,6 +56,7 @@ Examples:
     scf why - profile.json filter.bpf <log
     scf why --every - profile.json <log
 """
+import itertools
 import os
 import re
 import types
@@ -138,44 +139,35 @@ def lacking(process):
             f"auditd takes the records where it runs: ausearch -m SECCOMP -p {process} --raw prints older ones, too"]
 
 
-def records():
-    """The lines of the kernel's log, and of auditd's, which takes the kernel's records where it runs."""
-    yield from audit_records.kernel_lines()
-    if os.path.exists(audit_records.AUDITD_LOG):
-        yield from strace.log_lines(audit_records.AUDITD_LOG)
-
-
 def of_process(options, files, table):
     """The records of a process, those of an earlier one with its number left out, and files; without any the filters
     that it has, if it runs."""
     begun = started(options.pid)
     since = None if begun is None else begun - TOLERANCE
-    log = events.read_events((line for line in records() if audit_records.is_of(line, options.pid, since)), table)
+    # (auditd takes the kernel's records where it runs)
+    of_auditd = strace.log_lines(audit_records.AUDITD_LOG) if os.path.exists(audit_records.AUDITD_LOG) else ()
+    records = itertools.chain(audit_records.kernel_lines(), of_auditd)
+    log = events.read_events((line for line in records if audit_records.is_of(line, options.pid, since)), table)
     if not options.words:
         is_wanted = begun is not None and log.events
         files = causes.Inputs(files.tables, None, operands.read_stack([f"pid:{options.pid}"]) if is_wanted else [])
     return log, files
 
 
-def read_log(options, files, table):
-    """The events of what is given, and what is given beside them."""
+def main():
+    options = read_words()
+    table = tables.read_table(options.table)
+    files = read_files(options.words, table, options)
     if options.core is not None:
         from ..logs import cores  # pylint: disable=import-outside-toplevel
 
         log = events.EventLog()
         log.add(cores.read_core(options.core))
-        return log, files
-    if options.pid is not None:
-        return of_process(options, files, table)
-    lines = strace.log_lines("-") if options.line == "-" else options.line.split("\n")
-    return events.read_events(lines, table), files
-
-
-def main():
-    options = read_words()
-    table = tables.read_table(options.table)
-    files = read_files(options.words, table, options)
-    log, files = read_log(options, files, table)
+    elif options.pid is not None:
+        log, files = of_process(options, files, table)
+    else:
+        lines = strace.log_lines("-") if options.line == "-" else options.line.split("\n")
+        log = events.read_events(lines, table)
     report = cause_report.log_report(log, files, options.every)
     if options.pid is not None:
         report.lacking = lacking(options.pid)

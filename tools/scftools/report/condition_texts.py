@@ -49,14 +49,6 @@ def _bits_text(value: int, family: Family | None) -> str:
     return _number(value) if names is None else names + (f"|{value - named_bits:#x}" if value > named_bits else "")
 
 
-def _mask_text(mask: int, bits: int, family: Family | None) -> str:
-    """A mask of so many bits, by the bits that it lacks if these are fewer."""
-    lacking = ~mask & (1 << bits) - 1
-    if lacking and bin(lacking).count("1") < bin(mask).count("1"):
-        return f"~{_together(_bits_text(lacking, family))}"
-    return _together(_bits_text(mask, family))
-
-
 def _value_text(value: int, family: Family | None) -> str:
     """The value of an argument; one of which several bits have no names is a number."""
     shown = family.describe(value) if family is not None and value <= LOW_HALF else None
@@ -108,7 +100,12 @@ def condition_text(condition: Condition, syscall: str, others: Alternative, arch
     is_whole = is_half or family is not None and family.mask and value & family.mask == family.mask
     shown = _value_text(bits_met, family) if is_whole and (bits_met or is_half) else \
         _together(_bits_text(bits_met, family))
-    return f"{name} & {_number(LOW_HALF) if is_half else _mask_text(value, bits, family)} == {shown}"
+    # a mask is shown by the bits that it lacks if these are fewer
+    lacking = ~value & (1 << bits) - 1
+    is_inverse = bool(lacking) and bin(lacking).count("1") < bin(value).count("1")
+    mask = _number(LOW_HALF) if is_half else \
+        "~" * is_inverse + _together(_bits_text(lacking if is_inverse else value, family))
+    return f"{name} & {mask} == {shown}"
 
 
 def alternatives_text(alternatives: Sequence[Alternative], syscall: str, architecture: Architecture) -> str:

@@ -2,7 +2,6 @@
 syscalls, each with the answer that filters are expected to give."""
 from __future__ import annotations
 
-import os
 import re
 from collections.abc import Callable, Iterable, Iterator, Sequence
 
@@ -75,18 +74,6 @@ def add_options(parser: Parser) -> None:
     parser.record_words = record_words
 
 
-def want_a_call(options: Any) -> None:
-    """Rejects files without a syscall; of standard input alone number 0 is answered, as by the program."""
-    if output.has_notes and not options.nr and not options.call and options.calls_from is None:
-        raise program.ToolError("no syscall is given: name it behind the input, with its arguments, or several with "
-                                "--nr NUMBER|NAME or --calls-from FILE")
-    if options.call and os.path.exists(options.call[0]):
-        raise program.ToolError(f"no syscall is given: {inputs.label(options.call[0])} is a file, and several filters "
-                                "go with --nr NUMBER|NAME")
-    if len(options.call) > 7:
-        raise program.ToolError("a syscall has at most six arguments; more filters than one go with --nr")
-
-
 @dataclass(frozen=True)
 class Numbering:
     """How the fields of a record are given: a syscall by a name of its architecture's table or by a number, an argument
@@ -109,26 +96,23 @@ class Numbering:
         """The number, as scf takes it, of a syscall given by name or number."""
         is_x32 = self.abi == architectures.X32
         if re.match("[A-Za-z_]", text):
-            return str(self._named(text) + (FIRST_X32 if is_x32 else 0))
+            is_native = self.abi == architectures.NATIVE
+            table = self.table if is_native else tables.architecture_table(self.abi)
+            if table is None:
+                raise program.ToolError(f"there is no table of --arch {self.architecture}: give the number of '{text}'")
+            # C's constants for it are SYS_read and __NR_read
+            bare = re.sub("^(?:SYS_|__NR_)", "", text)
+            number = table.number_of(bare if table.number_of(text) is None else text)
+            if number is None:
+                near, whose = tables.nearest(bare, table), "the table" if is_native else f"{self.architecture}'s table"
+                raise program.ToolError(f"{whose} has no syscall '{text}'"
+                                        + (f"; the nearest name is '{near}'" if near else ""))
+            return str(number + (FIRST_X32 if is_x32 else 0))
         if text == "-1":
             return hex(SKIPPED)
         number = number_in(text)
         # an x32 number has bit 30, whether or not it was given with it
         return hex(number | FIRST_X32) if is_x32 and number is not None and number < FIRST_X32 else text
-
-    def _named(self, name: str) -> int:
-        is_native = self.abi == architectures.NATIVE
-        table = self.table if is_native else tables.architecture_table(self.abi)
-        if table is None:
-            raise program.ToolError(f"there is no table of --arch {self.architecture}: give the number of '{name}'")
-        # C's constants for it are SYS_read and __NR_read
-        bare = re.sub("^(?:SYS_|__NR_)", "", name)
-        number = table.number_of(bare if table.number_of(name) is None else name)
-        if number is None:
-            near, whose = tables.nearest(bare, table), "the table" if is_native else f"{self.architecture}'s table"
-            raise program.ToolError(f"{whose} has no syscall '{name}'"
-                                    + (f"; the nearest name is '{near}'" if near else ""))
-        return number
 
     def argument(self, text: str) -> str:
         """An argument as scf takes it."""
@@ -141,14 +125,6 @@ def rest_of(options: Any, numbering: Numbering) -> tuple[tuple[str, str], ...]:
     for name, text in texts.items():
         texts[name] = architectures.number_in(text) if name == "arch" else numbering.argument(text)
     return tuple(texts.items())
-
-
-def one_query(options: Any, table: Table) -> Query | None:
-    """The record that a command line gives, or None."""
-    numbering = Numbering(table, options.arch)
-    fields = rest_of(options, numbering)
-    return None if options.nr is None and not fields else \
-        Query((("nr", numbering.number_of("0" if options.nr is None else options.nr)), *fields))
 
 
 def queries(options: Any, table: Table) -> list[Query]:

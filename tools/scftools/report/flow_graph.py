@@ -129,17 +129,6 @@ def _value_text(value: int, node: Node, table: Table) -> str:
     return hex(value)
 
 
-def _edge_text(ranges: Ranges, node: Node, table: Table) -> str:
-    """Which values of a word lead to a target."""
-    shown = []
-    for low, high in ranges[:MOST_RANGES]:
-        first = _value_text(low, node, table)
-        shown.append(first if low == high else f"from {first} on" if high == GREATEST_WORD else
-                     f"{first} to {_value_text(high, node, table)}")
-    more = [f"and {len(ranges) - MOST_RANGES} more ranges"] * (len(ranges) > MOST_RANGES)
-    return "\n".join([*shown, *more])
-
-
 def quoted(text: str) -> str:
     """A text of dot's language, each line of it at the left."""
     lines = [output.escaped(line).replace("\\", "\\\\").replace('"', '\\"') for line in text.split("\n")]
@@ -196,11 +185,18 @@ class Drawing:
             sizes = {target: sum(high - low + 1 for low, high in ranges) for target, ranges in node.targets.items()}
             fallback = max(sizes, key=lambda target: sizes[target], default=None) if node.word is not None else None
             for at, (target, ranges) in enumerate(node.targets.items()):
+                # which values of a word lead there
+                shown = []
+                for low, high in ranges[:MOST_RANGES]:
+                    first = _value_text(low, node, self.table)
+                    shown.append(first if low == high else f"from {first} on" if high == GREATEST_WORD else
+                                 f"{first} to {_value_text(high, node, self.table)}")
+                label = "\n".join([*shown, *[f"and {len(ranges) - MOST_RANGES} more ranges"]
+                                   * (len(ranges) > MOST_RANGES)])
                 if node.word is None:
                     label = ("yes", "no")[at] if len(node.targets) > 1 else ""
-                else:
-                    is_rest = target == fallback and len(ranges) > 1
-                    label = "all others" if is_rest else _edge_text(ranges, node, self.table)
+                elif target == fallback and len(ranges) > 1:
+                    label = "all others"
                 mark = MARK if (index, target) in self.edges else ""
                 yield f"{self.name_of(index)} -> {self.name_of(target)} [label={quoted(label)}{mark}];"
 

@@ -133,13 +133,6 @@ def document(title: str, *pieces: object) -> str:
             + "\n".join(escaped(piece) for piece in pieces) + "\n</body>\n</html>\n")
 
 
-def _quoted(word: str) -> str:
-    """A word as a shell takes it."""
-    if output.escaped(word) == word:
-        return shlex.quote(word)
-    return "$'" + output.escaped(word.replace("\\", "\\\\").replace("'", "\\'")) + "'"
-
-
 def _made_by() -> Iterator[Markup]:
     """When a page is made, by which scf, of which inputs, and by which command, without what writes the page."""
     at, version = output.time_text(time.time()), client.run_scf(["--version"]).text.strip()
@@ -148,7 +141,10 @@ def _made_by() -> Iterator[Markup]:
     yield tag("p", f"{at} · {version}")
     yield listed(joined([inputs.label(name).strip("'"), ": SHA-256 ", tag(
         "code", hashlib.sha256(data).hexdigest(), class_="long")]) for name, data in (inputs.kept or {}).items())
-    yield preformatted([" ".join([program.name(), *map(_quoted, words)])])
+    # (as a shell takes them)
+    quoted = [shlex.quote(word) if output.escaped(word) == word else
+              "$'" + output.escaped(word.replace("\\", "\\\\").replace("'", "\\'")) + "'" for word in words]
+    yield preformatted([" ".join([program.name(), *quoted])])
 
 
 def c_call(call: Call, table: Table) -> str:
@@ -289,21 +285,17 @@ def dangerous(stacks: Sequence[Named], table_of: Table) -> Iterator[Markup]:
         yield tag("p", f"Always denied{' by every stack' * (len(stacks) > 1)}: ", tag("code", ", ".join(denied)), ".")
 
 
-def of_blocks(blocks: Sequence[StackSurface], beside: Sequence[Filter]) -> Iterator[Named]:
-    """The stacks of `scf surface`, and those that they are compared with."""
-    stacks = [block for block in blocks if block.filters]
-    for at, block in enumerate(stacks):
-        known_names, other_names = ([bpf_filter.name for bpf_filter in filters] for filters in (block.filters, beside))
-        name = f"stack {at}" if len(stacks) > 1 else output.some(known_names, 1)
-        yield Named(name, block.surface and ShownSurface.of(block.surface), ", ".join(known_names))
-        if block.beside is not None:
-            other = name if len(stacks) > 1 else output.some(other_names, 1)
-            yield Named(f"beside {other}", ShownSurface.of(block.beside.sides[1]), ", ".join(other_names))
-
-
 def surfaces_page(blocks: Sequence[StackSurface], table_of: Table, beside: Sequence[Filter]) -> str:
-    """The page of blocks."""
-    groups, stacks = Groups(), list(of_blocks(blocks, beside))
+    """The page of the stacks of `scf surface`, and those that they are compared with."""
+    groups, blocks, stacks = Groups(), [block for block in blocks if block.filters], []
+    for at, block in enumerate(blocks):
+        sides = [("", block.filters, block.surface)]
+        if block.beside is not None:
+            sides.append(("beside ", beside, block.beside.sides[1]))
+        for before, filters, surface in sides:
+            names = [bpf_filter.name for bpf_filter in filters]
+            name = f"stack {at}" if len(blocks) > 1 else output.some(names, 1)
+            stacks.append(Named(before + name, surface and ShownSurface.of(surface), ", ".join(names)))
     return document("What these filters allow", tag("h1", "What these filters allow"), *_made_by(),
                     tag("p", OF_SURFACES, class_="faint"), *dangerous(stacks, table_of),
                     *matrix(stacks, groups), tag("h2", "Syscalls by stack"),
