@@ -62,22 +62,17 @@ from ..forms import assembler, counts, refusals, runtimes
 OF_PROFILES = ("native", "strict", "runtime", "caps", "machine", "hot")
 
 
-def assembled(text, options):
-    """Prints the filter that a text spells."""
-    words.refuse(options, OF_PROFILES, f"speaks of a profile, and '{options.profile}' is an assembler's text")
-    done = client.run_scf(["asm"], text)
-    if done.status == program.SUCCESS:
-        if options.json:
-            output.put_json({"status": done.status, "instructions": len(done.out) // 8, "hex": done.out.hex()})
-        else:
-            output.put(done.out)
-        return done.status
-    fault = Fault.read(done.line)
-    sentences = [*assembler.wrong_word(text.decode("latin-1"), fault), *explanation.explain_line(done.line)]
+def put(done, options, code, sentences=(), **members):
+    """Prints a filter, or why scf refuses its source; the status."""
+    fault = None if done.status == program.SUCCESS else Fault.read(done.line)
     if options.json and fault:
         output.put_json({"status": done.status, "fault": fault.as_json(sentences)})
-    else:
+    elif done.status != program.SUCCESS:
         program.say(done.line, *sentences)
+    elif options.json:
+        output.put_json({"status": done.status, "instructions": len(code) // 8, "hex": code.hex(), **members})
+    else:
+        output.put(code)
     return done.status
 
 
@@ -98,7 +93,11 @@ def main():
         parser.keep_off_terminal()
     data = inputs.read_input(options.profile, "text") if options.kind else runtimes.text_of(options)
     if options.kind or assembler.is_text(data):
-        return assembled(data, options)
+        words.refuse(options, OF_PROFILES, f"speaks of a profile, and '{options.profile}' is an assembler's text")
+        done = client.run_scf(["asm"], data)
+        sentences = () if done.status == program.SUCCESS else [
+            *assembler.wrong_word(data.decode("latin-1"), Fault.read(done.line)), *explanation.explain_line(done.line)]
+        return put(done, options, done.out, sentences)
     profile = runtimes.input_in(data, options, options.strict)
     judged = profile.judged(tables.read_table(options.table), options.native)
     hot = [] if options.hot is None else counts.read_counts(options.hot, profile.data, judged, not options.no_bitmap)
@@ -106,18 +105,11 @@ def main():
                           bundles.compilation_bundle(profile.data, judged, hot))
     fault = None if done.status == program.SUCCESS else Fault.read(done.line)
     if fault:
-        sentences = list(refusals.sentences(fault, profile.data, judged, profile.origins))
-        if options.json:
-            output.put_json({"status": done.status, "fault": fault.as_json(sentences)})
-        else:
-            program.say(fault.line, *sentences)
-        return done.status
+        return put(done, options, b"", list(refusals.sentences(fault, profile.data, judged, profile.origins)))
     report, code = verdicts.behind_left_out(done.out)
+    put(done, options, code, skipped=list(report.skipped), other_architectures=list(report.architectures))
     if options.json:
-        output.put_json({"status": done.status, "instructions": len(code) // 8, "hex": code.hex(),
-                         "skipped": list(report.skipped), "other_architectures": list(report.architectures)})
         return done.status
-    output.put(code)
     output.flush()
     facts = profiles.parse_profile(profile.data) if report.skipped else None
     program.say(*explanation.explain_skipped(report, judged, bool(facts and facts.allows_by_default)),

@@ -36,14 +36,7 @@ from ..ask import client, explanation
 from ..cli import words
 from ..forms import operands
 from ..report import decisions, flow_graph, listing
-from ..report.blocks import Block, put_blocks
-
-
-def refused(options, status, line):
-    """scf's line on a filter that can't be listed, or run."""
-    fault = client.Fault.read(line) if options.json else None
-    return Block(status, [line, *output.notes(explanation.explain_line(line))],
-                 {"fault": fault.as_json(explanation.explain_fault(fault))} if fault else {})
+from ..report.blocks import Block, of_fault, put_blocks
 
 
 def members_of(bpf_filter, lines, table, query, path):
@@ -63,10 +56,10 @@ def listed(bpf_filter, options, table, query):
     if options.plain:
         return Block(done.status, [*done.lines, *output.notes(explanation.explain_line(done.line))], {})
     if done.status != program.SUCCESS:
-        return refused(options, done.status, done.line)
+        return of_fault(done.status, done.line)
     path = listing.path_of(data, query.words()) if query is not None else None
     if path is not None and path.decision.answer is None:
-        return refused(options, path.status, path.decision.line)
+        return of_fault(path.status, path.decision.line)
     status = path.status if path else done.status
     if options.json:
         return Block(status, [], members_of(bpf_filter, done.lines, table, query, path))

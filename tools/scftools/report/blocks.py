@@ -54,13 +54,13 @@ class Block:
     stack: Stack | None = None
 
 
-def refused(why: client.Refusal, stack: Sequence[Filter]) -> Block:
-    """What is said of filters that scf refuses."""
+def of_fault(status: int, line: str, stack: Sequence[Filter] = ()) -> Block:
+    """What is said of an input that scf refuses with this line, or of filters."""
     from ..forms import refusals  # pylint: disable=import-outside-toplevel
 
-    fault = why.fault
+    fault = client.Fault.read(line)
     sentences = [*explanation.explain_fault(fault), *refusals.stack_refusals(stack, fault)] if fault else []
-    return Block(why.status, [why.line, *output.notes(sentences)],
+    return Block(status, [line, *output.notes(sentences)],
                  {"fault": fault.as_json(sentences)} if fault else {}, fault is not None and fault.source in OF_ALL)
 
 

@@ -24,7 +24,7 @@ from ..forms import refusals
 from ..forms.filters import Filter
 from ..forms.refusals import faulty_filters
 from . import listing
-from .blocks import Block, refused
+from .blocks import Block, of_fault
 from .listing import Giver
 
 # No name of a syscall and no number is longer; and the most syscalls of a list, for each of which scf is run, and
@@ -189,24 +189,6 @@ class Reply:
     reasons: Callable[[], Iterable[str]] = tuple
     members: Callable[[], dict[str, object]] = dict
 
-    def notes(self, table: Table) -> Iterator[str]:
-        """The lines after scf's."""
-        if self.fault:
-            yield from self.sentences(self.fault)
-        if self.answer:
-            yield from explanation.explain_answer(self.call, self.answer, table)
-        yield from self.reasons()
-
-    def as_json(self, table: Table) -> dict[str, object]:
-        members: dict[str, object] = {"status": self.status}
-        if self.call:
-            members["call"] = self.call.as_json(table)
-        if self.answer:
-            members["answer"] = self.answer.as_json(explains=True)
-        if self.fault:
-            members["fault"] = self.fault.as_json(self.sentences(self.fault))
-        return {**members, **self.members()}
-
 
 def stack_decisions(filters: Sequence[Filter], query: Query) -> Reply:
     """The reply of a stack, with the filter that gives the answer, and the path through it."""
@@ -261,12 +243,17 @@ def profile_decisions(profile: bytes, query: Query, judged: Tables, origins: Seq
 
 def replies(options: Any, table: Table, answer: Callable[[Query], Reply]) -> Block:
     """The replies to the queries of a command line; their status is the worst."""
-    made = [answer(query) for query in queries(options, table)]
-    if options.json:
-        members, lines = {"calls": [reply.as_json(table) for reply in made]}, []
-    else:
-        members, lines = {}, [line for reply in made for line in (*reply.lines, *output.notes(reply.notes(table)))]
-    return Block(client.worst(reply.status for reply in made), lines, members)
+    made, lines, calls = [answer(query) for query in queries(options, table)], [], []
+    for reply in made:
+        sentences = [*reply.sentences(reply.fault)] if reply.fault else []
+        if options.json:
+            calls.append({"status": reply.status, **({"call": reply.call.as_json(table)} if reply.call else {}),
+                          **({"answer": reply.answer.as_json(explains=True)} if reply.answer else {}),
+                          **({"fault": reply.fault.as_json(sentences)} if reply.fault else {}), **reply.members()})
+        else:
+            of_answer = explanation.explain_answer(reply.call, reply.answer, table) if reply.answer else ()
+            lines += [*reply.lines, *output.notes([*sentences, *of_answer, *reply.reasons()])]
+    return Block(client.worst(reply.status for reply in made), lines, {"calls": calls})
 
 
 # What messages call the input, the most bytes that are read of it, and the most rows, which take some seconds.
@@ -348,7 +335,7 @@ def unmet_block(options: Any, table: Table, stack: Sequence[Filter]) -> Block:
     try:
         asker, lookup = questions.Asker(data), regions.Lookup(regions.regions_of_filters(data))
     except Refusal as why:
-        block = refused(why, stack)
+        block = of_fault(why.status, why.line, stack)
         return replace(block, members={"calls": [{"status": why.status, **block.members}]}, is_of_all=False)
     unmet = []
     for row in rows:

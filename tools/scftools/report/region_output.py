@@ -15,7 +15,7 @@ from ..ask.questions import Asker
 from ..ask.regions import FREE, GREATEST_WORD, POINTER, Numbers, Region, Word
 from ..ask.verdicts import UNFINISHED
 from ..forms.filters import Filter
-from .blocks import Block, refused
+from .blocks import Block, of_fault
 from .condition_texts import condition_text, name_of
 
 
@@ -125,7 +125,7 @@ def of_stack(stack: Sequence[Filter], table: Table, architecture: Architecture, 
         region_list = regions.regions_of_filters(data)
         Asker(data, architecture).check(table)
     except Refusal as why:
-        return refused(why, stack)
+        return of_fault(why.status, why.line, stack)
     if region_list is None:
         return Block(program.UNKNOWN, [UNFINISHED], {"verdict": UNFINISHED})
     made = listed(region_list, table, architecture)
