@@ -125,7 +125,7 @@ def main():
 
         return put_blocks(given, lambda stack: region_output.of_stack(
             stack, table, architecture, options.examples, options.json), options.json)
-    from ..report import stack_surfaces  # pylint: disable=import-outside-toplevel
+    from ..report import surface_output  # pylint: disable=import-outside-toplevel
 
     beside = operands.read_stack(options.beside, of_engine, compiles=True)
     size, made = unless_refused(None, os.get_terminal_size, 1), []
@@ -133,7 +133,7 @@ def main():
     width = size and (size.columns or 80)
 
     def judge(stack):
-        made.append(stack_surfaces.surface_of_stack(
+        made.append(surface_output.surface_of_stack(
             stack, beside, table, architecture, architecture.oci == machine and machine in other_abis.OF_MACHINES,
             options.conditions, options.examples))
         return made[-1].block(width, options.json)

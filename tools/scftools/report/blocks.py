@@ -61,7 +61,7 @@ def of_fault(status: int, line: str, stack: Sequence[Filter] = ()) -> Block:
     fault = client.Fault.read(line)
     sentences = [*explanation.explain_fault(fault), *refusals.stack_refusals(stack, fault)] if fault else []
     return Block(status, [line, *output.notes(sentences)],
-                 {"fault": fault.as_json(sentences)} if fault else {}, fault is not None and fault.source in OF_ALL)
+                 {"fault": fault.as_json(sentences)} if fault else {})
 
 
 def put_blocks(given: Sequence[Filter] | Inspection, judge: Callable[[Sequence[Filter]], Block], is_json: bool) -> int:

@@ -336,7 +336,7 @@ def unmet_block(options: Any, table: Table, stack: Sequence[Filter]) -> Block:
         asker, lookup = questions.Asker(data), regions.Lookup(regions.regions_of_filters(data))
     except Refusal as why:
         block = of_fault(why.status, why.line, stack)
-        return replace(block, members={"calls": [{"status": why.status, **block.members}]}, is_of_all=False)
+        return replace(block, members={"calls": [{"status": why.status, **block.members}]})
     unmet = []
     for row in rows:
         region = lookup.of(row.call)

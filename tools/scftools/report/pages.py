@@ -26,8 +26,7 @@ from ..ask.verdicts import Report
 from ..forms.filters import Filter
 from . import row_conditions, surface_output
 from .pair import Pair
-from .stack_surfaces import StackSurface
-from .surface_output import Groups
+from .surface_output import Groups, StackSurface
 from .surfaces import Surface
 
 OF_COMPARISON = ("The first lines are scf's: the verdict is proved for all syscalls that are compared. The others "

@@ -4,7 +4,7 @@ from __future__ import annotations
 from collections.abc import Iterator, Sequence
 
 from ..base import program
-from ..base.values import dataclass, field
+from ..base.values import dataclass, field, replace
 from ..model.architectures import Architecture
 from ..model.calls import ARCHITECTURE, ARGUMENTS, Call
 from ..model.entries import AT_LEAST, AT_MOST, EQUAL, MASKED, NOT_EQUAL, Condition
@@ -15,7 +15,7 @@ from ..ask.questions import Asker
 from ..ask.regions import FREE, GREATEST_WORD, POINTER, Numbers, Region, Word
 from ..ask.verdicts import UNFINISHED
 from ..forms.filters import Filter
-from .blocks import Block, of_fault
+from .blocks import OF_ALL, Block, of_fault
 from .condition_texts import condition_text, name_of
 
 
@@ -125,7 +125,8 @@ def of_stack(stack: Sequence[Filter], table: Table, architecture: Architecture, 
         region_list = regions.regions_of_filters(data)
         Asker(data, architecture).check(table)
     except Refusal as why:
-        return of_fault(why.status, why.line, stack)
+        return replace(of_fault(why.status, why.line, stack),
+                       is_of_all=why.fault is not None and why.fault.source in OF_ALL)
     if region_list is None:
         return Block(program.UNKNOWN, [UNFINISHED], {"verdict": UNFINISHED})
     made = listed(region_list, table, architecture)

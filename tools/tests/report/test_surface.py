@@ -27,7 +27,7 @@ from scftools.model import answers, architectures, tables
 from scftools.model.calls import Call
 from scftools.ask import client, questions
 from scftools.forms import stacks
-from scftools.report import blocks, stack_surfaces, surface_output, surfaces
+from scftools.report import blocks, surface_output, surfaces
 
 READ, WRITE, GETPID, SOCKET, EXIT_GROUP = 0, 1, 39, 41, 231
 NAMES = {"read": READ, "write": WRITE, "getpid": GETPID, "socket": SOCKET, "exit_group": EXIT_GROUP, "too": READ}
@@ -584,7 +584,7 @@ class Beside(Case):
     """Two surfaces beside each other."""
 
     def pairs(self, name, name_beside):
-        beside = stack_surfaces.compared_surfaces(surface_of(name), surface_of(name_beside))
+        beside = surface_output.compared_surfaces(surface_of(name), surface_of(name_beside))
         return beside.status, [(pair.number, *(row.said for row in pair.rows)) for pair in beside.pairs], beside
 
     def test_each_two(self):
@@ -606,7 +606,7 @@ class Beside(Case):
                 ("a condition", by_argument(41, EPERM, ALLOW), ("ERRNO 1", "ALLOW")),
                 ("an errno", by_argument(40, 0x50026, ALLOW), ("ERRNO 1", "ERRNO 38")),
                 ("a logged syscall", by_argument(40, EPERM, LOG), ("ALLOW", "LOG"))):
-            beside = stack_surfaces.compared_surfaces(of(plain), of([of_number(SOCKET, default, ALLOW)]))
+            beside = surface_output.compared_surfaces(of(plain), of([of_number(SOCKET, default, ALLOW)]))
             (pair,) = beside.pairs
             self.assertEqual((beside.status, pair.number, *(row.said for row in pair.rows)), (1, SOCKET, D, D), name)
             verdict = pair.line.verdict
@@ -615,7 +615,7 @@ class Beside(Case):
 
     def beside(self, filters, others, table=OWN):
         """The status, and the numbers of the syscalls that differ with what is said of each side."""
-        beside = stack_surfaces.compared_surfaces(of(filters, table=table), of(others, table=table))
+        beside = surface_output.compared_surfaces(of(filters, table=table), of(others, table=table))
         return beside.status, [(pair.number, *(row.said for row in pair.rows)) for pair in beside.pairs], beside
 
     def test_the_same(self):

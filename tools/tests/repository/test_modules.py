@@ -24,7 +24,7 @@ LATE = {"ast", "ctypes", "difflib", "glob", "hashlib", "importlib", "json", "pic
         "scftools.ask.questions", "scftools.ask.regions", "scftools.forms.filter_loads",
         "scftools.forms.lists.sandboxes", "scftools.forms.refusals", "scftools.forms.runtimes", "scftools.lint.sarif",
         "scftools.logs.cores", "scftools.report.pages", "scftools.report.region_output",
-        "scftools.report.row_conditions", "scftools.report.stack_surfaces", "scftools.report.surface_output"}
+        "scftools.report.row_conditions", "scftools.report.surface_output"}
 
 # The packages of scftools in their order, and what looks at a process or a unit.
 ROOMS = "base model ask cli forms report lint logs commands".split()
