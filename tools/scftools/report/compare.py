@@ -14,10 +14,10 @@ from ..model.profiles import Origin
 from ..model.tables import Table, Tables
 from ..ask import client, other_abis, reasons, regions, verdicts
 from ..ask.client import Fault, Refusal
-from ..ask.differences import EVERY_RECORD, Differences, beyond
+
 from ..ask.other_abis import AbiAccess
 from ..ask.reasons import Reason
-from ..ask.regions import Region
+from ..ask.regions import EVERY_RECORD, Differences, Region, beyond
 from ..ask.verdicts import (ALL, CALLS, FOR_OTHER_ABI, LISTED, NATIVE_SCOPE, NO_LESS, RELATIONS, SAME, SCOPES,
                             UNDETERMINED, UNFINISHED, NamedCall, Report, Verdict, checked)
 from ..forms.filters import Filter

@@ -15,7 +15,7 @@ from ..model.profiles import Origin
 from ..model.tables import Table, Tables
 from ..ask import client, regions, verdicts
 from ..ask.client import Fault, Refusal
-from ..ask.differences import EVERY_RECORD, Differences, span_of
+from ..ask.regions import EVERY_RECORD, Differences, span_of
 from ..ask.verdicts import (ALL, CALLS, FAILING_WORDS, LESS, MORE, NO_LESS, NO_MORE, RELATIONS, SCOPES, UNFINISHED,
                             NamedCall, Report, Verdict, checked)
 from ..forms.filters import Filter

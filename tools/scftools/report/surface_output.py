@@ -16,8 +16,8 @@ from ..model.dangerous_calls import dangerous
 from ..model.tables import Table, Tables
 from ..ask import client, explanation, other_abis, questions
 from ..ask.client import Fault, Refusal
-from ..ask.differences import span_of
 from ..ask.explanation import join_names
+from ..ask.regions import span_of
 from ..ask.verdicts import SAME, UNDECIDED, UNFINISHED, NamedCall, Verdict
 from ..forms import refusals
 from ..forms.filters import Filter

@@ -12,8 +12,8 @@ from scftools.base.program import ToolError
 from scftools.model import architectures, tables
 from scftools.model.answers import Answer
 from scftools.model.calls import Call
-from scftools.ask import differences, regions
-from scftools.ask.differences import EVERY_RECORD, Differences, span_of
+from scftools.ask import regions
+from scftools.ask.regions import EVERY_RECORD, Differences, span_of
 from scftools.ask.verdicts import ALL, CALLS, NATIVE_SCOPE, NO_LESS, NO_MORE, SAME, UNDECIDED, Verdict
 from scftools.forms.filters import Filter
 from scftools.report.compare import Comparison, StackComparison
@@ -102,7 +102,7 @@ class Parsed(unittest.TestCase):
         numbers = (0, 1, X32 - 1, X32, X32 + 1, 0xFFFFFFFF)
         values = (0, 7, 8, 9, 0x40000002, 0x40000003, 0x40000004, X86_64 - 1, X86_64, X86_64 + 1, 0xFFFFFFFF)
         for names in ([], [NATIVE], ["SCMP_ARCH_X32"], ["SCMP_ARCH_X32", NATIVE], ["what", "SCMP_ARCH_MIPS", NATIVE]):
-            spans = list(differences.beyond(names))
+            spans = list(regions.beyond(names))
             own = [span_of(name) for name in names if name != "what"]
             for record in itertools.product(values, numbers):
                 self.assertEqual([all(low <= value <= high for value, (low, high) in zip(record, span))
