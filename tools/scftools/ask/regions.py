@@ -83,27 +83,25 @@ class Word:
 
     def within(self, first: int, last: int) -> list[tuple[int, int]]:
         """The possible values in a range, as intervals. Raises TooManyRanges."""
-        intervals = [(max(low, first), min(high, last))
-                     for low, high in self.intervals if low <= last and high >= first]
-        return [interval for part in intervals
-                for interval in self._split(*part)] if self.mask or self.refuted else intervals
-
-    def _split(self, low: int, high: int) -> Iterator[tuple[int, int]]:
-        pending, count = [(low, high)], 0
-        while pending:
-            low, high = pending.pop()
-            same = -1 << (low ^ high).bit_length()
-            refuted = [mask & ~same for mask, bits in self.refuted if not (low ^ bits) & mask & same]
-            if (low ^ self.bits) & self.mask & same or 0 in refuted:
-                continue
-            if not self.mask & ~same and not refuted:
-                count += 1
-                yield low, high
-            else:
-                middle = high & same >> 1
-                pending += (middle, high), (low, middle - 1)
-            if count + len(pending) > MOST_INTERVALS:
-                raise TooManyRanges
+        parts = [(max(low, first), min(high, last)) for low, high in self.intervals if low <= last and high >= first]
+        intervals = [] if self.mask or self.refuted else parts
+        for part in parts if self.mask or self.refuted else ():
+            pending, count = [part], 0
+            while pending:
+                low, high = pending.pop()
+                same = -1 << (low ^ high).bit_length()
+                refuted = [mask & ~same for mask, bits in self.refuted if not (low ^ bits) & mask & same]
+                if (low ^ self.bits) & self.mask & same or 0 in refuted:
+                    continue
+                if not self.mask & ~same and not refuted:
+                    count += 1
+                    intervals.append((low, high))
+                else:
+                    middle = high & same >> 1
+                    pending += (middle, high), (low, middle - 1)
+                if count + len(pending) > MOST_INTERVALS:
+                    raise TooManyRanges
+        return intervals
 
 
 FREE = Word()

@@ -72,8 +72,16 @@ def read_words():
     return parser, options
 
 
-def resolved(data, path, options):
-    """The profile that an engine makes of its own, or as a runtime applies it, and what is left out of it."""
+def side_of(path, options):
+    """What a word names: a process's filters, a filter, or a profile, as it is or as an engine or a runtime makes it;
+    and what is left out of the profile."""
+    if operands.is_process(path) and not options.profiles:
+        return operands.read(path, options), []
+    data = profile_inputs.read_text(path, "engine's profile" if options.is_made else None)
+    if not options.profiles and not profile_inputs.looks_like_profile(data):
+        return [filters.filter_in(path, data)], []
+    if not options.is_made:
+        return profile_inputs.profile_in(data, path, is_runtimes=True).read_by(options.runtime), []
     notes = []
     try:
         value = engines.parse_json(profile_inputs.plain(data, path))
@@ -84,18 +92,6 @@ def resolved(data, path, options):
         return profile_inputs.ProfileInput(engines.to_bytes(profile), origins), notes
     except profiles.Refused as why:
         raise program.ToolError(f"{path}: {why}") from why
-
-
-def side_of(path, options):
-    """What a word names, a process's filters, a filter or a profile; and what is left out of the profile."""
-    if operands.is_process(path) and not options.profiles:
-        return operands.read(path, options), []
-    data = profile_inputs.read_text(path, "engine's profile" if options.is_made else None)
-    if not options.profiles and not profile_inputs.looks_like_profile(data):
-        return [filters.filter_in(path, data)], []
-    if options.is_made:
-        return resolved(data, path, options)
-    return profile_inputs.profile_in(data, path, is_runtimes=True).read_by(options.runtime), []
 
 
 def main():

@@ -116,28 +116,6 @@ def read_words():
     return options
 
 
-def tell(options, needs, judges):
-    """Prints what was found, and gives the status."""
-    if options.least:
-        status, text, remarks = least_profile.make(needs, judges, options.widen)
-        if options.kubernetes is not None:
-            text = kubernetes.printed(json.loads(text), options.kubernetes)
-        output.put(text)
-        output.flush()
-        program.say(*remarks)
-        return status
-    if options.counts:
-        output.put_lines(requirements.count_lines(needs))
-        output.flush()
-        program.say(*requirements.log_remarks(needs))
-        return program.UNKNOWN if needs.isnt_whole else program.SUCCESS
-    if options.json:
-        output.put_json(requirements.needs_json(needs, judges.tables[architectures.NATIVE]))
-    else:
-        output.put_lines(requirements.needs_lines(needs))
-    return needs.status
-
-
 def main():
     options = read_words()
     named = None if options.arch is None else architectures.judged_in(options.arch)
@@ -146,7 +124,24 @@ def main():
         raise program.ToolError(f"'{options.profile}' is a strace log, not a profile: LOG comes before PROFILE")
     judges = requirements.Judges(profiles.read_as(profile, options.runtime or profiles.STRICT), named, options.table)
     try:
-        return tell(options, requirements.read_needs(options.logs, judges, options.runtime), judges)
+        needs = requirements.read_needs(options.logs, judges, options.runtime)
+        if options.least:
+            status, text, remarks = least_profile.make(needs, judges, options.widen)
+            if options.kubernetes is not None:
+                text = kubernetes.printed(json.loads(text), options.kubernetes)
+            output.put(text)
+        elif options.counts:
+            status, remarks = program.UNKNOWN if needs.isnt_whole else program.SUCCESS, requirements.log_remarks(needs)
+            output.put_lines(requirements.count_lines(needs))
+        else:
+            status, remarks = needs.status, ()
+            if options.json:
+                output.put_json(requirements.needs_json(needs, judges.tables[architectures.NATIVE]))
+            else:
+                output.put_lines(requirements.needs_lines(needs))
+        output.flush()
+        program.say(*remarks)
+        return status
     except client.Refusal as why:
         output.put_lines(refusals.lines_of(why, judges.profile, judges.listed))
         return why.status

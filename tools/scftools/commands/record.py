@@ -68,20 +68,6 @@ def read_words():
     return options
 
 
-def least(options, judges):
-    """Records the program, and writes the smallest profile that allows what it did; the program's status."""
-    judges.of(judges.own.oci)
-    with tempfile.TemporaryDirectory(prefix="scf-record-") as folder:
-        log = os.path.join(folder, "log")
-        ended = tracing.run_traced(log, RECORDING_OPTIONS, options.traced)
-        needs = requirements.read_needs([log], judges, options.runtime)
-    status, text, remarks = least_profile.make(needs, judges, options.widen)
-    with open(options.file, "w", encoding="utf-8") as file:
-        file.write(text)
-    program.say(*remarks)
-    return ended or (status if status == program.NEGATIVE else program.SUCCESS)
-
-
 def main():
     options = read_words()
     if options.profile is None:
@@ -89,7 +75,16 @@ def main():
     profile = profile_inputs.read_profile(options.profile, None).data
     judges = requirements.Judges(profiles.read_as(profile, options.runtime or profiles.STRICT), None, None)
     try:
-        return tracing.end_as(least(options, judges))
+        judges.of(judges.own.oci)
+        with tempfile.TemporaryDirectory(prefix="scf-record-") as folder:
+            log = os.path.join(folder, "log")
+            ended = tracing.run_traced(log, RECORDING_OPTIONS, options.traced)
+            needs = requirements.read_needs([log], judges, options.runtime)
+        status, text, remarks = least_profile.make(needs, judges, options.widen)
+        with open(options.file, "w", encoding="utf-8") as file:
+            file.write(text)
+        program.say(*remarks)
+        return tracing.end_as(ended or (status if status == program.NEGATIVE else program.SUCCESS))
     except client.Refusal as why:
         output.put_lines(refusals.lines_of(why, judges.profile, judges.listed))
         return why.status

@@ -3,7 +3,7 @@ from __future__ import annotations
 
 import functools
 import itertools
-from collections.abc import Sequence
+from collections.abc import Callable, Sequence
 
 from ..base import program
 from ..base.values import Any, dataclass, field, replace
@@ -330,9 +330,10 @@ class ProfileComparison(Pair):
         return report.verdict.status, replace(report, skipped=(*skipped,), architectures=(*others,))
 
     @functools.cached_property
-    def _lookups(self) -> dict[int, regions.Lookup]:
+    def _lookup(self) -> Callable[[int], regions.Lookup]:
         """The regions of a side, where the differences don't tell."""
-        return {}
+        return functools.lru_cache(None)(lambda at: regions.Lookup(
+            regions.regions_of_profile(self.sources[at].data, self.judged[at])))
 
     def reason_of(self, at: int, call: Call, region: Region | None = None) -> Reason:
         """A profile's answer to a syscall and its reason: by the differences, of which one may be known to have it, by
@@ -340,12 +341,9 @@ class ProfileComparison(Pair):
         region = region or self.differences.of(call)
         if region is not None and (at == 1 or not self.stacks):
             return reasons.region_reason((region.beside if at else region).line)
-        source, judged = self.sources[at], self.judged[at]
-        if at not in self._lookups:
-            self._lookups[at] = regions.Lookup(regions.regions_of_profile(source.data, judged))
-        region = self._lookups[at].of(call)
-        return reasons.profile_reason(source.data, judged, call.words()) if region is None else \
-            reasons.region_reason(region.line)
+        region = self._lookup(at).of(call)
+        return reasons.region_reason(region.line) if region is not None else \
+            reasons.profile_reason(self.sources[at].data, self.judged[at], call.words())
 
 
 def compare_unit(comparisons: Sequence[Pair], scope: str | None) -> tuple[Any, int, Report]:

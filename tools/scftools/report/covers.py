@@ -66,16 +66,6 @@ class _Listing:
         mask = self.sets.widest_mask(values, index, value, lowest, kept_bits)
         return Condition(index, "SCMP_CMP_MASKED_EQ", mask, value & mask)
 
-    def _widest(self, values: int, index: int, value: int) -> Condition | None:
-        """The widest condition on an argument that holds of a value, and only of some values; None if of all."""
-        if values == FULL_SET:
-            return None
-        candidates = [Condition(index, "SCMP_CMP_EQ", value, 0),
-                      *(each for each in _ranges(self.sets, values, index)
-                        if HOLDS[each.op](value, each.value, each.two)),
-                      self._cube(values, index, value)]
-        return max(candidates, key=lambda candidate: self.sets.weight(self.sets.of_condition(candidate)))
-
     def _alternative(self, arguments: Sequence[int], order: Sequence[int]) -> Alternative:
         """An alternative that holds of these arguments, made as wide as the set allows, in this order."""
         sets = self.sets
@@ -85,7 +75,13 @@ class _Listing:
             others = sets.of_conditions(condition for at, condition in conditions.items() if at != index
                                         and condition is not None)
             values = sets.complement(sets.of_argument(sets.both(others, self.outside), index))
-            conditions[index] = self._widest(values, index, arguments[index])
+            value, candidates = arguments[index], []
+            if values != FULL_SET:
+                ranges = (each for each in _ranges(sets, values, index) if HOLDS[each.op](value, each.value, each.two))
+                candidates = [Condition(index, "SCMP_CMP_EQ", value, 0), *ranges, self._cube(values, index, value)]
+            # the widest one that holds of the value, and only of some values; none if of all
+            conditions[index] = max(candidates, key=lambda candidate: sets.weight(sets.of_condition(candidate)),
+                                    default=None)
         return tuple(condition for condition in conditions.values() if condition is not None)
 
     def find(self) -> list[Alternative] | None:

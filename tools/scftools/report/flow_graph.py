@@ -16,7 +16,7 @@ from ..model.bpf import BY_X, JEQ, JGE, JGT, JUMP, RETURN_CONSTANT
 from ..model.calls import ARCHITECTURE, NUMBER
 from ..model.tables import Table
 from ..ask.regions import GREATEST_WORD
-from .listing import RETURNS, Instruction, Known, instructions, known_facts, name_of, word_name
+from .listing import RETURNS, WORDS, Instruction, Known, instructions, known_facts, name_of
 
 # The most ranges that an edge names.
 MOST_RANGES = 12
@@ -176,7 +176,7 @@ class Drawing:
             label, tests = [self.lines[at] for at in before], len(node.indexes) - len(before)
             if node.word is not None:
                 shown = f"{tests} tests, the last is {max(node.indexes)}" if tests > 1 else f"{node.indexes[-1]}"
-                label.append(f"{word_name(node.word)}? ({shown})")
+                label.append(f"{WORDS[node.word]}? ({shown})")
             text = "\n".join(label)
             yield f"{name} [label={quoted(text)}{mark}];"
 

@@ -17,8 +17,10 @@ from ..ask import client, verdicts
 from ..ask.verdicts import Decision
 from ..forms.filters import Filter
 
-WORDS = {NUMBER: "the syscall number", ARCHITECTURE: "the architecture", 2: "the instruction pointer, low half",
-         3: "the instruction pointer, high half"}
+# The names of a record's words, by their indexes.
+WORDS = ["the syscall number", "the architecture", *(
+    f"{name}, {half} half" for name in ("the instruction pointer", *(f"argument {index}" for index in range(6)))
+    for half in ("low", "high"))]
 # The most architectures whose names of one number are listed.
 MOST_NAMED = 3
 # linux/bpf_common.h: instruction classes, and the one BPF_MISC code that changes the accumulator.
@@ -134,16 +136,10 @@ def name_of(k: int, its: frozenset[int | None], table: Table) -> str:
                        for number in sorted(its, key=lambda number: (number != X86_64, number)))
 
 
-def word_name(word: int) -> str:
-    """The name of a word of a record, by its index."""
-    at = word - ARGUMENTS
-    return WORDS.get(word) or f"argument {at // 2}, {'high' if at % 2 else 'low'} half"
-
-
 def _meaning(index: int, insn: Instruction, facts: Known, table: Table, count: int) -> str | None:
     """The comment on an instruction, or None."""
     if insn.word is not None:
-        return word_name(insn.word)
+        return WORDS[insn.word]
     if insn.code == RETURN_CONSTANT:
         action, data = ACTIONS.get(insn.k >> 16, "an unknown action"), insn.k & 0xFFFF
         return Answer(action, data).named() if data or action == "ERRNO" else action

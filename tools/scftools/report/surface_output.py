@@ -236,6 +236,19 @@ class Pair:
         call = constants.call_text(self.names[0], verdict.call.arguments)
         return f"such as {call}: {verdict.filters.named()} {BESIDE} {verdict.profile.named()}"
 
+    def texts(self, is_in_table: bool) -> list[str]:
+        """Both sides, each with its examples."""
+        return [" ".join([row.said, *details(row, is_in_table)]) for row in self.rows]
+
+    def as_json(self, groups: Groups) -> dict[str, object]:
+        verdict, rows = self.line.verdict, dict(zip(("filter", BESIDE), self.rows))
+        members: dict[str, object] = {side: row_json(row, groups) for side, row in rows.items()}
+        if verdict.call is None or verdict.filters is None or verdict.profile is None:
+            return {**members, "verdict": verdict.word}
+        return {**members, "verdict": verdict.word, "example": {
+            "arguments": [hex(argument) for argument in verdict.call.arguments],
+            "filter": verdict.filters.as_json(), BESIDE: verdict.profile.as_json()}}
+
 
 @dataclass(frozen=True)
 class Beside:
@@ -292,11 +305,6 @@ def compared_surfaces(*sides: Surface) -> Beside:
     return Beside(sides, pairs, of_unnamed, of_foreign)
 
 
-def _texts(pair: Pair, is_in_table: bool) -> list[str]:
-    """Both sides of a pair, each with its examples."""
-    return [" ".join([row.said, *details(row, is_in_table)]) for row in pair.rows]
-
-
 def _as_table(beside: Beside, groups: Groups, width: int) -> Iterator[str]:
     of_groups = grouped(beside.pairs, groups)
     before = max((len(group) for group, _ in of_groups), default=0) + 2
@@ -306,7 +314,7 @@ def _as_table(beside: Beside, groups: Groups, width: int) -> Iterator[str]:
         if before == 1:
             yield group
         for pair in pairs:
-            text, text_beside = _texts(pair, True)
+            text, text_beside = pair.texts(True)
             parts = ([*pair.names, f"({pair.number})"], text.split(), [f"{BESIDE}:", *text_beside.split()],
                      pair.example.split())
             for at, words in enumerate(parts):
@@ -328,23 +336,13 @@ def lines_beside(beside: Beside, groups: Groups, width: int | None) -> Iterator[
     else:
         for group, pairs in grouped(beside.pairs, groups):
             for pair in pairs:
-                text, text_beside = _texts(pair, False)
+                text, text_beside = pair.texts(False)
                 yield " ".join(filter(None, [group, str(pair.number), ",".join(pair.names), text, BESIDE, text_beside,
                                              pair.example]))
     for subject, differ in (("numbers without a name", beside.unnamed_differ),
                             ("syscalls of other ABIs", beside.foreign_differ)):
         if differ:
             yield from fitted([f"{subject}: some get different answers"], width)
-
-
-def pair_json(pair: Pair, groups: Groups) -> dict[str, object]:
-    verdict = pair.line.verdict
-    members: dict[str, object] = {"filter": row_json(pair.rows[0], groups), "beside": row_json(pair.rows[1], groups),
-                                  "verdict": verdict.word}
-    if verdict.call is not None and verdict.filters is not None and verdict.profile is not None:
-        members["example"] = {"arguments": [hex(argument) for argument in verdict.call.arguments],
-                              "filter": verdict.filters.as_json(), "beside": verdict.profile.as_json()}
-    return members
 
 
 @dataclass(frozen=True)
@@ -373,7 +371,7 @@ class StackSurface:
             members = surface_json(self.surface, groups)
             if self.beside is not None:
                 members["beside"] = {**surface_json(self.beside.sides[1], groups),
-                                     "differs": [pair_json(pair, groups) for pair in self.beside.pairs],
+                                     "differs": [pair.as_json(groups) for pair in self.beside.pairs],
                                      "foreign_differ": self.beside.foreign_differ,
                                      "unnamed_differ": self.beside.unnamed_differ}
             return Block(self.status, [], members)

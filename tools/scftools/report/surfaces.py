@@ -137,21 +137,15 @@ class Unnamed:
         elif row.possible != {DENIED}:
             self.undecided += count
 
-    @property
-    def _as_shown(self) -> str:
-        return f", such as {self.shown.call.number}: {self.shown.answer}" if self.shown is not None else ""
-
     def describe(self) -> str:
         if self.are_allowed:
             return "all allowed"
-        if self.undecided:
-            least = f"at least {self.not_denied} of {self.count} are allowed or delegated with some arguments" \
-                    f"{self._as_shown}; " if self.not_denied else ""
-            return f"{least}{self.undecided} are undecided"
         if not self.not_denied:
-            return "all denied"
+            return f"{self.undecided} are undecided" if self.undecided else "all denied"
         which = f"all {self.count}" if self.not_denied == self.count else f"{self.not_denied} of {self.count}"
-        return f"{which} are allowed or delegated with some arguments{self._as_shown}"
+        example = f", such as {self.shown.call.number}: {self.shown.answer}" if self.shown is not None else ""
+        text = f"{which} are allowed or delegated with some arguments{example}"
+        return f"at least {text}; {self.undecided} are undecided" if self.undecided else text
 
     def as_json(self) -> dict[str, object]:
         members: dict[str, object] = {"count": self.count, "not_denied": self.not_denied, "undecided": self.undecided,
