@@ -17,8 +17,7 @@ from ..ask.reasons import Reason
 from ..ask.regions import Region
 from ..ask.verdicts import (FAILING_WORDS, LESS, MORE, OTHERWISE, SAME, SAME_DISPOSITION, UNDECIDED, UNFINISHED, Report,
                             Verdict, relation_json)
-from .compare import ProfileComparison
-from .pair import Side
+from .compare import ProfileComparison, Side
 
 OLD, NEW = "old", "new"
 BOTH_WAYS = (OLD, NEW), (NEW, OLD)

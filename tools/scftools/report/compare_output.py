@@ -21,9 +21,9 @@ from ..ask.verdicts import (ALL, CALLS, DIFFERS, LESS, LISTED, MORE, NO_LESS, NO
 from ..forms import refusals
 from . import listing
 from .blocks import Block
-from .compare import Comparison, ProfileComparison, StackComparison, compare_unit
+from .compare import Comparison, Pair, ProfileComparison, StackComparison, compare_unit
 from .listing import Giver
-from .pair import Pair
+
 
 # What is printed of syscalls that fail a relation.
 FAILED_RELATIONS = {DIFFERS: "that differ", MORE: "answered more permissively than by {}",

@@ -11,7 +11,7 @@ from ..model import bundles
 from ..model.answers import ACTIONS, FIRST_X32, X86_64, Answer
 from ..model.architectures import shown_name
 from ..model.bpf import BY_X, INSTRUCTION, JEQ, JGE, JGT, JSET, JUMP, LOAD_WORD, RETURN_CONSTANT
-from ..model.calls import ARCHITECTURE, ARGUMENTS, END, NUMBER, Call, number_text
+from ..model.calls import ARCHITECTURE, END, NUMBER, Call, number_text
 from ..model.tables import Table
 from ..ask import client, verdicts
 from ..ask.verdicts import Decision

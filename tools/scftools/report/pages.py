@@ -25,7 +25,8 @@ from ..ask import client
 from ..ask.verdicts import Report
 from ..forms.filters import Filter
 from . import row_conditions, surface_output
-from .pair import Pair
+from .compare import Pair
+
 from .surface_output import Groups, StackSurface
 from .surfaces import Surface
 
