@@ -7,7 +7,7 @@ import re
 from collections.abc import Iterator, Sequence
 
 from ..base import output, program
-from ..model import architectures, tables
+from ..model import architectures, profiles, tables
 from ..model.answers import X86_64, Answer
 from ..model.calls import Call
 from ..model.tables import Table, Tables
@@ -72,8 +72,8 @@ def explain_call(call: Call, table: Table, is_native: bool | None = None) -> Ite
         yield f"--native leaves out {what}"
 
 
-def explain_skipped(report: Report, judged: Tables, default_lets_through: bool) -> Iterator[str]:
-    """Lines on the skipped names, and on what is lost with them."""
+def explain_skipped(report: Report, judged: Tables, profile: bytes) -> Iterator[str]:
+    """Lines on the names of a profile that were skipped, and on what is lost with them."""
     if not report.skipped:
         return
     classified = tables.classify(report.skipped, judged)
@@ -88,7 +88,8 @@ def explain_skipped(report: Report, judged: Tables, default_lets_through: bool) 
     more = max(len(classified.left_out) - tables.MOST_LISTED, 0) + max(len(classified.unknown) - tables.MOST_LISTED, 0)
     if more:
         yield f"more such names: {more}"
-    if default_lets_through and (classified.left_out or classified.unknown):
+    facts = profiles.parse_profile(profile)
+    if facts is not None and facts.allows_by_default and (classified.left_out or classified.unknown):
         yield "the profile's default allows syscalls: the rules for these names are lost"
 
 

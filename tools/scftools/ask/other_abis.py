@@ -13,7 +13,7 @@ from ..model.answers import ALLOWED, KILL_PROCESS, Answer
 from ..model.architectures import JUDGED, NATIVE, Architecture
 from ..model.calls import NO_CALL, Call, number_text
 from ..model.tables import Table
-from .explanation import join_names
+
 from .questions import IS_DENIED, Asker
 from .regions import Numbers, Region
 from .verdicts import MORE, NO_MORE, Verdict
@@ -96,11 +96,3 @@ def machine_access(filters: Sequence[bytes], filter_regions: Sequence[Region] | 
 def are_none(accesses: Sequence[AbiAccess]) -> bool:
     """Whether it is proved that every syscall of these ABIs is denied."""
     return all(access.are_denied for access in accesses)
-
-
-def access_lines(accesses: Sequence[AbiAccess]) -> list[str]:
-    """A line for each ABI of a machine, or one for all that are denied."""
-    if are_none(accesses):
-        names = join_names([access.abi.name for access in accesses])
-        return [f"other ABIs: every {names} syscall is denied; the kernel has no others"]
-    return [*(access.describe() for access in accesses), "other ABIs: the kernel has no others"]

@@ -53,7 +53,7 @@ Examples:
     scf compile filter.s | scf surface -
 """
 from ..base import inputs, output, program
-from ..model import bundles, profiles, tables
+from ..model import bundles, tables
 from ..ask import client, explanation, verdicts
 from ..ask.client import Fault
 from ..cli import words
@@ -111,8 +111,7 @@ def main():
     if options.json:
         return done.status
     output.flush()
-    facts = profiles.parse_profile(profile.data) if report.skipped else None
-    program.say(*explanation.explain_skipped(report, judged, bool(facts and facts.allows_by_default)),
+    program.say(*explanation.explain_skipped(report, judged, profile.data),
                 *(f"{line}: the filter kills a process that makes such a syscall"
                   for line in explanation.explain_architectures(report)))
     return done.status

@@ -44,8 +44,7 @@ from ..forms.profile_inputs import ProfileInput
 from ..report import blocks, changes, compare
 from ..report.compare_output import Judgement
 
-# The members of an object on two profiles that scf doesn't compare.
-OF_FAULT = "status", "relation", "verdict", "fault"
+
 OPERAND = "a filter or a profile, pid:N or unit:NAME; - is standard input"
 
 
@@ -118,7 +117,9 @@ def main():
             else:
                 output.put_lines(changes.change_lines(found))
             return found.verdict.status
+        # (scf doesn't compare them)
         block = judgement.block(options.json)
-        members = {name: value for name, value in block.members.items() if name in OF_FAULT}
+        members = {name: value for name, value in block.members.items()
+                   if name in ("status", "relation", "verdict", "fault")}
         return blocks.put_blocks([], lambda _: replace(block, members=members), options.json)
     return blocks.put_blocks(new, lambda side: judge(side).block(options.json), options.json)

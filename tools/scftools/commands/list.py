@@ -39,16 +39,6 @@ from ..report import decisions, flow_graph, listing
 from ..report.blocks import Block, of_fault, put_blocks
 
 
-def members_of(bpf_filter, lines, table, query, path):
-    """The listing as members of an object; given a syscall with its answer and the instructions that run on it."""
-    instructions = [{"index": index, "text": line, "meaning": meaning}
-                    for index, (line, meaning) in enumerate(zip(lines, listing.meanings(bpf_filter.data, table)))]
-    of_call = {} if path is None else {"call": query.call.as_json(table),
-                                       "path": listing.Giver(bpf_filter, True, path).as_json(),
-                                       "answer": path.decision.answer.as_json(explains=True)}
-    return {"instructions": instructions, **of_call}
-
-
 def listed(bpf_filter, options, table, query):
     """The listing of a filter."""
     data = bpf_filter.data
@@ -61,9 +51,14 @@ def listed(bpf_filter, options, table, query):
     if path is not None and path.decision.answer is None:
         return of_fault(path.status, path.decision.line)
     status = path.status if path else done.status
+    explained = list(enumerate(zip(done.lines, listing.meanings(data, table))))
     if options.json:
-        return Block(status, [], members_of(bpf_filter, done.lines, table, query, path))
-    lines = list(listing.listing_lines(enumerate(zip(done.lines, listing.meanings(data, table))), len(done.lines)))
+        of_call = {} if path is None else {"call": query.call.as_json(table),
+                                           "path": listing.Giver(bpf_filter, True, path).as_json(),
+                                           "answer": path.decision.answer.as_json(explains=True)}
+        return Block(status, [], {"instructions": [{"index": index, "text": line, "meaning": meaning}
+                                                   for index, (line, meaning) in explained], **of_call})
+    lines = list(listing.listing_lines(explained, len(explained)))
     if options.dot:
         drawing = flow_graph.Drawing(flow_graph.Graph(data), lines, table, path.indexes if path else ())
         return Block(status, drawing.text().splitlines(), {})

@@ -214,8 +214,9 @@ def judge(stack, options, architecture, table):
             program.say(why.line, *sentences)
         return Block(why.status, [], {"fault": why.fault.as_json(sentences)} if why.fault is not None else {})
     if options.json:
-        members = result.as_json()
-        return Block(members.pop("status"), [], members)
+        remarks = [line[2:] for line in result.text.split("\n") if line.startswith("# ")]
+        return Block(result.status, [], {"remarks": [*remarks, *result.remarks], "profiles": [
+            {"relations": list(proved.relations), "profile": proved.profile} for proved in result.profiles]})
     program.say(*result.remarks)
     return Block(result.status, text.splitlines(), {})
 

@@ -163,15 +163,6 @@ def line_of(change: Change, sides: dict[str, Side]) -> str:
     return " ".join(words)
 
 
-def _conditions(sides: dict[str, Side], change: Change) -> Iterator[str]:
-    """The conditions of both profiles' entries that the example meets, and the example as C would have it."""
-    for name, reason in change.reasons.items():
-        side = sides[name]
-        yield from (f"{name}: {line}" for line in reasons.conditions_met(reason, side.profile, change.call))
-    if change.names and change.call is not None and any(change.call.arguments):
-        yield f"the syscall is {constants.call_text(change.names[0], change.call.arguments)}"
-
-
 def _entries(changes: Changes) -> Iterator[str]:
     """The entries that give answers, each once, the stubs, and the defaults."""
     for name, side in changes.sides.items():
@@ -212,7 +203,12 @@ def change_lines(changes: Changes) -> Iterator[str]:
             yield f"# {KIND_HEADINGS[kind]}: {changes.counts[kind]}"
         for change in (change for change in changes.calls if change.kind == kind):
             yield line_of(change, sides)
-            yield from output.notes(_conditions(sides, change))
+            # the conditions that the example meets, and the example as C would have it
+            notes = [f"{name}: {line}" for name, reason in change.reasons.items()
+                     for line in reasons.conditions_met(reason, sides[name].profile, change.call)]
+            if change.names and change.call is not None and any(change.call.arguments):
+                notes.append(f"the syscall is {constants.call_text(change.names[0], change.call.arguments)}")
+            yield from output.notes(notes)
     if unnamed is not None:
         yield "# numbers that the table doesn't name get the defaults, for example:"
         yield line_of(unnamed, sides)

@@ -24,7 +24,6 @@ from .blocks import Block
 from .compare import Comparison, Pair, ProfileComparison, StackComparison, compare_unit
 from .listing import Giver
 
-
 # What is printed of syscalls that fail a relation.
 FAILED_RELATIONS = {DIFFERS: "that differ", MORE: "answered more permissively than by {}",
                     LESS: "answered more strictly than by {}"}
@@ -34,24 +33,27 @@ MOST_UNDECIDED = 20
 
 @dataclass(frozen=True)
 class Newer:
-    """Every syscall from these numbers on, all above those that a profile names, and both answers."""
+    """Every syscall from these numbers on, all above those that a profile names, and both answers; and the verdict on
+    the others, or None if they are the same."""
 
     bounds: dict[str, int]
     filters: Answer
     profile: Answer
+    others: Verdict | None
 
     def has(self, call: Call) -> bool:
         return call.abi in self.bounds and call.number >= self.bounds[call.abi]
 
-    def describe(self, are_all: bool, table: Table) -> str:
+    def describe(self, table: Table) -> str:
         firsts = [Call(first, JUDGED[name].number).describe(table) for name, first in self.bounds.items()]
-        return (f"{'only ' * are_all}syscalls with numbers above all that the profile names differ, the first "
-                f"{'is' if len(firsts) == 1 else 'are'} {join_names(firsts)}; both sides deny them, the filter with "
-                f"{self.filters.named()} and the profile with {self.profile.named()}")
+        only, are = "only " * (self.others is None), "is" if len(firsts) == 1 else "are"
+        return (f"{only}syscalls with numbers above all that the profile names differ, the first {are} "
+                f"{join_names(firsts)}; both sides deny them, the filter with {self.filters.named()} and the profile "
+                f"with {self.profile.named()}")
 
     def as_json(self) -> dict[str, object]:
         return {"first": next(iter(self.bounds.values())), "firsts": self.bounds, "filter": self.filters.as_json(),
-                "profile": self.profile.as_json()}
+                "profile": self.profile.as_json(), "are_all": self.others is None}
 
 
 def newer_calls(comparison: Any, scope: str) -> Newer | None:
@@ -80,15 +82,12 @@ def newer_calls(comparison: Any, scope: str) -> Newer | None:
             is_one = len(here) == 1 and here[0].is_decided and here[0].words.keys() <= {NUMBER, ARCHITECTURE}
             answers.add(here[0].answer if is_one else None)
     answer = answers.pop() if len(answers) == 1 else None
-    return Newer(firsts, answer, default) if answer is not None and answer.denies else None
-
-
-def another_call(comparison: Comparison, above: Newer) -> Verdict | None:
-    """The verdict on the syscalls that aren't among these, or None if they are the same."""
-    of_others = (comparison.of_numbers(name, JUDGED[name].first, above.bounds.get(name, JUDGED[name].last + 1) - 1)
-                 for name in comparison.tables.of)
-    of_others = itertools.chain(of_others, comparison.of_other_abis(LISTED, comparison.relation))
-    return next((verdict for verdict in of_others if not verdict.holds), None)
+    if answer is None or not answer.denies:
+        return None
+    of_others = itertools.chain(
+        (comparison.of_numbers(name, JUDGED[name].first, firsts.get(name, JUDGED[name].last + 1) - 1)
+         for name in comparison.tables.of), comparison.of_other_abis(LISTED, comparison.relation))
+    return Newer(firsts, answer, default, next((verdict for verdict in of_others if not verdict.holds), None))
 
 
 def _failed(comparison: Pair, word: str) -> str:
@@ -123,15 +122,14 @@ def _call_lines(comparison: Any, report: Report, scope: str) -> tuple[list[str],
     if above is None:
         return [], [] if scope == CALLS else list(count_lines(comparison, calls)) or none_named
     others = [call for call in calls if not above.has(call.record)]
-    count, others_differ = len(calls) - len(others), another_call(comparison, above)
-    newer_lines = [above.describe(others_differ is None, comparison.table)]
+    count, newer_lines = len(calls) - len(others), [above.describe(comparison.table)]
     if count:
         newer_lines.append(f"syscalls in the table among these: {count}")
     if scope == CALLS:
         return newer_lines, []
-    if others_differ is None:
+    if above.others is None:
         return newer_lines, [] if count else none_named
-    lines = list(count_lines(comparison, others)) or list(_example_lines(comparison, others_differ, True))
+    lines = list(count_lines(comparison, others)) or list(_example_lines(comparison, above.others, True))
     return (lines + newer_lines, []) if above.has(report.verdict.call) else ([], lines + newer_lines)
 
 
@@ -281,8 +279,8 @@ def comparison_notes(comparison: Any, report: Report, scope: str) -> Iterator[st
         yield from (when, *([explanation.MORE_SPLITS] if verdict.word == UNDECIDED else what_to_do))
     if verdict:
         yield from difference_lines(comparison, verdict)
-        facts = profiles.parse_profile(comparison.profile) if isinstance(comparison, Comparison) else None
-        yield from explanation.explain_skipped(report, comparison.tables, bool(facts and facts.allows_by_default))
+        profile = comparison.profile if isinstance(comparison, Comparison) else b""
+        yield from explanation.explain_skipped(report, comparison.tables, profile)
         yield from explanation.explain_architectures(report)
     if verdict and isinstance(comparison, Comparison):
         # of other ABIs those that aren't proved to be denied
@@ -314,7 +312,7 @@ def comparison_json(comparison: Any, report: Report, scope: str, status: int) ->
     if verdict and verdict.fails:
         calls, above = calls if scope == CALLS else comparison.named_calls or (), newer_calls(comparison, scope)
         if above:
-            members["newer"] = {**above.as_json(), "are_all": another_call(comparison, above) is None}
+            members["newer"] = above.as_json()
     members["calls"] = [{**call.as_json(), "verdict": comparison.word(call.verdict.word),
                          **call.verdict.as_json(comparison.table, comparison.names)} for call in calls]
     if not is_of_stacks:

@@ -272,9 +272,6 @@ class ExpectedRow:
     action: str
     data: int | None
 
-    def is_met_by(self, answer: Answer) -> bool:
-        return answer.action == self.action and self.data in (None, answer.data)
-
     def describe(self, answer: Answer) -> str:
         """The line on the answer that filters give instead."""
         expected = self.action if self.data is None else str(Answer(self.action, self.data))
@@ -343,7 +340,8 @@ def unmet_block(options: Any, table: Table, stack: Sequence[Filter]) -> Block:
         answer = region.answer if region is not None else asker.decided(row.call)
         if answer is None:
             raise program.InternalError(f"scf has no answer to {' '.join(row.call.words())}")
-        unmet += [] if row.is_met_by(answer) else [(row, answer)]
+        if answer.action != row.action or row.data not in (None, answer.data):
+            unmet.append((row, answer))
     counted = f"rows: {len(rows)}; answered otherwise than expected: {len(unmet)}"
     return Block(program.NEGATIVE if unmet else program.SUCCESS,
                  [*(row.describe(answer) for row, answer in unmet), *output.notes([counted])],

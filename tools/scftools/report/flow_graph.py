@@ -6,7 +6,7 @@ the word that lead to each target; the instructions before them belong to it. Al
 from __future__ import annotations
 
 import heapq
-from collections.abc import Iterator, Sequence
+from collections.abc import Sequence
 
 from ..base import output
 from ..base.values import dataclass, field
@@ -120,13 +120,17 @@ class Graph:
         return node
 
 
-def _value_text(value: int, node: Node, table: Table) -> str:
-    if node.word == NUMBER:
-        its = node.known.architectures
-        return "x32" if value == FIRST_X32 and answers.X86_64 in its else name_of(value, its, table)
-    if node.word == ARCHITECTURE:
-        return architectures.shown_name(value) or hex(value)
-    return hex(value)
+def _range_text(low: int, high: int, node: Node, table: Table) -> str:
+    """Values of the word that a node tests."""
+    texts = []
+    for value in (low, high):
+        texts.append(hex(value))
+        if node.word == NUMBER:
+            its = node.known.architectures
+            texts[-1] = "x32" if value == FIRST_X32 and answers.X86_64 in its else name_of(value, its, table)
+        elif node.word == ARCHITECTURE:
+            texts[-1] = architectures.shown_name(value) or texts[-1]
+    return texts[0] if low == high else f"from {texts[0]} on" if high == GREATEST_WORD else " to ".join(texts)
 
 
 def quoted(text: str) -> str:
@@ -163,43 +167,34 @@ class Drawing:
             return "end"
         return f"r{insns[index].k}" if insns[index].code == RETURN_CONSTANT else f"n{index}"
 
-    def _nodes(self) -> Iterator[str]:
-        for index, node in sorted(self.graph.nodes.items()):
-            name, mark = self.name_of(index), MARK if index in self.way else ""
-            insn = self.graph.insns[index]
-            if insn.code == RETURN_CONSTANT:
-                answer = answers.Answer.of_word(insn.k)
-                yield (f"{name} [shape=ellipse, style=filled, fillcolor={COLOURS[answer.disposition]}, "
-                       f"label={quoted(answer.named())}{mark}];")
-                continue
-            before = [at for at in node.indexes if node.word is None or not self.graph.insns[at].is_test]
-            label, tests = [self.lines[at] for at in before], len(node.indexes) - len(before)
-            if node.word is not None:
-                shown = f"{tests} tests, the last is {max(node.indexes)}" if tests > 1 else f"{node.indexes[-1]}"
-                label.append(f"{WORDS[node.word]}? ({shown})")
-            text = "\n".join(label)
-            yield f"{name} [label={quoted(text)}{mark}];"
-
-    def _edges(self) -> Iterator[str]:
-        for index, node in sorted(self.graph.nodes.items()):
-            sizes = {target: sum(high - low + 1 for low, high in ranges) for target, ranges in node.targets.items()}
-            fallback = max(sizes, key=lambda target: sizes[target], default=None) if node.word is not None else None
-            for at, (target, ranges) in enumerate(node.targets.items()):
-                # which values of a word lead there
-                shown = []
-                for low, high in ranges[:MOST_RANGES]:
-                    first = _value_text(low, node, self.table)
-                    shown.append(first if low == high else f"from {first} on" if high == GREATEST_WORD else
-                                 f"{first} to {_value_text(high, node, self.table)}")
-                label = "\n".join([*shown, *[f"and {len(ranges) - MOST_RANGES} more ranges"]
-                                   * (len(ranges) > MOST_RANGES)])
-                if node.word is None:
-                    label = ("yes", "no")[at] if len(node.targets) > 1 else ""
-                elif target == fallback and len(ranges) > 1:
-                    label = "all others"
-                mark = MARK if (index, target) in self.edges else ""
-                yield f"{self.name_of(index)} -> {self.name_of(target)} [label={quoted(label)}{mark}];"
-
     def text(self) -> str:
         """The graph in dot's language."""
-        return digraph([*self._nodes(), *self._edges()])
+        nodes, edges = [], []
+        for index, node in sorted(self.graph.nodes.items()):
+            name, insn, mark = self.name_of(index), self.graph.insns[index], MARK if index in self.way else ""
+            if insn.code == RETURN_CONSTANT:
+                answer = answers.Answer.of_word(insn.k)
+                nodes.append(f"{name} [shape=ellipse, style=filled, fillcolor={COLOURS[answer.disposition]}, "
+                             f"label={quoted(answer.named())}{mark}];")
+                continue
+            before = [at for at in node.indexes if node.word is None or not self.graph.insns[at].is_test]
+            lines, tests = [self.lines[at] for at in before], len(node.indexes) - len(before)
+            if node.word is not None:
+                shown = f"{tests} tests, the last is {max(node.indexes)}" if tests > 1 else f"{node.indexes[-1]}"
+                lines.append(f"{WORDS[node.word]}? ({shown})")
+            label = quoted("\n".join(lines))
+            nodes.append(f"{name} [label={label}{mark}];")
+            sizes = {target: sum(high - low + 1 for low, high in ranges) for target, ranges in node.targets.items()}
+            fallback = max(sizes, key=lambda target: sizes[target], default=None)
+            for at, (target, ranges) in enumerate(node.targets.items()):
+                if node.word is None:
+                    text = ("yes", "no")[at] if len(node.targets) > 1 else ""
+                elif target == fallback and len(ranges) > 1:
+                    text = "all others"
+                else:
+                    # which values of a word lead there
+                    more = [f"and {len(ranges) - MOST_RANGES} more ranges"] * (len(ranges) > MOST_RANGES)
+                    text = "\n".join([*(_range_text(*part, node, self.table) for part in ranges[:MOST_RANGES]), *more])
+                mark = MARK if (index, target) in self.edges else ""
+                edges.append(f"{name} -> {self.name_of(target)} [label={quoted(text)}{mark}];")
+        return digraph([*nodes, *edges])

@@ -94,10 +94,6 @@ class Known:
     word: int | None = None
     architectures: frozenset[int | None] = frozenset([X86_64, None])
 
-    def beside(self, other: Known) -> Known:
-        """The facts where two paths meet."""
-        return Known(self.word if self.word == other.word else None, self.architectures | other.architectures)
-
 
 def known_facts(insns: Sequence[Instruction]) -> list[Known]:
     """The facts at each instruction; all jumps go forwards."""
@@ -114,7 +110,10 @@ def known_facts(insns: Sequence[Instruction]) -> list[Known]:
                       replace(here, architectures=here.architectures - {insn.k})]
         for target, after in zip(insn.targets(index), behind):
             if after.architectures:
-                facts[target] = facts[target].beside(after) if target in facts else after
+                # (paths may meet there)
+                met = facts.get(target, after)
+                facts[target] = Known(met.word if met.word == after.word else None,
+                                      met.architectures | after.architectures)
     return [facts.get(index, at_first) for index in range(len(insns))]
 
 

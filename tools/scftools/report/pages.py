@@ -30,14 +30,10 @@ from .compare import Pair
 from .surface_output import Groups, StackSurface
 from .surfaces import Surface
 
-OF_COMPARISON = ("The first lines are scf's: the verdict is proved for all syscalls that are compared. The others "
-                 "explain it.")
-# How a cell of the matrix says what holds for all syscalls of a group.
-ALL_DENIED, SOME, ALL_ALLOWED = "all denied", "some", "all allowed"
+
 # What stands before conditions.
 WHERE = " where "
-OF_SURFACES = ("scf has proved for all x86-64 syscalls and arguments what is allowed, delegated or denied, and under "
-               "which conditions.")
+
 STYLE = """
 :root { color-scheme: light dark; --text: #1c1c1c; --page: #fdfdfc; --faint: #5c5c5c; --line: #cfcfca; --band: #f1f1ee;
   --bad: #a3140f; --warn: #7a4b00; --good: #1b5e2b; --link: #0b4f9e; }
@@ -164,7 +160,8 @@ def comparison_page(comparison: Pair, report: Report, added: Sequence[str]) -> s
     shown = [preformatted([c_call(verdict.call, comparison.table)])] if verdict is not None and verdict.call else []
     return document(f"comparison: {word}", tag("h1", tag("span", word, class_=colour)), *_made_by(), *shown,
                     preformatted([*report.brief, *(f"# {line}" for line in added)]),
-                    tag("p", OF_COMPARISON, class_="faint"))
+                    tag("p", "The first lines are scf's: the verdict is proved for all syscalls that are compared. The "
+                             "others explain it.", class_="faint"))
 
 
 @dataclass(frozen=True)
@@ -224,14 +221,12 @@ class Named:
 
 def _cell(rows: Sequence[ShownRow]) -> str:
     counts = Counter(row.said for row in rows)
-    if set(counts) == {DENIED}:
-        return ALL_DENIED
-    if set(counts) == {ALLOWED}:
-        return ALL_ALLOWED
+    if len(counts) == 1 and rows[0].said in (ALLOWED, DENIED):
+        return f"all {rows[0].said}"
     shown = [f"{counts[disposition]} {disposition}" for disposition in (ALLOWED, DEPENDS, DELEGATED)
              if counts[disposition]]
     unknown = len(rows) - sum(counts[disposition] for disposition in (ALLOWED, DEPENDS, DELEGATED, DENIED))
-    return f"{SOME}: {', '.join(shown + [f'{unknown} not known'] * bool(unknown)) or 'denied'} of {len(rows)}"
+    return f"some: {', '.join(shown + [f'{unknown} not known'] * bool(unknown)) or 'denied'} of {len(rows)}"
 
 
 def stack(named: Named, groups: Groups) -> Iterator[Markup]:
@@ -297,6 +292,7 @@ def surfaces_page(blocks: Sequence[StackSurface], table_of: Table, beside: Seque
             name = f"stack {at}" if len(blocks) > 1 else output.some(names, 1)
             stacks.append(Named(before + name, surface and ShownSurface.of(surface), ", ".join(names)))
     return document("What these filters allow", tag("h1", "What these filters allow"), *_made_by(),
-                    tag("p", OF_SURFACES, class_="faint"), *dangerous(stacks, table_of),
+                    tag("p", "scf has proved for all x86-64 syscalls and arguments what is allowed, delegated or "
+                             "denied, and under which conditions.", class_="faint"), *dangerous(stacks, table_of),
                     *matrix(stacks, groups), tag("h2", "Syscalls by stack"),
                     *(piece for named in stacks for piece in stack(named, groups)))

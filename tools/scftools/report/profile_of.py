@@ -317,18 +317,6 @@ class ProfileRequest:
         is_runc = self.runtime is not None and runtimes.RUNTIMES[self.runtime].program == runtimes.RUNC
         return answers.with_stub() if is_runc else answers
 
-    def answers_to_others(self) -> list[FilterAnswers]:
-        """The answers of the filters in each other architecture, but those of which they kill every syscall."""
-        found = []
-        for architecture, table in ((JUDGED[name], tables.architecture_table(name)) for name in self.others):
-            ranges = Numbers(self.regions, architecture).ranges
-            are_killed = ranges is not None and all(
-                region.answer is not None and region.answer.action.startswith("KILL")
-                for _, _, here in ranges for region in here)
-            if table is not None and not are_killed:
-                found.append(replace(self, table=table, architecture=architecture).answers())
-        return found
-
 
 def _same(request: ProfileRequest, answers: FilterAnswers) -> ProvedProfile | None:
     """The profile that answers as the filters do, and the other architectures that it lists, if scf proves it."""
@@ -340,7 +328,15 @@ def _same(request: ProfileRequest, answers: FilterAnswers) -> ProvedProfile | No
             any(answers.parts(each, True) != {default: FULL_SET} for each in unnamed) or \
             not all(answers.has_entries(each, default) for each in named):
         return None
-    others = request.answers_to_others()
+    # of each other architecture, but those of which the filters kill every syscall
+    others = []
+    for architecture, table in ((JUDGED[name], tables.architecture_table(name)) for name in request.others):
+        ranges = Numbers(request.regions, architecture).ranges
+        are_killed = ranges is not None and all(
+            region.answer is not None and region.answer.action.startswith("KILL")
+            for _, _, here in ranges for region in here)
+        if table is not None and not are_killed:
+            others.append(replace(request, table=table, architecture=architecture).answers())
     while True:
         profile = draft.profile(others)
         report, stub = request.compared(profile)
@@ -430,12 +426,6 @@ class Result:
     text: str
     remarks: Sequence[str]
     profiles: Sequence[ProvedProfile] = ()
-
-    def as_json(self) -> dict[str, object]:
-        remarks = [line[2:] for line in self.text.split("\n") if line.startswith("# ")]
-        return {"status": self.status, "remarks": [*remarks, *self.remarks],
-                "profiles": [{"relations": list(proved.relations), "profile": proved.profile}
-                             for proved in self.profiles]}
 
 
 def _both_sides(request: ProfileRequest, answers: FilterAnswers, bounds: Sequence[ProvedProfile]) -> Iterator[str]:

@@ -31,17 +31,6 @@ class Listed:
     unnamed: int = 0
 
 
-def _alternatives(word: Word) -> list[list[tuple[str, int]]]:
-    """The intervals of a word, each as orders that hold together."""
-    if len(word.intervals) == 2 and word.intervals[0][0] == 0 and word.intervals[1][1] == GREATEST_WORD and \
-            word.intervals[0][1] + 2 == word.intervals[1][0]:
-        return [[(NOT_EQUAL, word.intervals[0][1] + 1)]]
-    return [[(EQUAL, low)] if low == high else
-            [bound
-             for bound, is_bound in (((AT_LEAST, low), low > 0), ((AT_MOST, high), high < GREATEST_WORD)) if is_bound]
-            for low, high in word.intervals]
-
-
 def _terms(name: str, index: int, word: Word, syscall: str, architecture: Architecture) -> Iterator[str]:
     """The conditions on a word, which has an argument's name, or another one where it is a part of the argument."""
     def shown(op: str, value: int, two: int = 0) -> str:
@@ -49,7 +38,14 @@ def _terms(name: str, index: int, word: Word, syscall: str, architecture: Archit
         return name + text[text.index(" "):]
 
     if word.intervals != FREE.intervals:
-        texts = [" and ".join(shown(*order) for order in orders) for orders in _alternatives(word)]
+        # each interval as orders that hold together; or all values but one
+        alternatives = [[(EQUAL, low)] if low == high else
+                        [(AT_LEAST, low)] * (low > 0) + [(AT_MOST, high)] * (high < GREATEST_WORD)
+                        for low, high in word.intervals]
+        (first, below), (above, last) = word.intervals[0], word.intervals[-1]
+        if len(word.intervals) == 2 and (first, last) == (0, GREATEST_WORD) and below + 2 == above:
+            alternatives = [[(NOT_EQUAL, below + 1)]]
+        texts = [" and ".join(shown(*order) for order in orders) for orders in alternatives]
         yield texts[0] if len(texts) == 1 else f"({' or '.join(texts)})"
     if word.mask:
         yield shown(MASKED, word.mask, word.bits)

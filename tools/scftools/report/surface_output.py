@@ -113,9 +113,13 @@ def whole_lines(surface: Surface) -> list[str]:
         if names else []
     counted = [beside.asker.architecture for beside in surface.others if {*beside.counts} != {DENIED}]
     remaining = [access for access in surface.foreign if access.abi not in counted or access.not_denied is None]
-    foreign = ["; ".join(other_abis.access_lines(remaining))] if remaining else []
+    foreign = [*(access.describe() for access in remaining), "other ABIs: the kernel has no others"]
+    if other_abis.are_none(remaining):
+        foreign = [f"other ABIs: every {join_names([access.abi.name for access in remaining])} syscall is denied; the "
+                   "kernel has no others"] if remaining else []
     others = [f"{_summary(beside)} (--arch {beside.asker.architecture.name} lists them)" for beside in surface.others]
-    return [*of_others, _summary(surface), *foreign, *others, f"numbers without a name: {surface.unnamed.describe()}"]
+    return [*of_others, _summary(surface), *filter(None, ["; ".join(foreign)]), *others,
+            f"numbers without a name: {surface.unnamed.describe()}"]
 
 
 def details(row: Row, is_in_table: bool = False) -> list[str]:
@@ -145,7 +149,7 @@ def grouped(rows: Iterable[Row], groups: Groups) -> list[tuple[str, list[Row]]]:
     return [(group, members) for group, members in rows_of_groups.items() if members]
 
 
-def _cell(disposition: str, rows: Sequence[Row], width: int) -> list[str]:
+def _cell(rows: Sequence[Row], width: int) -> list[str]:
     """A group's syscalls with the same disposition: their names, or with examples a line or more each."""
     if not any(row.shown or row.conditions or row.has_examples for row in rows):
         names = [" or ".join(row.names) for row in rows]
@@ -171,9 +175,9 @@ def as_table(rows: Iterable[Row], groups: Groups, width: int) -> Iterator[str]:
                 continue
             if is_narrow:
                 yield from ([heading] if heading else []) + [f" {disposition}"]
-                yield from (f"  {line}" for line in _cell(disposition, column, width - 2))
+                yield from (f"  {line}" for line in _cell(column, width - 2))
             else:
-                for at, line in enumerate(_cell(disposition, column, width - before - next_to)):
+                for at, line in enumerate(_cell(column, width - before - next_to)):
                     yield f"{heading if at == 0 else '':{before}}{disposition if at == 0 else '':{next_to}}{line}"
             heading = ""
 
