@@ -256,28 +256,15 @@ class Pair:
 
 @dataclass(frozen=True)
 class Beside:
-    """Two surfaces over one table."""
+    """Two surfaces over one table, and whether some numbers that the table doesn't name, or syscalls of other ABIs, get
+    different answers."""
 
     sides: tuple[Surface, Surface]
     pairs: tuple[Pair, ...] = ()
-    # the verdicts on the numbers that the table doesn't name, and on the syscalls of other ABIs
-    of_unnamed: Sequence[Verdict] = ()
-    of_foreign: Sequence[Verdict] = ()
-
-    @property
-    def foreign_differ(self) -> bool:
-        """Whether some syscall of another ABI gets different answers."""
-        return any(verdict.fails for verdict in self.of_foreign)
-
-    @property
-    def unnamed_differ(self) -> bool:
-        return any(verdict.fails for verdict in self.of_unnamed)
-
-    @property
-    def status(self) -> int:
-        """1 if they differ, 4 if something is undecided, else 0."""
-        all_verdicts = [*(pair.line.verdict for pair in self.pairs), *self.of_unnamed, *self.of_foreign]
-        return min(all_verdicts, key=lambda verdict: verdict.order, default=Verdict(SAME)).status
+    # 1 if they differ, 4 if something is undecided, else 0
+    status: int = program.SUCCESS
+    unnamed_differ: bool = False
+    foreign_differ: bool = False
 
 
 def _comparison(sides: Iterable[Sequence[bytes]], table: Table) -> StackComparison:
@@ -306,7 +293,10 @@ def compared_surfaces(*sides: Surface) -> Beside:
             alone = client.compile_profile(ALLOW.as_profile([abi.oci]) or b"", Tables({abi.oci: Table(b"")}))
             verdict = _comparison([[alone, *side] for side in comparison.stacks], comparison.table).run()[1].verdict
         of_foreign.append(verdict or Verdict(UNFINISHED))
-    return Beside(sides, pairs, of_unnamed, of_foreign)
+    worst = min([*(pair.line.verdict for pair in pairs), *of_unnamed, *of_foreign], key=lambda verdict: verdict.order,
+                default=Verdict(SAME))
+    return Beside(sides, pairs, worst.status, *(any(verdict.fails for verdict in verdicts)
+                                                for verdicts in (of_unnamed, of_foreign)))
 
 
 def _as_table(beside: Beside, groups: Groups, width: int) -> Iterator[str]:
