@@ -27,7 +27,7 @@ from ..ask.regions import Numbers, Region
 from ..ask.verdicts import NO_LESS, NO_MORE, SAME, NamedCall, Report
 from ..forms import engines, profile_inputs, runtimes
 from ..forms.filters import Filter
-from .compare import Comparison
+from .compare import TURNED, Comparison
 from .covers import Alternative, Covers
 
 TRAP_DATA_TEXT = "errnoRet beside SCMP_ACT_TRAP is its data: --runtime sandbox reads it, and no container runtime"
@@ -207,11 +207,9 @@ class Draft:
                 "syscalls": listed}
 
 
-# What holds of filters beside a profile that is no less, or no more, permissive than they.
-OF_FILTERS = {SAME: SAME, NO_LESS: NO_MORE, NO_MORE: NO_LESS}
 RELATION_TEXTS = {NO_LESS: "nowhere stricter", NO_MORE: "nowhere more permissive"}
-# The other side, and how the profile is there.
-OPPOSITE = {NO_LESS: (NO_MORE, "more permissive"), NO_MORE: (NO_LESS, "stricter")}
+# How a profile is, or may be, on the other side of the filters.
+FARTHER = {NO_LESS: "more permissive", NO_MORE: "stricter"}
 
 
 @dataclass(frozen=True)
@@ -274,8 +272,9 @@ class ProfileRequest:
 
     def comparison(self, profile: dict[str, object], relation: str = SAME) -> Comparison:
         """The comparison of the filters with a profile, for the same relation with the stub that they have."""
+        # (a profile is no less permissive than the filters if these are no more so)
         comparison = Comparison(self.filters, profiles.read_as(engines.to_bytes(profile), reading_of(profile)),
-                                self.table, OF_FILTERS[relation], architecture=self.architecture.oci,
+                                self.table, TURNED.get(relation, relation), architecture=self.architecture.oci,
                                 elsewhere=other_abis.NAMES)
         if self.runtime is None:
             return comparison
@@ -383,9 +382,9 @@ def _differences(request: ProfileRequest, answers: FilterAnswers, proved: Proved
         whys[number] = answers.why_not(number_answers, proved.default) or whys[number]
     farther: list[NamedCall] = []
     if len(proved.relations) == 1:
-        opposite, word = OPPOSITE[proved.relations[0]]
-        farther = request.calls(proved.profile, opposite) if proved.calls else []
-        yield f"syscalls in the table for which the profile is, or may be, {word}: {len(farther)}"
+        relation = proved.relations[0]
+        farther = request.calls(proved.profile, TURNED[relation]) if proved.calls else []
+        yield f"syscalls in the table for which the profile is, or may be, {FARTHER[relation]}: {len(farther)}"
     for call in farther:
         yield call.line
         yield f"{call.names[0]}: {whys[call.number]}"
