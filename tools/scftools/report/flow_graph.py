@@ -16,7 +16,7 @@ from ..model.bpf import BY_X, JEQ, JGE, JGT, JUMP, RETURN_CONSTANT
 from ..model.calls import ARCHITECTURE, NUMBER
 from ..model.tables import Table
 from ..ask.regions import GREATEST_WORD
-from .listing import RETURNS, WORDS, Instruction, Known, instructions, known_facts, name_of
+from .listing import RETURNS, WORDS, Known, instructions, known_facts, name_of
 
 # The most ranges that an edge names.
 MOST_RANGES = 12
@@ -35,15 +35,6 @@ def merged(first: Ranges, second: Ranges) -> Ranges:
         else:
             ranges.append((low, high))
     return ranges
-
-
-def _sides(insn: Instruction, ranges: Ranges) -> tuple[Ranges, Ranges]:
-    """The values for which a test holds, and the others."""
-    test = insn.code & 0xF0
-    first, last = insn.k + (test == JGT), insn.k if test == JEQ else GREATEST_WORD
-    return ([(max(low, first), min(high, last)) for low, high in ranges if low <= last and high >= first],
-            merged([(low, min(high, first - 1)) for low, high in ranges if low < first],
-                   [(max(low, last + 1), high) for low, high in ranges if high > last]))
 
 
 @dataclass
@@ -111,7 +102,14 @@ class Graph:
             if at < len(self.insns) and self._word_tested(at) == word:
                 if at not in node.indexes:
                     node.indexes.append(at)
-                for target, side in zip(self.insns[at].targets(at), _sides(self.insns[at], ranges)):
+                insn = self.insns[at]
+                # the test holds for the values from the first to the last
+                first = insn.k + (insn.code & 0xF0 == JGT)
+                last = insn.k if insn.code & 0xF0 == JEQ else GREATEST_WORD
+                inside = [(max(low, first), min(high, last)) for low, high in ranges if low <= last and high >= first]
+                below = [(low, min(high, first - 1)) for low, high in ranges if low < first]
+                above = [(max(low, last + 1), high) for low, high in ranges if high > last]
+                for target, side in zip(insn.targets(at), (inside, merged(below, above))):
                     target = self.behind_jumps(target)
                     if side:
                         waiting[target] = merged(waiting.get(target, []), side)
