@@ -49,6 +49,18 @@ pub(crate) fn refuse(row: FaultRow, fault: &mut Fault) -> u32
     }
 }
 
+/// The value of a result; its error ends the call with the fault of this row.
+macro_rules! or_refuse {
+    ($result:expr, $row:expr, $fault:expr) => {
+        match $result {
+            Ok(value) => value,
+            Err(why) => return $crate::ending::refuse($row(why), $fault),
+        }
+    };
+}
+
+pub(crate) use or_refuse;
+
 /// Hands a list out as snprintf does: as much of its front as there is room for, and how long it is.
 pub(crate) fn hand_out<T: Copy>(items: &[T], room: &mut [T], needed: &mut usize)
     ensures { IsHandedOut items.now room.old room.new needed.new }

@@ -4,20 +4,22 @@ ghost use Rattle.std.specs.Prelude.{◌≡◌, ℕ, List, Ok, Some, length, IfEr
 ghost use Rattle.scf_insn.specs.Insn.{program_bytes};
 ghost use Rattle.scf_insn.specs.Words.{words_of};
 ghost use Rattle.scf_insn.specs.declared.insn.Insn.{Insn};
+ghost use Rattle.scf_insn.specs.declared.encoding.ReadFault.TheVariants as reads;
 ghost use Rattle.scf_machine.specs.Machine.{IsRun};
 ghost use Rattle.scf_machine.specs.Path.{IsPathOf};
 ghost use Rattle.scf_text.specs.Listing.{text_of};
 ghost use Rattle.scf_text.specs.Spelling as spelling;
 ghost use Rattle.scf_tool.specs.Faults.{text_row, verify_row};
 ghost use Rattle.scf_tool.specs.Verifying.{IsAcceptedFilter, ReadsFilter};
+ghost use Rattle.scf_tool.specs.declared.verify_fault.VerifyFault.TheVariants as verifies;
 ghost use Rattle.scf_c.specs.Endings.{Ends, IsHandedOut, IsNothingHandedOut, IsRefusal};
 ghost use Rattle.scf_c.specs.Filters.{IsFilterRefused, IsListRefused, IsTextRefused};
 ghost use Rattle.scf_c.specs.Layout.{record_of};
 
-use crate::ending::{NO_FAULT, OK, hand_out, refuse};
+use crate::ending::{OK, hand_out, or_refuse};
 use crate::layout::{Call, Fault};
-use scf_insn::{CallRecord, ReadFault, read_program};
-use scf_machine::{Program, Trace, run, trace};
+use scf_insn::{Memory, ReadFault, read_program};
+use scf_machine::{Program, run, trace};
 use scf_text::{TextFault, assemble};
 use scf_tool::{
     PartReader, VerifyFault, encoding_of, listing_of, read_filter, text_row, verify_row,
@@ -33,6 +35,13 @@ fn accepted(alloc: Global, filter: &[u8]) -> Result<Program, VerifyFault>
     read_filter(alloc, &mut PartReader::new(filter))
 }
 
+/// Memory ran out for what is read of a filter.
+fn out_of_memory(_why: Memory) -> VerifyFault
+    ensures { result ≡ verifies.FilterRead reads.Memory }
+{
+    VerifyFault::FilterRead(ReadFault::Memory)
+}
+
 /// Whether the bytes are a filter that the kernel accepts, and of how many instructions.
 #[unsafe(no_mangle)]
 pub extern "C" fn scf_check(
@@ -45,14 +54,10 @@ pub extern "C" fn scf_check(
         (IsRefusal verify_row (IsFilterRefused filter.now)) (count.new ≡ 0) result fault.new }
 {
     *count = 0;
-    *fault = NO_FAULT;
-    match accepted(alloc, filter) {
-        Ok(program) => {
-            *count = program.len();
-            OK
-        }
-        Err(why) => refuse(verify_row(why), fault),
-    }
+    *fault = Fault::default();
+    let program = or_refuse!(accepted(alloc, filter), verify_row, fault);
+    *count = program.len();
+    OK
 }
 
 /// What a filter answers to a call, and in how many steps.
@@ -72,26 +77,12 @@ pub extern "C" fn scf_run(
 {
     *answer = 0;
     *steps = 0;
-    *fault = NO_FAULT;
-    match accepted(alloc, filter) {
-        Ok(program) => {
-            let ran = run(&program, &call.record());
-            *answer = ran.answer.0;
-            *steps = ran.steps;
-            OK
-        }
-        Err(why) => refuse(verify_row(why), fault),
-    }
-}
-
-/// The run of the filter with these bytes on a record. Out of memory for the path is a fault of the filter.
-fn traced(alloc: Global, filter: &[u8], call: &CallRecord) -> Result<Trace, VerifyFault>
-    ensures path { IfOk result (λ trace. (insns : List Insn) × IsAcceptedFilter (Some filter.now) insns
-        × IsPathOf insns (words_of call.now) trace.answer.0 trace.indices.items) }
-    ensures refused { IfErr result (IsFilterRefused filter.now) }
-{
-    let program = accepted(alloc, filter)?;
-    trace(alloc, &program, call).map_err(|_| VerifyFault::FilterRead(ReadFault::Memory))
+    *fault = Fault::default();
+    let program = or_refuse!(accepted(alloc, filter), verify_row, fault);
+    let ran = run(&program, &call.record());
+    *answer = ran.answer.0;
+    *steps = ran.steps;
+    OK
 }
 
 /// What a filter answers to a call, and the indices of the instructions on the way.
@@ -112,25 +103,13 @@ pub extern "C" fn scf_trace(
 {
     *answer = 0;
     *needed = 0;
-    *fault = NO_FAULT;
-    match traced(alloc, filter, &call.record()) {
-        Ok(trace) => {
-            *answer = trace.answer.0;
-            hand_out(trace.indices.as_slice(), path, needed);
-            OK
-        }
-        Err(why) => refuse(verify_row(why), fault),
-    }
-}
-
-/// The bytes of the instructions that a text spells.
-fn assembled(alloc: Global, text: &[u8]) -> Result<Vec<u8>, TextFault>
-    ensures spelled { IfOk result (λ bytes. (insns : List Insn)
-        × spelling.Spells text.now insns × (bytes.items ≡ program_bytes insns)) }
-    ensures refused { IfErr result (IsTextRefused text.now) }
-{
-    let insns = assemble(alloc, text)?;
-    encoding_of(alloc, &insns).map_err(|_| TextFault::Memory)
+    *fault = Fault::default();
+    let program = or_refuse!(accepted(alloc, filter), verify_row, fault);
+    let traced = trace(alloc, &program, &call.record()).map_err(out_of_memory);
+    let trace = or_refuse!(traced, verify_row, fault);
+    *answer = trace.answer.0;
+    hand_out(&trace.indices, path, needed);
+    OK
 }
 
 /// The filter that a text spells. It isn't checked.
@@ -148,24 +127,12 @@ pub extern "C" fn scf_assemble(
         result fault.new }
 {
     *needed = 0;
-    *fault = NO_FAULT;
-    match assembled(alloc, text) {
-        Ok(bytes) => {
-            hand_out(bytes.as_slice(), filter, needed);
-            OK
-        }
-        Err(why) => refuse(text_row(why), fault),
-    }
-}
-
-/// The listing of the instructions with these bytes.
-fn listed(alloc: Global, filter: &[u8]) -> Result<Vec<u8>, VerifyFault>
-    ensures listed { IfOk result (λ text. (insns : List Insn) × ReadsFilter (Some filter.now) (Ok insns)
-        × (text.items ≡ text_of insns)) }
-    ensures refused { IfErr result (IsListRefused filter.now) }
-{
-    let insns = read_program(alloc, &mut PartReader::new(filter))?;
-    listing_of(alloc, &insns).map_err(|_| VerifyFault::FilterRead(ReadFault::Memory))
+    *fault = Fault::default();
+    let insns = or_refuse!(assemble(alloc, text), text_row, fault);
+    let encoded = encoding_of(alloc, &insns).map_err(|_| TextFault::Memory);
+    let bytes = or_refuse!(encoded, text_row, fault);
+    hand_out(&bytes, filter, needed);
+    OK
 }
 
 /// The listing of a filter. It isn't checked.
@@ -183,12 +150,11 @@ pub extern "C" fn scf_list(
         result fault.new }
 {
     *needed = 0;
-    *fault = NO_FAULT;
-    match listed(alloc, filter) {
-        Ok(lines) => {
-            hand_out(lines.as_slice(), text, needed);
-            OK
-        }
-        Err(why) => refuse(verify_row(why), fault),
-    }
+    *fault = Fault::default();
+    let read = read_program(alloc, &mut PartReader::new(filter)).map_err(VerifyFault::from);
+    let insns = or_refuse!(read, verify_row, fault);
+    let listed = listing_of(alloc, &insns).map_err(out_of_memory);
+    let lines = or_refuse!(listed, verify_row, fault);
+    hand_out(&lines, text, needed);
+    OK
 }

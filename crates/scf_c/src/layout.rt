@@ -55,7 +55,7 @@ impl Call {
 
 /// What a stack of filters answers, and the instruction that gives the answer.
 #[repr(C)]
-#[derive(Clone, Copy)]
+#[derive(Clone, Copy, Default)]
 pub struct DecisionNumbers {
     pub answer: u32,
     /// 1, or 0 if the stack has no filter.
@@ -70,7 +70,7 @@ pub struct DecisionNumbers {
 
 /// Why an input is refused, or what memory ran out for.
 #[repr(C)]
-#[derive(Clone, Copy)]
+#[derive(Clone, Copy, Default)]
 pub struct Fault {
     /// Which input is refused.
     pub source: u32,

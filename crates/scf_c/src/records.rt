@@ -6,7 +6,7 @@ ghost use Rattle.scf_c.specs.Records.{AreOfCalls, AreOver, ArePaired, AreRecords
 
 use crate::layout::Table;
 use crate::question::Over;
-use crate::tables::{architecture_of, table_readers_of, tables_of};
+use crate::tables::{architecture_of, has_profile, table_readers_of};
 use scf_compare::Side;
 use scf_insn::Memory;
 use scf_profile::Scope;
@@ -28,7 +28,9 @@ fn tables_in_scope<'a>(
     match (left, right) {
         (ReadSide::Profiles(only), ReadSide::Stack(_))
         | (ReadSide::Stack(_), ReadSide::Profiles(only)) => {
-            tables_of(alloc, only.profiles.as_slice(), tables)
+            let profiles = only.profiles.as_slice();
+            let is_used = |table: &Table<'_>| has_profile(profiles, table);
+            Ok(tables.iter().copied().filter(is_used).collect(alloc)?)
         }
         _ => Ok(Vec::from_slice(alloc, tables)?),
     }

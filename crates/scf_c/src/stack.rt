@@ -12,7 +12,7 @@ ghost use Rattle.scf_c.specs.Endings.{Ends, IsRefusal};
 ghost use Rattle.scf_c.specs.Filters.{IsStackRefused, decided_by, no_decision};
 ghost use Rattle.scf_c.specs.Layout.{bytes_of, known_bytes, record_of};
 
-use crate::ending::{NO_FAULT, OK, refuse};
+use crate::ending::{OK, or_refuse};
 use crate::layout::{Bytes, Call, DecisionNumbers, Fault};
 use scf_insn::Memory;
 use scf_machine::{DecidingInsn, Decision, FilterStack};
@@ -38,15 +38,6 @@ pub(crate) fn stacked(alloc: Global, filters: &[Bytes]) -> Result<FilterStack, V
     let mut readers = readers_of(alloc, filters)?;
     stack_of(alloc, &mut readers)
 }
-
-/// The decision where nothing is decided: its numbers are 0.
-const NO_DECISION: DecisionNumbers = DecisionNumbers {
-    answer: 0,
-    has_filter: 0,
-    filter: 0,
-    index: 0,
-    reserved: [0; 4],
-};
 
 /// A decision as numbers.
 fn numbers_of(decision: Decision) -> DecisionNumbers
@@ -81,13 +72,9 @@ pub extern "C" fn scf_decide(
         × (decision.new ≡ decided_by decision.new.answer by))
         (IsRefusal verify_row (IsStackRefused filters.now)) (decision.new ≡ no_decision) result fault.new }
 {
-    *decision = NO_DECISION;
-    *fault = NO_FAULT;
-    match stacked(alloc, filters) {
-        Ok(stack) => {
-            *decision = numbers_of(stack.decision(&call.record()));
-            OK
-        }
-        Err(why) => refuse(verify_row(why), fault),
-    }
+    *decision = DecisionNumbers::default();
+    *fault = Fault::default();
+    let stack = or_refuse!(stacked(alloc, filters), verify_row, fault);
+    *decision = numbers_of(stack.decision(&call.record()));
+    OK
 }

@@ -146,25 +146,8 @@ pub(crate) fn listed_of<'a>(
 }
 
 /// Whether a table is that of an architecture that has one of these profiles.
-fn has_profile(profiles: &[Profile], table: &Table) -> bool
+pub(crate) fn has_profile(profiles: &[Profile], table: &Table) -> bool
     ensures { result ≡ spec.has_profile profiles.now table.now }
 {
     profiles.iter().any(|profile| architecture_number(profile.architecture()) == table.architecture)
-}
-
-/// The tables of architectures that have one of these profiles.
-pub(crate) fn tables_of<'a>(
-    alloc: Global,
-    profiles: &[Profile],
-    tables: &[Table<'a>],
-) -> Result<Vec<Table<'a>>, Memory>
-    ensures { IfOk result (λ used. used.items ≡ spec.tables_of profiles.now tables.now) }
-{
-    Ok(
-        tables
-            .iter()
-            .copied()
-            .filter(|table| has_profile(profiles, table))
-            .collect(alloc)?,
-    )
 }
