@@ -17,8 +17,8 @@ use crate::texts::{BorrowedTexts, Texts};
 use scf_insn::Answer;
 use std::alloc::{AllocError, Global};
 
-/// The syscall numbers of the names that a table has, as its architecture's records have them. The other names are added
-/// to those that tables lack.
+/// The syscall numbers of the names that a table has, as its architecture's records have them. The other names are
+/// added to those that tables lack.
 fn numbers_of<'v>(
     alloc: Global,
     table: &ArchitectureTable,
@@ -50,7 +50,8 @@ fn add_rules(
     numbers: &[u32],
 ) -> Result<(), LoadFault>
     requires { vec_len rules.old ≤ max_rules }
-    ensures { AddsRules rules.old.items (rules_numbered index conditions.now answer numbers.now) result rules.new.items }
+    ensures { AddsRules rules.old.items (rules_numbered index conditions.now answer numbers.now)
+        result rules.new.items }
 {
     for number in numbers {
         if rules.len() == MAX_RULES {
