@@ -89,10 +89,6 @@ stack_behavior filters = record {
   is_masked = λ masks. All (IsMaskedProgram masks) filters;
 }
 
--- no side: a stack without filters, beside which a side is walked by itself
-abbrev pub no_side : Behavior
-no_side = stack_behavior []
-
 -- profiles, which have no instructions and always know their answer: their size is their spread
 abbrev pub profiles_behavior : List Profile → Behavior
 profiles_behavior profiles = record {
