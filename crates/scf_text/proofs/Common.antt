@@ -40,13 +40,13 @@ pub use Rattle.scf_insn.specs.declared.operation.Operation.{Operation}
 pub use Rattle.scf_text.specs.Characters.{is_blank, is_line_end, is_word_byte}
 pub use Rattle.scf_text.specs.ParsedInsns.{ParsedInsn, Label, Number, FieldValue, fill_by, has_mnemonic, is_below, is_in_range, is_name, read_by}
 unfoldable pub use Rattle.scf_text.specs.ParsedInsns.{field_number, parsed_of}
-pub use Rattle.scf_text.specs.Faults.{IsFault, ascii_fault, insn_fault, operands_fault, instruction_fault, label_fault, statement_fault, statements_fault, target_fault, targets_fault}
-unfoldable pub use Rattle.scf_text.specs.Faults.{fault_in, fault_of}
-pub use Rattle.scf_text.specs.Encodings.{field_of, encodings, names, raw, names_all, tells_all}
+pub use Rattle.scf_text.specs.Faults.{IsFault, ascii_fault, insn_fault, operands_fault, instruction_fault, label_fault, statements_fault, target_fault, targets_fault}
+unfoldable pub use Rattle.scf_text.specs.Faults.{fault_of}
+pub use Rattle.scf_text.specs.Encodings.{field_of, encodings, names, raw, tells_all}
 unfoldable pub use Rattle.scf_text.specs.Encodings.{encoding_for, known_encodings}
 pub use Rattle.scf_text.specs.Listing.{line_of, number_text, operands_text, piece_text, text_of}
 pub use Rattle.scf_text.specs.Spelling.{Says, SaysEach, SaysInsn, Spells}
-pub use Rattle.scf_text.specs.Statements.{SymbolTable, Statement, parsed_insns_by, parsed_insns_in, parsed_insns_of, instruction_in, label_in, labels_from, line_statements, index_of, symbols_in, statements_of}
+pub use Rattle.scf_text.specs.Statements.{SymbolTable, Statement, parsed_insns_by, parsed_insns_in, parsed_insns_of, instruction_in, label_in, labels_from, symbols_in, statements_of}
 pub use Rattle.scf_text.specs.Tokens.{IsSliceOf, Lexeme, before_comment, joined, lexemes, lexemes_of_lines, lines_of, words_of_line}
 unfoldable pub use Rattle.scf_text.specs.Tokens.{lexemes_from, tokens_of}
 pub use Rattle.scf_text.specs.declared.fault.TextFault.{TextFault}
@@ -61,7 +61,7 @@ pub use Rattle.scf_text.specs.declared.numbered_insn.NumberedInsn.{NumberedInsn}
 pub use Rattle.scf_text.specs.declared.token.Token.{Token}
 pub use Rattle.scf_text.specs.internal.Parts.{begins_comment, begins_in_word, first_statement, is_semicolon, lines_after, statements_in, words_of_part}
 unfoldable pub use Rattle.scf_text.specs.internal.Parts.{others_in, words_in}
-pub use Rattle.scf_text.specs.internal.Labels.{IsFirstRepeat, IsRepeat, Labels, TellsRepeat, compared, is_before, labels_at, least, repeat_fault}
+pub use Rattle.scf_text.specs.internal.Labels.{IsFirstRepeat, IsRepeat, Labels, TellsRepeat, compared, index_of, is_before, labels_at, least, repeat_fault}
 pub use Rattle.scf_text.specs.internal.Symbols.{FollowsBehind, count_ends, IsBehind, IsLinePart, LiesBehind, line_at, index_after, name_at}
 pub use Rattle.scf_text.specs.internal.Reading.{AreKept, AreNew, HaveTokens, IsEnded, IsLeft, IsRead, Leaves, begins_of, parsed_insns_view, label_at, part_statements, statements_from}
 pub use Rattle.scf_text.specs.internal.Results.{AddsInstruction, AddsLabel, TellsInsns, TellsText, indices_view}

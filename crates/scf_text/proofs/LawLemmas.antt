@@ -1,5 +1,5 @@
 -- A text spells a list exactly where it has no fault, and then only one.
-use Rattle.scf_text.proofs.Common.{◌≡◌, ◌≢◌, ℕ, Bool, false, bytes_eq, map, IsDistinct, ◌+◌, ◌<◌, ◌≤◌, true, cond, eqb, List, [], ◌∷◌, ◌++◌, length, Option, Some, None, refl, zero-add, arith, IsSome, option_or, option_map, option_to_list, AllByRecursion, list_any, flat_map, cases_Bool, lt-ltb, le-ltb, lt-leb, nat_tests, length-append, IsInsn, bpf_maxinsns, Insn, encodings, FieldValue, ParsedInsn, has_mnemonic, read_by, parsed_of, is_below, is_in_range, field_number, Statement, Labels, SymbolTable, index_of, symbols_in, label_in, instruction_in, label_at, labels_from, parsed_insns_by, parsed_insns_in, statements_of, parsed_insns_of, Says, SaysInsn, SaysEach, AreNew, Spells, ascii_fault, label_fault, operands_fault, instruction_fault, statement_fault, statements_fault, target_fault, targets_fault, insn_fault, fault_in, fault_of}
+use Rattle.scf_text.proofs.Common.{◌≡◌, ◌≢◌, ℕ, Bool, false, bytes_eq, map, IsDistinct, ◌+◌, ◌<◌, ◌≤◌, true, cond, eqb, List, [], ◌∷◌, ◌++◌, length, Option, Some, None, refl, zero-add, arith, IsSome, option_or, option_map, option_to_list, AllByRecursion, list_any, flat_map, cases_Bool, lt-ltb, le-ltb, lt-leb, nat_tests, length-append, IsInsn, bpf_maxinsns, Insn, encodings, FieldValue, ParsedInsn, has_mnemonic, read_by, parsed_of, is_below, is_in_range, field_number, Statement, Labels, SymbolTable, index_of, symbols_in, label_in, instruction_in, label_at, labels_from, parsed_insns_by, parsed_insns_in, statements_of, parsed_insns_of, Says, SaysInsn, SaysEach, AreNew, Spells, ascii_fault, label_fault, operands_fault, instruction_fault, statements_fault, target_fault, targets_fault, insn_fault, fault_of}
 use Rattle.scf_text.specs.Encodings.{Encoding}
 use Rattle.std.proofs.lemmas.List.{append-nil}
 use Rattle.scf_text.proofs.ReadLemmas.{bytes_eq_sym, count_more, labels_more, lookup_push, is_none}
@@ -106,9 +106,10 @@ statements_from_none [] before le h = (tt, tt, omega arith)
 statements_from_none (s ∷ ss) before le h =
     let at = count before in
     let body = instruction_in s.tokens in
-    let one = both_none (statement_fault before s) (statements_fault (before ++ s ∷ []) ss) h in
-    let parts =
-    both_none (label_fault (symbols_in before) s.line (label_in s.tokens)) (instruction_fault at s.line body) one.0 in
+    let label = label_fault (symbols_in before) s.line (label_in s.tokens) in
+    let one =
+    both_none (option_or label (instruction_fault at s.line body)) (statements_fault (before ++ s ∷ []) ss) h in
+    let parts = both_none label (instruction_fault at s.line body) one.0 in
     let read = instruction_from at s.line body le parts.1 in
     let remaining =
     rw (labels_more, zero-add, count_more) at
@@ -177,13 +178,13 @@ says_each symbols at (d ∷ ds) (i ∷ is) s fits = grind (arith, common_steps, 
 
 -- a text that spells a list has no fault
 pub no_fault : (text : List ℕ) (is : List Insn) → Spells text is → fault_of text ≡ None
-unfolding fault_of fault_in
+unfolding fault_of
 no_fault text is s = grind (arith, common_steps, nat_tests, says_each, distinct_new, besides_none, statements_to_none, none_both, ascii_to)
 
 -- a text with no fault spells what its instructions say
 pub spelled : (text : List ℕ) (is : List Insn) → fault_of text ≡ None
     → SaysEach (symbols_in (statements_of text)) 0 (parsed_insns_of text) is → AllByRecursion IsInsn is → Spells text is
-unfolding fault_of fault_in
+unfolding fault_of
 spelled text is none says fits =
     let outer =
     both_none (ascii_fault 1 text)

@@ -1,5 +1,5 @@
 -- Each form is read as it is listed, and the canonical text of instructions spells them.
-use Rattle.scf_text.proofs.Common.{words_of_part, IsDistinct, index_of, ◌≡◌, ℕ, true, false, eqb, Option, None, Some, refl, ◌+◌, ◌<◌, ◌≤◌, List, [], ◌∷◌, ◌++◌, length, map, ap, ◌∙◌, append_assoc, arith, if◌then◌else◌, list_any, flat_map, AllByRecursion, list_all, slice_split, and_from, nat_tests, IsInsn, Insn, Code, Jt, Jf, K, names, tells_all, encoding_for, encodings, known_encodings, Number, ParsedInsn, parsed_of, SymbolTable, Statement, is_semicolon, words_of_line, statements_from, label_in, instruction_in, labels_from, parsed_insns_in, SaysInsn, SaysEach, Spells, All-from_recursion, slice_split_at, slice_split_none, bpf_maxinsns, Lexeme, lines_of, before_comment, lexemes_from, line_of, text_of}
+use Rattle.scf_text.proofs.Common.{words_of_part, IsDistinct, Labels, index_of, subst, sym, ◌≡◌, ℕ, true, false, eqb, Option, None, Some, refl, ◌+◌, ◌<◌, ◌≤◌, List, [], ◌∷◌, ◌++◌, length, map, ap, ◌∙◌, append_assoc, arith, if◌then◌else◌, list_any, flat_map, AllByRecursion, list_all, slice_split, and_from, nat_tests, IsInsn, Insn, Code, Jt, Jf, K, names, tells_all, encoding_for, encodings, known_encodings, Number, ParsedInsn, parsed_of, SymbolTable, Statement, is_semicolon, words_of_line, statements_from, label_in, instruction_in, labels_from, parsed_insns_in, SaysInsn, SaysEach, Spells, All-from_recursion, slice_split_at, slice_split_none, bpf_maxinsns, Lexeme, lines_of, before_comment, lexemes_from, line_of, text_of}
 use Rattle.scf_text.proofs.TokenLemmas.{words_nil, all_append}
 use Rattle.scf_text.proofs.ListingLemmas.{hexadecimal_is, decimal_is, decimal_no_name, four_digits_is, piece_words}
 use Rattle.scf_text.proofs.ListingLemmas.{each_same, name_of, field_small, mnemonic_wordy, line_words, is_plain, wordy_plain}
@@ -101,5 +101,6 @@ round_trip is fits few =
       few = few;
       fields = fits;
       read = rw statements round.1;
-      each = rw (statements, round.0) round.2;
+      each = rw statements
+          (subst (λ (ls : Labels). SaysEach (index_of ls) 0 (flat_map parsed_insns_in (listing 1 is)) is) (sym round.0) round.2);
     }

@@ -1,5 +1,5 @@
 -- What reading a text gives.
-use Rattle.scf_text.proofs.Common.{◌≡◌, ◌≢◌, ℕ, ◌<◌, List, [], map, Option, Some, None, Result, Ok, Err, refl, sym, ap, subst, ◌∙◌, arith, append-nil, flat_map, option_or, option_map, IfOk, IfErr, Vec, nat_eq, bytes_eq, Contains, All-nil, Contains-permutation, IsDistinct, IsPermutation, IsPermutation-refl, IsPermutation-sym, IsSortedBy, is_before, Insn, TextFault, Statement, labels_from, SymbolTable, index_of, symbols_in, statements_of, parsed_insns_in, Spells, ascii_fault, statements_fault, targets_fault, fault_of, IsFault, NumberedInsn, TellsInsns, TellsText, fault_in, Labels, labels_at, repeat_fault, IsFirstRepeat, TellsRepeat, name_at, parsed_insns_view, begins_of, AreKept, IsEnded, IsLeft, IsRead, Leaves, HaveTokens, nat_tests}
+use Rattle.scf_text.proofs.Common.{◌≡◌, ◌≢◌, ℕ, ◌<◌, List, [], map, Option, Some, None, Result, Ok, Err, refl, sym, ap, subst, ◌∙◌, arith, append-nil, flat_map, option_or, option_map, IfOk, IfErr, Vec, nat_eq, bytes_eq, Contains, All-nil, Contains-permutation, IsDistinct, IsPermutation, IsPermutation-refl, IsPermutation-sym, IsSortedBy, is_before, Insn, TextFault, Statement, labels_from, SymbolTable, index_of, symbols_in, statements_of, parsed_insns_in, Spells, ascii_fault, statements_fault, targets_fault, fault_of, IsFault, NumberedInsn, TellsInsns, TellsText, Labels, labels_at, repeat_fault, IsFirstRepeat, TellsRepeat, name_at, parsed_insns_view, begins_of, AreKept, IsEnded, IsLeft, IsRead, Leaves, HaveTokens, nat_tests}
 use Rattle.scf_text.specs.declared.fault.TextFault.TheVariants as fault
 use Rattle.scf_text.specs.ParsedInsns as parsed_insns
 use Rattle.scf_text.proofs.ReadLemmas.{apart, fault_first, fault_then, is_fault, index_kept, index_left}
@@ -10,9 +10,9 @@ use Rattle.scf_text.proofs.LawLemmas.{no_fault, spelled}
 use Rattle.std.proofs.lemmas.Grind.{common_steps}
 
 pub statements_fail : (x : TextFault) (text : List ℕ) → IsFault x (statements_fault [] (statements_of text))
-    → IsFault x (fault_in text)
-unfolding fault_in
-statements_fail x text h = grind (arith, common_steps, nat_tests, fault_first)
+    → ascii_fault 1 text ≡ None → IsFault x (fault_of text)
+unfolding fault_of
+statements_fail x text h none = grind (arith, common_steps, nat_tests, fault_first, fault_then)
 
 tells_then : (a b : Option TextFault) (symbols : SymbolTable) (written : List (ℕ × parsed_insns.ParsedInsn))
     (r : Result (Vec Insn) TextFault) → a ≡ None → TellsInsns b symbols written r
@@ -138,18 +138,14 @@ is_read text {sorted = sorted} {ds} left ordered tells =
 pub read_tells : (text labels : List ℕ) (ds : List NumberedInsn) (r : Result (Vec Insn) TextFault)
     → IsRead text labels ds
     → TellsInsns (targets_fault (index_of (labels_at text (begins_of ds) labels)) 0 (parsed_insns_view ds))
-    (index_of (labels_at text (begins_of ds) labels)) (parsed_insns_view ds) r → TellsText (fault_in text) text r
-unfolding fault_in
-read_tells text labels ds r read h = grind (arith, common_steps, nat_tests, tells_then)
+    (index_of (labels_at text (begins_of ds) labels)) (parsed_insns_view ds) r
+    → ascii_fault 1 text ≡ None → TellsText (fault_of text) text r
+unfolding fault_of
+read_tells text labels ds r read h none = grind (arith, common_steps, nat_tests, tells_then)
 
 pub ascii_fails : (e : TextFault) (text : List ℕ) → ascii_fault 1 text ≡ Some e → IsFault e (fault_of text)
-unfolding fault_of fault_in
-ascii_fails e text h = fault_first e (ascii_fault 1 text) (fault_in text) (is_fault e (ascii_fault 1 text) h)
-
-pub ascii_tells : (text : List ℕ) (r : Result (Vec Insn) TextFault) → ascii_fault 1 text ≡ None
-    → TellsText (fault_in text) text r → TellsText (fault_of text) text r
-unfolding fault_of fault_in
-ascii_tells text r none h = grind (arith, common_steps, nat_tests, tells_then)
+unfolding fault_of
+ascii_fails e text h = fault_first e (ascii_fault 1 text) _ (is_fault e (ascii_fault 1 text) h)
 
 pub is_spelled : (text : List ℕ) (r : Result (Vec Insn) TextFault) → TellsText (fault_of text) text r
     → IfOk r (λ insns. Spells text insns.items)

@@ -1,7 +1,7 @@
 -- The bytes of a text (ASCII).
 use Prim.Native.Char.{code}
 use Rattle.std.specs.Prelude.{ℕ, Bool, false, ◌==◌, ◌||◌, List, [], ◌∷◌}
-use Rattle.std.specs.Char.{is_ascii_alphabetic, is_ascii_alphanumeric}
+use Rattle.std.specs.Char.{is_ascii_alphanumeric}
 
 abbrev pub is_line_end : ℕ → Bool
 is_line_end b = b == code "\n"
@@ -9,10 +9,6 @@ is_line_end b = b == code "\n"
 -- Blanks separate tokens and have no other meaning.
 abbrev pub is_blank : ℕ → Bool
 is_blank b = b == code " " || b == code "\t" || b == code "\r"
-
--- a letter or `_`
-abbrev pub is_name_start : ℕ → Bool
-is_name_start b = is_ascii_alphabetic b || b == code "_"
 
 -- the bytes begin with one of these
 abbrev pub begins_in : (ℕ → Bool) → List ℕ → Bool

@@ -76,13 +76,10 @@ word_and_pieces ReturnAccumulator = (codes "ret", Accumulator ∷ [])
 word_and_pieces CopyToIndex = (codes "tax", [])
 word_and_pieces CopyToAccumulator = (codes "txa", [])
 
-abbrev pub encoding_of : Operation → Encoding
-encoding_of operation =
-    let form = word_and_pieces operation in record { code = code_of operation; mnemonic = form.0; pieces = form.1 }
-
 -- the forms of the 41 codes
 unfoldable pub known_encodings : List Encoding
-known_encodings = map encoding_of operations
+known_encodings = map (λ operation. let form = word_and_pieces operation in
+    record { code = code_of operation; mnemonic = form.0; pieces = form.1 }) operations
 
 -- The form that every instruction has. Its code stands among its operands, so the 0 here is always written over.
 abbrev pub raw : Encoding
@@ -113,14 +110,10 @@ names field (Number f style) = same_field field f
 names field (Target f) = same_field field f
 names field _ = false
 
--- each field that the form doesn't name is 0
-abbrev pub names_all : Insn → Encoding → Bool
-names_all i encoding =
-    list_all (λ field. list_any (names field) encoding.pieces || field_of i field == 0) (Jt ∷ Jf ∷ K ∷ [])
-
--- the form has the instruction's code and says all of it
+-- the form has the instruction's code and says all of it: each field that it doesn't name is 0
 abbrev pub tells_all : Insn → Encoding → Bool
-tells_all i encoding = encoding.code == i.code && names_all i encoding
+tells_all i encoding = encoding.code == i.code
+    && list_all (λ field. list_any (names field) encoding.pieces || field_of i field == 0) (Jt ∷ Jf ∷ K ∷ [])
 
 -- the form in which an instruction is listed: that of its code, unless a field that it doesn't name isn't 0
 unfoldable pub encoding_for : Insn → Encoding

@@ -39,16 +39,13 @@ instruction_fault at line [] = None
 instruction_fault at line (t ∷ ts) =
     if list_any (has_mnemonic t) encodings then operands_fault at line (parsed_of t ts) else Some (fault.Mnemonic line)
 
--- the first fault of a statement behind others
-abbrev pub statement_fault : List Statement → Statement → Option TextFault
-statement_fault before s =
-    option_or (label_fault (symbols_in before) s.line (label_in s.tokens))
-    (instruction_fault (length (flat_map parsed_insns_in before)) s.line (instruction_in s.tokens))
-
--- the first fault of statements behind others
+-- the first fault of statements behind others: of the label of the first, of its instruction, or of a later one
 abbrev pub statements_fault : List Statement → List Statement → Option TextFault
 statements_fault before [] = None
-statements_fault before (s ∷ ss) = option_or (statement_fault before s) (statements_fault (before ++ s ∷ []) ss)
+statements_fault before (s ∷ ss) =
+    option_or (option_or (label_fault (symbols_in before) s.line (label_in s.tokens))
+    (instruction_fault (length (flat_map parsed_insns_in before)) s.line (instruction_in s.tokens)))
+    (statements_fault (before ++ s ∷ []) ss)
 
 -- A name with no index, or an index that the field doesn't reach. Indices behind the jump alone are reached.
 abbrev pub target_fault : SymbolTable → ℕ → ℕ → ℕ → FieldValue → Option TextFault
@@ -69,12 +66,8 @@ abbrev pub targets_fault : SymbolTable → ℕ → List (ℕ × ParsedInsn) → 
 targets_fault symbols at [] = None
 targets_fault symbols at (d ∷ ds) = option_or (insn_fault symbols at d.0 d.1) (targets_fault symbols (at + 1) ds)
 
--- of an ASCII text the first fault of a statement, then the first wrong target
-unfoldable pub fault_in : List ℕ → Option TextFault
-fault_in text =
-    option_or (statements_fault [] (statements_of text))
-    (targets_fault (symbols_in (statements_of text)) 0 (parsed_insns_of text))
-
--- the first fault: first of all a byte that isn't ASCII
+-- the first fault: a byte that isn't ASCII, then the first fault of a statement, then the first wrong target
 unfoldable pub fault_of : List ℕ → Option TextFault
-fault_of text = option_or (ascii_fault 1 text) (fault_in text)
+fault_of text =
+    option_or (ascii_fault 1 text) (option_or (statements_fault [] (statements_of text))
+    (targets_fault (symbols_in (statements_of text)) 0 (parsed_insns_of text)))

@@ -1,7 +1,9 @@
 -- What the tokens of an instruction say.
-use Rattle.std.specs.Prelude.{ℕ, ◌&&◌, ◌-◌, ◌^◌, Bool, true, List, [], ◌∷◌, Option, Some, None, min, nat_lt, codes}
+use Prim.Native.Char.{code}
+use Rattle.std.specs.Prelude.{ℕ, ◌==◌, ◌&&◌, ◌||◌, ◌-◌, ◌^◌, Bool, true, List, [], ◌∷◌, Option, Some, None, min, nat_lt, codes}
 use Rattle.std.specs.Prelude.{if◌then◌else◌}
 use Rattle.std.specs.Option.{option_map, option_and_then, option_or}
+use Rattle.std.specs.Char.{is_ascii_alphabetic}
 use Rattle.std.specs.List.{list_any}
 use Rattle.std.specs.Str.{bytes_eq}
 use Rattle.scf_insn.specs.Numbers.{number_of}
@@ -9,7 +11,7 @@ use Rattle.scf_text.specs.declared.encoding.Piece.{Piece}
 use Rattle.scf_text.specs.declared.encoding.Piece.TheVariants as p
 use Rattle.scf_text.specs.declared.encoding.Field.{Field}
 use Rattle.scf_text.specs.declared.encoding.Field.TheVariants.{Code, Jt, Jf, K}
-use Rattle.scf_text.specs.Characters.{is_name_start, begins_in}
+use Rattle.scf_text.specs.Characters.{begins_in}
 use Rattle.scf_text.specs.Encodings.{Encoding, encodings}
 
 -- what stands for a field: a number, or the name of an index
@@ -30,7 +32,7 @@ blank encoding = record { code = encoding.code; jt = Number 0; jf = Number 0; k 
 
 -- a token is a name where it begins with a letter or `_`
 abbrev pub is_name : List ℕ → Bool
-is_name = begins_in is_name_start
+is_name = begins_in (λ b. is_ascii_alphabetic b || b == code "_")
 
 abbrev pub with_field : Field → FieldValue → ParsedInsn → ParsedInsn
 with_field Code (Number n) d = record { code = n; jt = d.jt; jf = d.jf; k = d.k }

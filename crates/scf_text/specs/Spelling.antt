@@ -1,6 +1,6 @@
 -- Which instructions a text spells.
-use Rattle.std.specs.Prelude.{◌≡◌, ℕ, ◌+◌, ◌<◌, ◌≤◌, List, [], ◌∷◌, length, map, Some}
-use Rattle.std.specs.List.{AllByRecursion, IsDistinct}
+use Rattle.std.specs.Prelude.{◌≡◌, ℕ, ◌+◌, ◌<◌, ◌≤◌, List, [], length, map, Some}
+use Rattle.std.specs.List.{AllByRecursion, AllZip, IsDistinct, enumerate_from}
 use Rattle.std.specs.Str.{bytes_eq}
 use Rattle.scf_insn.specs.Insn.{IsInsn}
 use Rattle.scf_insn.specs.Kernel.{bpf_maxinsns}
@@ -23,9 +23,7 @@ pub record SaysInsn (symbols : SymbolTable) (at : ℕ) (d : ParsedInsn) (i : Ins
 
 -- These say the instructions in order, the first at this index.
 abbrev pub SaysEach : SymbolTable → ℕ → List (ℕ × ParsedInsn) → List Insn → Type 0
-SaysEach symbols at [] [] = Unit {0}
-SaysEach symbols at (d ∷ ds) (i ∷ is) = SaysInsn symbols at d.1 i × SaysEach symbols (at + 1) ds is
-SaysEach symbols at _ _ = ⊥
+SaysEach symbols at ds is = AllZip (λ d i. SaysInsn symbols d.0 d.1.1 i) (enumerate_from at ds) is
 
 -- The text is ASCII and no name is given twice. What stands behind the labels of its statements are forms of
 -- instructions, and they say the list, which has at most as many as a filter may have.

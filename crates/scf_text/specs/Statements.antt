@@ -13,13 +13,11 @@ pub record Statement : Type 0 where
   pub line : ℕ
   pub tokens : List (List ℕ)
 
--- a line, behind its number: without its comment it is cut at each `;`
-abbrev pub line_statements : ℕ × List ℕ → List Statement
-line_statements l =
-    map (λ ts. record { line = l.0; tokens = ts }) (slice_split (λ t. bytes_eq t (codes ";")) (words_of_line l.1))
-
+-- the statements of the lines, counted from 1: a line without its comment is cut at each `;`
 abbrev pub statements_of : List ℕ → List Statement
-statements_of text = flat_map line_statements (enumerate_from 1 (lines_of text))
+statements_of text =
+    flat_map (λ l. map (λ ts. record { line = l.0; tokens = ts })
+    (slice_split (λ t. bytes_eq t (codes ";")) (words_of_line l.1))) (enumerate_from 1 (lines_of text))
 
 -- a name and `:` in front
 abbrev pub label_in : List (List ℕ) → Option (List ℕ)
@@ -49,12 +47,9 @@ labels_from at (s ∷ ss) =
 abbrev pub SymbolTable : Type 0
 SymbolTable = List ℕ → Option ℕ
 
-abbrev pub index_of : List (List ℕ × ℕ) → SymbolTable
-index_of labels = λ name. lookup (bytes_eq name) labels
-
 -- the indices of the names that statements give
 abbrev pub symbols_in : List Statement → SymbolTable
-symbols_in ss = index_of (labels_from 0 ss)
+symbols_in ss = λ name. lookup (bytes_eq name) (labels_from 0 ss)
 
 abbrev pub parsed_insns_of : List ℕ → List (ℕ × ParsedInsn)
 parsed_insns_of text = flat_map parsed_insns_in (statements_of text)

@@ -6,7 +6,7 @@ ghost use Rattle.scf_text.specs.ParsedInsns.{is_below};
 ghost use Rattle.scf_text.specs.Statements.{Statement, statements_of};
 ghost use Rattle.scf_text.specs.Spelling.{Spells};
 ghost use Rattle.scf_text.specs.Tokens.{tokens_of};
-ghost use Rattle.scf_text.specs.Faults.{IsFault, ascii_fault, statements_fault, targets_fault, fault_in, fault_of};
+ghost use Rattle.scf_text.specs.Faults.{IsFault, ascii_fault, statements_fault, targets_fault, fault_of};
 ghost use Rattle.scf_text.specs.internal.Reading.{parsed_insns_view, HaveTokens, IsLeft, IsRead, Leaves};
 ghost use Rattle.scf_text.specs.internal.Results.{TellsTarget, TellsInsn, TellsInsns, TellsText, indices_view};
 ghost use Rattle.scf_text.specs.internal.Views.{field_value_view, parsed_view};
@@ -173,7 +173,7 @@ fn read_statements<'a>(
 
 /// Assembles an ASCII text.
 fn read_all(alloc: Global, text: &[u8]) -> Result<Vec<Insn>, TextFault>
-    ensures tells { TellsText (fault_in text.now) text.now result }
+    ensures tells { ascii_fault 1 text.now ≡ None → TellsText (fault_of text.now) text.now result }
     ensures some { OnErr result (HaveTokens (statements_of text.now)) }
 {
     let (labels, parsed_insns) = read_statements(alloc, text)?;
@@ -193,7 +193,7 @@ fn read_all(alloc: Global, text: &[u8]) -> Result<Vec<Insn>, TextFault>
 /// mnemonic, operands that its mnemonic doesn't take, a number that doesn't fit, or the 4097th instruction; then the
 /// first jump to a label that is undefined or out of reach. `Memory` comes if an allocation failed; never for a text
 /// that isn't ASCII or has no token.
-#[tactic(auto, using(crate::proofs::TextLemmas::ascii_fails, crate::proofs::TextLemmas::ascii_tells, crate::proofs::TextLemmas::is_spelled, crate::proofs::TextLemmas::is_not_spelled, crate::proofs::WantedLemmas::words_tokens))]
+#[tactic(auto, using(crate::proofs::TextLemmas::ascii_fails, crate::proofs::TextLemmas::is_spelled, crate::proofs::TextLemmas::is_not_spelled, crate::proofs::WantedLemmas::words_tokens))]
 pub fn assemble(alloc: Global, text: &[u8]) -> Result<Vec<Insn>, TextFault>
     ensures spelled { IfOk result (λ insns. Spells text.now insns.items) }
     // An error is out of memory, or the first fault of the text.

@@ -1,7 +1,7 @@
 //! Encodings: the mnemonic and operand format of each instruction code, for the assembler and the disassembler.
 ghost use Rattle.std.specs.Prelude.{◌≡◌, ◌==◌, map};
 ghost use Rattle.std.specs.List.{list_any};
-ghost use Rattle.scf_text.specs.Encodings.{encodings, known_encodings, raw, names, names_all, encoding_for};
+ghost use Rattle.scf_text.specs.Encodings.{encodings, known_encodings, raw, names, tells_all, encoding_for};
 ghost use Rattle.scf_text.specs.ParsedInsns.{has_mnemonic};
 ghost use Rattle.scf_text.specs.internal.Views.{encoding_view};
 
@@ -170,11 +170,12 @@ impl Encoding {
         })
     }
 
-    /// Whether the encoding shows everything of an instruction of its code: the fields that it doesn't name are 0.
-    fn names_all(&self, insn: &Insn) -> bool
-        ensures { result ≡ names_all insn.now (encoding_view self.now) }
+    /// Whether the encoding shows everything of an instruction: its code, and the fields that it doesn't name are 0.
+    fn tells_all(&self, insn: &Insn) -> bool
+        ensures { result ≡ tells_all insn.now (encoding_view self.now) }
     {
-        (self.names(Field::Jt) || insn.jt == 0)
+        self.code == insn.code
+            && (self.names(Field::Jt) || insn.jt == 0)
             && (self.names(Field::Jf) || insn.jf == 0)
             && (self.names(Field::K) || insn.k == 0)
     }
@@ -185,7 +186,7 @@ impl Encoding {
         ensures { encoding_view result ≡ encoding_for insn.now }
     {
         for encoding in Encoding::known() {
-            if encoding.code == insn.code && encoding.names_all(insn) {
+            if encoding.tells_all(insn) {
                 return *encoding;
             }
         }

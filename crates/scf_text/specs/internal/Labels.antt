@@ -3,14 +3,21 @@ use Rattle.std.specs.Prelude.{◌≡◌, ℕ, ◌<◌, ◌≤◌, List, map, min
 use Rattle.std.specs.declared.cmp.Ordering.{Ordering}
 use Rattle.std.specs.Cmp.Lexicographic.{slice_cmp}
 use Rattle.std.specs.List.{Contains, prefix_len}
+use Rattle.std.specs.Map.{lookup}
 use Rattle.std.specs.Ordering.{is_lt, nat_cmp, ordering_then}
+use Rattle.std.specs.Str.{bytes_eq}
 use Rattle.scf_text.specs.declared.fault.TextFault.{TextFault}
 use Rattle.scf_text.specs.declared.fault.TextFault.TheVariants as fault
+use Rattle.scf_text.specs.Statements.{SymbolTable}
 use Rattle.scf_text.specs.internal.Symbols.{name_at, line_at}
 
 -- names that stand for indices, each with its index
 abbrev pub Labels : Type 0
 Labels = List (List ℕ × ℕ)
+
+-- the index that each name stands for, if it stands for one
+abbrev pub index_of : Labels → SymbolTable
+index_of labels = λ name. lookup (bytes_eq name) labels
 
 -- The labels that begin at these indices, where instructions begin at those: a label stands for the number of the
 -- instructions before it.

@@ -8,10 +8,11 @@ use Rattle.scf_text.specs.declared.fault.TextFault.{TextFault}
 use Rattle.scf_text.specs.declared.numbered_insn.NumberedInsn.{NumberedInsn}
 use Rattle.scf_text.specs.ParsedInsns as parsed_insns
 use Rattle.scf_text.specs.Faults.{IsFault, statements_fault}
-use Rattle.scf_text.specs.Statements.{Statement, index_of, symbols_in, labels_from, parsed_insns_in, parsed_insns_of}
-use Rattle.scf_text.specs.Statements.{line_statements, statements_of}
-use Rattle.scf_text.specs.internal.Labels.{Labels, labels_at, is_before, IsFirstRepeat, repeat_fault}
-use Rattle.scf_text.specs.internal.Parts.{words_in, others_in}
+use Rattle.scf_text.specs.Statements.{Statement, symbols_in, labels_from, parsed_insns_in, parsed_insns_of}
+use Rattle.scf_text.specs.Statements.{statements_of}
+use Rattle.scf_text.specs.Tokens.{before_comment}
+use Rattle.scf_text.specs.internal.Labels.{Labels, index_of, labels_at, is_before, IsFirstRepeat, repeat_fault}
+use Rattle.scf_text.specs.internal.Parts.{words_in, others_in, statements_in}
 use Rattle.scf_text.specs.internal.Symbols.{name_at}
 use Rattle.scf_text.specs.internal.Views.{parsed_view}
 
@@ -33,7 +34,9 @@ parsed_insns_view insns = map (λ l. (l.line, parsed_view l.parsed)) insns
 
 -- the statements of lines, the first of which has this number
 abbrev pub statements_from : ℕ → List (List ℕ) → List Statement
-statements_from n lines = flat_map line_statements (enumerate_from n lines)
+statements_from n lines =
+    flat_map (λ l. map (λ ts. record { line = l.0; tokens = ts }) (statements_in (before_comment l.1)))
+    (enumerate_from n lines)
 
 -- the statements of a part of a line, which end at each `;`
 abbrev pub part_statements : ℕ → List ℕ → List Statement

@@ -15,8 +15,8 @@ use Rattle.scf_text.specs.declared.symbols.SymbolTable.{SymbolTable as Kept}
 use Rattle.scf_text.specs.ParsedInsns as parsed_insns
 use Rattle.scf_text.specs.Faults.{IsFault, insn_fault, instruction_fault, target_fault}
 use Rattle.scf_text.specs.Spelling.{Says, SaysInsn, SaysEach}
-use Rattle.scf_text.specs.Statements.{SymbolTable, index_of, symbols_in, statements_of, parsed_insns_of, parsed_insns_by}
-use Rattle.scf_text.specs.internal.Labels.{labels_at, TellsRepeat}
+use Rattle.scf_text.specs.Statements.{SymbolTable, symbols_in, statements_of, parsed_insns_of, parsed_insns_by}
+use Rattle.scf_text.specs.internal.Labels.{index_of, labels_at, TellsRepeat}
 use Rattle.scf_text.specs.internal.Parts.{others_in, statements_after}
 use Rattle.scf_text.specs.internal.Symbols.{FollowsBehind}
 use Rattle.scf_text.specs.internal.Reading.{parsed_insns_view, begins_of}
