@@ -1,5 +1,5 @@
 -- The calls of a table and the ranges between them.
-use Rattle.scf_profile.proofs.Common.{common_steps, nat_tests, ℕ, ◌+◌, ◌-◌, ◌<◌, ◌≤◌, ◌⊎◌, Bool, cond, List, [], ◌∷◌, ◌++◌, arith, inl, inr, cases_eq, cases_lt, ltb, lt-ltb, CallRecord, IsNative, x32_syscall_bit}
+use Rattle.scf_profile.proofs.Common.{common_steps, nat_tests, ℕ, ◌+◌, ◌-◌, ◌<◌, ◌≤◌, ◌⊎◌, Bool, cond, List, [], ◌∷◌, ◌++◌, arith, inl, inr, cases_eq, cases_lt, ltb, lt-ltb, CallRecord, IsOf, x32_syscall_bit}
 use Rattle.scf_profile.specs.CallsAndRest.{CallsAndRest, IsInOneOf, each_and_rest, range_below}
 use Rattle.scf_insn.specs.declared.architecture.Architecture.TheVariants.{X8664}
 use Rattle.scf_profile.specs.declared.scope.Scope.{Scope}
@@ -22,16 +22,16 @@ in_either (scope ∷ some) others call (inl here) = inl (inl here)
 in_either (scope ∷ some) others call (inr there) =
     grind (arith, common_steps, nat_tests, in_either some others call there)
 
-range_has : (first end : ℕ) (call : CallRecord) → IsNative call → first ≤ call.nr → call.nr < end
+range_has : (first end : ℕ) (call : CallRecord) → IsOf X8664 call → first ≤ call.nr → call.nr < end
     → IsInOneOf (range_below first end) call
 range_has first end call native low high = grind (arith, common_steps, nat_tests, lt-ltb)
 
 only_native : (some : Bool) (first last : ℕ) (call : CallRecord)
-    → IsInOneOf (cond some (Numbers X8664 first last ∷ []) []) call → IsNative call
+    → IsInOneOf (cond some (Numbers X8664 first last ∷ []) []) call → IsOf X8664 call
 only_native some first last call h = grind (arith, common_steps, nat_tests)
 
 -- a native record from a number on is in one of the scopes
-covered : (first : ℕ) (numbers : List ℕ) (call : CallRecord) → IsNative call → first ≤ call.nr
+covered : (first : ℕ) (numbers : List ℕ) (call : CallRecord) → IsOf X8664 call → first ≤ call.nr
     → IsInOneOf (each_and_rest first numbers) call
 covered first [] call native low = range_has first x32_syscall_bit call native low (omega (arith, native.last))
 covered first (number ∷ numbers) call native low =
@@ -47,7 +47,7 @@ covered first (number ∷ numbers) call native low =
 
 -- each of the scopes has native records alone
 all_native : (first : ℕ) (numbers : List ℕ) (call : CallRecord)
-    → IsInOneOf (each_and_rest first numbers) call → IsNative call
+    → IsInOneOf (each_and_rest first numbers) call → IsOf X8664 call
 all_native first [] call within = grind (arith, common_steps, nat_tests, only_native, x32_syscall_bit)
 all_native first (number ∷ numbers) call within =
     elim (in_either (range_below first number) (Numbers X8664 number number ∷ each_and_rest (number + 1) numbers) call within) [

@@ -55,21 +55,21 @@ pub use Rattle.scf_insn.specs.declared.record.CallRecord.{CallRecord}
 pub use Rattle.scf_profile.specs.Condition.{compares, condition_holds}
 unfoldable pub use Rattle.scf_profile.specs.JsonMembers.{each}
 pub use Rattle.scf_profile.specs.Limits.{max_rules}
-pub use Rattle.scf_profile.specs.Loading.{EntriesConflict, IsFirstConflict, IsLeastConflict, RefusesBy, IsText, Loads, Refuses, RefusesAs, RefusesEachAs, TestsGive}
+pub use Rattle.scf_profile.specs.Loading.{EntriesConflict, IsFirstConflict, IsLeastConflict, IsText, Loads, Refuses, RefusesAs, RefusesEachAs, TestsGive}
 pub use Rattle.scf_profile.specs.NamedCalls.{AreCallsOf, HasItsNames}
 pub use Rattle.scf_profile.specs.Names.{AreSorted, names_of}
 pub use Rattle.scf_profile.specs.NumberRules.{AreNumbersOf, AreRising}
 pub use Rattle.scf_profile.specs.PlainProfile.{IsPlainCondition, IsPlainProfile, IsPlainRule}
-pub use Rattle.scf_profile.specs.Profile.{Profile as Answering, AreOfApart, HaveNoConflict, IsNative, IsProfile, Profile}
+pub use Rattle.scf_profile.specs.Profile.{Profile as Answering, AreOfApart, HaveNoConflict, IsProfile, Profile}
 pub use Rattle.scf_profile.specs.ProfileAnswers.{OfFirst, ProfileAnswers, ProfilesAnswer, by_default, by_rule, by_stub, foreign}
-pub use Rattle.scf_profile.specs.Readings.{alternatives, compares_nothing, conditions_read, has_repeated_index, effective_profile, effective_rules, first_unconditional, is_effective, is_unconditional}
+pub use Rattle.scf_profile.specs.Readings.{alternatives, compares_nothing, conditions_read, has_repeated_index, effective_profile, effective_rules, is_effective, is_unconditional}
 pub use Rattle.scf_profile.specs.Reasons.{IsAnswerOf, IsReason, entries_met}
 pub use Rattle.scf_profile.specs.References.{texts_at}
 pub use Rattle.scf_profile.specs.Rule.{AreConditions, Conflicts, HaveDistinctIndices, IsCondition, IsRule, all_hold, meets}
 pub use Rattle.scf_profile.specs.RulesByNumber.{numbers_of, rules_of}
 pub use Rattle.scf_profile.specs.SameAnswers.{AnswersRelated, SameAnswers}
-pub use Rattle.scf_profile.specs.StatedProfile.{Head, Tables, is_named, rules_by_each, rules_of_entry, profile_for, listed_names, own_architecture, other_names, profiles_from, rules_from, rules_numbered, numbers_named, is_in_none, skipped_names, strings_of, table_for, tables_of, with_stub}
-unfoldable pub use Rattle.scf_profile.specs.StatedProfile.{answer_in, condition_of, condition_of as condition_stated, entry_of, errno_of, no_engine_form, all_listed, entries_of, head_of, profiles_of, seccomp_of}
+pub use Rattle.scf_profile.specs.StatedProfile.{Tables, is_named, rules_of_entry, profile_for, listed_names, other_names, profiles_from, rules_from, rules_numbered, numbers_named, skipped_names, strings_of, table_for, tables_of, with_stub}
+unfoldable pub use Rattle.scf_profile.specs.StatedProfile.{answer_in, condition_of, condition_of as condition_stated, entry_of, errno_of, no_engine_form, all_listed, entries_of, profiles_of, seccomp_of}
 pub use Rattle.scf_profile.specs.Steps.{◌>>=◌}
 pub use Rattle.scf_profile.specs.Stub.{is_stubbed, stub_answer}
 pub use Rattle.scf_profile.specs.Table.{AreCallNumbers, BeginWithCall, Names, entry_in, fields, is_separator, is_in_name, is_call_name, table_of, with_entry}
@@ -90,10 +90,10 @@ pub use Rattle.scf_profile.specs.declared.reason.Reason.TheVariants.{Default, En
 pub use Rattle.scf_profile.specs.declared.rule.Rule.{Rule}
 pub use Rattle.scf_profile.specs.declared.table_fault.TableFault.{TableFault}
 pub use Rattle.scf_profile.specs.internal.Clashes.{IsBoundedBy, IsClashBounded, IsClashOf, IsLeastClash}
-pub use Rattle.scf_profile.specs.internal.EntryRanges.{AddsRules, AreStatedRules, HasSkipped, IsEntry, TellsOneTooMany, TellsTooMany, names_lacking}
+pub use Rattle.scf_profile.specs.internal.EntryRanges.{AddsRules, AreStatedRules, HasSkipped, IsEntry, TellsOneTooMany, TellsTooMany, is_in_none, names_lacking}
 pub use Rattle.scf_profile.specs.internal.NamesByNumber.{AreByNumber, Named, named_call, names_under, names_with}
 pub use Rattle.scf_profile.specs.internal.NumberSets.{HaveCommonNumber, IsGreatestOf, IsLeastOf}
 pub use Rattle.scf_profile.specs.internal.Overlaps.{HoldAt, Overlap, OverlapAt}
 pub use Rattle.scf_profile.specs.internal.Refusals.{NamesFirstConflict, NamesLeastConflict}
 pub use Rattle.scf_profile.specs.internal.RulesUnder.{AreUnder, Under, pair_of, rules_under}
-pub use Rattle.scf_profile.specs.internal.Stated.{effective_of, head_stated, loaded_profiles_of, stated_profile, with_machine}
+pub use Rattle.scf_profile.specs.internal.Stated.{effective_of, loaded_profiles_of, stated_profile, with_machine}

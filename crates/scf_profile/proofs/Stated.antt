@@ -136,4 +136,4 @@ then_ok P r f h = grind (arith, common_steps, nat_tests)
 pub one_profile : (reading : Reading) (table : Names) (root : Data)
     → IfOk (profiles_of reading (only_table table) root) (λ loaded. length loaded.profiles ≡ 1)
 unfolding profiles_of
-one_profile reading table root = search then_ok
+one_profile reading table root = search then_ok depth 10

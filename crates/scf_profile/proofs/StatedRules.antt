@@ -1,5 +1,5 @@
 -- The rules that entries state: their ranges, and one answer for each entry.
-use Rattle.scf_profile.proofs.Common.{◌≡◌, ℕ, suc, Bool, ◌+◌, ◌<◌, ◌≤◌, ◌^◌, List, [], ◌∷◌, ◌++◌, length, get_or, map, Some, None, Option, All, refl, sym, ap, ◌∙◌, arith, inl, inr, Contains, count_by-le-length, length-filter, All-contains_itself, All-filter, Reading, effective_rules, is_effective, filter, get, cases_order, recursion_from_All, All-nil, All-cons, All-append, All-head, All-tail, All-contains, All-same, All-weaker, filter-append, filter_map-append, Architecture, row_of, Rule, IsEntry, AreStatedRules, Answer, EntriesConflict, max_rules, IsProfile, HaveNoConflict, Conflicts, IsRule, Names, AreCallNumbers, option_map_or, rules_by_each, rules_of_entry, rules_numbered, numbers_named, rules_from, Condition, IsCondition, AreConditions, HaveDistinctIndices, AllByRecursion, alternatives, has_repeated_index, cond, true, false, list_any, or_parts, eqb, eqb-false, ◌≢◌, append-nil, flat_map-cons, nat_tests, common_steps, and_parts, find, is_none, list_all, option_map, HasSkipped, Tables, is_in_none, is_named, names_lacking, table_for}
+use Rattle.scf_profile.proofs.Common.{◌≡◌, ℕ, suc, Bool, ◌+◌, ◌<◌, ◌≤◌, ◌^◌, List, [], ◌∷◌, ◌++◌, length, get_or, map, Some, None, Option, All, refl, sym, ap, ◌∙◌, arith, inl, inr, Contains, count_by-le-length, length-filter, All-contains_itself, All-filter, Reading, effective_rules, is_effective, filter, get, cases_order, recursion_from_All, All-nil, All-cons, All-append, All-head, All-tail, All-contains, All-same, All-weaker, filter-append, filter_map-append, Architecture, row_of, Rule, IsEntry, AreStatedRules, Answer, EntriesConflict, max_rules, IsProfile, HaveNoConflict, Conflicts, IsRule, Names, AreCallNumbers, option_map_or, rules_of_entry, rules_numbered, numbers_named, rules_from, Condition, IsCondition, AreConditions, HaveDistinctIndices, AllByRecursion, alternatives, has_repeated_index, cond, true, false, list_any, or_parts, eqb, eqb-false, ◌≢◌, append-nil, flat_map-cons, nat_tests, common_steps, and_parts, find, is_none, list_all, option_map, HasSkipped, Tables, is_in_none, is_named, names_lacking, table_for}
 use Rattle.std.specs.List.{flat_map}
 use Rattle.std.proofs.lemmas.List.Kept.{AllPairs-cons, AllPairs-filter}
 use Rattle.scf_insn.proofs.Architectures.{number_within}
@@ -21,6 +21,11 @@ rule_for a index conditions answer number = record {
 -- the rules that an entry at an index states by conditions for names
 abbrev rules_for : Architecture → Names → ℕ → List Condition → Answer → List (List ℕ) → List Rule
 rules_for a table index conditions answer names = rules_numbered index conditions answer (numbers_named a table names)
+
+-- by each of several lists of conditions
+abbrev pub rules_by_each : ℕ → List (List Condition) → Answer → List ℕ → List Rule
+rules_by_each index several answer numbers =
+    flat_map (λ conditions. rules_numbered index conditions answer numbers) several
 
 -- what holds of the rule for each number that a name has
 module _ (a : Architecture) (P : Rule → Type 0) (table : Names) (index : ℕ) (conditions : List Condition)

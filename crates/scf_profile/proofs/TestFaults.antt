@@ -1,5 +1,5 @@
 -- The tests of a value give neither `Json` nor `Conflict`, and not `Memory`.
-use Rattle.scf_profile.proofs.Common.{◌≡◌, ◌≢◌, ℕ, Bool, cond, List, [], ◌∷◌, ◌++◌, Option, Result, Ok, Err, IfErr, option_map_or, Data, Items, no_items, item, LoadFault, IsText, TestsGive, Reading, RefusesEachAs, RefusesBy, NamesFirstConflict, Tables, LoadedProfiles, ◌+◌, ◌>>=◌, ok_or, each, errno_of, answer_in, no_engine_form, condition_of, entry_of, seccomp_of, head_of, entries_of, all_listed, profiles_of, arith, nat_tests, common_steps}
+use Rattle.scf_profile.proofs.Common.{◌≡◌, ◌≢◌, ℕ, Bool, cond, List, [], ◌∷◌, ◌++◌, Option, Result, Ok, Err, IfErr, option_map_or, Data, Items, no_items, item, LoadFault, IsText, TestsGive, Reading, RefusesEachAs, NamesFirstConflict, Tables, LoadedProfiles, ◌+◌, ◌>>=◌, ok_or, each, errno_of, answer_in, no_engine_form, condition_of, entry_of, seccomp_of, entries_of, all_listed, profiles_of, arith, nat_tests, common_steps}
 use Rattle.scf_profile.specs.declared.load_fault.LoadFault.TheVariants as faults
 
 abbrev pub IsTestFault : LoadFault → Type 0
@@ -52,9 +52,9 @@ entry_test : (reading : Reading) (entry : Option ℕ) (d : Data) → IsTest (ent
 unfolding entry_of no_engine_form condition_of
 entry_test reading entry d = search (tests, answer_test) depth 40 fits 4000
 
-head_test : (reading : Reading) (root : Data) → IsTest (head_of reading root)
-unfolding head_of seccomp_of
-head_test reading root = search (tests, answer_test) depth 40 fits 4000
+seccomp_test : (root : Data) → IsTest (seccomp_of root)
+unfolding seccomp_of
+seccomp_test root = search tests depth 40 fits 4000
 
 entries_test : (reading : Reading) (d : Data) → IsTest (entries_of reading d)
 unfolding entries_of no_engine_form
@@ -67,21 +67,16 @@ listed_test index names (t ∷ tables) = grind (arith, common_steps, nat_tests, 
 
 profiles_test : (reading : Reading) (tables : Tables) (root : Data) → IsTest (profiles_of reading tables root)
 unfolding profiles_of
-profiles_test reading tables root = search (tests, head_test, entries_test, listed_test) depth 40 fits 4000
+profiles_test reading tables root = search (tests, seccomp_test, answer_test, entries_test, listed_test) depth 40 fits 4000
 
 -- ---- what the value of a text fails first, or out of memory
 
-module _ {A : Type 0} (tests : Data → Result A LoadFault) (is_test : (d : Data) → IsTest (tests d))
-    (HasConflict : A → ℕ → ℕ → ℕ → Type 0) (text : List ℕ) where
-  refused : (d : Data) (e : LoadFault) → IsText text d → (e ≢ faults.Memory → tests d ≡ Err e)
-      → RefusesBy tests HasConflict text e
-  refused d e h h2 = grind (arith, common_steps, nat_tests)
-
 pub refuses_each_of_fault : (reading : Reading) (text : List ℕ) (tables : Tables) (d : Data) (e : LoadFault)
     → IsText text d → (e ≢ faults.Memory → profiles_of reading tables d ≡ Err e) → RefusesEachAs reading text tables e
-refuses_each_of_fault reading text tables d e is_text fails = grind (arith, common_steps, nat_tests, refused, profiles_test)
+refuses_each_of_fault reading text tables d e is_text fails =
+    let is_test = profiles_test reading tables d in grind (arith, common_steps, nat_tests)
 
 pub refuses_each_of_conflict : (reading : Reading) (text : List ℕ) (tables : Tables) (loaded : LoadedProfiles)
-    → TestsGive (profiles_of reading tables) text (Ok loaded) → (e : LoadFault)
+    → TestsGive reading text tables (Ok loaded) → (e : LoadFault)
     → NamesFirstConflict loaded.profiles e → RefusesEachAs reading text tables e
 refuses_each_of_conflict reading text tables loaded h e h2 = grind (arith, common_steps, nat_tests)

@@ -51,31 +51,28 @@ pub record IsFirstConflict (profiles : List Profile) (number first second : ℕ)
   pub none : All (λ p. HaveNoConflict p.architecture p.rules) before
   pub least : IsLeastConflict profile.architecture profile.rules number first second
 
--- what tests of the value of the text give
-abbrev pub TestsGive : {A : Type 0} → (Data → Result A LoadFault) → List ℕ → Result A LoadFault → Type 0
-TestsGive tests text stated = (value : Data) × IsText text value × (tests value ≡ stated)
+-- what the tests of the value of the text give by a reading
+abbrev pub TestsGive : Reading → List ℕ → Tables → Result LoadedProfiles LoadFault → Type 0
+TestsGive reading text tables stated = (value : Data) × IsText text value × (profiles_of reading tables value ≡ stated)
 
 -- what the text and the tables state by a reading, and no two rules of one architecture conflict
 abbrev pub LoadsEachAs : Reading → List ℕ → Tables → LoadedProfiles → Type 0
 LoadsEachAs reading text tables loaded =
-    TestsGive (profiles_of reading tables) text (Ok loaded)
+    TestsGive reading text tables (Ok loaded)
     × All (λ p. HaveNoConflict p.architecture p.rules) loaded.profiles
 
 -- When a text is refused with a fault, the first test that fails, the last of which is that what is stated has no
 -- conflict. Want of memory may come in place of anything.
-abbrev pub RefusesBy : {A : Type 0} → (Data → Result A LoadFault) → (A → ℕ → ℕ → ℕ → Type 0) → List ℕ → LoadFault
-    → Type 0
-RefusesBy tests HasConflict text faults.Memory = Unit {0}
-RefusesBy tests HasConflict text faults.Json = (length text ≤ max_text_len) × ((value : Data) → IsText text value → ⊥)
-RefusesBy tests HasConflict text faults.TooMany =
-    (max_text_len < length text) ⊎ TestsGive tests text (Err faults.TooMany)
-RefusesBy {A} tests HasConflict text (faults.Conflict number first second) =
-    (loaded : A) × TestsGive tests text (Ok loaded) × HasConflict loaded number first second
-RefusesBy tests HasConflict text fault = TestsGive tests text (Err fault)
-
 abbrev pub RefusesEachAs : Reading → List ℕ → Tables → LoadFault → Type 0
-RefusesEachAs reading text tables fault =
-    RefusesBy (profiles_of reading tables) (λ loaded. IsFirstConflict loaded.profiles) text fault
+RefusesEachAs reading text tables faults.Memory = Unit {0}
+RefusesEachAs reading text tables faults.Json =
+    (length text ≤ max_text_len) × ((value : Data) → IsText text value → ⊥)
+RefusesEachAs reading text tables faults.TooMany =
+    (max_text_len < length text) ⊎ TestsGive reading text tables (Err faults.TooMany)
+RefusesEachAs reading text tables (faults.Conflict number first second) =
+    (loaded : LoadedProfiles) × TestsGive reading text tables (Ok loaded)
+    × IsFirstConflict loaded.profiles number first second
+RefusesEachAs reading text tables fault = TestsGive reading text tables (Err fault)
 
 -- ---- with a table of x86-64 alone
 

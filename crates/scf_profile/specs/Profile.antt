@@ -2,10 +2,8 @@
 use Rattle.std.specs.Prelude.{◌<◌, ◌≤◌, ◌^◌, ℕ, List, Option, length, AllPairs, Contains}
 use Rattle.std.specs.List.{AllByRecursion}
 use Rattle.scf_insn.specs.declared.answer.Answer.{Answer}
-use Rattle.scf_insn.specs.Architectures.{AreApart, IsOf}
+use Rattle.scf_insn.specs.Architectures.{AreApart}
 use Rattle.scf_insn.specs.declared.architecture.Architecture.{Architecture}
-use Rattle.scf_insn.specs.declared.architecture.Architecture.TheVariants.{X8664}
-use Rattle.scf_insn.specs.declared.record.CallRecord.{CallRecord}
 use Rattle.scf_profile.specs.declared.rule.Rule.{Rule}
 use Rattle.scf_profile.specs.Limits.{max_rules}
 use Rattle.scf_profile.specs.Rule.{Conflicts, IsRule}
@@ -37,7 +35,3 @@ pub record IsProfile (p : Profile) : Type 0 where
 -- Profiles of which no two are for one call: those of architectures that are apart.
 abbrev pub AreOfApart : List Profile → Type 0
 AreOfApart profiles = AllPairs (λ p later. AreApart p.architecture later.architecture) profiles
-
--- a call of x86-64 with a number that x32 calls don't have
-abbrev pub IsNative : CallRecord → Type 0
-IsNative call = IsOf X8664 call

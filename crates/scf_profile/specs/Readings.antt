@@ -54,26 +54,20 @@ alternatives conditions =
 
 -- ---- rules of one syscall
 
-abbrev pub is_masked : Operator → Bool
-is_masked MaskedEqual = true
-is_masked op = false
-
 -- a condition whose mask has no bit of an argument, which libseccomp skips (_db_arg_cmp_need_hi, _db_arg_cmp_need_lo)
-abbrev pub compares_nothing : ArgumentBits → Condition → Bool
-compares_nothing bits c = is_masked c.op && (taken_of bits c.value == 0)
+abbrev pub compares_nothing : ArgumentBits → Operator → ℕ → Bool
+compares_nothing bits MaskedEqual value = taken_of bits value == 0
+compares_nothing bits op value = false
 
 abbrev pub is_unconditional : Architecture → Rule → Bool
-is_unconditional architecture r = list_all (compares_nothing (row_of architecture).bits) r.conditions
+is_unconditional architecture r = list_all (λ c. compares_nothing (row_of architecture).bits c.op c.value) r.conditions
 
--- the first rule of a number without conditions: wherever it stands, it alone has all calls of the number (db_rule_add)
-abbrev pub first_unconditional : Architecture → ℕ → List Rule → Option Rule
-first_unconditional architecture number rules =
-    find (λ r. (r.number == number) && is_unconditional architecture r) rules
-
--- the rule answers as that one, if there is one
+-- The rule answers as the first one of its number without conditions, if there is one: wherever that stands, it alone
+-- has all calls of the number (db_rule_add).
 abbrev pub is_effective : Architecture → List Rule → Rule → Bool
 is_effective architecture rules r =
-    option_map_or (λ first. first.answer.0 == r.answer.0) (first_unconditional architecture r.number rules) true
+    option_map_or (λ first. first.answer.0 == r.answer.0)
+    (find (λ s. (s.number == r.number) && is_unconditional architecture s) rules) true
 
 -- The rules by which a runtime's filter answers. Where one call meets two rules with conditions and different answers,
 -- libseccomp may refuse the second (EEXIST of _db_tree_add): they stay a conflict, but where a rule without conditions

@@ -1,9 +1,10 @@
 -- Which call records are compared.
 use Rattle.std.specs.Prelude.{◌≤◌, ℕ, List}
 use Rattle.scf_insn.specs.Architectures.{IsOf}
+use Rattle.scf_insn.specs.declared.architecture.Architecture.TheVariants.{X8664}
 use Rattle.scf_insn.specs.declared.record.CallRecord.{CallRecord}
 use Rattle.scf_insn.specs.Words.{IsRecord}
-use Rattle.scf_profile.specs.Profile.{Profile, IsNative}
+use Rattle.scf_profile.specs.Profile.{Profile}
 use Rattle.scf_profile.specs.SameAnswers.{AnswersRelated, AreSame}
 use Rattle.scf_profile.specs.declared.relation.Relation.{Relation}
 use Rattle.scf_profile.specs.declared.scope.Scope.{Scope}
@@ -14,7 +15,7 @@ use Rattle.scf_profile.specs.Relation.{IsRelated}
 -- range, whose ends belong to it
 abbrev pub IsInScope : Scope → CallRecord → Type 0
 IsInScope All call = Unit {0}
-IsInScope Native call = IsNative call
+IsInScope Native call = IsOf X8664 call
 IsInScope (Numbers architecture first last) call = IsOf architecture call × (first ≤ call.nr) × (call.nr ≤ last)
 
 -- a relation holds of the answers to every call record of the scope

@@ -152,20 +152,7 @@ seccomp_of root =
     then ok_or (object root) (faults.Kind None)
     else required None (codes "linux") object root >>= required None (codes "seccomp") object
 
--- what stands before the test of the architectures: the object, its default answer and the names of its architectures
-pub record Head : Type 0 where
-  pub object : Data
-  pub default_answer : Answer
-  pub architectures : List (List ℕ)
-
-unfoldable pub head_of : Reading → Data → Result Head LoadFault
-head_of reading root = do
-  d ← seccomp_of root
-  default_answer ← answer_in reading None (codes "defaultAction") (codes "defaultErrnoRet") d
-  names ← optional no_items None (codes "architectures") as_array d >>= strings_of None
-  Ok (record { object = d; default_answer = default_answer; architectures = names })
-
--- the entries, behind that test; each is at its index, which is how many stand before it
+-- the entries; each is at its index, which is how many stand before it
 unfoldable pub entries_of : Reading → Data → Result (List Entry) LoadFault
 entries_of reading d = do
   _ ← no_engine_form None (codes "archMap") d
@@ -199,16 +186,12 @@ abbrev pub rules_numbered : ℕ → List Condition → Answer → List ℕ → L
 rules_numbered index conditions answer numbers =
     map (λ number. record { number = number; conditions = conditions; answer = answer; entry = index }) numbers
 
--- by each of several lists of conditions
-abbrev pub rules_by_each : ℕ → List (List Condition) → Answer → List ℕ → List Rule
-rules_by_each index several answer numbers =
-    flat_map (λ conditions. rules_numbered index conditions answer numbers) several
-
--- by the alternatives of an entry at an index; none where entries with its answer are left out
+-- by each of the alternatives of an entry at an index; none where entries with its answer are left out
 abbrev pub rules_of_entry : Option Answer → Architecture → Names → ℕ → Entry → List Rule
 rules_of_entry left_out architecture table index e =
     if option_map_or (λ answer. answer.0 == e.answer.0) left_out false then []
-    else rules_by_each index (alternatives e.conditions) e.answer (numbers_named architecture table e.names)
+    else flat_map (λ conditions. rules_numbered index conditions e.answer (numbers_named architecture table e.names))
+    (alternatives e.conditions)
 
 -- those of the entries from this index on
 abbrev pub rules_from : Option Answer → Architecture → Names → ℕ → List Entry → List Rule
@@ -216,13 +199,10 @@ rules_from left_out architecture table index [] = []
 rules_from left_out architecture table index (e ∷ es) =
     rules_of_entry left_out architecture table index e ++ rules_from left_out architecture table (index + 1) es
 
--- a name that no table has
-abbrev pub is_in_none : Tables → List ℕ → Bool
-is_in_none tables name = list_all (λ t. is_none (get t.1 name)) tables
-
--- each occurrence of such a name
+-- each occurrence of a name that no table has
 abbrev pub skipped_names : Tables → List Entry → List (List ℕ)
-skipped_names tables entries = filter (is_in_none tables) (flat_map (λ e. e.names) entries)
+skipped_names tables entries =
+    filter (λ name. list_all (λ t. is_none (get t.1 name)) tables) (flat_map (λ e. e.names) entries)
 
 -- the names of architectures that have no table
 abbrev pub other_names : Tables → List (List ℕ) → List (List ℕ)
@@ -244,15 +224,12 @@ profiles_from left_out tables default_answer entries =
 
 -- ---- which architectures have to be listed
 
--- the machine's own architecture: x86-64 where it has a table, and else aarch64
-abbrev pub own_architecture : Tables → Architecture
-own_architecture tables = if is_some (table_for tables X8664) then X8664 else Aarch64
-
--- no names stand for the machine's own; a runtime's filter has that one beside all names
+-- No names stand for the machine's own architecture: x86-64 where it has a table, and else aarch64. A runtime's filter
+-- has that one beside all names.
 abbrev pub listed_names : Reading → Tables → List (List ℕ) → List (List ℕ)
 listed_names reading tables names =
     if not (is_runtime reading) && nat_lt 0 (length names) then names
-    else (row_of (own_architecture tables)).name ∷ names
+    else (row_of (if is_some (table_for tables X8664) then X8664 else Aarch64)).name ∷ names
 
 -- each table's architecture has to be among the names; the tables begin at this index
 unfoldable pub all_listed : ℕ → List (List ℕ) → Tables → Result ⊤ LoadFault
@@ -265,18 +242,20 @@ all_listed index names ((architecture, table) ∷ tables) = do
 
 unfoldable pub profiles_of : Reading → Tables → Data → Result LoadedProfiles LoadFault
 profiles_of reading tables root = do
-  head ← head_of reading root
-  _ ← all_listed 0 (listed_names reading tables head.architectures) tables
-  entries ← entries_of reading head.object
+  d ← seccomp_of root
+  default_answer ← answer_in reading None (codes "defaultAction") (codes "defaultErrnoRet") d
+  names ← optional no_items None (codes "architectures") as_array d >>= strings_of None
+  _ ← all_listed 0 (listed_names reading tables names) tables
+  entries ← entries_of reading d
   _ ← refused_if
       (list_any (λ p. nat_lt max_rules (length p.rules))
-      (profiles_from (left_out reading head.default_answer) tables head.default_answer entries))
+      (profiles_from (left_out reading default_answer) tables default_answer entries))
       faults.TooMany
   Ok (record {
     profiles = map (effective_profile reading)
-        (profiles_from (left_out reading head.default_answer) tables head.default_answer entries);
+        (profiles_from (left_out reading default_answer) tables default_answer entries);
     skipped = skipped_names tables entries;
-    other_architectures = other_names tables head.architectures;
+    other_architectures = other_names tables names;
   })
 
 -- ---- the stub, which no text states

@@ -76,7 +76,7 @@ impl Condition {
 
     /// Whether its mask has no bit of an argument.
     pub(crate) fn compares_nothing(&self, bits: ArgumentBits) -> bool
-        ensures { result ≡ nothing_compared bits self.now }
+        ensures { result ≡ nothing_compared bits self.now.op self.now.value }
     {
         matches!(self.op, Operator::MaskedEqual) && bits.taken(self.value) == 0
     }
@@ -156,7 +156,7 @@ impl Conditions {
 
     /// Whether none of them compares anything.
     pub(crate) fn compare_nothing(&self, bits: ArgumentBits) -> bool
-        ensures { result ≡ list_all (nothing_compared bits) self.now }
+        ensures { result ≡ list_all (λ c. nothing_compared bits c.op c.value) self.now }
     {
         self.list
             .iter()

@@ -1,9 +1,10 @@
 //! The rules by which libseccomp's filter answers.
 
-ghost use Rattle.std.specs.Prelude.{◌≡◌, ℕ, IfOk, option_map};
+ghost use Rattle.std.specs.Prelude.{◌≡◌, ◌==◌, ◌&&◌, ℕ, IfOk, option_map};
+ghost use Rattle.std.specs.List.{find};
 ghost use Rattle.std.specs.BTreeMap.{get};
 ghost use Rattle.std.specs.Ordering.{nat_cmp};
-ghost use Rattle.scf_profile.specs.Readings.{effective_rules as effective_by, first_unconditional};
+ghost use Rattle.scf_profile.specs.Readings.{effective_rules as effective_by, is_unconditional};
 
 use crate::reading::Reading;
 use crate::rule::Rule;
@@ -18,7 +19,8 @@ fn first_answers(
     rules: &[Rule],
 ) -> Result<BTreeMap<u32, Answer>, AllocError>
     ensures { IfOk result (λ answers. (number : ℕ) → get nat_cmp answers number
-        ≡ option_map (λ first. first.answer) (first_unconditional architecture number rules.now)) }
+        ≡ option_map (λ r. r.answer)
+        (find (λ r. (r.number == number) && is_unconditional architecture r) rules.now)) }
 {
     let mut answers = BTreeMap::new(alloc);
     for rule in rules {

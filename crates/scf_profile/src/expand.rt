@@ -2,9 +2,9 @@
 
 ghost use Rattle.std.specs.Prelude.{◌≡◌, ◌≤◌, ◌^◌, ◌++◌, length, vec_len, IfOk, IfErr, OnOk};
 ghost use Rattle.std.specs.List.{filter, flat_map, list_any};
-ghost use Rattle.scf_profile.specs.internal.EntryRanges.{AddsRules, TellsTooMany, names_lacking};
+ghost use Rattle.scf_profile.specs.internal.EntryRanges.{AddsRules, TellsTooMany, is_in_none as in_none, names_lacking};
 ghost use Rattle.scf_profile.specs.Limits.{max_rules};
-ghost use Rattle.scf_profile.specs.StatedProfile.{numbers_named, rules_numbered, rules_of_entry, rules_from, is_in_none as in_none, other_names, tables_of, is_named as named};
+ghost use Rattle.scf_profile.specs.StatedProfile.{numbers_named, rules_numbered, rules_of_entry, rules_from, other_names, tables_of, is_named as named};
 
 use crate::architecture_table::{ArchitectureTable, table_named};
 use crate::args::has_repeated_index;

@@ -1,13 +1,14 @@
 //! Parses the seccomp object.
 
 ghost use Rattle.std.specs.Prelude.{◌≡◌, ◌&&◌, not, nat_lt, length};
-ghost use Rattle.std.specs.Prelude.{None, ok_or};
+ghost use Rattle.std.specs.Prelude.{None, is_some, ok_or, if◌then◌else◌};
+ghost use Rattle.scf_insn.specs.declared.architecture.Architecture.TheVariants.{X8664, Aarch64};
 ghost use Rattle.std.specs.List.{list_any};
 ghost use Rattle.serde_json.specs.View.{view};
 ghost use Rattle.scf_profile.specs.declared.load_fault.LoadFault.TheVariants as faults;
 ghost use Rattle.scf_profile.specs.References.{texts_at};
 ghost use Rattle.scf_profile.specs.StatedProfile.{object as object_stated, seccomp_of, is_named as named};
-ghost use Rattle.scf_profile.specs.StatedProfile.{all_listed as all_are_listed, listed_names, own_architecture as own_stated, tables_of};
+ghost use Rattle.scf_profile.specs.StatedProfile.{all_listed as all_are_listed, listed_names, table_for as table_stated, tables_of};
 ghost use Rattle.scf_profile.specs.internal.Stated.{with_machine};
 ghost use Rattle.scf_profile.specs.internal.Results.{result_map};
 
@@ -79,7 +80,7 @@ fn all_listed(
 
 /// The machine's own architecture: x86-64 if it has a table, else aarch64.
 fn own_architecture(tables: &[ArchitectureTable]) -> Architecture
-    ensures { result ≡ own_stated (tables_of tables.now) }
+    ensures { result ≡ (if is_some (table_stated (tables_of tables.now) X8664) then X8664 else Aarch64) }
 {
     if table_for(tables, Architecture::X8664).is_some() {
         Architecture::X8664

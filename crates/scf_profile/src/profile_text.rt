@@ -9,11 +9,11 @@ ghost use Rattle.scf_profile.specs.Limits.{max_text_len};
 ghost use Rattle.scf_profile.specs.Loading.{IsText, Loads, LoadsEachAs, Refuses, RefusesEachAs};
 ghost use Rattle.scf_profile.specs.internal.Refusals.{NamesFirstConflict, NamesLeastConflict, ParseRefuses};
 ghost use Rattle.scf_profile.specs.internal.Results.{result_map};
-ghost use Rattle.scf_profile.specs.internal.Stated.{effective_of, head_stated, loaded_profiles_of, stated_profile};
+ghost use Rattle.scf_profile.specs.internal.Stated.{effective_of, loaded_profiles_of, stated_profile};
 ghost use Rattle.scf_profile.specs.Profile.{AreOfApart, HaveNoConflict};
 ghost use Rattle.scf_profile.specs.Readings.{effective_rules as effective_by};
 ghost use Rattle.scf_profile.specs.Steps.{Gives};
-ghost use Rattle.scf_profile.specs.StatedProfile.{entries_of as entries_stated, head_of, profile_for, profiles_from, profiles_of, tables_of};
+ghost use Rattle.scf_profile.specs.StatedProfile.{entries_of as entries_stated, profile_for, profiles_from, profiles_of, tables_of};
 
 use crate::action::find_answer;
 use crate::architecture_table::{ArchitectureTable, table_for};
@@ -51,30 +51,6 @@ fn parse(alloc: Global, text: &[u8]) -> Result<Value, LoadFault>
         Err(error) if error.is_memory() => Err(LoadFault::Memory),
         Err(_) => Err(LoadFault::Json),
     }
-}
-
-/// The members that are read before the architectures are checked.
-#[derive(Drop)]
-struct Head<'v> {
-    object: &'v Value,
-    default_answer: Answer,
-    architectures: BorrowedTexts<'v>,
-}
-
-/// Parses the root up to its architectures.
-#[tactic(auto, unfolding(crate::specs::JsonMembers::each, crate::specs::StatedProfile::head_of))]
-fn read_head(alloc: Global, reading: Reading, root: &Value) -> Result<Head<'_>, LoadFault>
-    ensures value { Gives Memory (result_map head_stated result) (head_of reading (view root.now)) }
-    ensures range { IfOk result (λ head. head.default_answer.0 < 2 ^ 32) }
-{
-    let object = find_seccomp(root)?;
-    let default_answer = find_answer(reading, None, "defaultAction", "defaultErrnoRet", object)?;
-    let architectures = strings_of(alloc, None, find_items(None, "architectures", object)?)?;
-    Ok(Head {
-        object,
-        default_answer,
-        architectures,
-    })
 }
 
 /// Parses the entries, each with its index.
@@ -212,7 +188,7 @@ fn stated_for<'v>(
 }
 
 /// Parses the root under tables of several architectures, or the first test that fails.
-#[tactic(auto, unfolding(crate::specs::StatedProfile::profiles_of))]
+#[tactic(auto, unfolding(crate::specs::JsonMembers::each, crate::specs::StatedProfile::profiles_of))]
 fn read_root_for(
     alloc: Global,
     reading: Reading,
@@ -225,16 +201,18 @@ fn read_root_for(
     ensures default_range { IfOk result (λ s. s.default_answer.0 < 2 ^ 32) }
     ensures apart { IfOk result (λ s. AreOfApart (map (effective_of reading s.default_answer) s.rules.items)) }
 {
-    let head = read_head(alloc, reading, root)?;
-    check_listed(reading, tables, &head.architectures)?;
-    let entries = read_entries(alloc, reading, head.object)?;
-    let left_out = reading.left_out(head.default_answer);
+    let object = find_seccomp(root)?;
+    let default_answer = find_answer(reading, None, "defaultAction", "defaultErrnoRet", object)?;
+    let architectures = strings_of(alloc, None, find_items(None, "architectures", object)?)?;
+    check_listed(reading, tables, &architectures)?;
+    let entries = read_entries(alloc, reading, object)?;
+    let left_out = reading.left_out(default_answer);
     let mut names = names_of(alloc, &entries)?;
     let rules = stated_for(alloc, tables, left_out, &entries, &mut names)?;
     let skipped = skipped_of(alloc, tables, &names)?;
-    let other_architectures = other_architectures(alloc, tables, &head.architectures)?;
+    let other_architectures = other_architectures(alloc, tables, &architectures)?;
     Ok(StatedProfiles {
-        default_answer: head.default_answer,
+        default_answer,
         rules,
         skipped,
         other_architectures,

@@ -293,7 +293,7 @@ class TrustedBase(Case):
                      "files of run_command beside verify_stack answer"):
             self.assertEqual(self.page().count(f"<!-- believe {call} -->"), 1, call)
         listed = re.search(r"<!-- believe compare_stack holds -->(.*?)<!-- end -->", self.page(), re.S)[1]
-        for name in ("IsTrueOfStack", "IsFirstLeast", "rank_of", "AnswersRelated", "IsNative", "IsRecord"):
+        for name in ("IsTrueOfStack", "IsFirstLeast", "rank_of", "AnswersRelated", "IsInScope", "IsRecord"):
             self.assertIn(f"`{name}`", listed)
         self.assertNotIn("`Conflicts`", listed)
 

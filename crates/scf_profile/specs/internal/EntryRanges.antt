@@ -1,7 +1,7 @@
 -- The ranges of what entries and rules hold, and how many rules there may be.
-use Rattle.std.specs.Prelude.{◌≡◌, ◌≢◌, ◌<◌, ◌≤◌, ◌^◌, ℕ, List, ◌++◌, length, nat_lt, true, is_none, All, Contains, IfErr, OnOk, Result, ⊤}
+use Rattle.std.specs.Prelude.{◌≡◌, ◌≢◌, ◌<◌, ◌≤◌, ◌^◌, ℕ, Bool, List, ◌++◌, length, nat_lt, true, is_none, All, Contains, IfErr, OnOk, Result, ⊤}
 use Rattle.std.specs.FinMap.{get}
-use Rattle.std.specs.List.{filter, list_any}
+use Rattle.std.specs.List.{filter, list_all, list_any}
 use Rattle.scf_insn.specs.declared.architecture.Architecture.{Architecture}
 use Rattle.scf_profile.specs.declared.entry.Entry.{Entry}
 use Rattle.scf_profile.specs.declared.load_fault.LoadFault.{LoadFault}
@@ -10,7 +10,7 @@ use Rattle.scf_profile.specs.declared.rule.Rule.{Rule}
 use Rattle.scf_profile.specs.Profile.{AreInOrder, Profile}
 use Rattle.scf_profile.specs.Limits.{max_rules}
 use Rattle.scf_profile.specs.Rule.{IsCondition, IsRule}
-use Rattle.scf_profile.specs.StatedProfile.{Tables, is_in_none, skipped_names}
+use Rattle.scf_profile.specs.StatedProfile.{Tables, skipped_names}
 use Rattle.scf_profile.specs.Table.{Names}
 
 pub record IsEntry (e : Entry) : Type 0 where
@@ -38,6 +38,10 @@ pub record AddsRules (before added : List Rule) (result : Result ⊤ LoadFault) 
 -- the names that a table lacks
 abbrev pub names_lacking : Names → List (List ℕ) → List (List ℕ)
 names_lacking table names = filter (λ name. is_none (get table name)) names
+
+-- a name that no table has
+abbrev pub is_in_none : Tables → List ℕ → Bool
+is_in_none tables name = list_all (λ t. is_none (get t.1 name)) tables
 
 -- among names, in order, are the skipped ones of the entries, and no others that no table has
 abbrev pub HasSkipped : Tables → List Entry → List (List ℕ) → Type 0

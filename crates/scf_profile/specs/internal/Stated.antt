@@ -1,29 +1,19 @@
 -- What was read of a text, as it is loaded where no rules conflict.
 use Rattle.std.specs.Prelude.{ℕ, List, ◌∷◌, Option, Some, None, map}
-use Rattle.serde_json.specs.View.{view}
 use Rattle.scf_insn.specs.Architectures.{row_of}
 use Rattle.scf_insn.specs.declared.answer.Answer.{Answer}
 use Rattle.scf_insn.specs.declared.architecture.Architecture.{Architecture}
-use Rattle.scf_profile.specs.declared.profile_text.Head.{Head as HeadRead}
 use Rattle.scf_profile.specs.declared.profile_text.StatedProfiles.{StatedProfiles}
 use Rattle.scf_profile.specs.declared.profile_text.StatedRules.{StatedRules}
 use Rattle.scf_profile.specs.declared.loaded.LoadedProfiles.{LoadedProfiles}
 use Rattle.scf_profile.specs.declared.reading.Reading.{Reading}
 use Rattle.scf_profile.specs.Profile.{Profile}
 use Rattle.scf_profile.specs.Readings.{effective_profile}
-use Rattle.scf_profile.specs.StatedProfile.{Head}
 
 -- names, and before them that of the machine's architecture, if it is given
 abbrev pub with_machine : Option Architecture → List (List ℕ) → List (List ℕ)
 with_machine None names = names
 with_machine (Some machine) names = (row_of machine).name ∷ names
-
-abbrev pub head_stated : HeadRead → Head
-head_stated head = record {
-  object = view head.object.now;
-  default_answer = head.default_answer;
-  architectures = head.architectures;
-}
 
 -- rules with a default answer, as the profile of their architecture
 abbrev pub stated_profile : Answer → StatedRules → Profile

@@ -1,4 +1,5 @@
-use Rattle.scf_profile.proofs.Common.{◌≡◌, ◌≤◌, ◌++◌, ◌∷◌, [], drop, map, vec_len, max_rules, numbers_named, rules_by_each}
+use Rattle.scf_profile.proofs.Common.{◌≡◌, ◌≤◌, ◌++◌, ◌∷◌, [], drop, map, vec_len, max_rules, numbers_named}
+use Rattle.scf_profile.proofs.StatedRules.{rules_by_each}
 use Rattle.scf_profile.proofs.expand.add_entry.Given as goal
 
 -- what was added and what is stated by each of the conditions that are left is what all of them state

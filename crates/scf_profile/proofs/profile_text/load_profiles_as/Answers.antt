@@ -11,7 +11,7 @@ returns-in_err-all_without_conflict-clause-err c =
     let reading = c.args.reading in
     let tables = tables_of c.args.tables.now in
     let loaded = loaded_profiles_of reading c.in_ok-stated.stated in
-    let gives : TestsGive (profiles_of reading tables) c.args.text.now (Ok loaded) =
+    let gives : TestsGive reading c.args.text.now tables (Ok loaded) =
     (view c.in_ok-value.value, c.in_ok-value.ensures.ok, c.in_ok-stated.ensures.value) in
     handed_fault (RefusesEachAs reading c.args.text.now tables) _ _
     c.from_residual-in_err-all_without_conflict.ensures.1
