@@ -10,7 +10,7 @@ use Rattle.scf_compare.specs.declared.origin.Origin.{Origin}
 use Rattle.scf_compare.specs.declared.origin.Origin.TheVariants.{Filter, Profile as OfReason}
 use Rattle.scf_compare.specs.Leaves.{SideTells}
 use Rattle.scf_compare.specs.internal.Stacks.{FirstAnswer, IsEndAt, NextAnswers}
-use Rattle.scf_compare.proofs.Common.{EndsAt, EndsWith, Contains, StackAnswers, false, true, FilterLeaf, None, Some, IsSideLeaf, Operation, SideLeaf, control_flow_at, refl, stack_behavior, ◌≡◌, ◌⊎◌, ℕ, ◌+◌, ◌*◌, ◌-◌, ◌<◌, ◌≤◌, List, [], ◌∷◌, length, drop, arith, Option, IfSome, slice_get-get_or, Answer, Insn, RunAnswers, stack_paths, tree_size, IsFilterEnd, IsStackLeaf, filter_at, common_steps}
+use Rattle.scf_compare.proofs.Common.{EndsAt, EndsWith, Contains, StackAnswers, false, true, FilterLeaf, None, Some, IsSideLeaf, Operation, SideLeaf, control_flow_at, refl, stack_behavior, ◌≡◌, ◌⊎◌, ℕ, ◌+◌, ◌*◌, ◌-◌, ◌<◌, ◌≤◌, List, [], ◌∷◌, length, drop, arith, Option, IfSome, slice_get-get_or, Answer, Insn, stack_paths, tree_size, IsFilterEnd, IsStackLeaf, filter_at, common_steps}
 use Rattle.scf_compare.proofs.Rules.{contains_here, drop_here}
 use Rattle.scf_insn.specs.declared.operation.Arithmetic.TheVariants.{Div}
 use Rattle.scf_insn.specs.declared.operation.Operand.TheVariants.{Index}
@@ -41,14 +41,6 @@ paths_before filters index some within =
 
 -- ---- what gives the answer
 
--- a run that ends somewhere answers
-runs : {insns : List Insn} {words : List ℕ} {index answer : ℕ} → EndsAt insns words index answer
-    → RunAnswers insns words answer
-runs ends = (
-  length ends.earlier + 1,
-  record { last = ends.last; earlier = ends.earlier; chain = ends.chain; answers = ends.answers; count = refl },
-)
-
 -- no answer has a greater rank than ALLOW
 most_permissive : (answer : ℕ) → int_lt (rank_of seccomp_ret_allow) (rank_of answer) ≡ false
 most_permissive answer = grind (arith, common_steps, ints)
@@ -58,7 +50,7 @@ first_gives : (filters : List (List Insn)) (words : List ℕ) (at answer : ℕ) 
     → EndsAt (filter_at filters 0) words at answer → FirstAnswer filters 1 (Filter 0 at) words answer
 first_gives filters words at answer some ends =
     let least = most_permissive answer in (
-      rw least at (one_more filters 0 [] words seccomp_ret_allow answer some (empty_allows words) (runs ends)),
+      rw least at (one_more filters 0 [] words seccomp_ret_allow answer some (empty_allows words) ends.0),
       rw least at (one_more_gives filters 0 [] words None seccomp_ret_allow at answer some (refl, refl) ends),
     )
 
@@ -83,7 +75,7 @@ module _ (filters : List (List Insn)) (index : ℕ) (words : List ℕ) (inside :
   older_decide (Filter filter at) (OfReason reason) first last less older next = absurd next
   older_decide (Filter filter at) (Filter other end) first last less older next =
       let by : DecidingInsn = record { filter = filter; index = at } in (
-        rw less at (one_more filters index [] words first last inside older.0 (runs next.1)),
+        rw less at (one_more filters index [] words first last inside older.0 next.1.0),
         rw less at (one_more_gives filters index [] words (Some by) first end last inside older.1 next.1),
       )
 
@@ -95,7 +87,7 @@ module _ (filters : List (List Insn)) (index : ℕ) (words : List ℕ) (inside :
   newest_decides (Filter filter at) (Filter other end) first last least older next =
       let by : DecidingInsn = record { filter = filter; index = at } in
       rw next.0 (
-        rw least at (one_more filters index [] words first last inside older.0 (runs next.1)),
+        rw least at (one_more filters index [] words first last inside older.0 next.1.0),
         rw least at (one_more_gives filters index [] words (Some by) first end last inside older.1 next.1),
       )
 

@@ -1,5 +1,5 @@
 -- The runs that come to the nodes of a filter's tree.
-use Rattle.scf_compare.proofs.Common.{◌≡◌, ℕ, ◌==◌, Bool, true, false, List, ◌∷◌, refl, ◌∙◌, arith, Insn, Operation, State, Outcome, Goes, Ends, Faults, step, effect, jumps_to, holds, operand_of, EndsAt, RunsSafely, Stands, FilterLeaf, FilterNode, ControlFlow, FallThrough, Jump, ConditionalJump, DivideByIndex, ReturnConstant, ReturnAccumulator, KnownRegisters, Step, Decision, control_flow_at, Tree, GoesOn, Describes, Decides, ComesTo, IsStepOf, common_steps}
+use Rattle.scf_compare.proofs.Common.{◌≡◌, ℕ, ◌==◌, ◌+◌, length, Bool, true, false, List, ◌∷◌, refl, ◌∙◌, arith, Insn, Operation, State, Outcome, Goes, Ends, Faults, step, effect, jumps_to, holds, operand_of, EndsAt, RunsSafely, Stands, FilterLeaf, FilterNode, ControlFlow, FallThrough, Jump, ConditionalJump, DivideByIndex, ReturnConstant, ReturnAccumulator, KnownRegisters, Step, Decision, control_flow_at, Tree, GoesOn, Describes, Decides, ComesTo, IsStepOf, common_steps}
 use Rattle.scf_compare.proofs.ControlFlows.{Does, does}
 
 -- A run over the words comes to an instruction, whose values are known.
@@ -14,8 +14,19 @@ module _ {insns : List Insn} {words : List ℕ} {index : ℕ} {i : Insn} {operat
       record { state = t; earlier = c.state ∷ c.earlier; chain = (step_here ∙ e, c.chain); there = at; describes = d }
 
   answers : (n : ℕ) → effect operation i words c.state ≡ Ends n → EndsAt insns words index n
-  answers n e =
-      record { last = c.state; earlier = c.earlier; chain = c.chain; answers = step_here ∙ e; here = c.there }
+  answers n e = (
+    (
+      length c.earlier + 1,
+      record {
+        last = c.state;
+        earlier = c.earlier;
+        chain = c.chain;
+        answers = step_here ∙ e;
+        count = refl;
+      },
+    ),
+    c.there,
+  )
 
   comes_next : RunsSafely insns words → (o : Outcome) → effect operation i words c.state ≡ o → (next : ℕ)
       → Does (FallThrough next) i c.state o → (after : KnownRegisters)

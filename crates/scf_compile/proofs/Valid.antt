@@ -55,8 +55,7 @@ module _ {ps : List Profile} {code : List Insn} (filter : IsFilterOf ps code) wh
 
   -- no instruction loads a scratch word
   pub keeps_scratch_rule : KeepsScratchRule code
-  keeps_scratch_rule index n earlier loads path =
-      absurd (kept_at code index loads.insn (LoadScratch loads.register) unasked loads.stands).2
+  keeps_scratch_rule index n u = (kept_at code index u.insn (LoadScratch u.register) unasked u.loads).2
 
   pub is_plain : All IsPlainProfile ps → IsPlainProgram code
   is_plain plain k d lt =

@@ -1,5 +1,5 @@
 -- Masks of scratch words, and the paths that they stand for.
-use Rattle.scf_machine.proofs.Common.{common_steps, ◌≡◌, ℕ, ◌+◌, ◌*◌, ◌%◌, ◌^◌, ◌<◌, ◌≤◌, inl, inr, min, Bool, false, cond, nat_eq, List, [], ◌∷◌, Some, refl, sym, ◌∙◌, arith, length, get_or, set, replicate, bit_and, bit_or, length-set, bit_at, w16, list_any, AllByRecursion, nat_tests, bit_at_and, bit_at_ones, bit_at-zero, bit_at_set_same, bit_at_set_other, cases_eq, or_parts, or_from, true_from_ne_false, slice_get_within, bpf_memwords, Insn, Register, Operation, LoadScratch, Joins, Unstored, MasksAt, IsValidList, GoesTo, Edge, Stands, stores_word, stores_at, IsPath, IsUnsetAt, KeepsScratchRule}
+use Rattle.scf_machine.proofs.Common.{common_steps, ◌≡◌, ℕ, ◌+◌, ◌*◌, ◌%◌, ◌^◌, ◌<◌, ◌≤◌, inl, inr, min, Bool, false, cond, nat_eq, List, [], ◌∷◌, Some, refl, sym, ◌∙◌, arith, length, get_or, set, replicate, bit_and, bit_or, length-set, bit_at, w16, list_any, AllByRecursion, nat_tests, bit_at_and, bit_at_ones, bit_at-zero, bit_at_set_same, bit_at_set_other, cases_eq, or_parts, or_from, slice_get_within, bpf_memwords, Insn, Register, Operation, LoadScratch, Joins, Unstored, MasksAt, IsValidList, GoesTo, Edge, Stands, stores_word, stores_at, IsPath, IsUnsetAt, KeepsScratchRule}
 use Rattle.scf_machine.proofs.Runs.{edge_forward, fine_of}
 
 edge_of : (insns : List Insn) (p t : ℕ) (i : Insn) (operation : Operation)
@@ -142,9 +142,7 @@ pub none_more : (insns : List Insn) (at : ℕ)
 none_more insns at before here p n below u = grind (arith, cases_eq p at, here n, before p n)
 
 pub keeps_rule : (insns : List Insn) → NoneBelow insns (length insns) → KeepsScratchRule insns
-keeps_rule insns none pc n earlier loads path =
-    true_from_ne_false _ (λ unset. none pc n (slice_get_within insns pc loads.insn loads.stands.here)
-    (record { loads = loads; earlier = earlier; path = path; unset = unset }))
+keeps_rule insns none pc n u = none pc n (slice_get_within insns pc u.insn u.loads.here) u
 
 -- at first each mask is full, and that of index 0 is empty
 pub masks_made : (insns : List Insn) (masks : List ℕ)

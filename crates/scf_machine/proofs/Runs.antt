@@ -1,5 +1,5 @@
 -- Chains of steps are paths, and end.
-use Rattle.scf_machine.proofs.Common.{◌≡◌, ℕ, zero, suc, ◌+◌, ◌<◌, ◌≤◌, true, List, [], ◌∷◌, Some, refl, arith, length, slice_get, list_any, Insn, Operation, State, Outcome, Goes, Ends, Faults, Fault, effect, step, IsChain, RunAnswers, RunsSafely, start, indices_of, IsFine, IsFineAt, IsValidList, GoesTo, Edge, Stands, stores_at, IsPath, KeepsScratchRule}
+use Rattle.scf_machine.proofs.Common.{◌≡◌, ℕ, zero, suc, ◌+◌, ◌<◌, ◌≤◌, true, List, [], ◌∷◌, Some, refl, arith, length, slice_get, list_any, true_from_ne_false, Insn, Register, Operation, LoadScratch, State, Outcome, Goes, Ends, Faults, Fault, effect, step, IsChain, RunAnswers, RunsSafely, start, indices_of, IsFine, IsFineAt, IsValidList, GoesTo, Edge, Stands, stores_at, IsPath, KeepsScratchRule}
 use Rattle.scf_machine.proofs.Moves.{IsStored, step_facts, effect_continues, effect_goes, effect_passes, step_stores}
 
 pub step_is : (insns : List Insn) (words : List ℕ) (s : State) (i : Insn) (operation : Operation)
@@ -61,12 +61,28 @@ reached insns words s [] valid chain = grind (arith, valid.some)
 reached insns words s (before ∷ earlier) valid chain =
     reached_next insns words before s earlier valid (reached insns words before earlier valid chain.1) chain.0
 
+-- each path to a load stores the word
+stored_before : (insns : List Insn) (pc : ℕ) (i : Insn) (r : Register) (earlier : List ℕ) → KeepsScratchRule insns
+    → Stands insns pc i (LoadScratch r) → IsPath insns pc earlier → list_any (stores_at insns i.k) earlier ≡ true
+stored_before insns pc i r earlier rule stands path =
+    true_from_ne_false _ (λ unset. rule pc i.k (record {
+      insn = i;
+      register = r;
+      loads = stands;
+      word = refl;
+      earlier = earlier;
+      path = path;
+      unset = unset;
+    }))
+
 pub never_faults : (insns : List Insn) (words : List ℕ) → IsValidList insns → KeepsScratchRule insns → (s : State)
     (earlier : List State) (fault : Fault) → IsChain insns words start s earlier
     → step insns words s ≡ Faults fault → ⊥
 never_faults insns words valid rule s earlier fault chain e =
     let at = reached insns words s earlier valid chain in
-    grind (arith, effect_passes, valid.each s.pc at.inside, rule s.pc)
+    let stored : (i : Insn) (r : Register) → Stands insns s.pc i (LoadScratch r) → IsStored s i.k =
+    λ i r stands. at.stored i.k (stored_before insns s.pc i r (indices_of earlier) rule stands at.path) in
+    grind (arith, effect_passes, valid.each s.pc at.inside, stored)
 
 pub run_length : (insns : List Insn) (words : List ℕ) → IsValidList insns
     → (s : State) (earlier : List State) → IsChain insns words start s earlier → length earlier + 1 ≤ length insns

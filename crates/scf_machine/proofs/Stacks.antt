@@ -118,14 +118,8 @@ answer_at_end : (filters : List (List Insn)) (filter : List Insn) (words : List 
     → AnswersAt filters words i other → other ≡ answer
 answer_at_end filters filter words i index answer other here ends (f, is, run) =
     let filter_run : IsRun f words other run.0 = run.1 in
-    let steps : IsRun filter words answer (length ends.earlier + 1) = record {
-      last = ends.last;
-      earlier = ends.earlier;
-      chain = ends.chain;
-      answers = ends.answers;
-      count = refl;
-    } in
-    grind (arith, run_once filter words other answer run.0 (length ends.earlier + 1))
+    let filter_end : IsRun filter words answer ends.0.0 = ends.0.1 in
+    grind (arith, run_once filter words other answer run.0 ends.0.0)
 
 -- no filter answers by a lesser rank
 at_least : (filters : List (List Insn)) (words : List ℕ) (by : Option DecidingInsn) (answer i other : ℕ)

@@ -158,12 +158,8 @@ abbrev pub RunAnswers : List Insn → List ℕ → ℕ → Type 0
 RunAnswers insns words answer = (steps : ℕ) × IsRun insns words answer steps
 
 -- The run over a record ends in this answer, at the instruction of this index.
-pub record EndsAt (insns : List Insn) (words : List ℕ) (index answer : ℕ) : Type 0 where
-  pub last : State
-  pub earlier : List State
-  pub chain : IsChain insns words start last earlier
-  pub answers : step insns words last ≡ Ends answer
-  pub here : last.pc ≡ index
+abbrev pub EndsAt : List Insn → List ℕ → ℕ → ℕ → Type 0
+EndsAt insns words index answer = (run : RunAnswers insns words answer) × (run.1.last.pc ≡ index)
 
 -- Every run over a record ends in an answer, within as many steps as there are instructions, and none faults.
 pub record RunsSafely (insns : List Insn) (words : List ℕ) : Type 0 where

@@ -1,6 +1,6 @@
 -- What makes a list of instructions a filter (Linux uapi filter.h; seccomp(2)).
 use Rattle.std.specs.Prelude.{◌≡◌, ◌≢◌, ℕ, ◌+◌, ◌-◌, ◌%◌, ◌<◌, ◌≤◌, ◌==◌, ◌⊎◌, Bool, false, List, [], ◌∷◌, length}
-use Rattle.std.specs.Prelude.{Option, Some, slice_get, IsTrue}
+use Rattle.std.specs.Prelude.{Option, Some, slice_get}
 use Rattle.std.specs.List.{list_any, AllByRecursion}
 use Rattle.std.specs.Option.{option_map_or}
 use Rattle.scf_insn.specs.declared.insn.Insn.{Insn}
@@ -78,28 +78,22 @@ unfoldable pub stores_at : List Insn → ℕ → ℕ → Bool
 stores_at insns n pc = option_map_or (λ i. option_map_or (λ operation. stores_word operation i.k n)
     (operation_of i.code) false) (slice_get insns pc) false
 
--- The instruction at an index loads the scratch word n.
-pub record LoadsAt (insns : List Insn) (pc n : ℕ) : Type 0 where
+-- The instruction at an index loads the scratch word n, and on some path there no earlier index stores it.
+pub record IsUnsetAt (insns : List Insn) (pc n : ℕ) : Type 0 where
   pub insn : Insn
   pub register : Register
-  pub stands : Stands insns pc insn (LoadScratch register)
-  pub index : insn.k ≡ n
+  pub loads : Stands insns pc insn (LoadScratch register)
+  pub word : insn.k ≡ n
+  pub earlier : List ℕ
+  pub path : IsPath insns pc earlier
+  pub unset : list_any (stores_at insns n) earlier ≡ false
 
 -- On every path to a load of a scratch word, an earlier index stores that word.
 abbrev pub KeepsScratchRule : List Insn → Type 0
-KeepsScratchRule insns =
-    (pc n : ℕ) (earlier : List ℕ) → LoadsAt insns pc n → IsPath insns pc earlier
-    → IsTrue (list_any (stores_at insns n) earlier)
+KeepsScratchRule insns = (pc n : ℕ) → IsUnsetAt insns pc n → ⊥
 
 -- A filter: its fields are within their widths, and it keeps every rule.
 pub record IsFilter (insns : List Insn) : Type 0 where
   pub widths : AllByRecursion IsInsn insns
   pub valid : IsValidList insns
   pub stored : KeepsScratchRule insns
-
--- A path leads to a load of the scratch word n on which no earlier index stores it.
-pub record IsUnsetAt (insns : List Insn) (pc n : ℕ) : Type 0 where
-  pub loads : LoadsAt insns pc n
-  pub earlier : List ℕ
-  pub path : IsPath insns pc earlier
-  pub unset : list_any (stores_at insns n) earlier ≡ false

@@ -65,6 +65,7 @@ fn is_fine(len: usize, at: usize, insn: Insn, operation: Operation) -> bool
 }
 
 /// The fault of an instruction that breaks its operation's rule.
+#[tactic(auto, using(crate::proofs::Runs::fine_of))]
 fn fault_of(operation: Operation, at: usize) -> CheckFault
     ensures { (insns : List Insn) (i : Insn) → IsFineBelow insns at → Stands insns at i operation
         → (IsFine (length insns) at i operation → ⊥) → IsFirstFault insns result }

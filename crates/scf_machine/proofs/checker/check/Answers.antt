@@ -15,3 +15,6 @@ pub returns-in-Err-clause-only_where : goal.returns-in-Err-clause-only_where
 returns-in-Err-clause-only_where c = λ n v k.
     let f = rw c.deref.ensures.value at c.in-Err.ensures.err in
     only_where c.args.insns.items c.in-Err.fault f n v k
+
+pub returns-in-Err-clause-refused : goal.returns-in-Err-clause-refused
+returns-in-Err-clause-refused c = rw c.deref.ensures.value at c.in-Err.ensures.err

@@ -1,4 +1,4 @@
-use Rattle.scf_machine.proofs.Common.{◌∷◌, ◌+◌, ap, arith}
+use Rattle.scf_machine.proofs.Common.{◌∷◌, ◌+◌, ap, arith, length, refl}
 use Rattle.scf_machine.proofs.Loop.{at_inside, at_next, run_of}
 use Rattle.scf_machine.proofs.Runs.{runs_safely}
 use Rattle.scf_machine.proofs.machine.run_to_end.Goals as goal
@@ -17,13 +17,19 @@ returns-in-Some c =
     let done = run_of _ _ _ _ _ _ filter.valid so_far.at answers (ap (λ k. k + 1) so_far.count) in
     record {
       run = done.0;
-      end = record {
-        last = so_far.at.state;
-        earlier = so_far.earlier;
-        chain = so_far.at.chain;
-        answers = answers;
-        here = so_far.at.stand.pc;
-      };
+      end = (
+        (
+          length so_far.earlier + 1,
+          record {
+            last = so_far.at.state;
+            earlier = so_far.earlier;
+            chain = so_far.at.chain;
+            answers = answers;
+            count = refl;
+          },
+        ),
+        so_far.at.stand.pc,
+      );
       bound = done.1;
       safe = runs_safely _ _ filter.valid filter.stored;
     }

@@ -1,4 +1,4 @@
-use Rattle.scf_machine.proofs.Common.{◌∷◌, ◌+◌, ◌∙◌, ap, arith}
+use Rattle.scf_machine.proofs.Common.{◌∷◌, ◌+◌, ◌∙◌, ap, arith, length, refl}
 use Rattle.scf_machine.proofs.Loop.{at_inside, at_next, run_of, pc_added}
 use Rattle.scf_machine.proofs.machine.trace.Goals as goal
 
@@ -13,10 +13,16 @@ returns-in-Some c =
     (added.1 ∙ ap (λ k. k + 1) so_far.count) in
     record {
       path = record {
-        last = so_far.at.state;
-        earlier = so_far.earlier;
-        chain = so_far.at.chain;
-        answers = answers;
+        run = (
+          length so_far.earlier + 1,
+          record {
+            last = so_far.at.state;
+            earlier = so_far.earlier;
+            chain = so_far.at.chain;
+            answers = answers;
+            count = refl;
+          },
+        );
         in_order = added.0;
       };
       run = done.0;

@@ -1,4 +1,4 @@
-use Rattle.scf_profile.proofs.Common.{Ok, RefusesEachAs, view, TestsGive, loaded_profiles_of, profiles_of, tables_of, arith, nat_tests, common_steps}
+use Rattle.scf_profile.proofs.Common.{Ok, RefusesEachAs, view, TestsGive, loaded_profiles_of, tables_of, arith, nat_tests, common_steps}
 use Rattle.scf_profile.proofs.Handed.{handed_fault}
 use Rattle.scf_profile.proofs.TestFaults.{refuses_each_of_conflict, refuses_each_of_fault}
 use Rattle.scf_profile.proofs.profile_text.load_profiles_as.Goals as goal
