@@ -1,9 +1,10 @@
 -- Codes and operations.
-use Rattle.scf_insn.proofs.Common.{◌≡◌, ℕ, ◌∙◌, eqb, inl, inr, List, [], ◌∷◌, map, Some, refl, sym, ap, lookup, cases_eq, eq-eqb, ne_eqb, A, X, Operand, Constant, Index, Arithmetic, Add, Sub, Mul, Div, Or, And, Lsh, Rsh, Xor, Test, Equal, Greater, GreaterOrEqual, CommonBit, Operation, LoadWord, LoadLength, LoadConstant, LoadScratch, StoreScratch, Compute, Negate, Jump, JumpIf, ReturnConstant, ReturnAccumulator, CopyToIndex, CopyToAccumulator, code_of, operations, code_table, operation_of}
+use Rattle.scf_insn.proofs.Common.{◌≡◌, ℕ, ◌∙◌, eqb, inl, inr, List, [], ◌∷◌, Some, refl, sym, ap, cases_eq, eq-eqb, ne_eqb, A, X, Operand, Constant, Index, Arithmetic, Add, Sub, Mul, Div, Or, And, Lsh, Rsh, Xor, Test, Equal, Greater, GreaterOrEqual, CommonBit, Operation, LoadWord, LoadLength, LoadConstant, LoadScratch, StoreScratch, Compute, Negate, Jump, JumpIf, ReturnConstant, ReturnAccumulator, CopyToIndex, CopyToAccumulator, code_of, operations, operation_of}
+use Rattle.std.specs.List.{find}
 
 computes : (arithmetic : Arithmetic) (operand : Operand)
     → operation_of (code_of (Compute arithmetic operand)) ≡ Some (Compute arithmetic operand)
-unfolding operation_of code_table
+unfolding operation_of
 computes Add Constant = refl
 computes Add Index = refl
 computes Sub Constant = refl
@@ -24,7 +25,7 @@ computes Xor Constant = refl
 computes Xor Index = refl
 
 jumps : (test : Test) (operand : Operand) → operation_of (code_of (JumpIf test operand)) ≡ Some (JumpIf test operand)
-unfolding operation_of code_table
+unfolding operation_of
 jumps Equal Constant = refl
 jumps Equal Index = refl
 jumps Greater Constant = refl
@@ -36,7 +37,7 @@ jumps CommonBit Index = refl
 
 -- the code of an operation asks for that operation
 pub asks_for : (operation : Operation) → operation_of (code_of operation) ≡ Some operation
-unfolding operation_of code_table
+unfolding operation_of
 asks_for LoadWord = refl
 asks_for (LoadLength A) = refl
 asks_for (LoadLength X) = refl
@@ -55,19 +56,18 @@ asks_for ReturnAccumulator = refl
 asks_for CopyToIndex = refl
 asks_for CopyToAccumulator = refl
 
-in_rows : (code : ℕ) (operation : Operation) (rows : List Operation)
-    → lookup (λ listed. eqb listed code) (map (λ o. (code_of o, o)) rows) ≡ Some operation
-    → code_of operation ≡ code
-in_rows code operation [] e = absurd cc
-in_rows code operation (first ∷ rows) e = elim (cases_eq (code_of first) code) [
+found_code : (code : ℕ) (operation : Operation) (all : List Operation)
+    → find (λ o. eqb (code_of o) code) all ≡ Some operation → code_of operation ≡ code
+found_code code operation [] e = absurd cc
+found_code code operation (first ∷ others) e = elim (cases_eq (code_of first) code) [
   | inl is ↦
       let same : Some first ≡ Some operation = rw (eq-eqb (code_of first) code is) at e in
       let same : first ≡ operation = cc in
       ap code_of (sym same) ∙ is
-  | inr differs ↦ in_rows code operation rows (rw (ne_eqb (code_of first) code differs) at e)
+  | inr differs ↦ found_code code operation others (rw (ne_eqb (code_of first) code differs) at e)
 ]
 
 -- only the code of an operation asks for it
 pub only_code : (code : ℕ) (operation : Operation) → operation_of code ≡ Some operation → code_of operation ≡ code
-unfolding operation_of code_table
-only_code code operation e = in_rows code operation operations e
+unfolding operation_of
+only_code code operation e = found_code code operation operations e

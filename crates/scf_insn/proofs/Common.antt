@@ -21,8 +21,8 @@ pub use Rattle.std.specs.Map.{lookup}
 pub use Rattle.std.specs.Str.Parse.{digits_value}
 pub use borrow.Rule.Slice.PartMut.{put_mid}
 pub use Rattle.scf_insn.specs.Answers.{IsNamed, IsNoMorePermissive, action_disposition, action_half, action_of, disposition_of, permissiveness_of, rank_of}
-pub use Rattle.scf_insn.specs.Codes.{Row, code_of, operations}
-unfoldable pub use Rattle.scf_insn.specs.Codes.{code_table, operation_of}
+pub use Rattle.scf_insn.specs.Codes.{code_of, operations}
+unfoldable pub use Rattle.scf_insn.specs.Codes.{operation_of}
 pub use Rattle.scf_insn.specs.Insn.{IsInsn, insn_bytes, program_bytes}
 pub use Rattle.scf_insn.specs.Kernel.{audit_arch_x86_64, bpf_maxinsns, bpf_memwords, max_filter_len, max_insns_per_path, seccomp_data_args, seccomp_data_len, seccomp_ret_allow, seccomp_ret_kill_process, x32_syscall_bit}
 pub use Rattle.scf_insn.specs.Masks.{mask_kind}

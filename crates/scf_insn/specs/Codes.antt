@@ -1,6 +1,6 @@
 -- The 41 instruction codes of the seccomp subset (Linux uapi filter.h and bpf_common.h), and what each asks for.
-use Rattle.std.specs.Prelude.{ℕ, ◌+◌, ◌==◌, List, [], ◌∷◌, map, Option}
-use Rattle.std.specs.Map.{lookup}
+use Rattle.std.specs.Prelude.{ℕ, ◌+◌, ◌==◌, List, [], ◌∷◌, Option}
+use Rattle.std.specs.List.{find}
 use Rattle.scf_insn.specs.declared.operation.Register.TheVariants.{A, X}
 use Rattle.scf_insn.specs.declared.operation.Operand.{Operand}
 use Rattle.scf_insn.specs.declared.operation.Operand.TheVariants.{Constant, Index}
@@ -74,13 +74,6 @@ operations =
     ∷ ReturnConstant ∷ ReturnAccumulator ∷ CopyToIndex ∷ CopyToAccumulator
     ∷ []
 
-abbrev pub Row : Type 0
-Row = ℕ × Operation
-
--- each code with its operation
-unfoldable pub code_table : List Row
-code_table = map (λ operation. (code_of operation, operation)) operations
-
 -- the operation of a code, None where it isn't one of the 41
 unfoldable pub operation_of : ℕ → Option Operation
-operation_of code = lookup (λ listed. listed == code) code_table
+operation_of code = find (λ operation. code_of operation == code) operations

@@ -2,13 +2,9 @@
 use Rattle.std.specs.Prelude.{◌≡◌, ℕ, ◌+◌, ◌-◌, ◌^◌, ◌<◌, ◌≤◌, ◌++◌, min, length, List, Option, Result, Ok, Err}
 use Rattle.std.specs.Io.KnownBytes.{Appends, Consumes}
 
--- the count after one more failure; its last value stays
-abbrev pub count_after : ℕ → ℕ
-count_after failures = min (failures + 1) (2 ^ 64 - 1)
-
--- A reader or a writer failed once between two counts.
+-- A reader or a writer failed once between two counts, of which the last value stays.
 abbrev pub HasFailed : ℕ → ℕ → Type 0
-HasFailed old new = new ≡ count_after old
+HasFailed old new = new ≡ min (old + 1) (2 ^ 64 - 1)
 
 -- These bytes were taken, and the writer didn't fail.
 pub record TakesAll (old : Option (List ℕ)) (bytes : List ℕ) (new : Option (List ℕ))

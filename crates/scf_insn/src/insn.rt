@@ -49,7 +49,7 @@ impl Insn {
     /// The operation of its code, or `None` if the code isn't one of the 41 that seccomp accepts.
     ///
     /// Inlined, so that a code leads straight to the arm of its operation.
-    #[tactic(auto, unfolding(crate::specs::Codes::operation_of, crate::specs::Codes::code_table))]
+    #[tactic(auto, unfolding(crate::specs::Codes::operation_of))]
     #[inline(always)]
     pub fn operation(&self) -> Option<Operation>
         ensures { result ≡ operation_of self.now.code }

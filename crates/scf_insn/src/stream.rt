@@ -2,7 +2,7 @@
 
 ghost use Rattle.std.specs.Prelude.{◌≡◌, ◌<◌, ◌≤◌, ℕ, List, Option, None, length, IfOk, OnOk, OnErr};
 ghost use Rattle.std.specs.Io.KnownBytes.{ReadConsumes, WriteAppends};
-ghost use Rattle.scf_insn.specs.Streams.{count_after, Writes};
+ghost use Rattle.scf_insn.specs.Streams.{HasFailed, Writes};
 
 use std::io::{Read, Write};
 use thiserror::Error;
@@ -25,7 +25,7 @@ pub trait Source {
         ensures bound { IfOk result (λ n. n ≤ length buffer.new) }
         ensures bytes { ReadConsumes (remaining self.old) (remaining self.new) result buffer.new }
         ensures ok { OnOk result (failures self.new ≡ failures self.old) }
-        ensures err { OnErr result (failures self.new ≡ count_after (failures self.old)) };
+        ensures err { OnErr result (HasFailed (failures self.old) (failures self.new)) };
 }
 
 /// A writer.
@@ -42,7 +42,7 @@ pub trait Sink {
         ensures some { IfOk result (λ n. 0 < length bytes.now → 0 < n) }
         ensures bytes { WriteAppends (contents self.old) (contents self.new) result bytes.now }
         ensures ok { OnOk result (failures self.new ≡ failures self.old) }
-        ensures err { OnErr result (failures self.new ≡ count_after (failures self.old)) };
+        ensures err { OnErr result (HasFailed (failures self.old) (failures self.new)) };
 }
 
 /// Why bytes weren't written.

@@ -32,8 +32,8 @@ pub use Rattle.std.specs.declared.cmp.Ordering.{Ordering}
 pub use Rattle.std.specs.declared.cmp.Ordering.TheVariants.{Equal, Greater, Less}
 pub use Rattle.std.specs.Str.{bytes_eq}
 pub use Rattle.std.specs.Str.Parse.{AllDigits, IsNumeral}
-pub use Rattle.scf_insn.proofs.Common.{AllByRecursion, IsInsn, Row, TakesAll, and_from, and_parts, bpf_maxinsns, cases_lt, digit_glyph, digit_value, digits, digits_value, drop-drop, drop_all, drop_more, eqb-true, err_from_is_err_and, flat_map, flat_map-append, has_hex_prefix, is_digit, list_all, lookup, lt-ltb, nat_tests, ne_eqb, numeral, take_more}
-unfoldable pub use Rattle.scf_insn.proofs.Common.{code_table, number_of, operation_of}
+pub use Rattle.scf_insn.proofs.Common.{AllByRecursion, IsInsn, TakesAll, and_from, and_parts, bpf_maxinsns, cases_lt, digit_glyph, digit_value, digits, digits_value, drop-drop, drop_all, drop_more, eqb-true, err_from_is_err_and, flat_map, flat_map-append, has_hex_prefix, is_digit, list_all, lookup, lt-ltb, nat_tests, ne_eqb, numeral, take_more}
+unfoldable pub use Rattle.scf_insn.proofs.Common.{number_of, operation_of}
 pub use Rattle.scf_insn.proofs.Written.{each_fails, fails_first, writes_then}
 pub use Rattle.scf_insn.specs.declared.insn.Insn.{Insn}
 pub use Rattle.scf_insn.specs.declared.operation.Operation.{Operation}
