@@ -35,6 +35,15 @@ joined whole below above range l u filled = (
   λ x. grind (arith, lies_append below above x, l.1 x, u.1 x),
 )
 
+-- a range whose end lies in the first part from its start on
+pub within_first : (whole later : List Interval) (first range : Interval)
+    → ArePartsOf (λ x. range.low ≤ x) whole (first ∷ later) → first.low ≤ range.high → range.high ≤ first.high
+    → ArePartsOf (LiesIn range) whole (record { low = first.low; high = range.high } ∷ [])
+within_first whole later first range parts begins ends = (
+  (omega arith, begins, tt),
+  λ x. grind (arith, parts.1 x, lies_from (first.high + 1) later x parts.0.2),
+)
+
 ends : (least : ℕ) (is : List Interval) → AreApartFrom least is → (l : ℕ) (d : Interval)
     → l < length is → least ≤ (get_or is l d).high
 ends least [] a l d lt = absurd (omega arith)

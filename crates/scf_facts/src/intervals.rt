@@ -48,6 +48,13 @@ pub(crate) fn parts_within(
     let Some((first, rest)) = split_from(intervals, u64::from(range.low)) else {
         return Ok(Vec::new(alloc));
     };
+    if first.low <= range.high && range.high <= first.high {
+        let only = Interval {
+            low: first.low,
+            high: range.high,
+        };
+        return Vec::from_slice(alloc, &[only]);
+    }
     let mut parts = Vec::with_capacity(alloc, rest.len() + 1)?;
     parts.push(first)?;
     parts.extend_from_slice(rest)?;
