@@ -1,6 +1,6 @@
 -- What facts of each word say of lists of words.
 use Rattle.scf_insn.proofs.CallWords.{word_below}
-use Rattle.scf_facts.proofs.Common.{◌-◌, recursion_from_All, All-from_recursion, common_steps, ◌≡◌, ◌≢◌, ℕ, suc, ◌<◌, ◌^◌, ◌↔◌, List, [], ◌∷◌, refl, sym, ap, subst, ◌∙◌, arith, length, get_or, All, Bool, IsTrue, slice_index, slice_set, replicate, list_all, AllByRecursion, and_zero_r, cases_eq, get_or-set_same, get_or_read, get_or-replicate, length-set, length-replicate, All-set, AllPass-from_list_all, list_all-from_AllPass, IsWords, Atom, answer_at, atom_answer, word_of, NumberFacts, AllowsNumber, EachNumber, SomeNumber, AllowsWords, no_facts, is_exact_set}
+use Rattle.scf_facts.proofs.Common.{◌-◌, recursion_from_All, All-from_recursion, common_steps, ◌≡◌, ◌≢◌, ℕ, suc, ◌<◌, ◌^◌, ◌↔◌, List, [], ◌∷◌, refl, sym, ap, subst, ◌∙◌, arith, length, get_or, gets, slice_get, Some, All, Bool, IsTrue, slice_index, slice_set, replicate, list_all, AllByRecursion, and_zero_r, cases_eq, get_or-set_same, get_or_read, get_or-replicate, length-set, length-replicate, All-set, AllPass-from_list_all, list_all-from_AllPass, IsWords, Atom, answer_at, atom_answer, word_of, NumberFacts, AllowsNumber, EachNumber, SomeNumber, AllowsWords, no_facts, is_exact_set}
 use Rattle.scf_facts.specs.Masks.{RefuteAmong, RefutesAmong}
 
 pub all_numbers : (x : ℕ) → x < 2 ^ 32 → AllowsNumber no_facts x
@@ -10,6 +10,11 @@ all_numbers x fits = grind (arith, and_zero_r x)
 pub allows_all : (n : ℕ) (words : List ℕ) → AllowsWords (replicate n no_facts) words ↔ IsWords words
 allows_all n words =
     grind (arith, common_steps, get_or-replicate, length-replicate, all_numbers, slice_index, word_below)
+
+-- where the facts of a word are read
+pub read : (sets : List NumberFacts) (index : ℕ) (old : NumberFacts) → slice_get sets index ≡ Some old
+    → (index < length sets) × (old ≡ get_or sets index old)
+read sets index old e = grind (arith, common_steps, gets)
 
 module _ (sets : List NumberFacts) (index : ℕ) (old : NumberFacts)
     (lt : index < length sets) (read : old ≡ get_or sets index old) where
@@ -114,10 +119,6 @@ nothing_refuted n masks = λ k d lt. rw (get_or-replicate n k no_facts d (omega 
 pub refutes_at : (sets : List NumberFacts) (masks : ℕ) → RefuteAmong masks sets → All (RefutesAmong masks) sets
 unfolding RefuteAmong
 refutes_at sets masks each = each
-
-pub ruleset set_laws = (allows_set, exact_set, among_set)
-
-pub ruleset word_laws = (number_set, each_word, exact_word, among_word)
 
 -- so where none is, some word allows no number
 pub some_allowed : (sets : List NumberFacts) → length sets ≡ 16

@@ -1,7 +1,7 @@
 //! What is known at a moment.
 
 ghost use Rattle.std.specs.Prelude.{◌≡◌, ◌<◌, ◌↔◌, ℕ, List, IsTrue, IfOk, OnOk, OnErr, IfSome, IsSome};
-ghost use Rattle.std.specs.Prelude.{length, slice_get, slice_index, true, false, bit_and};
+ghost use Rattle.std.specs.Prelude.{length, slice_get, slice_index, slice_set, true, false, bit_and};
 ghost use Rattle.scf_insn.specs.Words.{IsWords};
 ghost use Rattle.scf_facts.specs.Atoms.{atom_answer, word_of};
 ghost use Rattle.scf_facts.specs.Bits.{HasBits};
@@ -18,31 +18,35 @@ use crate::word_set::WordSet;
 use scf_insn::Memory;
 use std::alloc::{AllocError, Global};
 use std::marker::Model;
+use std::rc::Rc;
 
 /// What a store knows at a moment of each of the sixteen words of a call record.
 ///
-/// Cloning it copies no set: to learn replaces a set, and changes none.
+/// Cloning it copies no set: to learn replaces a set, and changes none. Most tests ask the syscall number, so its set
+/// is by itself, and to learn of it copies nothing of the others.
 #[derive(Drop)]
 pub struct Snapshot {
-    sets: Vec<SharedSet>,
-    ghost sixteen: { length sets.items ≡ 16 },
+    number: SharedSet,
+    others: Rc<Vec<SharedSet>>,
+    ghost fifteen: { length others.value.items ≡ 15 },
 }
 
 impl Model for Snapshot {
-    ghost use Rattle.std.specs.Prelude.{List};
+    ghost use Rattle.std.specs.Prelude.{List, ◌∷◌};
     ghost use Rattle.scf_facts.specs.WordSets.{NumberFacts};
 
     ghost Value = { List NumberFacts };
 
-    ghost view = { λ s. s.sets.items };
+    ghost view = { λ s. s.number ∷ s.others.value.items };
 }
 
 impl Clone for Snapshot {
     ghost is_clone = { λ s copy. copy ≡ s };
 
     fn clone(&self) -> Result<Snapshot, AllocError> {
-        let sets = self.sets.clone()?;
-        Ok(Snapshot { sets })
+        let number = self.number.clone()?;
+        let others = self.others.clone()?;
+        Ok(Snapshot { number, others })
     }
 }
 
@@ -53,10 +57,9 @@ impl Snapshot {
         ensures exact { IfOk result (λ facts. are_exact_sets facts ≡ true) }
         ensures among { IfOk result (λ facts. (masks : ℕ) → RefuteAmong masks facts) }
     {
-        let set = SharedSet::new(alloc, WordSet::new(alloc)?)?;
-        Ok(Snapshot {
-            sets: Vec::from_elem(alloc, set, 16)?,
-        })
+        let number = SharedSet::new(alloc, WordSet::new(alloc)?)?;
+        let others = Rc::new(alloc, Vec::from_elem(alloc, number.clone()?, 15)?)?;
+        Ok(Snapshot { number, others })
     }
 
     /// The values that the word with this index, 0 to 15, may have.
@@ -65,11 +68,26 @@ impl Snapshot {
         ensures sixteen { length self.now ≡ 16 }
         ensures word { slice_get self.now index ≡ Some result.now }
     {
-        self.sets[index as usize].as_set()
+        match index {
+            0 => self.number.as_set(),
+            _ => self.others[index as usize - 1].as_set(),
+        }
+    }
+
+    /// Puts another set in the place of a word's. If allocation fails, nothing changes.
+    fn replace(&mut self, word: u8, set: SharedSet) -> Result<(), AllocError>
+        requires { word < 16 }
+        ensures replaced { OnOk result (self.new ≡ slice_set self.old word set) }
+        ensures refused { OnErr result (self.new ≡ self.old) }
+    {
+        match word {
+            0 => self.number = set,
+            _ => Rc::make_mut(&mut self.others)?[word as usize - 1] = set,
+        }
+        Ok(())
     }
 
     /// Keeps the allowed lists that give the atom this answer. If allocation fails, nothing changes.
-    #[tactic(auto, using(crate::proofs::StoreLaws::set_laws))]
     pub(crate) fn learn(&mut self, alloc: Global, atom: Atom, holds: bool) -> Result<(), Memory>
         requires word { word_of atom < 16 }
         ensures learned { OnOk result ((words : List ℕ) → AllowsWords self.new words
@@ -80,9 +98,9 @@ impl Snapshot {
             → RefuteAmong masks self.old → RefuteAmong masks self.new) }
         ensures refused { OnErr result (self.new ≡ self.old) }
     {
-        let word = atom.word() as usize;
-        let set = self.sets[word].as_set().learn(alloc, atom, holds)?;
-        self.sets[word] = SharedSet::new(alloc, set)?;
+        let word = atom.word();
+        let set = self.word(word).learn(alloc, atom, holds)?;
+        self.replace(word, SharedSet::new(alloc, set)?)?;
         Ok(())
     }
 
@@ -98,7 +116,7 @@ impl Snapshot {
             → ((words : List ℕ) × AllowsWords self.now words × (atom_answer atom words ≡ true))
             × ((words : List ℕ) × AllowsWords self.now words × (atom_answer atom words ≡ false)) }
     {
-        self.sets[atom.word() as usize].as_set().tell(atom)
+        self.word(atom.word()).tell(atom)
     }
 
     /// Bits that the word with this index has in every allowed list.
@@ -108,7 +126,7 @@ impl Snapshot {
         ensures within { bit_and result.value result.mask ≡ result.value }
         ensures known { (words : List ℕ) → AllowsWords self.now words → HasBits result (slice_index words word) }
     {
-        self.sets[word as usize].as_set().known_bits()
+        self.word(word).known_bits()
     }
 
     /// Whether some word is known to have no value.
@@ -119,11 +137,15 @@ impl Snapshot {
         ensures seen_among { (masks : ℕ) → AreFew masks → RefuteAmong masks self.now
             → ((words : List ℕ) → AllowsWords self.now words → ⊥) → IsTrue result }
     {
-        self.sets.iter().any(|set| set.as_set().is_empty())
+        for index in 0..16u8 {
+            if self.word(index).is_empty() {
+                return true;
+            }
+        }
+        false
     }
 
     /// An allowed list, if one is found.
-    #[tactic(auto, using(crate::proofs::StoreLaws::word_laws))]
     pub(crate) fn pick(&self) -> Option<[u32; 16]>
         ensures allowed { IfSome result (AllowsWords self.now) }
         ensures found { IsTrue (are_exact_sets self.now)
@@ -132,8 +154,8 @@ impl Snapshot {
             → (words : List ℕ) → AllowsWords self.now words → IsSome result }
     {
         let mut words = [0; 16];
-        for (index, set) in self.sets.iter().enumerate() {
-            words[index] = set.as_set().pick()?;
+        for index in 0..16u8 {
+            words[index as usize] = self.word(index).pick()?;
         }
         Some(words)
     }
@@ -142,7 +164,7 @@ impl Snapshot {
     pub(crate) fn refuted_bits(&self, word: u8) -> u32
         requires { word < 16 }
     {
-        self.sets[word as usize].as_set().refuted_bits()
+        self.word(word).refuted_bits()
     }
 }
 

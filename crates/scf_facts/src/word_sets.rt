@@ -55,8 +55,7 @@ impl WordFacts for WordSets {
     }
 
     fn mark(&mut self) -> Result<(), Memory> {
-        let known = self.known.clone()?;
-        self.saved.push(known)?;
+        self.saved.push(self.known.clone()?)?;
         Ok(())
     }
 
@@ -98,7 +97,6 @@ impl WordFacts for WordSets {
 impl Snapshots for WordSets {
     #[tactic(auto, using(crate::proofs::Levels::now))]
     fn snapshot(&self) -> Result<Snapshot, Memory> {
-        let known = self.known.clone()?;
-        Ok(known)
+        Ok(self.known.clone()?)
     }
 }
