@@ -34,7 +34,7 @@ pub(crate) fn decided_step<T: SideTree, F: WordFacts>(
     let passed = side.pass(facts, known, &mut node, most.saturating_sub(1));
     let mut step = side.step(facts, known, node);
     for _count in passed.steps + 1..most {
-        let Some(next) = decided_next(side, facts, known, step) else {
+        let Some(next) = decided_next(side, facts, known, &step) else {
             return step;
         };
         step = side.step(facts, known, next);
@@ -42,25 +42,25 @@ pub(crate) fn decided_step<T: SideTree, F: WordFacts>(
     step
 }
 
-/// The step behind a pending one, or that one itself if it is a leaf or asks what the store doesn't decide. So many of
-/// the steps that are taken at once were taken before it.
+/// Makes a pending step the one behind it, unless it is a leaf or asks what the store doesn't decide. So many of the
+/// steps that are taken at once were taken before it.
 #[tactic(auto, using(crate::proofs::Steps::followed_pending))]
 pub(crate) fn follow<T: SideTree, F: WordFacts>(
     side: &T,
     facts: &F,
     known: &mut T::Known,
-    pending: Step<T::Node, SideLeaf>,
+    pending: &mut Step<T::Node, SideLeaf>,
     taken: u64,
-) -> Step<T::Node, SideLeaf>
-    requires { IsProper (T.tree side.now known.old) (IsSideLeaf (T.behavior side.now)) pending }
+)
+    requires { IsProper (T.tree side.now known.old) (IsSideLeaf (T.behavior side.now)) pending.old }
     ensures { let leaves = side_leaves (T.behavior side.now) in IsStep leaves
         (λ words. IsWords words × F.allows facts.now (F.level facts.now) words)
-        (pending_tree leaves (T.tree side.now known.old)) pending (T.tree side.now known.new) result }
+        (pending_tree leaves (T.tree side.now known.old)) pending.old (T.tree side.now known.new) pending.new }
 {
-    match decided_next(side, facts, known, pending) {
-        Some(next) => decided_step(side, facts, known, next, taken),
-        None => pending,
-    }
+    let Some(next) = decided_next(side, facts, known, pending) else {
+        return;
+    };
+    *pending = decided_step(side, facts, known, next, taken);
 }
 
 /// Goes on from a pending step as far as the store decides it now, up to a node at which the side waits: this many
@@ -70,30 +70,29 @@ pub(crate) fn go_ahead<T: SideTree, F: WordFacts>(
     side: &T,
     facts: &F,
     known: &mut T::Known,
-    pending: Step<T::Node, SideLeaf>,
+    pending: &mut Step<T::Node, SideLeaf>,
     times: u64,
-) -> Step<T::Node, SideLeaf>
-    requires { IsProper (T.tree side.now known.old) (IsSideLeaf (T.behavior side.now)) pending }
+)
+    requires { IsProper (T.tree side.now known.old) (IsSideLeaf (T.behavior side.now)) pending.old }
     ensures { let leaves = side_leaves (T.behavior side.now) in
         IsLaterNode (λ words. IsWords words × F.allows facts.now (F.level facts.now) words)
-        (pending_tree leaves (T.tree side.now known.old)) pending
-        (pending_tree leaves (T.tree side.now known.new)) result }
+        (pending_tree leaves (T.tree side.now known.old)) pending.old
+        (pending_tree leaves (T.tree side.now known.new)) pending.new }
 {
     let most = times.saturating_mul(MOST_AT_ONCE);
     let mut taken = 0;
-    let mut step = pending;
     while taken < most {
-        let Some(mut next) = decided_next(side, facts, known, step) else {
-            return step;
+        let Some(mut next) = decided_next(side, facts, known, pending) else {
+            return;
         };
         let passed = side.pass(facts, known, &mut next, most - taken - 1);
         if side.waits_at(known, next) {
-            return Step::Next(next);
+            *pending = Step::Next(next);
+            return;
         }
-        step = side.step(facts, known, next);
+        *pending = side.step(facts, known, next);
         taken += passed.steps + 1;
     }
-    step
 }
 
 /// The node after a step, if the store decides which one it is.
@@ -101,18 +100,18 @@ fn decided_next<T: SideTree, F: WordFacts>(
     side: &T,
     facts: &F,
     known: &T::Known,
-    step: Step<T::Node, SideLeaf>,
+    step: &Step<T::Node, SideLeaf>,
 ) -> Option<T::Node>
-    requires { IsProper (T.tree side.now known.now) (IsSideLeaf (T.behavior side.now)) step }
+    requires { IsProper (T.tree side.now known.now) (IsSideLeaf (T.behavior side.now)) step.now }
     ensures decided { let tree = pending_tree (side_leaves (T.behavior side.now)) (T.tree side.now known.now) in
         IfSome result (λ next. IsLaterNode (λ words. IsWords words × F.allows facts.now (F.level facts.now) words)
-        tree step tree (Step.Next next)) }
+        tree step.now tree (Step.Next next)) }
     ensures undecided { let tree = T.tree side.now known.now in
-        IfNone result (Costs tree step (pending_size tree step)) }
+        IfNone result (Costs tree step.now (pending_size tree step.now)) }
 {
     let _ = side;
     let _ = known;
-    match step {
+    match *step {
         Step::Next(next) => Some(next),
         Step::Branch(Some(atom), if_true, if_false) => match facts.tell(atom) {
             Tell::Always => Some(if_true),

@@ -67,15 +67,18 @@ impl<L: SideTree, R: SideTree> Comparison for Pair<L, R> {
             PairNode::AtLeft(node) => match self.left.step(facts, &mut known.left, node) {
                 Step::Next(next) => Step::Next(PairNode::AtLeft(next)),
                 Step::Branch(atom, if_true, if_false) => {
-                    known.ahead = go_ahead(&self.right, facts, &mut known.right, known.ahead, 1);
+                    go_ahead(&self.right, facts, &mut known.right, &mut known.ahead, 1);
                     Step::Branch(atom, PairNode::AtLeft(if_true), PairNode::AtLeft(if_false))
                 }
-                Step::Leaf(leaf) => self.ask_right(facts, &mut known.right, leaf, known.ahead, 0),
+                Step::Leaf(leaf) => {
+                    self.ask_right(facts, &mut known.right, leaf, &mut known.ahead, 0)
+                }
             },
             PairNode::AtRight(leaf, node) => {
                 let taken = known.taken;
                 known.taken = 0;
-                self.ask_right(facts, &mut known.right, leaf, Step::Next(node), taken)
+                let mut pending = Step::Next(node);
+                self.ask_right(facts, &mut known.right, leaf, &mut pending, taken)
             }
         }
     }
@@ -93,8 +96,8 @@ impl<L: SideTree, R: SideTree> Comparison for Pair<L, R> {
                 if passed.asked == 0 {
                     return passed.steps;
                 }
-                let right = &self.right;
-                known.ahead = go_ahead(right, facts, &mut known.right, known.ahead, passed.asked);
+                let (right, asked) = (&self.right, passed.asked);
+                go_ahead(right, facts, &mut known.right, &mut known.ahead, asked);
                 passed.steps
             }
             PairNode::AtRight(_, right) => {
@@ -175,19 +178,21 @@ impl<L: SideTree, R: SideTree> Pair<L, R> {
         facts: &F,
         known: &mut R::Known,
         leaf: SideLeaf,
-        pending: Step<R::Node, SideLeaf>,
+        pending: &mut Step<R::Node, SideLeaf>,
         taken: u64,
     ) -> Step<PairNode<L::Node, R::Node>, PairLeaf>
-        requires step { IsProper (R.tree self.now.right known.old) (IsSideLeaf (R.behavior self.now.right)) pending }
+        requires step { IsProper (R.tree self.now.right known.old)
+            (IsSideLeaf (R.behavior self.now.right)) pending.old }
         requires leaf { IsSideLeaf (L.behavior self.now.left) leaf }
         ensures { (left : L.Known) (ahead : Step R.Node SideLeaf) (over : ℕ) → let pair = self.now in
             let compared = compared_in pair.by pair.over (L.behavior pair.left) (R.behavior pair.right) in
             let tree = pair_tree compared (L.tree pair.left) (R.tree pair.right) in
             IsStep (pair_leaves compared) (F.allows facts.now (F.level facts.now))
-            (tree_behind compared (R.tree pair.right) known.old leaf) pending
+            (tree_behind compared (R.tree pair.right) known.old leaf) pending.old
             (tree (record { left = left; right = known.new; ahead = ahead; taken = over })) result }
     {
-        match follow(&self.right, facts, known, pending, taken) {
+        follow(&self.right, facts, known, pending, taken);
+        match *pending {
             Step::Next(next) => Step::Next(PairNode::AtRight(leaf, next)),
             Step::Branch(atom, if_true, if_false) => Step::Branch(
                 atom,

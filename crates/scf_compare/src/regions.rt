@@ -174,9 +174,7 @@ fn regions_of_pair<C: Comparison, F: Snapshots>(
             &mut list,
         )? {
             Stage::At(next) => node = next,
-            Stage::AllSeen => {
-                return Ok(Some(Regions { list, steps }));
-            }
+            Stage::AllSeen => return Ok(Some(Regions { list, steps })),
             Stage::Found(_) => return Ok(None),
         }
     }

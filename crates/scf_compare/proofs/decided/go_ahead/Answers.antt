@@ -10,6 +10,6 @@ returns-then-waits_at g c =
 pub loop-taken-preserved : goal.loop-taken-preserved
 loop-taken-preserved g c = record {
   later = later _ _ _ _ _ _ _ _ _ c.loop-taken.invariant.later c.in-Some.ensures.decided
-      (stepped _ _ _ _ _ _ _ _ c.pass-passed.ensures.later c.step-step.ensures);
+      (stepped _ _ _ _ _ _ _ _ c.pass-passed.ensures.later c.step.ensures);
   most = omega (arith, c.pass-passed.ensures.most);
 }

@@ -10,7 +10,7 @@ invariant-loop-taken g l =
     record {
       later : IsLaterNode (λ words. IsWords words × facts.allows l.facts (facts.level l.facts) words)
           (pending_tree leaves (side.tree l.side l.fn.known)) l.fn.pending
-          (pending_tree leaves (side.tree l.side l.known)) l.step;
+          (pending_tree leaves (side.tree l.side l.known)) l.pending;
       most : l.taken ≤ l.most;
     }
 

@@ -1,8 +1,15 @@
-use Rattle.scf_compare.proofs.Common.{arith, common_steps}
+use Rattle.scf_compare.proofs.Common.{arith}
 use Rattle.scf_compare.proofs.pair.Pair.ask_right.Goals as goal
 
 pub returns-in-Next : goal.returns-in-Next
-returns-in-Next g c = grind (arith, common_steps)
+returns-in-Next g c = λ left ahead over.
+    let step = rw c.in-Next.is at c.follow.ensures in
+    record {
+      proper = (c.requires.leaf, step.proper);
+      leads = λ words allowed reached. (reached.0, reached.1, step.leads words (reached.0, allowed) reached.2);
+      costs = step.costs;
+      plain = λ masks plain. (plain.0, step.plain masks plain.1);
+    }
 
 pub returns-in-Branch : goal.returns-in-Branch
 returns-in-Branch g c = λ left ahead over.

@@ -23,9 +23,9 @@ returns-in-Branch g c =
     let after = tree c.step.new.known in
     let size = (tree c.args.known.now.left).size c.in-AtLeft.node in
     let right = g.R.SideTree.tree c.args.self.now.right in
-    let known = c.go_ahead-known.new.known in
-    let ahead = c.go_ahead-known.ensures in
-    let pending = c.go_ahead-known.result in
+    let known = c.go_ahead.new.known in
+    let ahead = c.go_ahead.ensures in
+    let pending = c.go_ahead.new.pending in
     let counts = pending_counts (right known) (g.met.R.SideTree.counts c.args.self.now.right known) pending in
     let all = mul-le-mul_left size ahead.size in
     rw c.in-AtLeft.is (record {
@@ -49,7 +49,7 @@ pub returns-in-Leaf : goal.returns-in-Leaf
 returns-in-Leaf g c =
     let step = rw c.in-Leaf.is at c.step.ensures in
     let known = c.args.known.now in
-    let asked = c.ask_right.ensures c.step.new.known known.ahead known.taken in
+    let asked = c.ask_right.ensures c.step.new.known c.ask_right.new.pending known.taken in
     let tree = g.L.SideTree.tree c.args.self.now.left in
     let counts : 1 ≤ (tree known.left).size c.in-AtLeft.node = step.costs in
     let right = g.R.SideTree.tree c.args.self.now.right known.right in
