@@ -47,11 +47,6 @@ keeps_statuses = False
 _seconds_of_scf: float | None = None
 
 
-def limit_in(text: str) -> str:
-    """The limit that an option has: without one the greatest, which scf never reaches; scf says if it is no number."""
-    return str((1 << 64) - 1) if text == "none" else text
-
-
 def lines_of(text: str) -> list[str]:
     """The lines of a text; the last may lack its newline."""
     lines = text.split("\n")
@@ -253,14 +248,10 @@ def _seconds_left(until: float) -> float:
     return until - (sum(os.times()[:4]) if _seconds_of_scf is None else _seconds_of_scf)
 
 
-def is_spent() -> bool:
-    """Whether the CPU time is up that a tool without --limit has for comparisons."""
-    return program.is_tool and "limit" not in limits and _seconds_left(ALL_SECONDS) <= 0
-
-
-def has_time() -> bool:
-    """Whether comparisons still have all their steps: what takes these isn't known later either."""
-    return "limit" in limits or not program.is_tool or _seconds_left(SECONDS) > 0
+def has_time(has_all: bool = False) -> bool:
+    """Whether comparisons still have some steps, or all of theirs: a tool without --limit has some CPU time for them.
+    """
+    return "limit" in limits or not program.is_tool or _seconds_left(SECONDS if has_all else ALL_SECONDS) > 0
 
 
 def compare(words: Sequence[str], bundle: bytes) -> Run:

@@ -88,8 +88,8 @@ def explain_skipped(report: Report, judged: Tables, profile: bytes) -> Iterator[
     more = max(len(classified.left_out) - tables.MOST_LISTED, 0) + max(len(classified.unknown) - tables.MOST_LISTED, 0)
     if more:
         yield f"more such names: {more}"
-    facts = profiles.parse_profile(profile)
-    if facts is not None and facts.allows_by_default and (classified.left_out or classified.unknown):
+    default = profiles.default_of(profile)
+    if default is not None and default.allows and (classified.left_out or classified.unknown):
         yield "the profile's default allows syscalls: the rules for these names are lost"
 
 

@@ -63,12 +63,6 @@ def _read(status: int, text: str) -> Reason:
     return Reason(status, line, Answer.read(match[1]), match[2] or "entry", int(match[3]) if match[3] else None)
 
 
-def members_of(line: str) -> dict[str, object]:
-    """The members of `reason_json` that a line of `scf ask` gives, without the profile."""
-    word, *index = line.split(" ")[2:]
-    return {"reason": word, **({"entry": int(index[0])} if index else {})}
-
-
 def index_of(reason: Reason, origins: Sequence[Origin] | None) -> int | None:
     """The index of the entry in the user's profile."""
     return reason.entry if reason.entry is None or origins is None else origins[reason.entry].index

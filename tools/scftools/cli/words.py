@@ -70,7 +70,8 @@ SHARED: dict[str, dict[str, Any]] = {
     "--keep-first": {"action": "store_true",
                      "help": "if two entries without conditions answer a syscall, keep the first whose answer isn't "
                              "the default's, as runc and crun do"},
-    **{f"--{name}": {"metavar": "N", "help": text, "type": client.limit_in}
+    # (no limit is the greatest one, which scf never reaches; scf says if a text is no number)
+    **{f"--{name}": {"metavar": "N", "help": text, "type": lambda text: str((1 << 64) - 1) if text == "none" else text}
        for name, text in client.LIMIT_OPTIONS.items()},
     "--machine": {"choices": tuple(row.machine for row in JUDGED.values() if row.machine), "metavar": "NAME",
                   "help": "resolve an engine's profile for this machine, by Go's name of it: "

@@ -27,7 +27,7 @@ from ..base import output, program
 from ..ask import client, explanation
 from ..cli import words
 from ..forms import filters, operands
-from ..report.blocks import Block, put_blocks
+from ..report.blocks import Block, put_block, put_blocks
 
 
 def checked(name, data, is_alone):
@@ -37,15 +37,16 @@ def checked(name, data, is_alone):
     members = {"fault": fault.as_json(explanation.explain_fault(fault))} if fault else {"instructions": len(data) // 8}
     # (what the kernel would refuse a filter for is an answer, and no trouble)
     status = done.scf_status if done.scf_status == program.NEGATIVE else done.status
-    return Block(status, [done.line if is_alone else f"{name}: {done.line}",
-                          *output.notes(explanation.explain_line(done.line))],
-                 {"file": name, "status": status, **members})
+    return Block(status, lambda: [done.line if is_alone else f"{name}: {done.line}",
+                                  *output.notes(explanation.explain_line(done.line))],
+                 lambda: {"file": name, "status": status, **members})
 
 
 def whole(blocks, member="filters"):
     """What is said of several filters, as this member of an object."""
-    return Block(client.worst(block.status for block in blocks), [line for block in blocks for line in block.lines],
-                 {member: [block.members for block in blocks]})
+    return Block(client.worst(block.status for block in blocks),
+                 lambda: [line for block in blocks for line in block.lines()],
+                 lambda: {member: [block.members() for block in blocks]})
 
 
 def main():
@@ -60,7 +61,5 @@ def main():
     blocks = []
     for name in options.filters:
         blocks.append(checked(name, filters.read_filter(name).data, len(options.filters) == 1))
-        output.put_lines(blocks[-1].lines if not options.json else [])
-    if options.json:
-        output.put_json({"status": client.worst(block.status for block in blocks), **whole(blocks).members})
-    return client.worst(block.status for block in blocks)
+        output.put_lines(blocks[-1].lines() if not options.json else [])
+    return put_block(whole(blocks), True) if options.json else whole(blocks).status

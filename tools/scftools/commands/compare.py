@@ -131,6 +131,6 @@ def main():
             comparison, report = judgement.comparison, judgement.report
             output.replace_file(options.html, pages.comparison_page(
                 comparison, comparison.printed(report), [*comparison_notes(comparison, report, judgement.scope)]))
-        return judgement.block(options.json, options.verbose)
+        return judgement.block(options.verbose)
 
     return blocks.put_blocks(actual, judge, options.json)

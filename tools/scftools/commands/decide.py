@@ -88,7 +88,8 @@ def read_words():
 def read_input(options):
     """The stack of filters, the profile or the process that a command line names."""
     if options.kind is not None:
-        return runtimes.profile_of_options(runtimes.with_profile(options, options.words[0]))
+        named = runtimes.with_profile(options, options.words[0])
+        return runtimes.input_in(runtimes.text_of(named), named, named.strict)
     if len(options.words) > 1:
         given = operands.read_stacks(options.words)
     else:

@@ -34,7 +34,7 @@ Examples:
     scf diff --no-more old.json new.json
     scf diff --runtime podman --json old.json new.json
 """
-from ..base import output, program
+from ..base import program
 from ..base.values import replace
 from ..model import profiles, tables
 from ..ask import verdicts
@@ -42,6 +42,7 @@ from ..cli import words
 from ..forms import engines, filters, operands, profile_inputs, runtimes
 from ..forms.profile_inputs import ProfileInput
 from ..report import blocks, changes, compare
+from ..report.blocks import Block
 from ..report.compare_output import Judgement
 
 
@@ -112,14 +113,11 @@ def main():
         judgement = judge(new)
         if judgement.first.verdict is not None:
             found = changes.changes_of(judgement.comparison, judgement.first)
-            if options.json:
-                output.put_json(changes.changes_json(found))
-            else:
-                output.put_lines(changes.change_lines(found))
-            return found.verdict.status
+            return blocks.put_block(Block(found.verdict.status, lambda: changes.change_lines(found),
+                                          lambda: changes.changes_json(found)), options.json)
         # (scf doesn't compare them)
-        block = judgement.block(options.json)
-        members = {name: value for name, value in block.members.items()
-                   if name in ("status", "relation", "verdict", "fault")}
-        return blocks.put_blocks([], lambda _: replace(block, members=members), options.json)
-    return blocks.put_blocks(new, lambda side: judge(side).block(options.json), options.json)
+        block = judgement.block()
+        return blocks.put_block(replace(block, members=lambda: {
+            name: value for name, value in block.members().items() if name in ("relation", "verdict", "fault")}),
+                                options.json)
+    return blocks.put_blocks(new, lambda side: judge(side).block(), options.json)

@@ -44,29 +44,32 @@ def listed(bpf_filter, options, table, query):
     data = bpf_filter.data
     done = client.run_scf(["dis"], data)
     if options.plain:
-        return Block(done.status, [*done.lines, *output.notes(explanation.explain_line(done.line))], {})
+        return Block(done.status, lambda: [*done.lines, *output.notes(explanation.explain_line(done.line))])
     if done.status != program.SUCCESS:
         return of_fault(done.status, done.line)
     path = listing.path_of(data, query.words()) if query is not None else None
     if path is not None and path.decision.answer is None:
         return of_fault(path.status, path.decision.line)
-    status = path.status if path else done.status
     explained = list(enumerate(zip(done.lines, listing.meanings(data, table))))
-    if options.json:
+
+    def lines():
+        shown = list(listing.listing_lines(explained, len(explained)))
+        if options.dot:
+            return flow_graph.Drawing(flow_graph.Graph(data), shown, table,
+                                      path.indexes if path else ()).text().splitlines()
+        on_path = frozenset(path.indexes) if path is not None else ()
+        return shown if path is None else [
+            *(f"{'>' if index in on_path else ' '} {line}" for index, line in enumerate(shown)),
+            *output.notes(explanation.explain_answer(query.call, path.decision.answer, table))]
+
+    def members():
         of_call = {} if path is None else {"call": query.call.as_json(table),
                                            "path": listing.Giver(bpf_filter, True, path).as_json(),
                                            "answer": path.decision.answer.as_json(explains=True)}
-        return Block(status, [], {"instructions": [{"index": index, "text": line, "meaning": meaning}
-                                                   for index, (line, meaning) in explained], **of_call})
-    lines = list(listing.listing_lines(explained, len(explained)))
-    if options.dot:
-        drawing = flow_graph.Drawing(flow_graph.Graph(data), lines, table, path.indexes if path else ())
-        return Block(status, drawing.text().splitlines(), {})
-    if path is not None:
-        on_path = frozenset(path.indexes)
-        lines = [f"{'>' if index in on_path else ' '} {line}" for index, line in enumerate(lines)]
-        lines += output.notes(explanation.explain_answer(query.call, path.decision.answer, table))
-    return Block(status, lines, {})
+        return {"instructions": [{"index": index, "text": line, "meaning": meaning}
+                                 for index, (line, meaning) in explained], **of_call}
+
+    return Block(path.status if path else done.status, lines, members)
 
 
 def of_stack(stack, options, table, query):
@@ -78,8 +81,9 @@ def of_stack(stack, options, table, query):
         raise program.ToolError("--dot draws one filter, and there are several")
     named = list(zip((bpf_filter.name for bpf_filter in stack), blocks))
     return Block(client.worst(block.status for block in blocks),
-                 [line for name, block in named for line in (f"# {name}", *block.lines)],
-                 {"listings": [{"file": name, "status": block.status, **block.members} for name, block in named]})
+                 lambda: [line for name, block in named for line in (f"# {name}", *block.lines())],
+                 lambda: {"listings": [{"file": name, "status": block.status, **block.members()}
+                                       for name, block in named]})
 
 
 def main():

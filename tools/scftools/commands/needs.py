@@ -84,6 +84,7 @@ from ..model import architectures, profiles
 from ..ask import client
 from ..cli import words
 from ..forms import kubernetes, profile_inputs, refusals, runtimes, strace
+from ..report.blocks import Block, put_block
 from ..logs import least_profile, requirements
 
 
@@ -134,11 +135,9 @@ def main():
             status, remarks = program.UNKNOWN if needs.isnt_whole else program.SUCCESS, requirements.log_remarks(needs)
             output.put_lines(requirements.count_lines(needs))
         else:
-            status, remarks = needs.status, ()
-            if options.json:
-                output.put_json(requirements.needs_json(needs, judges.tables[architectures.NATIVE]))
-            else:
-                output.put_lines(requirements.needs_lines(needs))
+            table, remarks = judges.tables[architectures.NATIVE], ()
+            status = put_block(Block(needs.status, lambda: requirements.needs_lines(needs),
+                                     lambda: requirements.needs_json(needs, table)), options.json)
         output.flush()
         program.say(*remarks)
         return status

@@ -212,13 +212,14 @@ def judge(stack, options, architecture, table):
         sentences = [*explanation.explain_line(why.line)]
         if not options.json:
             program.say(why.line, *sentences)
-        return Block(why.status, [], {"fault": why.fault.as_json(sentences)} if why.fault is not None else {})
+        members = {"fault": why.fault.as_json(sentences)} if why.fault is not None else {}
+        return Block(why.status, members=lambda: members)
     if options.json:
         remarks = [line[2:] for line in result.text.split("\n") if line.startswith("# ")]
-        return Block(result.status, [], {"remarks": [*remarks, *result.remarks], "profiles": [
+        return Block(result.status, members=lambda: {"remarks": [*remarks, *result.remarks], "profiles": [
             {"relations": list(proved.relations), "profile": proved.profile} for proved in result.profiles]})
     program.say(*result.remarks)
-    return Block(result.status, text.splitlines(), {})
+    return Block(result.status, text.splitlines)
 
 
 def main():

@@ -124,7 +124,7 @@ def main():
         from ..report import region_output  # pylint: disable=import-outside-toplevel
 
         return put_blocks(given, lambda stack: region_output.of_stack(
-            stack, table, architecture, options.examples, options.json), options.json)
+            stack, table, architecture, options.examples), options.json)
     from ..report import surface_output  # pylint: disable=import-outside-toplevel
 
     beside = operands.read_stack(options.beside, of_engine, compiles=True)
@@ -136,7 +136,7 @@ def main():
         made.append(surface_output.surface_of_stack(
             stack, beside, table, architecture, architecture.oci == machine and machine in other_abis.OF_MACHINES,
             options.conditions, options.examples))
-        return made[-1].block(width, options.json)
+        return made[-1].block(width)
 
     status = put_blocks(given, judge, options.json)
     if options.html is not None:

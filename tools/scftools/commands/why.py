@@ -61,12 +61,13 @@ import os
 import re
 import types
 
-from ..base import output, program
+from ..base import program
 from ..base.values import replace
 from ..model import profiles, tables
 from ..cli import words
 from ..forms import operands, runtimes, strace
 from ..forms.profile_inputs import ProfileInput
+from ..report.blocks import Block, put_block
 from ..logs import audit_records, cause_report, causes, events
 
 # By how many seconds the clock may differ between a record and the start of a process.
@@ -171,8 +172,5 @@ def main():
     report = cause_report.log_report(log, files, options.every)
     if options.pid is not None:
         report.lacking = lacking(options.pid)
-    if options.json:
-        output.put_json(cause_report.log_report_json(report))
-    else:
-        output.put_lines(cause_report.log_report_lines(report))
-    return report.status
+    return put_block(Block(report.status, lambda: cause_report.log_report_lines(report),
+                           lambda: cause_report.log_report_json(report)), options.json)

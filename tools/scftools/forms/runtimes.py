@@ -423,10 +423,6 @@ def input_in(data: bytes, options: Any, is_strict: bool | None = False) -> Profi
     return given
 
 
-def profile_of_options(options: Any) -> ProfileInput:
-    return input_in(text_of(options), options, options.strict)
-
-
 def with_profile(options: Any, name: str) -> Any:
     """The options of a command line that names this profile."""
     return types.SimpleNamespace(**{"runtime": None, "caps": None, "machine": None, "strict": False,

@@ -185,7 +185,7 @@ def log_report_lines(report: LogReport) -> Iterator[str]:
 
 def log_report_json(report: LogReport) -> dict[str, object]:
     log, denied, failures = report.log, report.denials, report.log.failures
-    value = {"status": report.status, "events": [causes.cause_json(cause) for cause in report.causes],
+    value = {"events": [causes.cause_json(cause) for cause in report.causes],
              "faults": [{"line": number, "why": why} for number, why in log.faults],
              "suppressed": log.suppressed, "not_judged": log.beyond,
              **({"cores": [core.as_json() for core in log.cores]} if log.cores else {})}

@@ -289,7 +289,7 @@ def _of_filters(case: Case, cause: Cause) -> Iterator[str]:
     """The filters' answer, which of them gives it, and its last tests."""
     given = cause.given
     yield case.answer.line
-    givers = listing.deciding_filters(given.filters, case.call.words(), case.answer)
+    givers, = listing.deciding_filters([(given.filters, case.answer)], case.call.words())
     giver = listing.to_show(givers)
     yield from output.notes([case.answer.describe(), *_of_case(case, cause.event, given.table),
                              *decisions.of_givers(given.filters, givers),
@@ -323,7 +323,7 @@ def cause_json(cause: Cause) -> dict[str, object]:
         return reasons.reason_json(given.reason(case.call), given.profile or b"", None)
 
     def of_filters(case: Case) -> dict[str, object]:
-        givers = listing.deciding_filters(given.filters, case.call.words(), case.answer)
+        givers, = listing.deciding_filters([(given.filters, case.answer)], case.call.words())
         return {"filters": [giver.filter.name for giver in givers]}
 
     value: dict[str, object] = {

@@ -286,14 +286,15 @@ def needs_json(needs: Needs, table: Table) -> dict[str, object]:
             "arguments": {str(index): None if values is None else list(map(hex, values))
                           for index, values in traced.arguments}}
         if judgement.denied:
-            shown["not_allowed"] = {"call": judgement.denied[0].as_json(table), "answer": judgement.denied[1].as_json(),
-                                    **reasons.members_of(judgement.line)}
+            (call, answer), reason = judgement.denied, reasons.region_reason(judgement.line)
+            shown["not_allowed"] = {"call": call.as_json(table), "answer": answer.as_json(), "reason": reason.by,
+                                    **({} if reason.entry is None else {"entry": reason.entry})}
         if judgement.allowed and judgement.disposition == DEPENDS:
             shown["allowed"] = judgement.allowed.as_json(table)
         if judgement.disposition == UNDECIDED:
             shown["verdict"] = judgement.line
         calls.append(shown)
-    return {"status": needs.status, "calls": calls,
+    return {"calls": calls,
             "not_judged": {"names": needs.unnamed, **{kind: needs.log.unjudged[kind] for kind in UNJUDGED},
                            "before_load": needs.log.before_load}}
 
@@ -323,7 +324,7 @@ def read_needs(names: Sequence[str], judges: Judges, runtime: str | None = None)
     for call in sorted(traced,
                        key=lambda call: (order.index(call.architecture.oci), call.number, call.name, call.seen.line)):
         ways += sum(1 for _ in ways_of(call.arguments))
-        if ways <= MOST_WAYS and not client.is_spent():
+        if ways <= MOST_WAYS and client.has_time():
             needs.judged.append(judges.of(call.architecture.oci).of(call))
         else:
             log.unjudged[MORE] += call.seen.count

@@ -42,17 +42,6 @@ def comparison_bundle(filters: Sequence[bytes], profile: bytes, tables: Tables) 
     return bundle([*(("filter", data) for data in filters), ("profile", profile), *tables.parts])
 
 
-def stacks_bundle(filters: Sequence[bytes], right: Sequence[bytes], table: bytes | None = None) -> bytes:
-    """The bundle for `scf compare --beside`: two stacks, each oldest first, and with --calls a call table."""
-    of_table = [] if table is None else [("table", table)]
-    return bundle([*(("filter", data) for data in filters), *((BESIDE, data) for data in right), *of_table])
-
-
-def profiles_bundle(left: bytes, right: bytes, tables: Tables) -> bytes:
-    """The bundle for `scf answers --differences`: two profiles, and the tables of both."""
-    return bundle([("profile", left), (BESIDE_PROFILE, right), *tables.parts])
-
-
 def compilation_bundle(profile: bytes, tables: Tables, counts: Iterable[tuple[str, bytes]] = ()) -> bytes:
     """The bundle for `scf compile` and `scf ask`: a profile and tables, and how often syscalls are called."""
     return bundle([("profile", profile), *tables.parts, *counts])

@@ -100,18 +100,6 @@ def read_as(data: bytes, reading: str) -> ReadProfile:
     return profile
 
 
-@dataclass(frozen=True)
-class Profile:
-    """A profile's default action, and the names of its entries in order, with repetitions."""
-
-    default: str
-    names: list[str]
-
-    @property
-    def allows_by_default(self) -> bool:
-        return self.default in ALLOWING
-
-
 @functools.lru_cache(2)
 def _top(data: bytes) -> dict[str, Any]:
     """The seccomp object of a profile, or of a whole config.json; nothing in it if it can't be read."""
@@ -139,14 +127,13 @@ def entry_at(data: bytes, place: int) -> object:
 
 
 @functools.lru_cache(2)
-def parse_profile(data: bytes) -> Profile | None:
-    """The default and the names of a profile, or None if it can't be read."""
-    top = _top(data)
+def names_of(data: bytes) -> list[str]:
+    """The names of a profile's entries in order, with repetitions; none if they can't be read."""
     try:
-        texts = [top["defaultAction"], *(name for entry in top.get("syscalls") or () for name in entry["names"])]
+        names = [name for entry in _top(data).get("syscalls") or () for name in entry["names"]]
     except (LookupError, TypeError):
-        return None
-    return Profile(texts[0], texts[1:]) if all(isinstance(text, str) for text in texts) else None
+        return []
+    return names if all(isinstance(name, str) for name in names) else []
 
 
 @functools.lru_cache(1024)
@@ -184,24 +171,21 @@ def where_in(where: str, step: str | int) -> str:
     return step if where == "the profile" or step == "syscalls" else f"{where}: {step}"
 
 
-def _misread_in(value: object, members: object, where: str) -> Iterator[Misread]:
-    """The misread members of an object, and of objects in it."""
-    if not isinstance(value, Pairs) or not isinstance(members, dict):
-        return
-    names, seen = {folded(name): name for name in members}, set()
-    for name, inner in value:
-        read_as = names.get(folded(name))
-        if read_as is None:
-            continue
-        if name != read_as or name in seen:
-            yield Misread(where, name, read_as)
-        seen.add(name)
-        kind, at = members[read_as], where_in(where, read_as)
-        if isinstance(kind, dict):
-            yield from _misread_in(inner, kind, at)
-        elif isinstance(kind[0], dict) and isinstance(inner, list) and not isinstance(inner, Pairs):
-            for index, item in enumerate(inner):
-                yield from _misread_in(item, kind[0], where_in(at, index))
+def _misread_in(value: object, kind: object, where: str) -> Iterator[Misread]:
+    """The misread members of an object, and of objects in it, given what such a value has."""
+    if isinstance(value, Pairs) and isinstance(kind, dict):
+        names, seen = {folded(name): name for name in kind}, set()
+        for name, inner in value:
+            read_as = names.get(folded(name))
+            if read_as is None:
+                continue
+            if name != read_as or name in seen:
+                yield Misread(where, name, read_as)
+            seen.add(name)
+            yield from _misread_in(inner, kind[read_as], where_in(where, read_as))
+    elif isinstance(value, list) and isinstance(kind, list):
+        for index, item in enumerate(value):
+            yield from _misread_in(item, kind[0], where_in(where, index))
 
 
 def misread_members(data: bytes) -> list[Misread]:

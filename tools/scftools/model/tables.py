@@ -115,11 +115,6 @@ class Tables:
         return bool(self.numbers_of(name))
 
     @property
-    def names(self) -> list[str]:
-        """The common names of the architectures."""
-        return architectures.names_of(list(self.of))
-
-    @property
     def native(self) -> Table:
         """The table of x86-64, or of another one, where x86-64 isn't judged."""
         return self.of.get(NATIVE) or next(iter(self.of.values()))

@@ -1,7 +1,7 @@
 """Blocks of a report on processes: one for each distinct stack of filters, and the threads that have it."""
 from __future__ import annotations
 
-from collections.abc import Callable, Iterator, Sequence
+from collections.abc import Callable, Iterable, Iterator, Sequence
 
 from ..base import output, program
 from ..base.values import Any, dataclass, replace
@@ -43,11 +43,12 @@ def of_threads(stack: Stack, inspection: Inspection) -> Iterator[str]:
 
 @dataclass(frozen=True)
 class Block:
-    """What a command says of a stack of filters: its status, its lines, and the members of its object."""
+    """What a command says of a stack of filters, or of what it is given: its status, and the lines, or the members of
+    the object, that it prints, which may take long to find."""
 
     status: int
-    lines: Sequence[str]
-    members: dict[str, object]
+    lines: Callable[[], Iterable[str]] = tuple
+    members: Callable[[], dict[str, object]] = dict
     # whether every stack would have this fault
     is_of_all: bool = False
     # the stack, if it is a process's
@@ -60,31 +61,35 @@ def of_fault(status: int, line: str, stack: Sequence[Filter] = ()) -> Block:
 
     fault = client.Fault.read(line)
     sentences = [*explanation.explain_fault(fault), *refusals.stack_refusals(stack, fault)] if fault else []
-    return Block(status, [line, *output.notes(sentences)],
-                 {"fault": fault.as_json(sentences)} if fault else {})
+    return Block(status, lambda: [line, *output.notes(sentences)],
+                 lambda: {"fault": fault.as_json(sentences)} if fault else {})
+
+
+def put_block(block: Block, is_json: bool) -> int:
+    """Prints what a command says; returns its status."""
+    if is_json:
+        output.put_json({"status": block.status, **block.members()})
+    else:
+        output.put_lines(block.lines())
+    return block.status
 
 
 def put_blocks(given: Sequence[Filter] | Inspection, judge: Callable[[Sequence[Filter]], Block], is_json: bool) -> int:
     """Prints what a command says of filters, or of each stack of a process: a block each, the worst first, and the
     threads that have it; returns the worst status."""
     if not isinstance(given, Inspection):
-        block = judge(given)
-        if is_json:
-            output.put_json({"status": block.status, **block.members})
-        else:
-            output.put_lines(block.lines)
-        return block.status
+        return put_block(judge(given), is_json)
     blocks = blocks_of(given, lambda stack: replace(judge(stack.named), stack=stack), lambda stack, status: Block(
-        status, ["strict" if stack.is_strict else "unconfined"], {}, stack=stack))
+        status, lambda: ["strict" if stack.is_strict else "unconfined"], stack=stack))
     status = client.worst(block.status for block in blocks)
     if is_json:
         output.put_json({"status": status, "stacks": [
-            {"status": block.status, **block.members, "confined": block.stack.confined,
+            {"status": block.status, **block.members(), "confined": block.stack.confined,
              **block.stack.as_json(given.names)} for block in blocks],
             "asked_again": [{"process": process, "thread": thread} for process, thread in given.asked_again]})
         return status
     for at, block in enumerate(blocks):
         threads = () if block.is_of_all else of_threads(block.stack, given)
-        output.put_lines([*[""] * bool(at), *block.lines, *output.notes(threads)])
+        output.put_lines([*[""] * bool(at), *block.lines(), *output.notes(threads)])
     output.put_lines(output.notes(given.notes))
     return status

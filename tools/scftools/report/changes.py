@@ -241,7 +241,7 @@ def _change_json(changes: Changes, change: Change) -> dict[str, object]:
 def changes_json(changes: Changes) -> dict[str, object]:
     """The object with everything that `change_lines` prints."""
     unnamed, left_out = changes.unnamed, changes.by_age(changes.pair.left_out)
-    return {"status": changes.verdict.status, **relation_json(changes.relation), "verdict": changes.verdict.word,
+    return {**relation_json(changes.relation), "verdict": changes.verdict.word,
             "counts": changes.counts, "changes": [_change_json(changes, change) for change in changes.calls],
             "unnamed": None if unnamed is None else _change_json(changes, unnamed),
             "skipped": {side: list(report.skipped) for side, report in left_out.items()},

@@ -149,7 +149,8 @@ class Pair:
     def found(self) -> Differences:
         """All that both sides may answer differently, which is asked for once. Raises Refusal."""
         listed = _listed(*self._question, self.beside, client.limits.get("limit"))
-        if not listed.is_finished and not client.has_time():
+        # (what takes all steps isn't known later either)
+        if not listed.is_finished and not client.has_time(has_all=True):
             _listed.cache_clear()
         return listed
 
@@ -372,8 +373,7 @@ class Comparison(Pair):
 
 def left_out(profile: bytes, judged: Tables) -> Report:
     """A report on what scf leaves out of a profile: names that no table has, and architectures without one."""
-    facts, known_names = profiles.parse_profile(profile), set().union(*(table.names() for table in judged.of.values()))
-    return Report((), skipped=() if facts is None else tuple(name for name in facts.names if name not in known_names),
+    return Report((), skipped=tuple(name for name in profiles.names_of(profile) if not judged.has(name)),
                   architectures=tuple(name for name in profiles.architectures_of(profile) if name not in judged.of))
 
 
@@ -410,7 +410,9 @@ class StackComparison(Pair):
         return ["--beside"]
 
     def bundle(self, judged: Tables, is_by_call: bool = False) -> bytes:
-        return bundles.stacks_bundle(*self.stacks, self.table.data if is_by_call else None)
+        # (two stacks have no table but with --calls)
+        parts = [(kind, data) for kind, side in zip(self.kinds, self.stacks) for data in side]
+        return bundles.bundle([*parts, ("table", self.table.data)] if is_by_call else parts)
 
     def run_unchecked(self, scope: str | None = None, relation: str | None = None) -> tuple[int, Report]:
         """Two stacks of the same bytes need no step: if scf takes them, each relation holds."""
@@ -472,7 +474,7 @@ class ProfileComparison(Pair):
 
     def bundle(self, judged: Tables, is_by_call: bool = False) -> bytes:
         return bundles.comparison_bundle(self.stacks[0], self.right.data, judged) if self.stacks else \
-            bundles.profiles_bundle(self.left.data, self.right.data, judged)
+            bundles.bundle([("profile", self.left.data), (bundles.BESIDE_PROFILE, self.right.data), *judged.parts])
 
     @property
     def named(self) -> dict[str, Table]:

@@ -66,9 +66,8 @@ def newer_calls(comparison: Any, scope: str) -> Newer | None:
         return None
     firsts: dict[str, int] = {}
     answers: set[Answer | None] = set()
-    facts = profiles.parse_profile(comparison.profile)
-    for name, table in comparison.tables.of.items() if facts is not None else ():
-        numbers = {table.number_of(syscall) for syscall in facts.names} - {None}
+    for name, table in comparison.tables.of.items():
+        numbers = {table.number_of(syscall) for syscall in profiles.names_of(comparison.profile)} - {None}
         if not numbers:
             continue
         least = JUDGED[name].first + max(numbers) + 1
@@ -182,7 +181,7 @@ def _reasons(comparison: Any, verdict: Verdict) -> list[tuple[int, Any]]:
         return []
     order = comparison.in_order(*zip((0, 1), comparison.sides, (verdict.filters, verdict.profile)))
     stacks = [(side.filters, answer) for _, side, answer in order if side.profile is None]
-    givers = map(listing.to_show, listing.deciding_on_sides(stacks, verdict.call.words()) if stacks else ())
+    givers = map(listing.to_show, listing.deciding_filters(stacks, verdict.call.words()) if stacks else ())
     return [(at, next(givers) if side.profile is None else comparison.reason_of(at, verdict.call))
             for at, side, _ in order]
 
@@ -363,7 +362,7 @@ class Judgement:
         beside = self.first.lines[3].partition(" ")[0]
         return replace(self.first, lines=Report.of(shown, beside).lines, verdict=shown)
 
-    def block(self, is_json: bool, is_verbose: bool = False) -> Block:
+    def block(self, is_verbose: bool = False) -> Block:
         """What a command says of it; the verdict doesn't wait for what explains it."""
         def lines() -> Iterator[str]:
             printed = self.comparison.printed(self.report)
@@ -371,5 +370,4 @@ class Judgement:
             output.flush()
             yield from output.notes(comparison_notes(self.comparison, self.report, self.scope))
 
-        members = comparison_json(self.comparison, self.report, self.scope, self.status) if is_json else {}
-        return Block(self.status, lines(), members)  # type: ignore
+        return Block(self.status, lines, lambda: comparison_json(self.comparison, self.report, self.scope, self.status))

@@ -189,6 +189,17 @@ class Reply:
     reasons: Callable[[], Iterable[str]] = tuple
     members: Callable[[], dict[str, object]] = dict
 
+    def printed(self, table: Table) -> Iterator[str]:
+        """scf's lines, and what explains them."""
+        of_fault = self.sentences(self.fault) if self.fault else ()
+        of_answer = explanation.explain_answer(self.call, self.answer, table) if self.answer else ()
+        yield from [*self.lines, *output.notes([*of_fault, *of_answer, *self.reasons()])]
+
+    def as_json(self, table: Table) -> dict[str, object]:
+        return {"status": self.status, **({"call": self.call.as_json(table)} if self.call else {}),
+                **({"answer": self.answer.as_json(explains=True)} if self.answer else {}),
+                **({"fault": self.fault.as_json(self.sentences(self.fault))} if self.fault else {}), **self.members()}
+
 
 def stack_decisions(filters: Sequence[Filter], query: Query) -> Reply:
     """The reply of a stack, with the filter that gives the answer, and the path through it."""
@@ -243,17 +254,10 @@ def profile_decisions(profile: bytes, query: Query, judged: Tables, origins: Seq
 
 def replies(options: Any, table: Table, answer: Callable[[Query], Reply]) -> Block:
     """The replies to the queries of a command line; their status is the worst."""
-    made, lines, calls = [answer(query) for query in queries(options, table)], [], []
-    for reply in made:
-        sentences = [*reply.sentences(reply.fault)] if reply.fault else []
-        if options.json:
-            calls.append({"status": reply.status, **({"call": reply.call.as_json(table)} if reply.call else {}),
-                          **({"answer": reply.answer.as_json(explains=True)} if reply.answer else {}),
-                          **({"fault": reply.fault.as_json(sentences)} if reply.fault else {}), **reply.members()})
-        else:
-            of_answer = explanation.explain_answer(reply.call, reply.answer, table) if reply.answer else ()
-            lines += [*reply.lines, *output.notes([*sentences, *of_answer, *reply.reasons()])]
-    return Block(client.worst(reply.status for reply in made), lines, {"calls": calls})
+    made = [answer(query) for query in queries(options, table)]
+    return Block(client.worst(reply.status for reply in made),
+                 lambda: [line for reply in made for line in reply.printed(table)],
+                 lambda: {"calls": [reply.as_json(table) for reply in made]})
 
 
 # What messages call the input, the most bytes that are read of it, and the most rows, which take some seconds.
@@ -333,7 +337,7 @@ def unmet_block(options: Any, table: Table, stack: Sequence[Filter]) -> Block:
         asker, lookup = questions.Asker(data), regions.Lookup(regions.regions_of_filters(data))
     except Refusal as why:
         block = of_fault(why.status, why.line, stack)
-        return replace(block, members={"calls": [{"status": why.status, **block.members}]})
+        return replace(block, members=lambda: {"calls": [{"status": block.status, **block.members()}]})
     unmet = []
     for row in rows:
         region = lookup.of(row.call)
@@ -344,5 +348,5 @@ def unmet_block(options: Any, table: Table, stack: Sequence[Filter]) -> Block:
             unmet.append((row, answer))
     counted = f"rows: {len(rows)}; answered otherwise than expected: {len(unmet)}"
     return Block(program.NEGATIVE if unmet else program.SUCCESS,
-                 [*(row.describe(answer) for row, answer in unmet), *output.notes([counted])],
-                 {"calls": [row.as_json(answer, table) for row, answer in unmet], "rows": len(rows)})
+                 lambda: [*(row.describe(answer) for row, answer in unmet), *output.notes([counted])],
+                 lambda: {"calls": [row.as_json(answer, table) for row, answer in unmet], "rows": len(rows)})

@@ -242,18 +242,14 @@ def run_stack(filters: Sequence[Filter], words: Sequence[str]) -> tuple[int, Dec
                                                        for at in range(0, len(runs), 2)]
 
 
-def deciding_filters(filters: Sequence[Filter], words: Sequence[str], answer: Answer) -> list[Giver]:
-    """The filters of a stack, oldest first, that give this answer."""
-    return givers(filters, run_stack(filters, words)[2], answer)
-
-
-def deciding_on_sides(sides: Sequence[tuple[Sequence[Filter], Answer]], words: Sequence[str]) -> list[list[Giver]]:
-    """The filters of several stacks that give these answers, by one start of scf, if all of them fit into a stack."""
-    _, decision, run_paths = run_stack([bpf_filter for filters, _ in sides for bpf_filter in filters], words)
-    if decision.answer is None:
-        return [deciding_filters(filters, words, answer) for filters, answer in sides]
+def deciding_filters(stacks: Sequence[tuple[Sequence[Filter], Answer]], words: Sequence[str]) -> list[list[Giver]]:
+    """The filters of some stacks, oldest first, that give these answers: by one start of scf, if all of them fit into
+    a stack."""
+    _, decision, run_paths = run_stack([bpf_filter for filters, _ in stacks for bpf_filter in filters], words)
+    if decision.answer is None and len(stacks) > 1:
+        return [found for each in stacks for found in deciding_filters([each], words)]
     paths = iter(run_paths)
-    return [givers(filters, [*itertools.islice(paths, len(filters))], answer) for filters, answer in sides]
+    return [givers(filters, [*itertools.islice(paths, len(filters))], answer) for filters, answer in stacks]
 
 
 def to_show(givers: Sequence[Giver]) -> Giver | None:

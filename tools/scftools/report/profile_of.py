@@ -353,7 +353,7 @@ def _bound(request: ProfileRequest, answers: FilterAnswers, relation: str) -> Pr
     draft = Draft(answers, relation == NO_LESS)
     # in each turn some numbers get a level more
     for _ in range(2 * UTMOST + 1):
-        if client.is_spent():
+        if not client.has_time():
             break
         profile = draft.profile()
         report, _ = request.compared(profile, relation)

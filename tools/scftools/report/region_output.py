@@ -30,6 +30,14 @@ class Listed:
     numbers: list[int] = field(default_factory=list)
     unnamed: int = 0
 
+    def as_json(self, table: Table) -> dict[str, object]:
+        region, example = self.region, self.example
+        return {"answer": region.answer and region.answer.as_json(),
+                **dict(zip(("filter", "index"), map(int, region.line.rpartition(" ")[2].split(":")))),
+                "is_exact": region.is_exact,
+                "syscalls": [{"number": number, "names": table.names_of(number)} for number in self.numbers],
+                "unnamed": self.unnamed, "where": list(self.where), "example": example and example.as_json(table)}
+
 
 def _terms(name: str, index: int, word: Word, syscall: str, architecture: Architecture) -> Iterator[str]:
     """The conditions on a word, which has an argument's name, or another one where it is a part of the argument."""
@@ -113,8 +121,7 @@ def region_lines(entries: Sequence[Listed], table: Table, has_examples: bool) ->
             yield f"# such as {shown}" + (f", ip {call.pointer:#x}" if call.pointer else "")
 
 
-def of_stack(stack: Sequence[Filter], table: Table, architecture: Architecture, has_examples: bool,
-             is_json: bool) -> Block:
+def of_stack(stack: Sequence[Filter], table: Table, architecture: Architecture, has_examples: bool) -> Block:
     """The regions of a stack of filters, or why scf refuses it."""
     data = [bpf_filter.data for bpf_filter in stack]
     try:
@@ -124,15 +131,8 @@ def of_stack(stack: Sequence[Filter], table: Table, architecture: Architecture, 
         return replace(of_fault(why.status, why.line, stack),
                        is_of_all=why.fault is not None and why.fault.source in OF_ALL)
     if region_list is None:
-        return Block(program.UNKNOWN, [UNFINISHED], {"verdict": UNFINISHED})
+        return Block(program.UNKNOWN, lambda: [UNFINISHED], lambda: {"verdict": UNFINISHED})
     made = listed(region_list, table, architecture)
     status = program.SUCCESS if all(entry.region.is_decided for entry in made) else program.UNKNOWN
-    if not is_json:
-        return Block(status, [*region_lines(made, table, has_examples)], {})
-    return Block(status, [], {"architecture": architecture.name, "regions": [{
-        "answer": entry.region.answer and entry.region.answer.as_json(),
-        **dict(zip(("filter", "index"), map(int, entry.region.line.rpartition(" ")[2].split(":")))),
-        "is_exact": entry.region.is_exact,
-        "syscalls": [{"number": number, "names": table.names_of(number)} for number in entry.numbers],
-        "unnamed": entry.unnamed, "where": list(entry.where),
-        "example": entry.example and entry.example.as_json(table)} for entry in made]})
+    return Block(status, lambda: region_lines(made, table, has_examples),
+                 lambda: {"architecture": architecture.name, "regions": [entry.as_json(table) for entry in made]})

@@ -349,31 +349,33 @@ class StackSurface:
     beside: Beside | None = None
     fault: Fault | None = None
 
-    def block(self, width: int | None, is_json: bool) -> Block:
+    def block(self, width: int | None) -> Block:
         """What is printed."""
-        groups, fault = Groups(), self.fault
-        if fault is not None:
-            sentences, members = [*explanation.explain_fault(fault)], {}
-            if is_json:
-                members = {"fault": fault.as_json(sentences), "files": refusals.faulty_filters(self.filters, fault)}
-            else:
-                sentences += refusals.stack_refusals(self.filters, fault)
-            return Block(self.status, [fault.line, *output.notes(sentences)], members, fault.source in OF_ALL)
+        return Block(self.status, lambda: self._lines(width), self._members,
+                     self.fault is not None and self.fault.source in OF_ALL)
+
+    def _lines(self, width: int | None) -> Iterable[str]:
+        if self.fault is not None:
+            sentences = *explanation.explain_fault(self.fault), *refusals.stack_refusals(self.filters, self.fault)
+            return [self.fault.line, *output.notes(sentences)]
         if self.surface is None:
-            return Block(self.status, [], {})
-        if is_json:
-            members = surface_json(self.surface, groups)
-            if self.beside is not None:
-                members["beside"] = {**surface_json(self.beside.sides[1], groups),
-                                     "differs": [pair.as_json(groups) for pair in self.beside.pairs],
-                                     "foreign_differ": self.beside.foreign_differ,
-                                     "unnamed_differ": self.beside.unnamed_differ}
-            return Block(self.status, [], members)
+            return []
+        groups, rows = Groups(), self.surface.rows
         if self.beside is not None:
-            return Block(self.status, [*lines_beside(self.beside, groups, width)], {})
-        whole, rows = [*whole_lines(self.surface), *danger_lines(self.surface)], self.surface.rows
-        return Block(self.status, [*fitted(whole, width), *(
-            plain(rows, groups) if width is None else as_table(rows, groups, width))], {})
+            return lines_beside(self.beside, groups, width)
+        return [*fitted([*whole_lines(self.surface), *danger_lines(self.surface)], width),
+                *(plain(rows, groups) if width is None else as_table(rows, groups, width))]
+
+    def _members(self) -> dict[str, object]:
+        if self.fault is not None:
+            return {"fault": self.fault.as_json(explanation.explain_fault(self.fault)),
+                    "files": refusals.faulty_filters(self.filters, self.fault)}
+        if self.surface is None:
+            return {}
+        groups, beside = Groups(), self.beside
+        return {**surface_json(self.surface, groups), **({} if beside is None else {"beside": {
+            **surface_json(beside.sides[1], groups), "differs": [pair.as_json(groups) for pair in beside.pairs],
+            "foreign_differ": beside.foreign_differ, "unnamed_differ": beside.unnamed_differ}})}
 
 
 def surface_of_stack(filters: Sequence[Filter], beside: Sequence[Filter], table: Table, architecture: Architecture,

@@ -4,7 +4,7 @@ from __future__ import annotations
 
 import functools
 from collections import Counter
-from collections.abc import Iterable, Sequence
+from collections.abc import Iterable, Iterator, Sequence
 
 from ..base.values import dataclass, field
 from ..model import constants
@@ -64,22 +64,17 @@ class Row:
         self.conditions: Conditions | None = None
         self.has_examples = False
 
-    def _shown_in(self, region: Region) -> Shown:
-        """A syscall of a region that is decided."""
-        architecture = self.architecture
-        return Shown(region.call_of(architecture.first + self.number, architecture.number), region.answer)
-
     @property
-    def of_regions(self) -> list[Shown]:
+    def of_regions(self) -> Iterator[Shown]:
         """A syscall of each region that is decided."""
-        return [self._shown_in(region) for region in self.regions if region.is_decided]
+        number, architecture = self.architecture.first + self.number, self.architecture.number
+        return (Shown(region.call_of(number, architecture), region.answer)
+                for region in self.regions if region.is_decided)
 
     def example(self, disposition: str) -> Shown | None:
         """A syscall with this disposition, if one is known."""
-        for region in self.regions:
-            if region.is_decided and region.answer.disposition == disposition:
-                return self._shown_in(region)
-        return self.more.get(disposition)
+        return next((shown for shown in self.of_regions if shown.answer.disposition == disposition),
+                    self.more.get(disposition))
 
     @property
     def occurring(self) -> set[str]:
