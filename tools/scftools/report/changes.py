@@ -17,7 +17,8 @@ from ..ask.reasons import Reason
 from ..ask.regions import Region
 from ..ask.verdicts import (FAILING_WORDS, LESS, MORE, OTHERWISE, SAME, SAME_DISPOSITION, UNDECIDED, UNFINISHED, Report,
                             Verdict, relation_json)
-from .compare import ProfileComparison, Side
+from ..forms.profile_inputs import ProfileInput
+from .compare import ProfileComparison
 
 OLD, NEW = "old", "new"
 BOTH_WAYS = (OLD, NEW), (NEW, OLD)
@@ -63,7 +64,7 @@ class Changes:
         return dict(zip(self.pair.names, of_sides))
 
     @property
-    def sides(self) -> dict[str, Side]:
+    def sides(self) -> dict[str, ProfileInput]:
         return self.by_age(self.pair.sides)
 
     @property
@@ -128,8 +129,8 @@ def _of_calls(pair: ProfileComparison) -> list[Change]:
 def _of_unnamed(pair: ProfileComparison) -> Change | None:
     """Whether the defaults differ, which answer all numbers that a table doesn't name: by the least of them."""
     for architecture, table in pair.both:
-        stubs = [source.stub[architecture.oci] - architecture.first
-                 for source in pair.sources if architecture.oci in source.stub]
+        stubs = [side.stub[architecture.oci] - architecture.first
+                 for side in pair.sides if architecture.oci in side.stub]
         before_stubs = min(stubs, default=FIRST_X32)
         number = next((first for first, _ in questions.gaps(table, architecture) if first < before_stubs), None)
         call = None if number is None else Call(architecture.first + number, architecture.number)
@@ -150,7 +151,7 @@ def changes_of(pair: ProfileComparison, report: Report) -> Changes:
                                                                    _of_unnamed(pair))
 
 
-def line_of(change: Change, sides: dict[str, Side]) -> str:
+def line_of(change: Change, sides: dict[str, ProfileInput]) -> str:
     """The line of a change: number, names, kind, an example, and for each profile its answer and what gives it, an
     entry by its index in the user's profile."""
     shown = (str(change.number), ",".join(change.names), change.kind)
@@ -171,7 +172,7 @@ def _entries(changes: Changes) -> Iterator[str]:
         # (a stub stands behind all entries)
         reason_of = {math.inf if reason.by == "stub" else reason.entry: reason for reason in of_side}
         for place in sorted(place for place in reason_of if place is not None):
-            by = next(iter(reasons.describe_reason(reason_of[place], side.profile, None, side.origins)), "")
+            by = next(iter(reasons.describe_reason(reason_of[place], side.data, None, side.origins)), "")
             yield f"{name}: {by.partition(' ')[2]}"
         if None in reason_of:
             answer = reason_of[None].answer
@@ -205,7 +206,7 @@ def change_lines(changes: Changes) -> Iterator[str]:
             yield line_of(change, sides)
             # the conditions that the example meets, and the example as C would have it
             notes = [f"{name}: {line}" for name, reason in change.reasons.items()
-                     for line in reasons.conditions_met(reason, sides[name].profile, change.call)]
+                     for line in reasons.conditions_met(reason, sides[name].data, change.call)]
             if change.names and change.call is not None and any(change.call.arguments):
                 notes.append(f"the syscall is {constants.call_text(change.names[0], change.call.arguments)}")
             yield from output.notes(notes)
@@ -234,7 +235,7 @@ def _change_json(changes: Changes, change: Change) -> dict[str, object]:
     for name, reason in change.reasons.items():
         answer = {"answer": reason.answer.as_json(explains=True)} if reason.answer else {}
         side = changes.sides[name]
-        members[name] = {**answer, **reasons.reason_json(reason, side.profile, change.call, side.origins)}
+        members[name] = {**answer, **reasons.reason_json(reason, side.data, change.call, side.origins)}
     return members
 
 

@@ -38,13 +38,8 @@ def _listed(words: tuple[str, ...], bundle: bytes, beside: str, _limit: str | No
     return Differences(regions.asked(["--differences", *words], bundle), beside)
 
 
-@dataclass(frozen=True)
-class Side:
-    """Filters, oldest first, or a profile, of a resolved one with where its entries come from."""
-
-    filters: Sequence[Filter] = ()
-    profile: bytes | None = None
-    origins: Sequence[Origin] | None = None
+# Filters, oldest first, or a profile.
+Side = "Sequence[Filter] | ProfileInput"
 
 
 class Pair:
@@ -78,9 +73,10 @@ class Pair:
 
     def title(self, at: int) -> str:
         """What a side is called in sentences."""
-        is_other = at == self.judging and (self.sides[0].profile is None) == (self.sides[1].profile is None)
+        side, are_profiles = self.sides[at], [isinstance(each, ProfileInput) for each in self.sides]
+        is_other = at == self.judging and are_profiles[0] == are_profiles[1]
         kind = self.names[at] if self.is_diff else "other" if is_other else ""
-        noun = "profile" if self.sides[at].profile is not None else "filter" + "s" * (len(self.sides[at].filters) > 1)
+        noun = "profile" if are_profiles[at] else "filter" + "s" * (len(side) > 1)
         return " ".join(filter(None, ["the", kind, noun]))
 
     def word(self, word: str) -> str:
@@ -254,7 +250,7 @@ class Comparison(Pair):
 
     @property
     def sides(self) -> tuple[Side, Side]:  # type: ignore
-        return Side(self.filters), Side((), self.profile, self.origins)
+        return self.filters, ProfileInput(self.profile, self.origins)
 
     @functools.cached_property
     def tables(self) -> Tables:
@@ -391,7 +387,7 @@ class StackComparison(Pair):
 
     @property
     def sides(self) -> tuple[Side, Side]:  # type: ignore
-        return Side(self.left), Side(self.right)
+        return self.left, self.right
 
     @property
     def tables(self) -> Tables:
@@ -443,18 +439,13 @@ class ProfileComparison(Pair):
     kinds, beside = ("profile", bundles.BESIDE), bundles.BESIDE
 
     @property
-    def sources(self) -> tuple[ProfileInput, ProfileInput]:
+    def sides(self) -> tuple[ProfileInput, ProfileInput]:  # type: ignore
         return self.left, self.right
 
     @functools.cached_property
     def judged(self) -> list[Tables]:
         """The tables by which each is judged."""
-        return [source.judged(self.table, self.is_native) for source in self.sources]
-
-    @property
-    def sides(self) -> tuple[Side, Side]:  # type: ignore
-        left, right = (Side((), source.data, source.origins) for source in self.sources)
-        return left, right
+        return [side.judged(self.table, self.is_native) for side in self.sides]
 
     @property
     def scope(self) -> str:
@@ -497,7 +488,7 @@ class ProfileComparison(Pair):
     @functools.cached_property
     def left_out(self) -> list[Report]:
         """What scf leaves out of each."""
-        return [left_out(source.data, judged) for source, judged in zip(self.sources, self.judged)]
+        return [left_out(side.data, judged) for side, judged in zip(self.sides, self.judged)]
 
     def fault(self, fault: Fault) -> Fault:
         return Fault.read(fault.line.replace(self.beside, "profile", 1)) or fault
@@ -542,7 +533,7 @@ class ProfileComparison(Pair):
     def _lookup(self) -> Callable[[int], regions.Lookup]:
         """The regions of a side, where the differences don't tell."""
         return functools.lru_cache(None)(lambda at: regions.Lookup(
-            regions.regions_of_profile(self.sources[at].data, self.judged[at])))
+            regions.regions_of_profile(self.sides[at].data, self.judged[at])))
 
     def reason_of(self, at: int, call: Call, region: Region | None = None) -> Reason:
         """A profile's answer to a syscall and its reason: by the differences, of which one may be known to have it, by
@@ -552,7 +543,7 @@ class ProfileComparison(Pair):
             return reasons.region_reason((region.beside if at else region).line)
         region = self._lookup(at).of(call)
         return reasons.region_reason(region.line) if region is not None else \
-            reasons.profile_reason(self.sources[at].data, self.judged[at], call.words())
+            reasons.profile_reason(self.sides[at].data, self.judged[at], call.words())
 
 
 def compare_unit(comparisons: Sequence[Pair], scope: str | None) -> tuple[Any, int, Report]:
@@ -562,8 +553,8 @@ def compare_unit(comparisons: Sequence[Pair], scope: str | None) -> tuple[Any, i
     return min(results, key=lambda result: () if result[2].verdict is None else result[2].verdict.order)
 
 
-def pair_of(judged: Sequence[Filter] | ProfileInput, by: Sequence[Filter] | ProfileInput, table: Table, relation: str,
-            is_native: bool = False, is_diff: bool = False, elsewhere: Sequence[str] = ()) -> Pair:
+def pair_of(judged: Side, by: Side, table: Table, relation: str, is_native: bool = False, is_diff: bool = False,
+            elsewhere: Sequence[str] = ()) -> Pair:
     """The comparison of a side with the one by which it is judged."""
     turned = TURNED.get(relation, relation)
     if isinstance(by, ProfileInput) and isinstance(judged, ProfileInput):

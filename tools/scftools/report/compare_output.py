@@ -19,6 +19,7 @@ from ..ask.regions import Numbers
 from ..ask.verdicts import (ALL, CALLS, DIFFERS, LESS, LISTED, MORE, NO_LESS, NO_MORE, SAME, UNDECIDED, UNDETERMINED,
                             Fault, NamedCall, Report, Verdict, relation_json)
 from ..forms import refusals
+from ..forms.profile_inputs import ProfileInput
 from . import listing
 from .blocks import Block
 from .compare import Comparison, Pair, ProfileComparison, StackComparison, compare_unit
@@ -141,7 +142,8 @@ def _strictness_lines(comparison: Pair, scope: str) -> Iterator[str]:
     """A line if the sides differ, and the judged one is never more permissive."""
     no_more, no_less = _dispositions(comparison, scope)
     judged, other = comparison.sides[1 - comparison.judging], comparison.title(comparison.judging)
-    they, are, s = ("they", "are", "") if len(judged.filters) > 1 else ("it", "is", "s")
+    are_several = not isinstance(judged, ProfileInput) and len(judged) > 1
+    they, are, s = ("they", "are", "") if are_several else ("it", "is", "s")
     they = f"over the syscalls in the table: {they}" if scope == CALLS else they
     if no_more is None or not no_more.holds:
         is_of_profile = isinstance(comparison, Comparison) and not comparison.is_diff
@@ -180,20 +182,20 @@ def _reasons(comparison: Any, verdict: Verdict) -> list[tuple[int, Any]]:
     if verdict.call is None or verdict.filters is None or verdict.profile is None:
         return []
     order = comparison.in_order(*zip((0, 1), comparison.sides, (verdict.filters, verdict.profile)))
-    stacks = [(side.filters, answer) for _, side, answer in order if side.profile is None]
+    stacks = [(side, answer) for _, side, answer in order if not isinstance(side, ProfileInput)]
     givers = map(listing.to_show, listing.deciding_filters(stacks, verdict.call.words()) if stacks else ())
-    return [(at, next(givers) if side.profile is None else comparison.reason_of(at, verdict.call))
+    return [(at, comparison.reason_of(at, verdict.call) if isinstance(side, ProfileInput) else next(givers))
             for at, side, _ in order]
 
 
 def difference_lines(comparison: Any, verdict: Verdict) -> Iterator[str]:
     """The lines after a syscall that differs: a profile's reason, and the last tests on a filter's path."""
     found = _reasons(comparison, verdict)
-    of_profiles = [(at, given) for at, given in found if comparison.sides[at].profile is not None]
+    of_profiles = [(at, given) for at, given in found if isinstance(comparison.sides[at], ProfileInput)]
     for at, reason in of_profiles:
         side = comparison.sides[at]
         before = f"{comparison.title(at)}: " * (len(of_profiles) > 1)
-        yield from (before + line for line in reasons.describe_reason(reason, side.profile, verdict.call, side.origins))
+        yield from (before + line for line in reasons.describe_reason(reason, side.data, verdict.call, side.origins))
     for _, giver in found:
         if isinstance(giver, Giver):
             name = giver.filter.name if not of_profiles else ""
@@ -205,13 +207,12 @@ def _difference_json(comparison: Any, verdict: Verdict) -> dict[str, object]:
     members = verdict.as_json(comparison.table, comparison.names)
     for at, given in _reasons(comparison, verdict):
         name, side = comparison.names[at], comparison.sides[at]
-        if side.profile is None:
+        if isinstance(side, ProfileInput):
+            holder: Any = members if name == "profile" and isinstance(comparison, Comparison) else members[name]
+            holder.update(reasons.reason_json(given, side.data, verdict.call, side.origins))
+        else:
             path = f"path_{name}" if comparison.is_diff else "path_beside" if at else "path"
             members[path] = None if given is None else given.as_json()
-        else:
-            of_reason = reasons.reason_json(given, side.profile, verdict.call, side.origins)
-            holder: Any = members if name == "profile" and isinstance(comparison, Comparison) else members[name]
-            holder.update(of_reason)
     return members
 
 
@@ -230,7 +231,8 @@ def fault_sentences(comparison: Any, fault: Fault) -> Iterator[str]:
     at = faulty_side(comparison, fault)
     side, is_pair = comparison.sides[at], isinstance(comparison, ProfileComparison)
     shown, judged = comparison.fault(fault), comparison.judged[at] if is_pair else comparison.tables
-    yield from refusals.sentences(shown, side.profile or b"", judged, side.origins)
+    yield from refusals.sentences(shown, *((side.data, judged, side.origins) if isinstance(side, ProfileInput) else
+                                           (b"", judged)))
     if is_pair and shown.source in ("profile", "compile"):
         yield f"it is {comparison.title(at)}"
         if comparison.is_diff and fault.kind == "EngineForm":
@@ -244,7 +246,7 @@ def _responsible_files(comparison: Any, report: Report, scope: str) -> Iterator[
     The index that scf prints for an undecided stack may belong to another filter, which only the undecided syscalls
     reach.
     """
-    stacks = [side.filters for side in comparison.sides]
+    stacks = [() if isinstance(side, ProfileInput) else side for side in comparison.sides]
     if sum(map(len, stacks)) < 2:
         return
     fault = report.fault
