@@ -17,7 +17,7 @@ from scftools.base.values import dataclass, replace
 from scftools.model import bundles
 from scftools.model.answers import ALLOWED, DENIED, FIRST_X32, I386_NUMBER, X86_64, Answer
 from scftools.model.bpf import INSTRUCTION, RETURN_CONSTANT
-from scftools.model.calls import ARGUMENT_REGISTERS, Call
+from scftools.model.calls import REGISTER_MASKS, Call, arguments_in
 from scftools.ask import client, regions, verdicts
 from scftools.ask.regions import Lookup
 from .ptrace import Kernel
@@ -43,9 +43,8 @@ def restart_of(call: Call) -> Call:
 
 
 def call_of(architecture: int, registers: dict[str, int]) -> Call:
-    mask = 0xFFFFFFFF if architecture == I386_NUMBER else 0xFFFFFFFFFFFFFFFF
-    return Call(registers["orig_rax"] & 0xFFFFFFFF, architecture, registers["rip"] & mask,
-                tuple(registers[name] & mask for name in ARGUMENT_REGISTERS[architecture]))
+    return Call(registers["orig_rax"] & 0xFFFFFFFF, architecture, registers["rip"] & REGISTER_MASKS[architecture],
+                arguments_in(registers, architecture))
 
 
 def restart_number(registers: dict[str, int]) -> int:

@@ -2,7 +2,6 @@
 and the threads that have it."""
 from __future__ import annotations
 
-import json
 from collections.abc import Iterator, Sequence
 
 from scftools.base import output, program
@@ -130,13 +129,11 @@ def request_of(config: dict[str, Any], runtime: str | None, keeps_first: bool, t
         if runtime is not None:
             applied = runtimes.applied(config, runtime)
             return Request(applied.data, table, scope, relation, applied)
-        text = json.dumps(config)
+        data = engines.to_bytes(config)
         if keeps_first:
             profile, _ = engines.resolve(config, engines.Setting((), (0, 0), False), lambda _: None, True)
-            text = engines.printed(profile)
-        return Request(text.encode(), table, scope, relation)
-    except RecursionError as error:
-        raise ContainerError("the container's configuration: the profile is nested too deep") from error
+            data = engines.printed(profile).encode()
+        return Request(data, table, scope, relation)
     except profiles.Refused as why:
         raise ContainerError(f"the container's configuration: {why}") from why
 

@@ -63,8 +63,7 @@ def read_words():
     parser.add_argument("--runtime-root", metavar="FOLDER", action="append", default=[],
                         help="where a runtime keeps its containers, as given to its own --root")
     form = parser.add_mutually_exclusive_group()
-    form.add_argument("--json", action="store_true",
-                      help="print one JSON object instead of lines (JSON.md says what it holds)")
+    form.add_argument("--json", **words.SHARED["--json"])
     form.add_argument("--json-lines", action="store_true", help="print an object for each row, and one for the whole")
     parser.add_argument("--prometheus", metavar="FILE", help="write metrics in Prometheus's text format")
     parser.add_argument("--html", metavar="FILE", help="write a page of HTML")

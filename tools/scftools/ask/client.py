@@ -86,13 +86,11 @@ class Fault:
 
 class Refusal(Exception):
     """scf refuses an input, or fails: the line that it printed, its status, and its fault, None if the line isn't one.
-
-    `subject` says which of several inputs was refused, where the caller has several: a name and the input's bytes.
     """
 
-    def __init__(self, line: str, status: int = TROUBLE, subject: tuple[str, bytes] = ("", b"")):
+    def __init__(self, line: str, status: int = TROUBLE):
         super().__init__(line)
-        self.line, self.status, self.subject, self.fault = line, status, subject, Fault.read(line)
+        self.line, self.status, self.fault = line, status, Fault.read(line)
 
 
 @dataclass(frozen=True)

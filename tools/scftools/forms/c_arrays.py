@@ -8,7 +8,7 @@ import re
 from collections.abc import Iterable, Iterator, Sequence
 
 from ..base.values import Any
-from ..model import constants, tables
+from ..model import bpf, constants, tables
 
 # (patterns are compiled when they are first used, which is rare; a comment may lack its end)
 C_COMMENT = r"(?s)/\*.*?(\*/|\Z)|//[^\n]*|\"(?:\\.|[^\"\\\n])*\"|'(?:\\.|[^'\\\n])*'"
@@ -224,8 +224,8 @@ def _without_comments(text: str) -> str:
 
 
 def packed(rows: Iterable[Sequence[int]]) -> bytes:
-    """The bytes of instructions, each a code, jt, jf and k (struct sock_filter in linux/filter.h)."""
-    return b"".join(code.to_bytes(2, "little") + bytes((jt, jf)) + k.to_bytes(4, "little") for code, jt, jf, k in rows)
+    """The bytes of instructions, each a code, jt, jf and k."""
+    return b"".join(itertools.starmap(bpf.INSTRUCTION.pack, rows))
 
 
 def looks_like_array(text: str) -> bool:

@@ -16,12 +16,12 @@ from collections.abc import Callable, Sequence
 from ..base import inputs, program
 from ..base.values import Pattern, dataclass, unless_refused
 from ..model import bundles
-from ..model.bpf import BPF_MAXINSNS
+from ..model.bpf import BPF_MAXINSNS, INSTRUCTION
 from ..ask import client
 from . import assembler, c_arrays
 
-# The bytes of an instruction, and the most of a filter as text.
-SIZE, LONGEST_TEXT = 8, 1 << 20
+# The most bytes of a filter as text.
+LONGEST_TEXT = 1 << 20
 HEXADECIMAL_TEXT, ARRAY, DECIMALS, ASSEMBLER = (
     "hexadecimal text", "a C array", "decimals of tcpdump -ddd", "scf's assembler text")
 LOADING = Pattern(r"(?m)^[\[\]pid 0-9]{0,30}(?:seccomp\(SECCOMP_SET_MODE_FILTER|prctl\(PR_SET_SECCOMP), ")
@@ -60,7 +60,7 @@ class Filter:
     @property
     def count(self) -> int:
         """The number of its complete instructions."""
-        return len(self.data) // SIZE
+        return len(self.data) // INSTRUCTION.size
 
 
 def _of_dump(text: str) -> bytes | None:
@@ -91,7 +91,7 @@ def _of_hexadecimal(text: str) -> bytes | None:
         data = bytes.fromhex(text)
     else:
         data = _of_dump(text) or b""
-    return data if data and len(data) % SIZE == 0 else None
+    return data if data and len(data) % INSTRUCTION.size == 0 else None
 
 
 def _of_decimals(text: str) -> bytes | None:

@@ -49,7 +49,6 @@ class Denials:
     """What the failures of a log are: denials; those with EPERM, which a process without a capability gets
     (capabilities(7)), but not by the profile, or the filters; and those of which it isn't known."""
 
-    failures: Failures
     of: list[Denial] = field(default_factory=list)
     by_other_cause: list[Failure] = field(default_factory=list)
     unknown: int = 0
@@ -61,7 +60,7 @@ class Denials:
 
 def denials_of(failures: Failures, given: Inputs) -> Denials:
     """Which failures are denials by the profile, or else by the filters. Raises Refusal."""
-    denials, stack = Denials(failures), given.of_profile if given.profile is not None else given.of_filters
+    denials, stack = Denials(), given.of_profile if given.profile is not None else given.of_filters
     # by what is reported together, the syscall, its errno and the entry, and what that is of each kind of failure
     by_key: dict[tuple[object, ...], Denial] = {}
     key_of: dict[tuple[object, ...], tuple[object, ...]] = {}
@@ -94,13 +93,13 @@ def _counted(failures: Sequence[Denial | Failure], table: Table) -> str:
     return ", ".join(name + (f" {count} times" if count > 1 else "") for name, count in counts.items())
 
 
-def denial_lines(denials: Denials, shown: int, given: Inputs) -> Iterator[str]:
-    failures, table = denials.failures, given.table
+def denial_lines(report: LogReport, denials: Denials) -> Iterator[str]:
+    failures, given, table = report.log.failures, report.given, report.given.table
     name = "the profile" if given.profile is not None else "the filter" if len(given.filters) == 1 else "the filters"
     if failures.count:
         denies, count = "deny" if name[-1] == "s" else "denies", denials.count or "none: look elsewhere"
         yield f"syscalls that failed: {failures.count}, of which {name} {denies} {count}"
-    hidden, others = _counted(denials.of[shown:], table), _counted(denials.by_other_cause, table)
+    hidden, others = _counted(denials.of[report.shown:], table), _counted(denials.by_other_cause, table)
     if hidden:
         yield f"of these aren't shown, since they tell less (--every shows them): {hidden}"
     if others:
@@ -177,7 +176,7 @@ def log_report_lines(report: LogReport) -> Iterator[str]:
     if log.beyond:
         yield f"# records of more syscalls than {EVENTS} different ones, which aren't judged: {log.beyond}"
     if denied is not None and not (report.causes and log.failures.count == 1):
-        yield from output.notes(denial_lines(denied, report.shown, report.given))
+        yield from output.notes(denial_lines(report, denied))
     yield from output.notes(core.describe() for core in log.cores)
     if not report.causes and not log.faults and not log.failures.count and not log.cores:
         yield from output.notes(report.lacking)

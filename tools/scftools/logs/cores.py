@@ -13,8 +13,7 @@ from collections.abc import Iterator
 
 from ..base import inputs, program
 from ..base.values import dataclass, replace
-from ..model.answers import I386_NUMBER
-from ..model.calls import ARGUMENT_REGISTERS, REGISTERS, Call
+from ..model.calls import ARGUMENT_REGISTERS, REGISTERS, Call, arguments_in
 from .events import CORE, KILLS, Event, Outcome
 
 # linux/elf.h, linux/elf-em.h, linux/elfcore.h
@@ -127,8 +126,7 @@ def event_of(data: bytes) -> Event:
     arguments, process = (None,) * 6, None
     if len(status) >= offset + registers.size and architecture in ARGUMENT_REGISTERS:
         values = dict(zip(names, registers.unpack_from(status, offset)))
-        mask = 0xFFFFFFFF if architecture == I386_NUMBER else 0xFFFFFFFFFFFFFFFF
-        arguments = tuple((values[register] & mask,) for register in ARGUMENT_REGISTERS[architecture])
+        arguments = tuple((value,) for value in arguments_in(values, architecture))
         process = struct.unpack_from("<i", status, layout.process)[0]
     name = notes.get(PRPSINFO, b"")[layout.name:layout.name + 16].partition(b"\0")[0].decode("latin-1")
     outcome = Outcome(("TRAP", *KILLS), data=answered)

@@ -17,6 +17,8 @@ REGISTERS = ("r15", "r14", "r13", "r12", "rbp", "rbx", "r11", "r10", "r9", "r8",
 # The registers of the six arguments, in their order.
 ARGUMENT_REGISTERS = {X86_64: ("rdi", "rsi", "rdx", "r10", "r8", "r9"),
                       I386_NUMBER: ("rbx", "rcx", "rdx", "rsi", "rdi", "rbp")}
+# (a 32-bit program has the lower halves alone)
+REGISTER_MASKS = {X86_64: (1 << 64) - 1, I386_NUMBER: (1 << 32) - 1}
 # Bit 31, which no kernel's numbers have; and -1, which a tracer sets to skip a syscall, and which filters still see
 # (Documentation/userspace-api/seccomp_filter.rst of Linux; do_syscall_64 of x86 executes no such syscall).
 NO_CALL, SKIPPED = 0x80000000, 0xFFFFFFFF
@@ -30,6 +32,11 @@ def number_text(number: int, architecture: int = X86_64) -> str:
     if architecture == X86_64 and FIRST_X32 <= number < NO_CALL:
         return f"number 0x40000000 + {number - FIRST_X32}"
     return f"number {number}"
+
+
+def arguments_in(registers: dict[str, int], architecture: int) -> tuple[int, ...]:
+    """The six arguments in the registers of a thread."""
+    return tuple(registers[name] & REGISTER_MASKS[architecture] for name in ARGUMENT_REGISTERS[architecture])
 
 
 @dataclass(frozen=True)

@@ -39,6 +39,10 @@ class Condition:
         return {"index": self.index, "value": self.value, "valueTwo": self.two, "op": self.op}
 
 
+# Conditions that hold together.
+Alternative = tuple[Condition, ...]
+
+
 @dataclass(frozen=True)
 class Entry:
     """An entry of `syscalls`: those of its names that the table has, each once, and whether it has others."""

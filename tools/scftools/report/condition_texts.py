@@ -9,15 +9,13 @@ from ..base import program
 from ..model import constants
 from ..model.architectures import I386, Architecture
 from ..model.constants import Family
-from ..model.entries import AT_LEAST, AT_MOST, EQUAL, LOW_HALF, MASKED, NOT_EQUAL, Condition
+from ..model.entries import AT_LEAST, AT_MOST, EQUAL, LOW_HALF, MASKED, NOT_EQUAL, Alternative, Condition
 
 SIGNS = {EQUAL: "==", NOT_EQUAL: "!=", AT_MOST: "<=", AT_LEAST: ">="}
 # So many alternatives on one argument or more are printed as a set of values, if it has at most so many.
 LEAST_LISTED, MOST_VALUES = 4, 16
 # The syscall of i386 whose first argument points to the others.
 IN_MEMORY = (I386, "mmap")
-# Conditions that hold together.
-Alternative = tuple[Condition, ...]
 
 
 @functools.lru_cache(None)

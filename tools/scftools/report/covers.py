@@ -11,7 +11,7 @@ import itertools
 from collections.abc import Iterable, Iterator, Sequence
 
 from ..model.argument_sets import ARGUMENT_COUNT, EMPTY_SET, FULL_SET, Sets, Steps, TooMany
-from ..model.entries import EQUAL, HOLDS, LOW_HALF, MASKED, Condition
+from ..model.entries import EQUAL, HOLDS, LOW_HALF, MASKED, Alternative, Condition
 
 # The most alternatives for all sets of a table together, as many rules as scf takes.
 MOST_ALTERNATIVES = 4096
@@ -19,7 +19,6 @@ MOST_ALTERNATIVES = 4096
 # the third number never join. For each alternative of a list so many orders of the arguments are tried.
 MOST_LISTED_VALUES, ALL_LISTED, MOST_JOINED, ORDERS = 3, 8, 32, 6
 
-Alternative = tuple[Condition, ...]
 # Bits of all arguments and their values, the lowest one being that of argument 0, and conditions on whole arguments.
 Cube = "tuple[int, int, Alternative]"
 

@@ -272,12 +272,6 @@ def _comparison(sides: Iterable[Sequence[bytes]], table: Table) -> StackComparis
     return StackComparison(*([Filter("", data) for data in side] for side in sides), table)
 
 
-def are_same(surface: Surface, filters: Sequence[bytes]) -> bool:
-    """Whether scf proves that other filters answer every syscall as those of a surface."""
-    verdict = _comparison([surface.asker.filters, filters], surface.table).run()[1].verdict
-    return verdict is not None and verdict.holds
-
-
 def compared_surfaces(*sides: Surface) -> Beside:
     """Compares two surfaces."""
     comparison = _comparison([side.asker.filters for side in sides], sides[0].table)
@@ -405,8 +399,9 @@ def surface_of_stack(filters: Sequence[Filter], beside: Sequence[Filter], table:
         if not beside:
             return StackSurface(program.SUCCESS if surface.is_decided else program.UNKNOWN, filters, surface)
         refused = beside
-        is_same = are_same(surface, [bpf_filter.data for bpf_filter in beside])
-        both = Beside((surface, surface)) if is_same else compared_surfaces(surface, surface_of(beside))
+        verdict = StackComparison([Filter("", data) for data in surface.asker.filters], beside, table).run()[1].verdict
+        both = Beside((surface, surface)) if verdict is not None and verdict.holds else \
+            compared_surfaces(surface, surface_of(beside))
     except Refusal as why:
         return StackSurface(why.status, refused, fault=why.fault)
     return StackSurface(both.status, filters, surface, both)

@@ -10,16 +10,16 @@ from __future__ import annotations
 
 import os
 import re
-import struct
 from collections.abc import Callable, Iterator
 
 from ...base.values import Pattern, dataclass, field, unless_refused
 from ...model import constants
 from ...model.answers import ALLOW, ENOSYS, Answer
 from ...model.architectures import I386
-from ...model.entries import Condition
+from ...model.bpf import INSTRUCTION, JEQ, JUMP
+from ...model.entries import LOW_HALF, Condition
 from . import sandbox_rules
-from .sandbox_rules import KILL, LOG, LOWER_HALF, ListError, Policy, Rule, UnknownRules, error_at
+from .sandbox_rules import KILL, LOG, ListError, Policy, Rule, UnknownRules, error_at
 from .unit_restrictions import (
     EPERM, NAMESPACES, Restriction, SettingError, among, answer_of_errno, masked, with_all, with_any)
 
@@ -36,8 +36,8 @@ COMPILERS = tuple(f"/usr/{folder}/firejail/fseccomp" for folder in (
 # The deepest nesting of includes, and the most files; the most words of a line that `ignore` compares; how long the
 # compiler may take, in seconds, and how much it may write.
 DEEPEST_INCLUDE, MOST_INCLUDED, MOST_IGNORED, COMPILER_SECONDS, MOST_FILTER_BYTES = 16, 64, 8, 10, 1 << 15
-# The instructions of its filters before those of syscalls, of which each compares a number: BPF_JMP|BPF_JEQ|BPF_K.
-HEAD_INSTRUCTIONS, COMPARE_NUMBER = 7, 0x15
+# The instructions of its filters before those of syscalls, of which each compares a number.
+HEAD_INSTRUCTIONS = 7
 # The groups that seccomp.keep allows in any case, and that are denied without a list.
 ALWAYS_ALLOWED, DENIED_GROUP, DENIED_WITHOUT_DEBUGGERS = "@default-keep", "@default", "@default-nodebuggers"
 FAMILIES = {"unix": "AF_UNIX", "inet": "AF_INET", "inet6": "AF_INET6",
@@ -103,8 +103,8 @@ def group_numbers(group: str) -> list[int]:
     if status:
         raise ListError(f"'{group}' isn't a group of the installed firejail")
     instructions = [instruction for data in filters
-                    for instruction in [*struct.iter_unpack("<HBBI", data)][HEAD_INSTRUCTIONS:]]
-    return list(dict.fromkeys(k for code, _, _, k in instructions if code == COMPARE_NUMBER))
+                    for instruction in [*INSTRUCTION.iter_unpack(data)][HEAD_INSTRUCTIONS:]]
+    return list(dict.fromkeys(k for code, _, _, k in instructions if code == JUMP | JEQ))
 
 
 def _included(name: str, at: int, settings: StatedSettings) -> bytes:
@@ -210,9 +210,9 @@ def _families(text: str, at: int) -> Restriction:
         if word not in FAMILIES:
             raise error_at(at, f"'{word}' isn't a protocol of firejail")
         values.append(constants.numbers()[FAMILIES[word]])
-    others = [masked(0, LOWER_HALF, value) for value in range(1 << 6) if value not in values]
+    others = [masked(0, LOW_HALF, value) for value in range(1 << 6) if value not in values]
     return Restriction(ENOTSUP, [*others, *(masked(0, 1 << bit, 1 << bit) for bit in BITS[6:])],
-                       [masked(0, LOWER_HALF, value) for value in sorted(values)])
+                       [masked(0, LOW_HALF, value) for value in sorted(values)])
 
 
 def _namespaces(text: str, at: int, answer: Answer) -> dict[str, Restriction]:
@@ -220,7 +220,7 @@ def _namespaces(text: str, at: int, answer: Answer) -> dict[str, Restriction]:
     words = text.split(",") if text else list(NAMESPACES)
     if not set(words) <= NAMESPACES.keys():
         raise error_at(at, f"'{text}' aren't namespaces")
-    flags, no_flag = sorted({constants.numbers()[NAMESPACES[word]] for word in words}), masked(1, LOWER_HALF, 0)
+    flags, no_flag = sorted({constants.numbers()[NAMESPACES[word]] for word in words}), masked(1, LOW_HALF, 0)
     of_clone = [flag for flag in flags if flag != constants.numbers()["CLONE_NEWTIME"]]
     entered = [masked(1, sum(flags) | 1 << bit, 1 << bit) for bit in BITS if 1 << bit not in flags]
     return {"clone": with_any(0, of_clone, answer), "clone3": Restriction(ENOSYS),
@@ -232,8 +232,8 @@ def _personality(answer: Answer) -> dict[str, Restriction]:
     """Denies another personality than 0 and 0xffffffff, which asks for the present one: of the lower half some bit is
     set and the next one isn't, or it has more bits."""
     mixed = [masked(0, 1 << bit | 1 << (bit + 1) % len(BITS), 1 << bit) for bit in BITS]
-    denied = [*mixed, (Condition(0, "SCMP_CMP_GT", LOWER_HALF, 0),)]
-    return {"personality": Restriction(answer, denied, among(0, (0, LOWER_HALF)))}
+    denied = [*mixed, (Condition(0, "SCMP_CMP_GT", LOW_HALF, 0),)]
+    return {"personality": Restriction(answer, denied, among(0, (0, LOW_HALF)))}
 
 
 def _memory(answer: Answer) -> dict[str, Restriction]:

@@ -15,8 +15,6 @@ from ...model.profiles import DerivedProfile
 
 # The most bytes of a list, lines, letters of a line and rules; and the most names in a remark.
 MOST_LIST_BYTES, MOST_LINES, MOST_LETTERS, MOST_LIST_RULES, MOST_IN_REMARK = 1 << 20, 1 << 14, 1 << 15, 1 << 14, 8
-# Of an argument the sandboxes' programs compare the lower half alone, all or some.
-LOWER_HALF = 0xFFFFFFFF
 KILL, LOG = Answer("KILL_THREAD", 0), Answer("LOG", 0)
 # Letters that end a line for other programs, and for the sandbox don't.
 CONTROL_LETTERS = frozenset(map(chr, (*range(9), *range(11, 32), 127, 0x85, 0x2028, 0x2029)))

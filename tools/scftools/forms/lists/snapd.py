@@ -15,9 +15,9 @@ from ...base.values import Pattern
 from ...model import constants
 from ...model.answers import ALLOW
 from ...model.architectures import I386, NATIVE
-from ...model.entries import Condition
+from ...model.entries import LOW_HALF, Condition
 from . import sandbox_rules
-from .sandbox_rules import LOG, LOWER_HALF, ListError, Policy, Rule, UnknownRules, error_at
+from .sandbox_rules import LOG, ListError, Policy, Rule, UnknownRules, error_at
 from .unit_restrictions import EPERM
 
 # How snapd begins such a file; and the directives, each a line of its own, one of which may begin one too.
@@ -53,10 +53,10 @@ def _number(word: str, name: str, at: int) -> int:
         return named
     if re.fullmatch("-?[0-9]{1,10}", word):
         value = int(word)
-        if 0 <= value <= LOWER_HALF and word[0] != "-":
+        if 0 <= value <= LOW_HALF and word[0] != "-":
             return value
         if name in WITH_NEGATIVE and -1 << 31 <= value < 1 << 31:
-            return value & LOWER_HALF
+            return value & LOW_HALF
     raise error_at(at, f"'{word}' isn't a number that snap-seccomp takes of {name}, or none is known of it")
 
 
@@ -66,7 +66,7 @@ def _condition(word: str, index: int, name: str, at: int) -> Condition:
     if name in WITH_NEGATIVE:
         if operator:
             raise error_at(at, f"snap-seccomp compares the arguments of {name} only for a value")
-        return Condition(index, "SCMP_CMP_MASKED_EQ", LOWER_HALF, value)
+        return Condition(index, "SCMP_CMP_MASKED_EQ", LOW_HALF, value)
     return Condition(index, f"SCMP_CMP_{SNAP_OPERATORS[operator]}", value, value if operator == "|" else 0)
 
 

@@ -23,15 +23,13 @@ from ...base.values import Pattern, dataclass
 from ...model import constants
 from ...model.answers import ENOSYS, KILL_PROCESS, MAX_ERRNO, Answer
 from ...model.architectures import I386
-from ...model.entries import GREATEST_VALUE, Condition
+from ...model.entries import GREATEST_VALUE, Alternative, Condition
 
 # The versions of systemd whose rules these are, as texts and by the first number; from the second number on.
 VERSIONS, KNOWN = "252.39 and 257.13", {252: 39, 257: 13}
 # From which version on MemoryDenyWriteExecute= has no filter where the kernel has PR_SET_MDWE (NEWS of systemd 254),
 # and PR_GET_MDWE of linux/prctl.h.
 WITH_PRCTL, GET_MDWE = 254, 66
-# Conditions that all hold.
-Alternative = tuple[Condition, ...]
 EPERM, EAFNOSUPPORT = Answer("ERRNO", 1), Answer("ERRNO", 97)
 # The names of namespaces in RestrictNamespaces= (src/basic/namespace-util.c).
 NAMESPACES = {"cgroup": "CLONE_NEWCGROUP", "ipc": "CLONE_NEWIPC", "net": "CLONE_NEWNET", "mnt": "CLONE_NEWNS",
