@@ -21,8 +21,6 @@ from .audit_rows import (
     BY_CONFIGURATION, NOT_KNOWN, UNCONFINED_THOUGH, Audit, AuditRow, RowPart, StackJudgement)
 from .container_files import described_containers
 from .expectations import Expectations, Options, RowMaker
-from .machine import Snapshot
-from .machine_pass import Copies
 from .processes import Kernel
 from .ptrace import ticks_at_start
 from .turnover import COMES_AND_GOES, LOOKS, Turnover
@@ -36,7 +34,7 @@ SECONDS_OF_ROOT, SECONDS_OF_FILES, SECONDS_OF_USERS = 60.0, 10.0, 20.0
 class Assessor:
     """Looks at rows: first at root's, one by one, then at each user's."""
 
-    def __init__(self, kernel: Kernel, snapshot: Snapshot, judges: Judges, why: str | None) -> None:
+    def __init__(self, kernel: Kernel, snapshot: machine.Snapshot, judges: Judges, why: str | None) -> None:
         self.kernel, self.snapshot, self.judges, self.why = kernel, snapshot, judges, why
         self.of_root, self.of_users = child.Budget(SECONDS_OF_ROOT), child.Budget(SECONDS_OF_USERS)
         # what stacks allow, by their digests, as it was found out of whose rows
@@ -60,8 +58,9 @@ class Assessor:
         # (those that may take long come last)
         confined = sorted((process for row in rows for process in row.processes if process.is_confined),
                           key=lambda process: (process.is_stuck, len(process.threads), process.number))
-        return Task(user, rows, Copies(self.kernel, (process.number for process in confined),
-                                       self.judges.options.is_forced), self.surfaces.setdefault(user, {}))
+        copies = machine_pass.Copies(self.kernel, (process.number for process in confined),
+                                     self.judges.options.is_forced)
+        return Task(user, rows, copies, self.surfaces.setdefault(user, {}))
 
     def look(self, tasks: Sequence[Task], budget: child.Budget) -> list[Task]:
         """Looks at what is left of tasks, at once at as many as have few bytes of filters; those that came too late."""

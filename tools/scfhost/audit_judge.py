@@ -23,7 +23,6 @@ from .audit_rows import (AS_CONFIGURED, AUDIT_VERDICTS, NOT_KNOWN, STRICTER, WEA
                          StackJudgement)
 from .expectations import Options, of_settings
 from .machine_pass import Copies
-from .verify import Request
 
 # Of several verdicts on the filters of one stack the first of these is that on all of them.
 WORST_FIRST = (WEAKER, NOT_KNOWN, STRICTER, OTHERWISE, AS_CONFIGURED)
@@ -105,7 +104,7 @@ class StackJudge:
             return worst
         return replace(worst, verdict=NOT_KNOWN, why=f"it is {worst.verdict}, but {expected.doubt}")
 
-    def judge(self, stack: Stack, asked: Request | None, relation: str = SAME) -> StackJudgement:
+    def judge(self, stack: Stack, asked: verify.Request | None, relation: str = SAME) -> StackJudgement:
         """The verdict beside a profile, or where nothing is configured."""
         asked_of = asked or verify.nothing_request(self.options.table)
         comparison = asked_of.comparison(stack.named, relation)

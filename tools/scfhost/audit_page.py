@@ -14,7 +14,6 @@ from scftools.report import pages
 from scftools.report.pages import Markup, Named, c_call, document, joined, listed, preformatted, table, tag
 from scftools.report.surface_output import Groups
 from . import audit_output
-from .audit_output import Earlier
 from .audit_rows import AS_CONFIGURED, NOT_KNOWN, STRICTER, UNIT, WEAKER, Audit, AuditRow, RowPart, StackJudgement
 
 PROVED = ("Each comparison of a stack of filters with a profile is proved for all x86-64 syscalls and arguments by "
@@ -131,7 +130,7 @@ def _findings(audit: Audit, table_of: Table) -> Iterator[Markup]:
             yield preformatted(commands)
 
 
-def _since(audit: Audit, earlier: Earlier | None) -> Iterator[Markup]:
+def _since(audit: Audit, earlier: audit_output.Earlier | None) -> Iterator[Markup]:
     if earlier is None:
         return
     yield tag("h2", f"Since {output.escaped(earlier.time)}")
@@ -154,7 +153,7 @@ def _stacks(audit: Audit, table_of: Table) -> Iterator[Markup]:
         yield from pages.stack(stack, groups)
 
 
-def page(audit: Audit, table_of: Table, earlier: Earlier | None = None) -> str:
+def page(audit: Audit, table_of: Table, earlier: audit_output.Earlier | None = None) -> str:
     """The page, with the changes since an earlier audit."""
     return document(f"seccomp audit of {os.uname().nodename}", *_head(audit), *_since(audit, earlier), *_rows(audit),
                     *_findings(audit, table_of), *_stacks(audit, table_of))

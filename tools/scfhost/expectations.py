@@ -21,9 +21,7 @@ from . import configurations, container_files, owned_files, sandbox_programs, un
 from .audit_rows import CONTAINER, OTHER_PROGRAM, UNIT, AuditRow, Expectation
 from .container_files import SLICE_OF_A_USER, ContainerDescription, Membership
 from .machine import Process, Snapshot
-from .owned_files import UnreadableFile
 from .processes import Kernel
-from .verify import Request
 
 # The IDs of users who aren't the system's (UIDS-GIDS of systemd): from the first on, without those of services.
 FIRST_USER, OF_SERVICES = 1000, range(61184, 65520)
@@ -44,9 +42,9 @@ class Options:
     # whether to find out what each stack allows, for a page
     has_surfaces: bool = False
 
-    def request(self, profile: bytes, relation: str = SAME, **settings: Any) -> Request:
+    def request(self, profile: bytes, relation: str = SAME, **settings: Any) -> verify.Request:
         """The question how filters stand beside a profile."""
-        return Request(profile, self.table, self.scope, relation, **settings)
+        return verify.Request(profile, self.table, self.scope, relation, **settings)
 
     def check(self) -> None:
         """Raises a ToolError if scf refuses a profile, the table or the limit. Two entries that conflict, or two
@@ -108,7 +106,7 @@ class Expectations:
         if key not in self.of_lists:
             try:
                 self.of_lists[key] = self.of_all() or read()
-            except (UnreadableFile, sandbox_rules.ListError) as why:
+            except (owned_files.UnreadableFile, sandbox_rules.ListError) as why:
                 self.of_lists[key] = Expectation(source=source, why=str(why))
         return self.of_lists[key]
 

@@ -16,7 +16,6 @@ from scftools.base.values import Any
 from scftools.forms.stacks import Inspection, Stack, called
 from . import processes
 from .hold import Unreadable
-from .processes import Kernel
 from .ptrace import contents, is_executing
 from .restart import Restarts
 
@@ -38,7 +37,7 @@ ANSWER = ({"filter": str}, {"process": int, "stacks": [{"filters": [int], "is_st
                             "notes": [str]}, {"process": int, "why": str})
 
 
-class _Reader(Kernel):
+class _Reader(processes.Kernel):
     """Reads processes in a child, and sends what each has. Each distinct filter is kept once, and has a number."""
 
     def __init__(self, tool: int, is_forced: bool, kept: Iterable[bytes], send: Callable[[Any], object]) -> None:
@@ -117,7 +116,7 @@ class _Reader(Kernel):
 class Copies:
     """The filters of some processes: what children have copied, and the processes that wait for it."""
 
-    def __init__(self, kernel: Kernel, numbers: Iterable[int], is_forced: bool) -> None:
+    def __init__(self, kernel: processes.Kernel, numbers: Iterable[int], is_forced: bool) -> None:
         self.kernel, self.is_forced = kernel, is_forced
         # The distinct stacks with their threads, why processes weren't read, and notes.
         self.stacks: dict[tuple[tuple[bytes, ...], bool], Stack] = {}

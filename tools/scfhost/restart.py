@@ -19,7 +19,6 @@ from scftools.model.answers import ALLOWED, DENIED, FIRST_X32, I386_NUMBER, X86_
 from scftools.model.bpf import INSTRUCTION, RETURN_CONSTANT
 from scftools.model.calls import REGISTER_MASKS, Call, arguments_in
 from scftools.ask import client, regions, verdicts
-from scftools.ask.regions import Lookup
 from .ptrace import Kernel
 
 # linux/errno.h. What a handler of a signal doesn't interrupt begins anew by each of them but the last, by which it goes
@@ -87,7 +86,7 @@ class Restarts:
     def __init__(self, kernel: Kernel) -> None:
         self.kernel = kernel
         self.calls: dict[int, InterruptedSyscall] = {}
-        self.lookups: dict[tuple[bytes, ...], Lookup] = {}
+        self.lookups: dict[tuple[bytes, ...], regions.Lookup] = {}
         # the answers that were asked for one by one
         self.answers: dict[tuple[bytes, ...], dict[Call, Answer | None]] = {}
         # how often scf may still be asked
@@ -153,7 +152,7 @@ class Restarts:
             return known[call]
         if filters not in self.lookups and len(known) >= FEW_CALLS and self.remaining_runs > 0:
             printed = self.run(["answers", "--examples", f"--limit={LOOKUP_STEPS}"], filters)
-            self.lookups[filters] = Lookup(regions.parse_regions(printed))
+            self.lookups[filters] = regions.Lookup(regions.parse_regions(printed))
         region = self.lookups[filters].of(call) if filters in self.lookups else None
         if region is not None or self.remaining_runs <= 0:
             return None if region is None else region.answer

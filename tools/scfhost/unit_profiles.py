@@ -11,7 +11,6 @@ from scftools.base import program
 from scftools.base.values import Any
 from scftools.model import architectures, libseccomp, multiplexed
 from scftools.model.answers import Answer
-from scftools.model.architectures import I386
 from scftools.model.profiles import DerivedProfile
 from scftools.ask.explanation import join_names
 from scftools.forms.lists import unit_restrictions
@@ -60,7 +59,7 @@ def profile_of(settings: UnitSettings, group: Sequence[str]) -> str:
     """The text of the profile that the settings describe, for architectures of one group."""
     policy = Policy(settings.answer_of(None), architectures=group)
     rules = unit_restrictions.rules_of(settings.restrictions, group[0])
-    multiplexers = [*multiplexed.CALL_NUMBERS] if I386 in group else []
+    multiplexers = [*multiplexed.CALL_NUMBERS] if architectures.I386 in group else []
     for name in dict.fromkeys([*settings.names(), *rules, *multiplexers]):
         answers = _of_multiplexer(settings, name) if name in multiplexers else _of_call(settings, name, rules.get(name))
         policy.rules += (Rule(name, answer, conditions) for answer, conditions in answers if answer != policy.default)

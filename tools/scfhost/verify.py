@@ -7,9 +7,7 @@ from collections.abc import Iterator, Sequence
 from scftools.base import output, program
 from scftools.base.values import Any, dataclass, field, replace
 from scftools.model import profiles, tables
-from scftools.model.tables import Table
 from scftools.ask import other_abis, reasons, verdicts
-from scftools.ask.verdicts import Report
 from scftools.forms import engines, filters, runtimes
 from scftools.forms.filters import Filter
 from scftools.forms.profile_inputs import ProfileInput
@@ -33,7 +31,7 @@ class Block:
     stack: Stack
     status: int
     comparison: Comparison | StackComparison | None = None
-    report: Report | None = None
+    report: verdicts.Report | None = None
     # by architecture the least number that runc answers with ENOSYS, if it does so here
     stub: dict[str, int] = field(default_factory=dict)
     # the scope of the comparison
@@ -60,7 +58,7 @@ class Request:
     that were saved, in its place."""
 
     profile: bytes
-    table: Table
+    table: tables.Table
     # None for all architectures that the profile names
     scope: str | None = None
     relation: str = verdicts.SAME
@@ -121,7 +119,7 @@ def nothing_request(*settings: Any, **named: Any) -> Request:
     return Request(ALLOWS_ALL, *settings, elsewhere=other_abis.NAMES, **named)
 
 
-def request_of(config: dict[str, Any], runtime: str | None, keeps_first: bool, table: Table, relation: str,
+def request_of(config: dict[str, Any], runtime: str | None, keeps_first: bool, table: tables.Table, relation: str,
                scope: str | None = None) -> Request:
     """The question about a container with this configuration, as its runtime applies it; over all architectures that
     its profile names unless a scope is given."""

@@ -12,7 +12,6 @@ from ..model import tables
 from ..model.answers import ALLOWED, KILL_PROCESS, Answer
 from ..model.architectures import JUDGED, NATIVE, Architecture
 from ..model.calls import NO_CALL, Call, number_text
-from ..model.tables import Table
 
 from .questions import IS_DENIED, Asker
 from .regions import Numbers, Region
@@ -49,7 +48,7 @@ class AbiAccess:
     @property
     def names(self) -> list[str]:
         """The names of that syscall."""
-        return self.not_denied[0].names(Table(b"")) if self.not_denied else []
+        return self.not_denied[0].names(tables.Table(b"")) if self.not_denied else []
 
     def describe(self) -> str:
         if self.not_denied is None:
@@ -78,7 +77,7 @@ def abi_access(filters: Sequence[bytes], filter_regions: Sequence[Region] | None
         for region in here:
             if region.is_decided and not region.answer.denies:
                 # (if any number there has a name, the first that has one is shown)
-                table = tables.architecture_table(architecture.oci) or Table(b"")
+                table = tables.architecture_table(architecture.oci) or tables.Table(b"")
                 named = (number for number in map(architecture.first.__add__, table.numbers()) if low <= number <= high)
                 call = region.call_of(min(named, default=low), architecture.number)
                 return AbiAccess(architecture, Verdict(MORE, call, region.answer, KILL_PROCESS))

@@ -42,7 +42,6 @@ from ..cli import words
 from ..forms import engines, filters, operands, profile_inputs, runtimes
 from ..forms.profile_inputs import ProfileInput
 from ..report import blocks, changes, compare
-from ..report.blocks import Block
 from ..report.compare_output import Judgement
 
 
@@ -113,11 +112,10 @@ def main():
         judgement = judge(new)
         if judgement.first.verdict is not None:
             found = changes.changes_of(judgement.comparison, judgement.first)
-            return blocks.put_block(Block(found.verdict.status, lambda: changes.change_lines(found),
-                                          lambda: changes.changes_json(found)), options.json)
+            return blocks.put_block(blocks.Block(found.verdict.status, lambda: changes.change_lines(found),
+                                                 lambda: changes.changes_json(found)), options.json)
         # (scf doesn't compare them)
-        block = judgement.block()
-        return blocks.put_block(replace(block, members=lambda: {
-            name: value for name, value in block.members().items() if name in ("relation", "verdict", "fault")}),
-                                options.json)
+        whole, shown = judgement.block(), ("relation", "verdict", "fault")
+        return blocks.put_block(replace(whole, members=lambda: {
+            name: value for name, value in whole.members().items() if name in shown}), options.json)
     return blocks.put_blocks(new, lambda side: judge(side).block(), options.json)

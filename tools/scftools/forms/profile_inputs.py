@@ -11,7 +11,6 @@ from ..base.values import Any, Pattern, dataclass, field, replace
 from ..model import bpf, profiles, tables
 from ..model.architectures import JUDGED, NATIVE
 from ..model.profiles import SANDBOX, DerivedProfile, Origin
-from ..model.tables import Table, Tables
 from ..ask.explanation import join_names
 from . import engines, kubernetes
 
@@ -66,7 +65,7 @@ class ProfileInput:
         reading = profiles.reading_of(self.data)
         return [self, *(replace(self, data=profiles.read_as(other, reading)) for other in others)]
 
-    def judged(self, table: Table, is_native: bool) -> Tables:
+    def judged(self, table: tables.Table, is_native: bool) -> tables.Tables:
         """The tables that it is judged by, and how it is read."""
         return replace(tables.tables_of_profile(self.data, table, is_native), stub=self.stub)
 

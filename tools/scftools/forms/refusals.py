@@ -12,7 +12,6 @@ from ..base import inputs, json_places, output
 from ..base.json_places import Path
 from ..base.values import Any
 from ..model import architectures, profiles
-from ..model.architectures import NATIVE
 from ..model.bpf import LONGEST_STACK, MORE_OF_OLDER
 from ..model.calls import Call
 from ..model.entries import HOLDS, LONGEST_NUMBER
@@ -119,8 +118,8 @@ def _profile(value: Any, reading: str) -> Path:
     listed = _member(top, path, "architectures", "an array") or ()
     for at, listed_name in enumerate(listed):
         _check(listed_name, [*path, "architectures", at], "a string")
-    if listed and NATIVE not in listed:
-        raise MemberFault("NoX8664", [*path, "architectures"], f"lacks {NATIVE}")
+    if listed and architectures.NATIVE not in listed:
+        raise MemberFault("NoX8664", [*path, "architectures"], f"lacks {architectures.NATIVE}")
     _engine_member(top, path, "archMap")
     for at, entry in enumerate(_member(top, path, "syscalls", "an array") or ()):
         _entry(entry, [*path, "syscalls", at], reading)

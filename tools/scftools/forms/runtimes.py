@@ -18,7 +18,6 @@ from ..model import architectures, libseccomp, multiplexed, profiles, tables
 from ..model.answers import MAX_ERRNO, Answer
 from ..model.architectures import JUDGED, LITTLE_ENDIAN, NATIVE, NUMBERS, PREFIX
 from ..model.profiles import FLAGS, SANDBOX, Refused
-from ..model.tables import Tables
 from ..cli.words import Parser
 from . import engines, profile_inputs
 from .engines import Origin, Setting, answer_of, excerpt, excerpts
@@ -364,7 +363,7 @@ def applied(value: Any, name: str, setting: Setting | None = None, keeps_first: 
     return replace(profile, remarks=remarks, notes=list(dict.fromkeys([*notes, *profile.notes])))
 
 
-def as_read(value: dict[str, Any], judged: Tables) -> tuple[bytes, Tables]:
+def as_read(value: dict[str, Any], judged: tables.Tables) -> tuple[bytes, tables.Tables]:
     """A resolved profile of this value and its tables as another one was read whose tables are given: with the rules
     and the stub that the same runtime makes."""
     if judged.reading in profiles.BY_WORDS:

@@ -9,7 +9,6 @@ import re
 from collections.abc import Iterator
 
 from ..base import inputs, output, program
-from ..base.inputs import LONGEST_LINE
 from ..base.values import Pattern
 from ..model import constants
 from ..model.answers import NUMBERS_OF_ERRNOS
@@ -187,7 +186,7 @@ def errno_in(text: str, name: re.Match[str]) -> int | None:
     return NUMBERS_OF_ERRNOS.get(match[1]) if match[1] else int(match[2])
 
 
-def log_lines(name: str, most: int = LONGEST_LINE) -> Iterator[str]:
+def log_lines(name: str, most: int = inputs.LONGEST_LINE) -> Iterator[str]:
     """The lines of a log (`-` is standard input), of each at most so many characters."""
     unread_part, length = b"", 0
     for piece in inputs.input_pieces(name, "log", LONGEST_LOG + 1):
@@ -205,7 +204,7 @@ def log_lines(name: str, most: int = LONGEST_LINE) -> Iterator[str]:
 
 def is_log(data: bytes) -> bool:
     """Whether some of the first lines of a text are strace's."""
-    for line in data[:LONGEST_LINE].decode("latin-1").split("\n")[:100]:
+    for line in data[:inputs.LONGEST_LINE].decode("latin-1").split("\n")[:100]:
         text = line[LEADER.match(line).end():]
         if CALL_NAME.match(text) and " = " in text:
             return True

@@ -13,7 +13,6 @@ from ..model.answers import ERRNOS, MAX_ERRNO
 from ..model.architectures import NATIVE, NUMBERS, PREFIX, X32
 from ..model.entries import HOLDS, MASKED, Object
 from ..model.profiles import ALLOWING, FLAGS, OCI_ACTIONS, objects_in, parts_of
-from ..model.tables import Tables
 from .findings import MOST, Finding, listed
 from .kinds import ERROR
 
@@ -27,7 +26,7 @@ ALIASES = {"AMD64": "X86_64", "X86-64": "X86_64", "X64": "X86_64", "ARM64": "AAR
 PLACES = ("the profile", "entry {}", "entry {}, condition {}")
 
 
-def of_names(top: Object, judged: Tables) -> Iterator[Finding]:
+def of_names(top: Object, judged: tables.Tables) -> Iterator[Finding]:
     """Names that no syscall has, and a count of names that only other architectures have than those that are judged."""
     places: dict[str, int] = {}
     for place, entry in objects_in(top, "syscalls"):

@@ -10,11 +10,9 @@ from collections.abc import Collection, Iterator
 
 from ..base.values import dataclass
 from ..model import answers, bpf, constants, entries
-from ..model.bpf import BPF_MAXINSNS
 from ..model.entries import EQUAL, GREATEST_VALUE, LOW_HALF, MASKED, NOT_EQUAL, Object
 from ..model.tables import Tables
 from ..ask import client, verdicts
-from ..ask.client import Refusal
 from ..ask.reasons import Reason
 from ..ask.verdicts import NATIVE_SCOPE, SAME, SCOPES
 from .events import Event
@@ -135,11 +133,11 @@ class AmendmentSearch:
         """The first change of which scf proves that it allows these calls, and answers all others as before."""
         for change in self.candidates(reason, conditions):
             excepted = bpf.with_exception(self.filter, self.number, change.conditions, answers.ALLOW.word)
-            if len(excepted) > BPF_MAXINSNS * bpf.INSTRUCTION.size:
+            if len(excepted) > bpf.BPF_MAXINSNS * bpf.INSTRUCTION.size:
                 continue
             try:
                 report = verdicts.compared([excepted], change.profile, self.tables, SCOPES[NATIVE_SCOPE])
-            except Refusal:
+            except client.Refusal:
                 continue
             if report.verdict.word == SAME:
                 return change
@@ -157,7 +155,7 @@ def amendments(profile: bytes, event: Event, reason: Reason, tables: Tables) -> 
         return
     try:
         search = AmendmentSearch(profile, top, tables, names[0], event.call.number)
-    except Refusal:
+    except client.Refusal:
         # (its filter would be too large)
         return
     tested = {condition["index"] for entry in top.get("syscalls", []) if not set(names).isdisjoint(entry["names"])

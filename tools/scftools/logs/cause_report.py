@@ -13,7 +13,6 @@ from ..base import output, program
 from ..base.values import dataclass, field, replace
 from ..model.tables import Table
 from ..ask import client
-from ..ask.client import Refusal
 from . import causes
 from .causes import CONTRADICTS, FITS, Cause, Inputs, cases, verdict_of
 from .events import EVENTS, Event, EventLog, Failure, Failures
@@ -149,7 +148,7 @@ def log_report(log: EventLog, given: Inputs, is_all: bool) -> LogReport:
         try:
             denied = denials_of(log.failures, given)
             failure = None if denied.of else log.last_failure
-        except Refusal:
+        except client.Refusal:
             failure = next(iter(failed), None)
     if failure is not None and not log.events:
         log.add(failure)

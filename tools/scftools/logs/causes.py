@@ -13,16 +13,13 @@ from ..model.architectures import NATIVE
 from ..model.calls import Call
 from ..model.tables import Table, Tables
 from ..ask import client, reasons, regions
-from ..ask.client import Refusal
 from ..ask.questions import Asker
-from ..ask.reasons import Reason
 from ..ask.regions import POINTER, Lookup, Region
 from ..ask.verdicts import FOR_OTHER_ABI
 from ..forms import refusals
 from ..forms.filters import Filter
 from ..report import decisions, listing
 from . import amendment
-from .amendment import Amendment
 from .events import CORE, RECORD, STRACE, Event
 
 # Whether what is known of an answer is what filters or a profile answer.
@@ -100,7 +97,7 @@ class Side:
     name: str
     cases: tuple[Case, ...] = ()
     verdict: str = UNKNOWN_FIT
-    refusal: Refusal | None = None
+    refusal: client.Refusal | None = None
     # whether the syscall is of an architecture that the profile names, and that isn't judged
     is_undetermined: bool = False
 
@@ -145,7 +142,7 @@ class Inputs:
         return AnsweringStack(regions.regions_of_profile(profile, judged, number=self.number),
                               lambda call: reasons.profile_reason(profile, judged, call.words()).answer)
 
-    def reason(self, call: Call) -> Reason:
+    def reason(self, call: Call) -> reasons.Reason:
         """Why the profile answers a call so: as all calls of its region, if scf decides that. Raises Refusal."""
         region = self.of_profile.regions.of(call)
         return reasons.profile_reason(self.profile or b"", self.judged, call.words()) if region is None else \
@@ -161,7 +158,7 @@ class Cause:
     given: Inputs
     profile: Side | None = None
     filters: Side | None = None
-    changes: list[Amendment] = field(default_factory=list)
+    changes: list[amendment.Amendment] = field(default_factory=list)
     # of a failed syscall, whether a process that ended with a failure had no other denied one after it
     has_ended: bool = False
 
@@ -175,7 +172,7 @@ class Cause:
 def _side(name: str, stack_of: Callable[[], AnsweringStack], event: Event) -> Side:
     try:
         answers = tuple(cases(stack_of(), event))
-    except Refusal as why:
+    except client.Refusal as why:
         return Side(name, refusal=why)
     return Side(name, answers, verdict_of(answers))
 

@@ -14,11 +14,9 @@ from ..model.answers import ALLOWED, DEPENDS, KILL_PROCESS, Answer
 from ..model.architectures import JUDGED, NATIVE, Architecture, machine_architecture
 from ..model.argument_sets import EMPTY_SET, Sets, Steps, TooMany
 from ..model.calls import Call
-from ..model.entries import Object
 from ..model.tables import Table, Tables
 from ..ask import client, reasons, regions
 from ..ask.answer_sets import arguments_of
-from ..ask.regions import Lookup
 from ..ask.verdicts import UNDECIDED, UNFINISHED
 from ..forms import runtimes
 from ..forms.strace_reader import OWN_MODE, modes_of
@@ -125,11 +123,11 @@ class Judge:
 
     def __init__(self, profile: bytes, architecture: str, table: Table):
         answered = regions.regions_of_profile(profile, Tables({architecture: table}, profiles.reading_of(profile)))
-        self._lookup = Lookup(answered)
+        self._lookup = regions.Lookup(answered)
         top = entries.parse_seccomp(profile)
         if top is None:
             raise program.ToolError("the profile's JSON can't be parsed by this tool")
-        self.top: Object = top
+        self.top: entries.Object = top
         looked: dict[int | None, set[int]] = {}
         for entry in entries.entries_of(top, table.number_of):
             for name in entry.names if entry.conditions else ():

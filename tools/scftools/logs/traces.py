@@ -23,7 +23,6 @@ from ..model.calls import SKIPPED
 from ..model.profiles import ALLOWING, Refused
 from ..model.tables import Table
 from ..forms import kubernetes, strace
-from ..forms.strace import Arguments
 from ..forms.strace_reader import PENDING, Line, Reader, Sink
 from . import audit_records, events
 
@@ -143,14 +142,14 @@ class Trace(Sink):
         else:
             errno = strace.errno_in(line.text, name) or 0
             for named in [named for named in numbered if line.nr in (None, numbered[named])] or [name[1]]:
-                arguments: Arguments = {}
+                arguments: strace.Arguments = {}
                 if self.looked_at(architecture, named):
                     # (strace prints it by its name, or as what it does)
                     arguments = strace.registers_in(line.text, name, architecture, bool(self._is_raw)) \
                         if named == name[1] else {0: (multiplexed.CALL_NUMBERS[named][name[1]],)}
                 self.keep(line.number, architecture, named, arguments, errno=errno)
 
-    def keep(self, number: int, architecture: str, name: str, arguments: Arguments, count: int = 1,
+    def keep(self, number: int, architecture: str, name: str, arguments: strace.Arguments, count: int = 1,
              errno: int = 0) -> None:
         """Counts a syscall by its name, with what is asked for of its arguments; the first one of a name that has a
         number is always kept."""

@@ -4,7 +4,6 @@ from __future__ import annotations
 from ..base.values import Pattern, dataclass
 from . import architectures, constants, tables
 from .answers import FIRST_X32, I386_NUMBER, X86_64
-from .architectures import Architecture
 from .tables import Table
 
 # The fields of a record, by the names of scf's options, in scf's order.
@@ -72,7 +71,7 @@ class Call:
         return architectures.architecture_of_record(self.architecture, self.number)
 
     @property
-    def judged(self) -> Architecture | None:
+    def judged(self) -> architectures.Architecture | None:
         """The architecture that it is of, if scf judges that."""
         return architectures.JUDGED.get(self.abi or "")
 

@@ -13,7 +13,6 @@ from collections.abc import Mapping, Sequence
 from ..base import program
 from ..base.values import Pattern, dataclass, field
 from . import architectures, tables
-from .architectures import I386
 
 # Of an argument the kernel reads 32 bits or fewer; a whole register; an address.
 HALF, WHOLE, ADDRESS = "i", "w", "p"
@@ -24,7 +23,7 @@ SPLIT_SYSCALLS = (*SWAPPED, "fadvise64", "fallocate", "fanotify_mark", "pread64"
                   "sync_file_range")
 OTHER_KINDS = {**{name: SPLIT_SYSCALLS if row.register_bits == 32 else SWAPPED
                   for name, row in architectures.JUDGED.items() if row.swaps_clone},
-               I386: (*SPLIT_SYSCALLS, "mmap", "select")}
+               architectures.I386: (*SPLIT_SYSCALLS, "mmap", "select")}
 C_IDENTIFIER = Pattern(r"[A-Za-z_]\w*", re.A)
 
 

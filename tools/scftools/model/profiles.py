@@ -13,7 +13,6 @@ from ..base import json_places, program
 from ..base.values import Any, Pattern, dataclass
 from . import entries
 from .answers import Answer
-from .entries import LONGEST_NUMBER
 
 DEEPEST_JSON = 127
 # The most names of all entries together that are passed on to libseccomp, each once for each of its alternatives: the
@@ -238,7 +237,7 @@ def _odd_value(text: str) -> str | None:
         why = None
         if token in ("NaN", "Infinity", "-Infinity"):
             why = f"is {token}, which isn't a JSON number"
-        elif token[0] in "-0123456789" and len(token) <= LONGEST_NUMBER and abs(float(token)) == float("inf"):
+        elif token[0] in "-0123456789" and len(token) <= entries.LONGEST_NUMBER and abs(float(token)) == float("inf"):
             why = "is a number out of range"
         elif token[0] == '"' and "\\u" in token and SURROGATE.search(json.loads(token)):
             why = "has an unpaired surrogate"

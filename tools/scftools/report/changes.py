@@ -10,7 +10,6 @@ from ..model import constants, tables
 from ..model.answers import DISPOSITIONS, FIRST_X32, Answer
 from ..model.architectures import JUDGED, NATIVE, Architecture
 from ..model.calls import Call
-from ..model.tables import Table
 from ..ask import questions, reasons
 from ..ask.explanation import MORE_SPLITS, join_names
 from ..ask.reasons import Reason
@@ -96,7 +95,7 @@ def _reasons(pair: ProfileComparison, call: Call | None, region: Region | None =
     return {name: pair.reason_of(at, call, region) for at, name in enumerate(pair.names)} if call is not None else {}
 
 
-def _of_regions(pair: ProfileComparison, architecture: Architecture, table: Table) -> list[Change] | None:
+def _of_regions(pair: ProfileComparison, architecture: Architecture, table: tables.Table) -> list[Change] | None:
     """The syscalls of an architecture that differ; None if the differences don't tell."""
     changes, numbers = [], pair.differences.of_architecture(architecture)
     for number in sorted(table.numbers()):

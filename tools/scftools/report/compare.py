@@ -12,12 +12,10 @@ from ..model import bundles, profiles, tables
 from ..model.architectures import JUDGED, NATIVE, Architecture
 from ..model.bpf import looks_at_pointer
 from ..model.calls import SKIPPED, Call
-from ..model.profiles import Origin
 from ..model.tables import Table, Tables
 from ..ask import client, other_abis, reasons, regions, verdicts
 from ..ask.client import Fault, Refusal
 from ..ask.other_abis import AbiAccess
-from ..ask.reasons import Reason
 from ..ask.regions import EVERY_RECORD, Differences, Region, beyond, span_of
 from ..ask.verdicts import (ALL, CALLS, FAILING_WORDS, FOR_OTHER_ABI, LESS, LISTED, MORE, NATIVE_SCOPE, NO_LESS,
                             NO_MORE, RELATIONS, SAME, SCOPES, UNDETERMINED, UNFINISHED, NamedCall, Report, Verdict,
@@ -240,7 +238,7 @@ class Comparison(Pair):
     profile: bytes
     table: Table
     relation: str = SAME
-    origins: Sequence[Origin] | None = None
+    origins: Sequence[profiles.Origin] | None = None
     stub: dict[str, int] = field(default_factory=dict)
     is_native: bool = False
     architecture: str = NATIVE
@@ -331,7 +329,7 @@ class Comparison(Pair):
         others = [] if known.fails else self.of_other_abis(scope, relation)
         return min((known, *others), key=lambda verdict: verdict.order)
 
-    def reason_of(self, at: int, call: Call) -> Reason:
+    def reason_of(self, at: int, call: Call) -> reasons.Reason:
         """The profile's reason for its answer to a syscall."""
         region = self.differences.of(call)
         return reasons.profile_reason(self.profile, self.tables, call.words()) if region is None else \
@@ -535,7 +533,7 @@ class ProfileComparison(Pair):
         return functools.lru_cache(None)(lambda at: regions.Lookup(
             regions.regions_of_profile(self.sides[at].data, self.judged[at])))
 
-    def reason_of(self, at: int, call: Call, region: Region | None = None) -> Reason:
+    def reason_of(self, at: int, call: Call, region: Region | None = None) -> reasons.Reason:
         """A profile's answer to a syscall and its reason: by the differences, of which one may be known to have it, by
         its own regions, or else by `ask`."""
         region = region or self.differences.of(call)

@@ -12,7 +12,6 @@ from ..model import profiles, tables
 from ..model.answers import ALLOWED, DELEGATED, DENIED, Answer
 from ..model.architectures import JUDGED
 from ..model.calls import ARCHITECTURE, NUMBER, Call
-from ..model.tables import Table
 from ..ask import explanation, reasons
 from ..ask.explanation import join_names
 from ..ask.regions import Numbers
@@ -23,7 +22,6 @@ from ..forms.profile_inputs import ProfileInput
 from . import listing
 from .blocks import Block
 from .compare import Comparison, Pair, ProfileComparison, StackComparison, compare_unit
-from .listing import Giver
 
 # What is printed of syscalls that fail a relation.
 FAILED_RELATIONS = {DIFFERS: "that differ", MORE: "answered more permissively than by {}",
@@ -45,7 +43,7 @@ class Newer:
     def has(self, call: Call) -> bool:
         return call.abi in self.bounds and call.number >= self.bounds[call.abi]
 
-    def describe(self, table: Table) -> str:
+    def describe(self, table: tables.Table) -> str:
         firsts = [Call(first, JUDGED[name].number).describe(table) for name, first in self.bounds.items()]
         only, are = "only " * (self.others is None), "is" if len(firsts) == 1 else "are"
         return (f"{only}syscalls with numbers above all that the profile names differ, the first {are} "
@@ -197,7 +195,7 @@ def difference_lines(comparison: Any, verdict: Verdict) -> Iterator[str]:
         before = f"{comparison.title(at)}: " * (len(of_profiles) > 1)
         yield from (before + line for line in reasons.describe_reason(reason, side.data, verdict.call, side.origins))
     for _, giver in found:
-        if isinstance(giver, Giver):
+        if isinstance(giver, listing.Giver):
             name = giver.filter.name if not of_profiles else ""
             yield from giver.last_tests(verdict.call, comparison.table, name)
 

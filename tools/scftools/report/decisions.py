@@ -16,16 +16,12 @@ from ..model.profiles import Origin
 from ..model.tables import Table, Tables
 from ..ask import client, explanation, reasons
 from ..ask.client import Fault, Refusal
-from ..ask.explanation import join_names
-from ..ask.reasons import Reason
 from ..ask.verdicts import FOR_OTHER_ABI, UNDETERMINED
 from ..cli.words import Parser
 from ..forms import refusals
 from ..forms.filters import Filter
-from ..forms.refusals import faulty_filters
 from . import listing
 from .blocks import Block, of_fault
-from .listing import Giver
 
 # No name of a syscall and no number is longer; and the most syscalls of a list, for each of which scf is run, and
 # which together take some seconds.
@@ -162,7 +158,7 @@ def record_words(options: Any) -> list[str] | None:
     return record_queries[0].words() if len(record_queries) == 1 else None
 
 
-def of_givers(filters: Sequence[Filter], givers: Sequence[Giver]) -> Iterator[str]:
+def of_givers(filters: Sequence[Filter], givers: Sequence[listing.Giver]) -> Iterator[str]:
     """Which filter of several gives the answer."""
     names = [giver.filter.name for giver in givers]
     if len(filters) < 2:
@@ -171,7 +167,7 @@ def of_givers(filters: Sequence[Filter], givers: Sequence[Giver]) -> Iterator[st
         yield f"{'both' if len(names) == 2 else f'all {len(names)}'} filters answer so"
     elif names:
         which = "the filter that answers so is" if len(names) == 1 else "the filters that answer so are"
-        yield f"{which} {join_names(names)}"
+        yield f"{which} {explanation.join_names(names)}"
 
 
 @dataclass(frozen=True)
@@ -216,7 +212,7 @@ def stack_decisions(filters: Sequence[Filter], query: Query) -> Reply:
     def members() -> dict[str, object]:
         files = [giver.filter.name for giver in givers]
         if decision.fault:
-            files = faulty_filters(filters, decision.fault)
+            files = refusals.faulty_filters(filters, decision.fault)
         return {**({"filters": files} if len(filters) > 1 and (giver or decision.fault) else {}),
                 **({"path": giver.as_json()} if giver else {})}
 
@@ -230,11 +226,11 @@ def of_run(bpf_filter: Filter, query: Query, with_path: bool) -> Reply:
     decision = path.decision
     members: dict[str, object] = {} if decision.steps is None else {"steps": decision.steps}
     if path.indexes:
-        members["path"] = Giver(bpf_filter, True, path).as_json()
+        members["path"] = listing.Giver(bpf_filter, True, path).as_json()
     return Reply(path.status, path.lines, query.call, decision.answer, decision.fault, members=lambda: members)
 
 
-def is_undetermined(reason: Reason, call: Call, profile: bytes, judged: Tables) -> bool:
+def is_undetermined(reason: reasons.Reason, call: Call, profile: bytes, judged: Tables) -> bool:
     """Whether a syscall is of an architecture that the profile names, and that isn't judged."""
     return reason.is_foreign and call.abi not in judged.of and call.abi in profiles.architectures_of(profile)
 

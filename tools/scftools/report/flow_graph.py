@@ -11,7 +11,6 @@ from collections.abc import Sequence
 from ..base import output
 from ..base.values import dataclass, field
 from ..model import answers, architectures
-from ..model.answers import FIRST_X32
 from ..model.bpf import BY_X, JEQ, JGE, JGT, JUMP, RETURN_CONSTANT
 from ..model.calls import ARCHITECTURE, NUMBER
 from ..model.tables import Table
@@ -125,7 +124,7 @@ def _range_text(low: int, high: int, node: Node, table: Table) -> str:
         texts.append(hex(value))
         if node.word == NUMBER:
             its = node.known.architectures
-            texts[-1] = "x32" if value == FIRST_X32 and answers.X86_64 in its else name_of(value, its, table)
+            texts[-1] = "x32" if value == answers.FIRST_X32 and answers.X86_64 in its else name_of(value, its, table)
         elif node.word == ARCHITECTURE:
             texts[-1] = architectures.shown_name(value) or texts[-1]
     return texts[0] if low == high else f"from {texts[0]} on" if high == GREATEST_WORD else " to ".join(texts)

@@ -14,7 +14,6 @@ from ..model.bpf import BY_X, INSTRUCTION, JEQ, JGE, JGT, JSET, JUMP, LOAD_WORD,
 from ..model.calls import ARCHITECTURE, END, NUMBER, Call, number_text
 from ..model.tables import Table
 from ..ask import client, verdicts
-from ..ask.verdicts import Decision
 from ..forms.filters import Filter
 
 # The names of a record's words, by their indexes.
@@ -178,7 +177,7 @@ class Path:
 
     status: int
     lines: tuple[str, ...]
-    decision: Decision
+    decision: verdicts.Decision
     indexes: tuple[int, ...] = ()
 
     def describe(self) -> str:
@@ -232,7 +231,7 @@ def givers(filters: Sequence[Filter], paths: Sequence[Path], answer: Answer | No
             if path.indexes and path.decision.answer == answer]
 
 
-def run_stack(filters: Sequence[Filter], words: Sequence[str]) -> tuple[int, Decision, list[Path]]:
+def run_stack(filters: Sequence[Filter], words: Sequence[str]) -> tuple[int, verdicts.Decision, list[Path]]:
     """scf's status, what a stack answers to the record that scf's options give, and the path of each of its filters,
     oldest first."""
     bundle = bundles.stack_bundle([bpf_filter.data for bpf_filter in filters])

@@ -17,10 +17,8 @@ from ..model.answers import DISPOSITIONS, ENOSYS, FIRST_X32, Answer
 from ..model.architectures import JUDGED, NATIVE, Architecture
 from ..model.argument_sets import EMPTY_SET, FIRST_UNTESTED, FULL_SET, MOST_STEPS, Sets, Steps, TooMany
 from ..model.profiles import SANDBOX, STRICT, TRAP
-from ..model.tables import Table
 from ..ask import answer_sets, client, other_abis, questions, regions
 from ..ask.answer_sets import FIRST_OPEN, FIRST_UPPER, Answers
-from ..ask.client import Refusal
 from ..ask.explanation import join_names
 from ..ask.questions import EVERYTHING, NOTHING, Asker
 from ..ask.regions import Numbers, Region
@@ -66,7 +64,7 @@ class FilterAnswers:
 
     architecture: Architecture
     sets: Sets
-    table: Table
+    table: tables.Table
     numbers: Sequence[int]
     answers: Sequence[Answers]
     covers: Covers
@@ -257,7 +255,7 @@ class ProfileRequest:
     filters' regions, None if unfinished, whether they begin with runc's stub, and whether TRAP may have data."""
 
     filters: Sequence[Filter]
-    table: Table
+    table: tables.Table
     architecture: Architecture = JUDGED[NATIVE]
     runtime: str | None = None
     others: Sequence[str] = ()
@@ -291,7 +289,7 @@ class ProfileRequest:
         comparison = self.comparison(profile, relation)
         status, report = comparison.run_unchecked()
         if report.fault is not None and report.fault.source != "profile":
-            raise Refusal(report.fault.line, status)
+            raise client.Refusal(report.fault.line, status)
         return report, comparison.stub
 
     def calls(self, profile: dict[str, object], relation: str) -> list[NamedCall]:

@@ -15,7 +15,6 @@ from ..model.calls import NO_CALL
 from ..model.dangerous_calls import dangerous
 from ..model.tables import Table, Tables
 from ..ask import client, explanation, other_abis, questions
-from ..ask.client import Fault, Refusal
 from ..ask.explanation import join_names
 from ..ask.regions import span_of
 from ..ask.verdicts import SAME, UNDECIDED, UNFINISHED, NamedCall, Verdict
@@ -341,7 +340,7 @@ class StackSurface:
     filters: Sequence[Filter]
     surface: Surface | None = None
     beside: Beside | None = None
-    fault: Fault | None = None
+    fault: client.Fault | None = None
 
     def block(self, width: int | None) -> Block:
         """What is printed."""
@@ -402,6 +401,6 @@ def surface_of_stack(filters: Sequence[Filter], beside: Sequence[Filter], table:
         verdict = StackComparison([Filter("", data) for data in surface.asker.filters], beside, table).run()[1].verdict
         both = Beside((surface, surface)) if verdict is not None and verdict.holds else \
             compared_surfaces(surface, surface_of(beside))
-    except Refusal as why:
+    except client.Refusal as why:
         return StackSurface(why.status, refused, fault=why.fault)
     return StackSurface(both.status, filters, surface, both)
