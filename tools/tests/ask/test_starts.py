@@ -19,8 +19,7 @@ class Counting(Case):
     def starts(self, name, *words, status=0, said=""):
         """How often a tool starts scf, but for its version; what it says on standard error."""
         log = self.file("log", "")
-        program = self.file("program",
-                            f'#!/bin/sh\n[ "$1" = --version ] || echo "$@" >>{log}\nexec {PROGRAM} "$@"\n')
+        program = self.file("program", f'#!/bin/sh\n[ "$1" = --version ] || echo "$@" >>{log}\nexec {PROGRAM} "$@"\n')
         os.chmod(program, 0o755)
         with mock.patch.object(client, "PROGRAMS", [program]):
             actual, out, err = self.run_tool(name, *words)
@@ -178,8 +177,7 @@ class OfProcesses(Confined, Counting):
         table = tables.read_table(None)
         numbers = (number for number in table.numbers() if number <= 334 and number != 165)
         names = [table.names_of(number)[0] for number in numbers] + ["clone3"]
-        data, path = self.compiled(json.dumps({
-            "defaultAction": "SCMP_ACT_ERRNO", "architectures": ["SCMP_ARCH_X86_64"],
-            "syscalls": [{"names": names, "action": "SCMP_ACT_ALLOW"}]}))
+        data, path = self.compiled(json.dumps({"defaultAction": "SCMP_ACT_ERRNO", "architectures": ["SCMP_ARCH_X86_64"],
+                                               "syscalls": [{"names": names, "action": "SCMP_ACT_ALLOW"}]}))
         child = self.child([stub(436) + insn(0, 0) + data])
         self.assertEqual(self.starts("verify-process", "--runtime", "runc", str(child.pid), path), 2)

@@ -190,8 +190,7 @@ class Words(Case):
                       'decide --calls-from <(echo read) <(cat "$1")',
                       'run --nr=0 <(cat "$1")', 'check <(cat "$1") <(cat "$1")', 'list <(cat "$1")',
                       'compile --table <(echo read 0) <(cat "$2") >/dev/null'):
-            done = self.run_words(["bash", "-c", f'"$0"/{words}', os.path.dirname(tool("")), self.filter,
-                                   self.profile])
+            done = self.run_words(["bash", "-c", f'"$0"/{words}', os.path.dirname(tool("")), self.filter, self.profile])
             self.assertEqual(done[0::2], (0, ""), words)
 
     def test_files_that_are_not_there(self):

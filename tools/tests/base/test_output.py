@@ -72,8 +72,7 @@ class Hostile(Case):
             for filters, status, verdict in ((self.same, 0, "same"), (self.wrong, 1, "differs")):
                 for scope in ("--all", "--native", "--calls"):
                     with self.subTest(name=name, scope=scope):
-                        actual, out, err = self.run_tool("compare", "--verbose", scope, filters,
-                                                         self.profile(name))
+                        actual, out, err = self.run_tool("compare", "--verbose", scope, filters, self.profile(name))
                         lines = out.split("\n")
                         self.assertEqual((actual, err, lines[0]), (status, "", verdict))
                         self.assertEqual([line for line in lines if line.startswith("skipped ")], [f"skipped {shown}"])

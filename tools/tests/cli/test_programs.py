@@ -306,9 +306,8 @@ class Objects(Case):
                     "unknown": [{"name": "umont2", "nearest": "umount2"}]}
         foreign = {"foreign": [{"kind": kind, "is_decided": True, "not_denied": []} for kind in ("i386", "x32")]}
         alone = self.file("alone.json", profile_of("read", "waitpid", "umont2"))
-        self.assertEqual(found("--all", same, alone),
-                         {"status": 0, "scope": "all", "verdict": "same", "calls": [], **left_out,
-                          "other_architectures": []})
+        self.assertEqual(found("--all", same, alone), {"status": 0, "scope": "all", "verdict": "same", "calls": [],
+                                                       **left_out, "other_architectures": []})
         of_i386 = found(same, profile)
         self.assertEqual({name: of_i386[name] for name in ("status", "scope", "verdict", "architectures", "skipped")},
                          {"status": 1, "scope": "listed", "verdict": "differs", "skipped": ["umont2"],

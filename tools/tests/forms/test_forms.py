@@ -5,7 +5,7 @@ import struct
 import subprocess
 import unittest
 
-from support.common import ALLOW, CORE, EPERM, Case, filter_of, insn, jeq, load, part, profile_of, ret
+from support.common import ALLOW, CORE, EPERM, Case, filter_of, insn, jeq, load, part, profile_of, ret, sample
 from scftools.base import program
 from scftools.forms import c_arrays, filters
 
@@ -14,56 +14,11 @@ ROWS = list(struct.iter_unpack("<HBBI", FILTER))
 ARRAY = "".join(f"{{ {code:#x}, {jt}, {jf}, {k:#010x} }},\n" for code, jt, jf, k in ROWS)
 DECIMALS = f"{len(ROWS)}\n" + "".join(f"{code} {jt} {jf} {k}\n" for code, jt, jf, k in ROWS)
 # What C programs write: the header's macros and constants.
-MACROS = """
-    /* the architecture */
-    BPF_STMT(BPF_LD | BPF_W | BPF_ABS, offsetof(struct seccomp_data, arch)),
-    BPF_JUMP(BPF_JMP + BPF_JEQ + BPF_K, AUDIT_ARCH_X86_64, 1, 0), // x86-64
-    BPF_STMT(BPF_RET | BPF_K, SECCOMP_RET_KILL_PROCESS),
-    BPF_STMT(BPF_LD+BPF_W+BPF_ABS, (offsetof(struct seccomp_data, nr))),
-    BPF_JUMP(BPF_JMP | BPF_JGE | BPF_K, __X32_SYSCALL_BIT, 0, 1),
-    { BPF_RET | BPF_K, 0, 0, (SECCOMP_RET_ERRNO | (ENOSYS & SECCOMP_RET_DATA)) },
-    BPF_JUMP(BPF_JMP | BPF_JEQ | BPF_K, __NR_personality, 0, 3),
-    BPF_STMT(BPF_LD | BPF_W | BPF_ABS, offsetof(struct seccomp_data, args[0]) + 4),
-    BPF_JUMP(BPF_JMP | BPF_JSET | BPF_K, ~(1u << 31), 0, 1),
-    BPF_STMT(BPF_RET | BPF_K, SECCOMP_RET_ERRNO | EPERM),
-    BPF_STMT(BPF_ALU | BPF_AND | BPF_K, -1),
-    BPF_STMT(BPF_MISC | BPF_TAX, 0),
-    { 6, 00, 0x0, 0x7fff0000UL },
-"""
+MACROS = sample("filter_macros.inc")
 DECLARED = "static const struct sock_filter filter[] = {%s};\n" % MACROS
-INCLUDES = """#include <errno.h>
-#include <stddef.h>
-#include <linux/audit.h>
-#include <linux/filter.h>
-#include <linux/seccomp.h>
-#include <sys/syscall.h>
-#ifndef __X32_SYSCALL_BIT
-#define __X32_SYSCALL_BIT 0x40000000
-#endif
-#include <unistd.h>
-"""
+INCLUDES = sample("filter_includes.h")
 # A program with macros of its own, which names what the headers have, in part again, and writes its filter.
-WHOLE = INCLUDES + r"""
-#include <stdio.h>
-/* "Zoë's" sandbox */
-#define AT(field) BPF_STMT(BPF_LD | BPF_W | BPF_ABS, offsetof(struct seccomp_data, field))
-#define SECCOMP_RET_ALLOW 0x7fff0000U // as it is
-#define DENIED (SECCOMP_RET_ERRNO | EPERM)
-#define ALLOW(name, other) \\
-    BPF_JUMP(BPF_JMP | BPF_JEQ | BPF_K, __NR_##name, 1, 0), \\
-    BPF_JUMP(BPF_JMP | BPF_JEQ | BPF_K, SYS_ ## other, 0, 1), BPF_STMT(BPF_RET | BPF_K, SECCOMP_RET_ALLOW)
-static const char *text = "struct sock_filter fake[] = { { 6, 0, 0, 0 } };";
-static int is_there(const struct sock_filter filter[]) { return filter != 0; }
-int main(void)
-{
-    struct sock_filter filter[] = {
-        AT(arch), BPF_JUMP(BPF_JMP | BPF_JEQ | BPF_K, AUDIT_ARCH_X86_64, 1, 0),
-        BPF_STMT(BPF_RET | BPF_K, SECCOMP_RET_KILL_PROCESS),
-        AT(nr), /* } */ ALLOW(read, write), BPF_STMT(BPF_RET | BPF_K, DENIED),
-    };
-    return !is_there(filter) || write(1, filter, sizeof filter) < 0 || text[0] == '}';
-}
-""".replace("\\\\", "\\")
+WHOLE = INCLUDES + sample("whole_filter.c")
 
 
 def dumped(*words):

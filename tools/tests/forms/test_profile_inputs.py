@@ -4,33 +4,13 @@ import os
 import subprocess
 import unittest
 
-from support.common import Case, filter_of, profile_of, tool
+from support.common import Case, filter_of, profile_of, sample, tool
 from support.oci import ALLOW, ERRNO
 from scftools.model import profiles
 from scftools.forms import kubernetes
 
 # As the documentation of the Security Profiles Operator has them.
-YAML = """---
-apiVersion: security-profiles-operator.x-k8s.io/v1beta1
-kind: SeccompProfile
-metadata:
-  namespace: my-namespace
-  name: profile1
-spec:
-  defaultAction: SCMP_ACT_ERRNO
-  architectures:
-  - SCMP_ARCH_X86_64
-  syscalls:
-  - action: SCMP_ACT_ALLOW
-    names:
-    - read
-    - "write"  # quoted
-    - 'exit_group'
-  - action: SCMP_ACT_ALLOW
-    names: [socket]
-    args:
-    - {index: 0, value: 0x28, op: SCMP_CMP_NE}
-"""
+YAML = sample("operator.yaml")
 SPEC = {"defaultAction": ERRNO, "architectures": ["SCMP_ARCH_X86_64"], "syscalls": [
     {"action": ALLOW, "names": ["read", "write", "exit_group"]},
     {"action": ALLOW, "names": ["socket"], "args": [{"index": 0, "value": 40, "op": "SCMP_CMP_NE"}]}]}
@@ -112,8 +92,7 @@ class Kubernetes(Case):
         """Each tool takes an object as it takes its spec."""
         for words in (("ask", "--nr=socket", "--a0=AF_VSOCK"), ("compile",), ("lint",), ("resolve-profile",)):
             done = [subprocess.run([tool(words[0]), *words[1:], path_given], stdout=subprocess.PIPE,
-                                   stderr=subprocess.PIPE,
-                                   check=False) for path_given in (self.plain, path)]
+                                   stderr=subprocess.PIPE, check=False) for path_given in (self.plain, path)]
             self.assertEqual([completed.returncode for completed in done], [0, 0], words)
             self.assertEqual(done[0].stdout, done[1].stdout, words)
             self.assertIn(f"{words[0]}: '{path}' is a SeccompProfile of Kubernetes: its spec is the profile\n",

@@ -38,10 +38,8 @@ class ResolveProfile(Case):
 
     def test_a_plain_profile_stays(self):
         given = engine(entry("read", args=[{"index": 0, "value": 2**64 - 1, "valueTwo": 0, "op": "SCMP_CMP_EQ"}]),
-                       entry("write", action=ERRNO, errnoRet=0),
-                       defaultErrnoRet=38, architectures=["SCMP_ARCH_X86_64"], flags=["SECCOMP_FILTER_FLAG_LOG"],
-                       listenerPath="/run/x",
-                       listenerMetadata="m")
+                       entry("write", action=ERRNO, errnoRet=0), defaultErrnoRet=38, architectures=["SCMP_ARCH_X86_64"],
+                       flags=["SECCOMP_FILTER_FLAG_LOG"], listenerPath="/run/x", listenerMetadata="m")
         self.assertEqual(self.resolved(given), (given, ""))
 
     def test_what_says_nothing_goes(self):

@@ -835,8 +835,7 @@ class Firejail(Case):
     def test_what_is_expected(self):
         expectations = Expectations(Options(tables.read_table(None)))
         expected = expectations.of_firejail(self.started("--profile=p", "--", "--seccomp.drop=rmdir"))
-        self.assertEqual((expected.source, not_compared_of(expected.asked.profile)),
-                         (self.profile, ("SCMP_ARCH_X86",)))
+        self.assertEqual((expected.source, not_compared_of(expected.asked.profile)), (self.profile, ("SCMP_ARCH_X86",)))
         self.assertEqual(json.loads(expected.asked.profile)["syscalls"], [
             {"names": ["mkdir"], "action": "SCMP_ACT_ERRNO", "errnoRet": 1, "comment": "line 1"}])
         expected = expectations.of_firejail(self.started("--profile=p", "--seccomp.drop=rmdir"))
@@ -1121,8 +1120,7 @@ class Output(Case):
         container = container_files.ContainerDescription("ab" * 32, "podman", "crun", 7, "/c", name='a"} 1\nb\\',
                                                          image="i\x1b[0m")
         self.row = audit_rows.AuditRow(audit_rows.CONTAINER, container.identifier, [process(name=b"x\n# y")],
-                                       audit_rows.Expectation(),
-                                  container)
+                                       audit_rows.Expectation(), container)
         self.row.parts = [audit_rows.RowPart({7: [7]}, audit_rows.StackJudgement(audit_rows.NOT_KNOWN, "it\nis"), (9,),
                                              digest="cd" * 32)]
         self.audit = audit_rows.Audit([self.row], machine.Snapshot({7: self.row.processes[0]}), 0.0, 1.5)
@@ -1156,8 +1154,7 @@ class Output(Case):
         """Each name has a label of its own, of some length, from which Prometheus reads it back."""
         long = "x" * (1 << 20)
         names = ["a\nb", "a\\nb", "a\\x0ab", "a\\\\x0ab", "\udcff", "\\xff", "\xff", "\ud800", "\\", '"', '\\"', "x",
-                 long,
-                 f"{long}y", long[:256], long[:257], "\n" * 257, "\n" * 258]
+                 long, f"{long}y", long[:256], long[:257], "\n" * 257, "\n" * 258]
         label = re.compile(r'name="((?:[^"\\\n]|\\["\\n])*)",engine=')
         labels = [label.search(self.metrics_of(name))[1] for name in names]
         self.assertEqual(len({*labels}), len(names))
@@ -1246,10 +1243,9 @@ class Output(Case):
             "1970-01-01T00:00:00Z gone: container gone (was weaker)"])
         printed = audit_output.audit_lines(self.audit, self.table, earlier=earlier)
         lines = [line for line in printed if " since " in line]
-        self.assertEqual(lines, [
-            f"# changed since yes\\x0aterday: {name}: not known (was as configured)",
-            "# new since yes\\x0aterday: unit b.service: weaker",
-            "# gone since yes\\x0aterday: container gone (was weaker)"])
+        self.assertEqual(lines, [f"# changed since yes\\x0aterday: {name}: not known (was as configured)",
+                                 "# new since yes\\x0aterday: unit b.service: weaker",
+                                 "# gone since yes\\x0aterday: container gone (was weaker)"])
         value = audit_output.audit_json(self.audit, self.table, earlier)
         self.assertEqual(value["since"], {"time": "yes\\x0aterday", "changes": changes})
         for name, each in (("audit", value), *(("audit-lines", change) for change in changes)):

@@ -26,9 +26,8 @@ ROOT = unittest.skipIf(os.geteuid(), "only root may do this")
 
 def refusing(*numbers):
     """A filter that refuses these native calls and all foreign ones, and lets a test's process do the rest."""
-    return (load(4) + jeq(X86_64, 1, 0) + ret(KILL_PROCESS) + load(0) + jge(0x40000000, 0, 1) + ret(KILL_PROCESS)
-            + b"".join(jeq(number, len(numbers) - at, 0) for at, number in enumerate(numbers))
-            + ret(ALLOW) + ret(EPERM))
+    return (load(4) + jeq(X86_64, 1, 0) + ret(KILL_PROCESS) + load(0) + jge(0x40000000, 0, 1) + ret(KILL_PROCESS) +
+            b"".join(jeq(number, len(numbers) - at, 0) for at, number in enumerate(numbers)) + ret(ALLOW) + ret(EPERM))
 
 
 def refuses(*names, **members):

@@ -89,8 +89,7 @@ class Gates(Podman, OwnMachine):
         self.runtime("podman")
         rootfs = f"{self.bundle('box', None)}/rootfs"
         status, _, err = self.podman("run", "--detach", "--name", "box", "--cgroup-parent", f"/{self.group}",
-                                     "--rootfs",
-                                     rootfs, "sleep", "1000")
+                                     "--rootfs", rootfs, "sleep", "1000")
         if status:
             self.skipTest(f"podman starts no container here: {err}")
         pid, config, identifier = self.podman("inspect", "-f", "{{.State.Pid}} {{.OCIConfigPath}} {{.Id}}",

@@ -121,8 +121,7 @@ class OfStates(Hook):
         """As oci-hooks(5) has it; the words are those that the hook is called with."""
         words = ["--policy", "no-more", "--keep-first", "--kill"]
         value = json.loads(self.output_of(0, "oci-hook", "--print-hook", *words))
-        self.assertEqual((value["version"], value["when"], value["stages"]), ("1.0.0", {"always": True},
-                                                                              ["poststart"]))
+        self.assertEqual((value["version"], value["when"], value["stages"]), ("1.0.0", {"always": True}, ["poststart"]))
         self.assertEqual((value["hook"]["path"], value["hook"]["args"]), (tool("oci-hook"), ["oci-hook", *words]))
         self.assertRegex(value["hook"]["env"][0], "^PATH=/")
         self.assertEqual(set(value), {"version", "when", "stages", "hook"})
@@ -339,9 +338,8 @@ class OfProcesses(Hook):
         self.addCleanup(comes, lambda: not os.path.exists(f"/proc/{second}"))
         self.assertEqual(child.stdout.readline(), "confined\n")
         status, lines = self.hook(child, refuses("mount"), "--wait=0", "--kill")
-        self.assertEqual((status, lines[:2]), (1, [
-            "container box: not confined as configured (unconfined)",
-            f"process {child.pid} was killed, and 1 more of the container"]))
+        self.assertEqual((status, lines[:2]), (1, ["container box: not confined as configured (unconfined)",
+                                                   f"process {child.pid} was killed, and 1 more of the container"]))
         self.assertIn(f"# process {second} (sleep) has no filter: it isn't confined, and every syscall is allowed",
                       lines)
         self.assertEqual(child.wait(PATIENCE), -signal.SIGKILL)
@@ -359,9 +357,8 @@ class OfProcesses(Hook):
             {"names": ["mount"], "action": "SCMP_ACT_ERRNO"}, {"names": ["mount"], "action": "SCMP_ACT_TRAP"}]})
         child = self.child([refusing(MOUNT)])
         status, lines = self.hook(child, profile)
-        self.assertEqual((status, lines[:2]), (
-            2, ["container box: unknown whether it is confined as configured",
-                "fault profile Conflict number 165 first 0 second 1"]))
+        self.assertEqual((status, lines[:2]), (2, ["container box: unknown whether it is confined as configured",
+                                                   "fault profile Conflict number 165 first 0 second 1"]))
         for words in (["--keep-first"], ["--runtime=runc"], ["--runtime=crun"]):
             self.assertEqual(self.hook(child, profile, *words)[0], 0, words)
 

@@ -10,7 +10,7 @@ import threading
 import time
 from unittest import mock
 
-from support.common import ALLOW, PATIENCE, Case, comes, ret
+from support.common import ALLOW, PATIENCE, Case, comes, ret, sample
 from support.confined import NEWEST, OLDEST, OTHER, Confined, FakeKernel, here, processes, ptrace, status_of
 from scftools.base import child as children
 from scftools.ask import verdicts
@@ -534,23 +534,7 @@ class Real(Confined):
 
 
 # Begins threads, and executes itself from one of them; its words are their count and microseconds.
-EXECUTE = """
-#include <pthread.h>
-#include <stdlib.h>
-#include <unistd.h>
-static char **words;
-static void *waits(void *none) { pause(); return none; }
-static void *executes(void *none) { usleep(atoi(words[2])); execv(words[0], words); return none; }
-int main(int argc, char **argv)
-{
-    pthread_t thread;
-    words = argv;
-    for (int left = atoi(argv[1]); left > 0; left--)
-        pthread_create(&thread, 0, waits, 0);
-    pthread_create(&thread, 0, executes, 0);
-    pause();
-}
-"""
+EXECUTE = sample("execute.c")
 # Tries to look at a process, and prints what is said.
 TRY = """
 import sys

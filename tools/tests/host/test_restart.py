@@ -11,7 +11,7 @@ import unittest
 from unittest import mock
 
 from support.common import (ALLOW, EPERM, I386, KILL_PROCESS, KILL_THREAD, LOG, PATIENCE, TRACE, TRAP, X86_64, Case,
-                            comes, jeq, load, profile_of, ret, text_of)
+                            comes, jeq, load, profile_of, ret, sample, text_of)
 from support.confined import USER_NOTIF, Confined, here, processes, ptrace
 from scftools.base import program
 from scftools.model.calls import Call
@@ -61,30 +61,7 @@ END = {
 CALLS = {**RESTARTED, **BEGIN_ANEW, **END}
 
 # A program of 32 bits: under the filter of a file it sleeps, and prints how that ended.
-PROGRAM_32 = """
-#include <errno.h>
-#include <fcntl.h>
-#include <linux/filter.h>
-#include <stdio.h>
-#include <sys/prctl.h>
-#include <time.h>
-#include <unistd.h>
-int main(int argc, char **argv)
-{
-    static struct sock_filter insns[4096];
-    struct timespec wanted = {WAIT, 0};
-    if (argc < 2)
-        return 0;
-    struct sock_fprog program = {read(open(argv[1], O_RDONLY), insns, sizeof insns) / 8, insns};
-    if (prctl(PR_SET_NO_NEW_PRIVS, 1, 0, 0, 0) || prctl(PR_SET_SECCOMP, 2, &program))
-        return 1;
-    puts("begins");
-    fflush(stdout);
-    int found = nanosleep(&wanted, 0);
-    printf("%d %d\\n", found, found ? errno : 0);
-    return 0;
-}
-"""
+PROGRAM_32 = sample("sleep_32.c")
 
 
 def denying(answer, *numbers, numbers_32=(RESTART_32,)):

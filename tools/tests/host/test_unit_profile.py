@@ -8,7 +8,7 @@ import re
 import shutil
 import unittest
 
-from support.common import CORE, SCF, TABLE, Case, part, text_of, tool
+from support.common import CORE, SCF, TABLE, Case, part, sample, text_of, tool
 from support.own_machine import Systemd
 from support.several import OPERATORS
 from scftools.forms.lists import unit_restrictions
@@ -70,27 +70,7 @@ NATIVE, ALL = ["SCMP_ARCH_X86_64"], ["SCMP_ARCH_X86_64", "SCMP_ARCH_X86", "SCMP_
 # What `systemctl show` prints of an error number that isn't set: INT_MAX - 1.
 KILLED = "2147483646"
 # As `systemd-analyze syscall-filter` prints sets; behind them it tells of calls of the kernel that no set has.
-GROUPS = """@default
-    # System calls that are always permitted
-    brk
-    exit_group
-
-@outer
-    # A set with another one
-    @inner
-    openat
-
-@inner
-    # A set
-    read
-    write
-
-@round
-    @round
-
-# Ungrouped System Calls (known but not included in any of the groups except @known):
-#   mount
-"""
+GROUPS = sample("syscall_filter.txt")
 
 
 class UnitProfile(Case):

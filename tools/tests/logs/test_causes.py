@@ -13,7 +13,7 @@ import unittest
 import unittest.mock
 
 from support.common import (ALLOW, I386, KILL_PROCESS, KILL_THREAD, LOADER, LOG, PATIENCE, TRACE, TRAP, USER_NOTIF,
-                            X86_64, Case, bytes_of, jeq, module, profile_of, ret, text_of)
+                            X86_64, Case, bytes_of, jeq, module, profile_of, ret, sample, text_of)
 from logs import entry, where
 from scftools.model import bpf, tables
 from scftools.forms.filters import Filter
@@ -43,50 +43,11 @@ os.write(1, b"%d %d" % (result, ctypes.get_errno()))
 os._exit(0)
 """
 # A program in C puts itself under a filter that gives an answer to a syscall.
-CONFINES = r"""
-#include <linux/filter.h>
-#include <linux/seccomp.h>
-#include <pthread.h>
-#include <stdlib.h>
-#include <sys/prctl.h>
-#include <sys/resource.h>
-#include <sys/socket.h>
-#include <sys/syscall.h>
-#include <unistd.h>
-static void confine(int number, char *answer)
-{
-    struct sock_filter code[] = {{BPF_LD | BPF_W | BPF_ABS, 0, 0, 0}, {BPF_JMP | BPF_JEQ | BPF_K, 0, 1, number},
-        {BPF_RET, 0, 0, strtoul(answer, 0, 0)}, {BPF_RET, 0, 0, SECCOMP_RET_ALLOW}};
-    struct sock_fprog program = {4, code};
-    prctl(PR_SET_NO_NEW_PRIVS, 1, 0, 0, 0);
-    if (prctl(PR_SET_SECCOMP, SECCOMP_MODE_FILTER, &program))
-        _exit(99);
-}
-"""
+CONFINES = sample("confine.c")
 # The same by int 0x80 of i386, for an answer to socket (359 in asm/unistd_32.h), where the process is one of i386.
-OF_I386 = CONFINES + r"""
-int main(int count, char **words)
-{
-    struct rlimit core = {1 << 28, 1 << 28};
-    setrlimit(RLIMIT_CORE, &core);
-    confine(359, words[1]);
-    return syscall(359, 16, -3, 9, 0x77777777, 5, 6) < 0;
-}
-"""
+OF_I386 = CONFINES + sample("confined_i386.c")
 # One of several threads makes the call.
-THREADS = CONFINES + r"""
-static void *waits(void *none) { pause(); return none; }
-static void *fails(void *none) { usleep(100000); socket(16, 3, 9); return none; }
-int main(int count, char **words)
-{
-    pthread_t thread;
-    confine(41, words[1]);
-    pthread_create(&thread, 0, waits, 0);
-    pthread_create(&thread, 0, fails, 0);
-    pthread_join(thread, 0);
-    return 0;
-}
-"""
+THREADS = CONFINES + sample("confined_threads.c")
 
 
 def answering(answer, number=SOCKET, conditions=()):

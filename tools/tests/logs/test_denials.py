@@ -186,8 +186,7 @@ class Logs(Denials):
         self.assertEqual(self.lines_of("7  fork() = 3", "70  getpid() = 3", f"7  {LOAD}", f"7  {fork}",
                                        f"71  {DENIED}", f"70  {DENIED}"), [("chroot", 1)])
         self.assertEqual(self.lines_of(f"7  {LOAD}", "7  fork( <unfinished ...>", f"71  {DENIED}",
-                                       "7  <... fork resumed>) = 4", f"71  {DENIED}", f"72  {DENIED}"),
-                         [("chroot", 2)])
+                                       "7  <... fork resumed>) = 4", f"71  {DENIED}", f"72  {DENIED}"), [("chroot", 2)])
         # a load for all threads of the process is also for those
         for_all = LOAD.replace(" 0, {", " SECCOMP_FILTER_FLAG_TSYNC, {")
         for before in ((f"7  {thread}", "71  getpid() = 3"), (

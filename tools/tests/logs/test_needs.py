@@ -9,7 +9,7 @@ import subprocess
 import sys
 import unittest
 
-from support.common import CONFINED, LOADER, Case, limited, profile_of, taken, text_of
+from support.common import CONFINED, LOADER, Case, limited, profile_of, sample, taken, text_of
 from support.oci import ALLOW, ERRNO
 from logs import entry, read_log, rules, where
 from scftools.model import tables
@@ -526,9 +526,8 @@ class InArchitectures(Judgement):
         status, out, _ = self.needs(log, "--widen")
         made = json.loads(out)
         self.assertEqual(status, 0)
-        self.assertEqual(made, rules(
-            entry("read", "open", "socketcall", *ALWAYS, "sigreturn"), self.equal("socket", 1), self.equal("socket", 2),
-            self.equal("close", 0xFFFFFFFF), architectures=self.BOTH))
+        self.assertEqual(made, rules(entry("read", "open", "socketcall", *ALWAYS, "sigreturn"), self.equal("socket", 1),
+                                     self.equal("socket", 2), self.equal("close", 0xFFFFFFFF), architectures=self.BOTH))
         self.assertEqual(self.needs(log, profile=made)[0], 0)
         self.assertEqual(self.needs(f"{self.MODE}socket(3, 1) = 3\n", profile=made)[0], 1)
 
@@ -632,10 +631,8 @@ class Least(Judgement):
             for name, value in (("socket", 40), ("wait4", HIGH - 1))]}
         for base, always in ((self.PROFILE, ["exit_group"]), (denying, ALWAYS)):
             made, err = self.least(log, base, 4)
-            self.assertEqual(made["syscalls"], [
-                entry(*always),
-                entry("socket", args=[where(0, "NE", 40)]),
-                self.equal("wait4", (1 << 32) - 1)])
+            self.assertEqual(made["syscalls"], [entry(*always), entry("socket", args=[where(0, "NE", 40)]),
+                                                self.equal("wait4", (1 << 32) - 1)])
             self.assertEqual(err, "".join(f"needs: {call} depends on arg 0: no more is allowed than by PROFILE\n"
                                           for call in ("41 socket", "61 wait4")))
 
@@ -782,32 +779,7 @@ class Hostile(Judgement):
 
 
 # Makes the calls that standard input holds, a number and six arguments each; a filter denies all but exit_group.
-CALLS = r"""
-#include <linux/filter.h>
-#include <linux/seccomp.h>
-#include <stdio.h>
-#include <sys/prctl.h>
-#include <unistd.h>
-static void call(long number, long *a)
-{
-    register long r10 asm("r10") = a[3], r8 asm("r8") = a[4], r9 asm("r9") = a[5];
-    asm volatile("syscall" : "+a"(number) : "D"(a[0]), "S"(a[1]), "d"(a[2]), "r"(r10), "r"(r8), "r"(r9)
-                 : "rcx", "r11", "memory");
-}
-static long calls[1 << 16][7];
-int main(void)
-{
-    struct sock_filter code[] = {{BPF_LD | BPF_W | BPF_ABS, 0, 0, 0}, {BPF_JMP | BPF_JEQ | BPF_K, 0, 1, 231},
-        {BPF_RET, 0, 0, SECCOMP_RET_ALLOW}, {BPF_RET, 0, 0, SECCOMP_RET_ERRNO | 1}};
-    struct sock_fprog program = {4, code};
-    size_t count = fread(calls, sizeof *calls, 1 << 16, stdin);
-    if (prctl(PR_SET_NO_NEW_PRIVS, 1, 0, 0, 0) || prctl(PR_SET_SECCOMP, SECCOMP_MODE_FILTER, &program))
-        return 99;
-    for (size_t at = 0; at < count; at++)
-        call(calls[at][0], calls[at] + 1);
-    _exit(0);
-}
-"""
+CALLS = sample("calls.c")
 
 
 @unittest.skipUnless(shutil.which("strace") and shutil.which("cc"), "there is no strace, or no C compiler here")
@@ -921,26 +893,7 @@ class Real(Judgement):
                     self.assertEqual(self.ended(self.file("least.json", out), *words), plain, (options, words))
 
     # Makes a process by clone3, or, as libc does, by clone if that is ENOSYS; with a word in a user namespace.
-    CLONING = """
-#include <errno.h>
-#include <linux/sched.h>
-#include <signal.h>
-#include <stdio.h>
-#include <sys/syscall.h>
-#include <sys/wait.h>
-#include <unistd.h>
-int main(int count, char **words)
-{
-    struct clone_args args = {.flags = count > 1 ? CLONE_NEWUSER : 0, .exit_signal = SIGCHLD};
-    long child = syscall(SYS_clone3, &args, sizeof args);
-    if (child < 0 && errno == ENOSYS && count == 1)
-        child = syscall(SYS_clone, SIGCHLD, 0, 0, 0, 0);
-    if (child == 0)
-        _exit(0);
-    printf("%d\\n", child < 0 ? errno : 0);
-    return child < 0 || wait(0) != child;
-}
-"""
+    CLONING = sample("clone3.c")
 
     def listed(self):
         """A list as Docker's: without what makes a sandbox useless, and ENOSYS for clone3."""
@@ -1010,21 +963,7 @@ for number, *arguments in eval(sys.argv[1]):
 """
 
     # Makes some calls of i386, and prints for each whether it failed with errno 77; it needs no C library of i386.
-    NARROW = """
-static int call(int number, int a, int b, int c)
-{
-    int result;
-    asm volatile("int $0x80" : "=a"(result) : "0"(number), "b"(a), "c"(b), "d"(c) : "memory");
-    return result;
-}
-static const int calls[][2] = {%s}, words[] = {2, 1, 0};
-void _start(void)
-{
-    for (unsigned at = 0; at < sizeof calls / sizeof *calls; at++)
-        call(4, 1, (int)(call(calls[at][0], calls[at][1], (int)words, 0) == -77 ? "1" : "0"), 1);
-    call(1, 0, 0, 0);
-}
-"""
+    NARROW = sample("i386_calls.c")
 
     def narrow(self, calls):
         """A 32-bit program that makes these calls."""

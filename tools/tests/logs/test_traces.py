@@ -11,7 +11,7 @@ import subprocess
 import sys
 import unittest
 
-from support.common import CONFINED, Case, bytes_of, profile_of, text_of
+from support.common import CONFINED, Case, bytes_of, profile_of, sample, text_of
 from support.containers import Box
 from support.oci import ERRNO
 from forms.test_runtimes import config
@@ -315,20 +315,7 @@ class Words(Case):
 
 
 # Says that it has begun by writev, and ends by exit_group, which are all that it calls.
-BEGUN = """
-static long call(long number, long a, long b, long c)
-{
-    long result;
-    asm volatile("syscall" : "=a"(result) : "0"(number), "D"(a), "S"(b), "d"(c) : "rcx", "r11", "memory");
-    return result;
-}
-void _start(void)
-{
-    struct { const char *text; unsigned long length; } part = {"begun\\n", 6};
-    call(20, 1, (long)&part, 1);
-    call(231, 0, 0, 0);
-}
-"""
+BEGUN = sample("begun.c")
 
 
 @unittest.skipUnless(os.geteuid() == 0 and shutil.which("busybox") and shutil.which("strace") and shutil.which("cc"),

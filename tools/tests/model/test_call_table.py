@@ -4,49 +4,14 @@ import ctypes.util
 import os
 import unittest
 
-from support.common import I386, TABLE, TOP, Case, limited, text_of, tool
+from support.common import I386, TABLE, TOP, Case, limited, sample, text_of, tool
 from scftools.model import architectures, tables
 
-HEADER = """#ifndef _ASM_UNISTD_64_H
-/* #define __NR_commented 9 */
-// #define __NR_commented_too 10
-#define __NR_read 0
-#define __NR_write 1 /* and
-#define __NR_inside 2
-*/ #define __NR_after 3
-#  define __NR_spaced 4 // why
-#\tdefine\t__NR_tabbed\t5
-#define __NR_computed (__NR_read + 1)
-#define __NR_hex 0x10
-#define __NR_syscalls 451
-#define __NR_trailing 6 x
-#define NR_other 7
-#endif
-"""
+HEADER = sample("unistd_64.h")
 
 
 # Rows of arch/x86/entry/syscalls/syscall_64.tbl, as the kernel's source has them.
-SOURCE = """#
-# 64-bit system call numbers and entry vectors
-#
-# The format is:
-# <number> <abi> <name> <entry point> [<compat entry point> [noreturn]]
-#
-0\tcommon\tread\t\t\tsys_read
-60\tcommon\texit\t\t\tsys_exit\t\t\t-\t\t\tnoreturn
-134\t64\tuselib
-335\t64\turetprobe\t\tsys_uretprobe
-
-# don't use numbers 387 through 423, add new calls after the last
-# 'common' entry
-469\tcommon\tfile_setattr\t\tsys_file_setattr
-#
-# Due to a historical design error, certain syscalls are numbered differently
-#
-512\tx32\trt_sigaction\t\tcompat_sys_rt_sigaction
-547\tx32\tpwritev2\t\tcompat_sys_pwritev64v2
-# This is the end of the legacy x32 range.
-"""
+SOURCE = sample("syscall_64.tbl")
 LIMIT, X32 = 4194304, 0x40000000
 # AUDIT_ARCH_AARCH64 and AUDIT_ARCH_ARM (linux/audit.h), which libseccomp takes, too; its x32 is a number of its own.
 AARCH64, ARM = 0xC00000B7, 0x40000028
@@ -285,18 +250,7 @@ class OtherArchitectures(Case):
     """tables/other_architectures.names."""
 
     # What containers-common 0.50.1 and 0.67.1, moby 20.10.24 and 28.5.2, and systemd's units name, and x86-64 lacks.
-    NAMED = """_llseek _newselect arm_fadvise64_64 arm_sync_file_range bdflush breakpoint cacheflush chown32
-        clock_adjtime64 clock_getres_time64 clock_gettime64 clock_nanosleep_time64 clock_settime64 fadvise64_64 fchown32
-        fcntl64 fstat64 fstatat64 fstatfs64 ftruncate64 futex_time64 getegid32 geteuid32 getgid32 getgroups32
-        getresgid32 getresuid32 getuid32 io_pgetevents_time64 ipc lchown32 lstat64 mmap2 mq_timedreceive_time64
-        mq_timedsend_time64 nice oldfstat oldlstat oldolduname oldstat olduname pciconfig_iobase pciconfig_read
-        pciconfig_write ppoll_time64 pselect6_time64 readdir recv recvmmsg_time64 riscv_flush_icache riscv_hwprobe
-        rt_sigtimedwait_time64 s390_pci_mmio_read s390_pci_mmio_write s390_runtime_instr sched_rr_get_interval_time64
-        semtimedop_time64 send sendfile64 set_tls setfsgid32 setfsuid32 setgid32 setgroups32 setregid32 setresgid32
-        setresuid32 setreuid32 setuid32 sgetmask sigaction signal sigpending sigprocmask sigreturn sigsuspend
-        socketcall ssetmask stat64 statfs64 stime swapcontext sync_file_range2 syscall timer_gettime64
-        timer_settime64 timerfd timerfd_gettime64 timerfd_settime64 truncate64 ugetrlimit umount utimensat_time64 vm86
-        vm86old waitpid"""
+    NAMED = sample("names_of_others.txt")
 
     def lines(self):
         return text_of(TOP, "tables", "other_architectures.names").split("\n")

@@ -168,8 +168,7 @@ class Hostile(MeasuredCase):
         self.compares(load(16) + b"".join(jset(1 << at % 32, 0, 1) for at in range(4080)) + ret(ALLOW) * 2,
                       same, unfinished)
         mixed = b"".join(jset(at * 2654435761 % 2**32 | 1, at % 2, 0) for at in range(4080))
-        self.compares(load(16) + mixed + ret(ALLOW) * 2,
-                      same, unfinished, (4, None))
+        self.compares(load(16) + mixed + ret(ALLOW) * 2, same, unfinished, (4, None))
         words = b"".join(load(16 + 4 * (at % 12)) + jset(1 << at // 12, 0, 1) + load(16) for at in range(384))
         self.compares(words + ret(ALLOW), same, unfinished)
         cuts = b"".join(load(16 + 4 * (at % 12)) + jge(at // 12 * 1000 + 500, 0, 1) + load(16) for at in range(1300))

@@ -136,8 +136,7 @@ class TestReadings(unittest.TestCase):
         for command in ("compile", "ask", "compare", "answers"):
             for reading in ("", "Runc", "runc ", "youki"):
                 with self.subTest(command=command, reading=reading):
-                    self.assertEqual(core(command, f"--reading={reading}", given=b""),
-                                     (b"fault command Reading\n", 2))
+                    self.assertEqual(core(command, f"--reading={reading}", given=b""), (b"fault command Reading\n", 2))
         # it is tested before the numbers, and before any input is read
         self.assertEqual(core("ask", "--reading=x", "--nr=x", given=b"x"), (b"fault command Reading\n", 2))
 

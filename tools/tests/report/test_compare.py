@@ -79,8 +79,7 @@ class Compare(Case):
 
         def on_one_call(arch, number):
             """Allows one number of one architecture, and is the profile's filter elsewhere."""
-            return (load(4) + jeq(arch, 0, 3) + load(0) + jeq(number, 0, 1) + ret(ALLOW)
-                    + filter_of([READ, WRITE]))
+            return (load(4) + jeq(arch, 0, 3) + load(0) + jeq(number, 0, 1) + ret(ALLOW) + filter_of([READ, WRITE]))
 
         for arch, number, says in (
                 (I386, 5, "open (5) of the architecture i386\n# --native leaves out other architectures\n"),
@@ -454,8 +453,7 @@ class WithAnotherScf(Case):
         copy = os.path.join(self.folder, "kept")
         for name, data in (("a.bpf", b"A\0AA"), ("b.bpf", b"B\0"), ("p.json", b"{}"), ("t", b"getpid 39\n")):
             self.file(name, data)
-        done = self.run_words([os.path.join(tree, "tools", "compare"), *words],
-                              env={**os.environ, "KEPT": copy})
+        done = self.run_words([os.path.join(tree, "tools", "compare"), *words], env={**os.environ, "KEPT": copy})
         with open(copy, "rb") as bundle, open(f"{copy}.words", encoding="ascii") as handed:
             return done, bundle.read(), handed.read()
 
@@ -505,8 +503,7 @@ class Decide(Case):
         out = self.run_tool("decide", "--nr=0", "--ip", "9", self.file("ip.bpf", ip))[1]
         self.assertTrue(out.startswith("ALLOW 0\n"))
         out = self.run_tool("decide", "--nr=0", "--arch", "0x40000003", self.filter)[1]
-        self.assertEqual(out,
-                         "KILL_PROCESS 0\n# the syscall is restart_syscall (0) of the architecture i386\n"
+        self.assertEqual(out, "KILL_PROCESS 0\n# the syscall is restart_syscall (0) of the architecture i386\n"
                          "# KILL_PROCESS: the process is killed\n# the path in the filter: 0-2\n")
 
     def test_one_start_of_scf(self):

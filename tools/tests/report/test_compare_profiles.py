@@ -99,12 +99,11 @@ class Program(Case):
     def test_numbers_without_a_name(self):
         status, lines = self.compared(READ_WRITE, profile(("read write", "ALLOW", {}), defaultErrnoRet=38), "--table",
                                       self.file("t", b"read 0\nwrite 1\n"))
-        self.assertEqual((status, lines), (1, [
-            "differs", "more 0, less 0, otherwise 0",
-            "# numbers that the table doesn't name get the defaults, for example:",
-            f"2 otherwise {NO_ARGUMENTS} old ERRNO 1 default new ERRNO 38 default",
-            "# old: default: ERRNO 1: the syscall fails with EPERM",
-            "# new: default: ERRNO 38: the syscall fails with ENOSYS"]))
+        self.assertEqual((status, lines), (1, ["differs", "more 0, less 0, otherwise 0",
+                                               "# numbers that the table doesn't name get the defaults, for example:",
+                                               f"2 otherwise {NO_ARGUMENTS} old ERRNO 1 default new ERRNO 38 default",
+                                               "# old: default: ERRNO 1: the syscall fails with EPERM",
+                                               "# new: default: ERRNO 38: the syscall fails with ENOSYS"]))
         for default, kind in (("SCMP_ACT_ALLOW", MORE), ("SCMP_ACT_TRACE", MORE), ("SCMP_ACT_KILL", OTHERWISE)):
             status, lines = self.compared(READ_WRITE, profile(("read write", "ALLOW", {}), default=default), "--table",
                                           self.file("t", b"read 0\nwrite 1\n"), "--json")

@@ -70,8 +70,7 @@ class Expectations(Counting):
     def test_more_rows_than_a_file_may_have(self):
         with mock.patch.object(decisions, "MOST_ROWS", 2):
             self.assertEqual(self.decided("read = ALLOW\n# other\nread = ALLOW\n")[0], 0)
-            self.assertEqual(self.decided("read = ALLOW\n" * 3)[::2],
-                             (2, "decide: the file has more than 2 rows\n"))
+            self.assertEqual(self.decided("read = ALLOW\n" * 3)[::2], (2, "decide: the file has more than 2 rows\n"))
 
     def test_what_is_refused(self):
         for rows, says in (("read ALLOW\n", "line 1 of the rows isn't a syscall"),

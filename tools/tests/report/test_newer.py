@@ -28,14 +28,12 @@ class Newer(Case):
     def test_only_newer_calls(self):
         call, added = self.added(stub(450) + filter_of(self.rules))
         self.assertTrue(call.startswith("call nr 450 "))
-        self.assertEqual(added[:8], [
-            ONLY_ANSWERS,
-            f"only {SAID} set_mempolicy_home_node (450){BOTH}",
-            f"syscalls in the table among these: {COUNT_FROM_450}",
-            "the syscall is set_mempolicy_home_node (450)",
-            "the filter answers ERRNO 38: the syscall fails with ENOSYS",
-            "the profile answers ERRNO 1: the syscall fails with EPERM",
-            "by the default", "the last tests on the path in the filter:"])
+        self.assertEqual(added[:8], [ONLY_ANSWERS, f"only {SAID} set_mempolicy_home_node (450){BOTH}",
+                                     f"syscalls in the table among these: {COUNT_FROM_450}",
+                                     "the syscall is set_mempolicy_home_node (450)",
+                                     "the filter answers ERRNO 38: the syscall fails with ENOSYS",
+                                     "the profile answers ERRNO 1: the syscall fails with EPERM", "by the default",
+                                     "the last tests on the path in the filter:"])
         self.assertRegex(added[-1], r"^ *[0-9]+  ret #0x50026 +// ERRNO 38 \(ENOSYS\)$")
 
     def test_the_first_of_them_is_told(self):

@@ -496,8 +496,7 @@ class OtherArchitectures(Case):
         """The whole profile of one architecture, which scf compares again."""
         status, profile, err = self.printed(data, "--arch", FILES[name])
         self.assertEqual((status, err), (0, said))
-        self.assertEqual(profile,
-                         {**members_of_default(default), "architectures": [name], "syscalls": list(entries)})
+        self.assertEqual(profile, {**members_of_default(default), "architectures": [name], "syscalls": list(entries)})
         native = ["--native"] if name == NATIVE else []
         done = self.run_tool("compare", *native, self.file("f.bpf", data), self.file("p.json", json.dumps(profile)))
         self.assertEqual((done[0], done[1].splitlines()[0]), (0, "same"))

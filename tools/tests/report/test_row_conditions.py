@@ -163,8 +163,7 @@ class Lines(Case):
                     ours = answers.Answer.read(StandIn().decide(filters, call))
                     theirs = self.answer_of(rows[call.number], call.arguments)
                     self.assertEqual(theirs.get("answer", ours.as_json()), ours.as_json(), (seed, call))
-                    self.assertEqual(RANKS.index(theirs["disposition"]), several.disposition(ours.word),
-                                     (seed, call))
+                    self.assertEqual(RANKS.index(theirs["disposition"]), several.disposition(ours.word), (seed, call))
         self.assertGreater(seen, 15)
 
     def is_said_of(self, name, number, code, text):

@@ -3,114 +3,13 @@ import os
 import re
 import sys
 
-from support.common import TOP, Case, for_developers, text_of
+from support.common import TOP, Case, for_developers, sample, text_of
 
 sys.path.append(os.path.join(TOP, "dev"))
 import sources  # noqa: E402
 
-FILES = {
-    "crates.txt": "low: thiserror\ntop: low\n",
-    "crates/low/specs/Lib.antt": "pub mod Words\npub mod Fine\n",
-    "crates/low/specs/Words.antt": """-- Words.
-use Rattle.std.specs.Prelude.{ℕ, List}
-use Rattle.low.specs.declared.kind.Kind.{Kind}
-use Rattle.low.specs.declared.kind.Kind.TheVariants.{Odd, Even}
-use Rattle.low.specs.declared.kind.Kind.TheVariants as kinds
-
--- the low half
--- of a word
-abbrev pub low : ℕ → ℕ
-low n = n
-
--- what nothing cites
-abbrev pub unused : ℕ
-unused = low 1
-
--- Outcomes.
-pub data Outcome : Type 0 where
-  Goes : ℕ → Outcome
-  Ends : Outcome
-
-abbrev pub of_kind : Kind → ℕ
-of_kind Odd = low 1
-of_kind Even = 2
-
-unfoldable pub by_kinds : ℕ → Kind
-by_kinds n = kinds.Odd
-""",
-    "crates/low/specs/Fine.antt": """-- What is fine.
-use Rattle.std.specs.Prelude.{ℕ}
-use Rattle.low.specs.Words.{low as half, Goes}
-use Rattle.low.specs.Words as words
-
--- A number is fine. It isn't unused.
-pub record IsFine (n : ℕ) : Type 0 where
-  pub of_kind : half n ≡ n
-  pub outcome : words.by_kinds n ≡ words.by_kinds n
-""",
-    "crates/low/src/lib.rt": "mod kind;\nmod calls;\n\npub use calls::{made, Made};\npub use kind::Kind;\n",
-    "crates/low/src/kind.rt": """use crate::part::Part;
-
-/// A kind.
-#[derive(Clone)]
-pub enum Kind {
-    /// Odd, as no number of `Other` is.
-    Odd(Part),
-    Even,
-}
-
-pub struct Other(u32);
-""",
-    "crates/low/src/part.rt": "/// A part.\npub struct Part {\n    pub size: u32,\n}\n",
-    "crates/low/src/calls.rt": """ghost use Rattle.low.specs.Fine.{IsFine};
-ghost use Rattle.low.specs.Words.{of_kind, Outcome};
-
-use crate::part::Part;
-
-/// Made.
-pub fn made(n: u32) -> u32
-    requires small { n < 7 }
-    ensures fine { IsFine result }
-    ensures kind { of_kind n ≡ 1 }
-{
-    n
-}
-
-pub struct Made;
-
-impl Made {
-    pub fn get(&self) -> u32
-        ensures { Outcome }
-    {
-        0
-    }
-}
-""",
-    "crates/top/specs/Alike.antt": "use Rattle.low.specs.Fine.{IsFine}\n\nabbrev pub Alike : Type 0\n"
-                                   "Alike = IsFine 1\n",
-    "crates/top/src/lib.rt": "mod calls;\n\npub use calls::{made, Store, stored};\n",
-    "crates/top/src/calls.rt": """ghost use Rattle.top.specs.Alike.{Alike};
-
-pub trait Store {
-    ghost size: { ℕ };
-
-    fn put(&self) -> u32
-        ensures { Alike };
-}
-
-pub fn made(n: u32) -> u32
-    ensures alike { Alike }
-{
-    n
-}
-
-pub fn stored<S: Store>(n: &S) -> u32
-    ensures { S.size ≡ 1 }
-{
-    0
-}
-""",
-}
+# The files of the tree, each behind a line with its path.
+FILES = dict(re.findall(r"(?ms)^==> (\S+) <==\n(.*?)(?=^==> |\Z)", sample("believe.txt")))
 WORDS, FINE, ALIKE = (f"crates/{path}.antt" for path in ("low/specs/Words", "low/specs/Fine", "top/specs/Alike"))
 LOW, BY_KINDS, IS_FINE = f"{WORDS}:7-10 low", f"{WORDS}:25-26 by_kinds", f"{FINE}:6-9 IsFine"
 KIND, PART = "crates/low/src/kind.rt:3-9 Kind", "crates/low/src/part.rt:1-4 Part"

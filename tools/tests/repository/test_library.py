@@ -267,13 +267,12 @@ class Interface(Built):
             self.runs(*words, "install-lib")
             files = {os.path.relpath(os.path.join(at, file), prefix) for at, _, names in os.walk(prefix)
                      for file in names}
-            self.assertEqual(files, {
-                "include/scf.h", "include/scf.hpp", "lib/libscf.a", "lib/libscf.so", "lib/libscf.so.0",
-                "lib/pkgconfig/scf.pc",
-                *(f"lib/python3/dist-packages/scf/{file}" for file in ("__init__.py", "py.typed")),
-                *(f"share/man/man3/{page}.3" for page in (*CALLS, "libscf")),
-                *(f"share/doc/libscf/{file}" for file in ("LICENSE", "LICENCES.md", "LIBRARY.md", "FAULTS.md",
-                                                      "runtime.c"))})
+            self.assertEqual(files, {"include/scf.h", "include/scf.hpp", "lib/libscf.a", "lib/libscf.so",
+                                     "lib/libscf.so.0", "lib/pkgconfig/scf.pc",
+                                     *(f"lib/python3/dist-packages/scf/{file}" for file in ("__init__.py", "py.typed")),
+                                     *(f"share/man/man3/{page}.3" for page in (*CALLS, "libscf")),
+                                     *(f"share/doc/libscf/{file}" for file in ("LICENSE", "LICENCES.md", "LIBRARY.md",
+                                                                               "FAULTS.md", "runtime.c"))})
             env = {"PKG_CONFIG_PATH": f"{prefix}/lib/pkgconfig"}
             flags = shlex.split(self.runs("pkg-config", "--cflags", "--libs", "scf", **env))
             self.assertEqual(flags, [f"-I{prefix}/include", f"-L{prefix}/lib", "-lscf"])

@@ -19,9 +19,8 @@ TOOLS = os.path.join(TOP, "tools")
 # (what takes long is never imported at the start of a tool: Python's dataclasses import inspect)
 DEAR = {"dataclasses", "inspect", "typing"}
 LATE = {"ast", "ctypes", "difflib", "glob", "hashlib", "importlib", "json", "pickle", "resource", "shlex", "signal",
-        "subprocess", "syslog", "tempfile", "threading",
-        "scfhost.audit_page", "scfhost.processes", "scfhost.ptrace", "scfhost.unit_profiles",
-        "scftools.ask.questions", "scftools.ask.regions", "scftools.forms.filter_loads",
+        "subprocess", "syslog", "tempfile", "threading", "scfhost.audit_page", "scfhost.processes", "scfhost.ptrace",
+        "scfhost.unit_profiles", "scftools.ask.questions", "scftools.ask.regions", "scftools.forms.filter_loads",
         "scftools.forms.lists.sandboxes", "scftools.forms.refusals", "scftools.forms.runtimes", "scftools.lint.sarif",
         "scftools.logs.cores", "scftools.report.pages", "scftools.report.region_output",
         "scftools.report.row_conditions", "scftools.report.surface_output"}

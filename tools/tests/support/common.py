@@ -165,6 +165,11 @@ def text_of(*path):
     return bytes_of(*path).decode("utf-8", "replace")
 
 
+def sample(name):
+    """A text that tests have as a file in its own language: a program in C, a header, a table."""
+    return text_of(TOP, "tools", "tests", "samples", name)
+
+
 def comes(holds):
     """Whether something holds in the end."""
     until = time.monotonic() + PATIENCE
@@ -286,8 +291,7 @@ class Case(unittest.TestCase):
             settings.update(preexec_fn=forked(words, settings.get("preexec_fn")), restore_signals=False)
         before = taken()
         done = subprocess.run(words, stdout=settings.pop("stdout", subprocess.PIPE), stderr=subprocess.PIPE,
-                              timeout=PATIENCE, check=False,
-                              cwd=settings.pop("cwd", self.folder), **settings)
+                              timeout=PATIENCE, check=False, cwd=settings.pop("cwd", self.folder), **settings)
         if seconds is not None:
             self.assertLess(taken() - before, seconds, words[:9])
         out = (done.stdout or b"").decode()
@@ -344,8 +348,7 @@ class Case(unittest.TestCase):
         """A tree with the tools, the table and the page of faults, and a program that stands in for scf."""
         tree = tempfile.mkdtemp(dir=self.folder)
         for name in ("tools", "conformance", "tables", "docs"):
-            shutil.copytree(os.path.join(TOP, name), os.path.join(tree, name),
-                            ignore=shutil.ignore_patterns("tests"))
+            shutil.copytree(os.path.join(TOP, name), os.path.join(tree, name), ignore=shutil.ignore_patterns("tests"))
         with open(os.path.join(tree, "scf"), "w", encoding="utf-8") as file:
             # (the tools call it as `scf core`)
             file.write(scf.replace("\n", "\nshift\n", 1))

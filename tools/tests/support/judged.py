@@ -125,8 +125,7 @@ class Pair:
 
     def failing(self, scope, relation):
         """The records in a scope by which a relation is known to fail."""
-        return [record for record, *both in self.answers
-                if SCOPES[scope](record) and not RELATIONS[relation][2](*both)]
+        return [record for record, *both in self.answers if SCOPES[scope](record) and not RELATIONS[relation][2](*both)]
 
 
 class Judged(OnProgram):
