@@ -7,9 +7,8 @@ square of such a length takes minutes.
 import os
 import resource
 import struct
-import subprocess
 
-from support.common import ALLOW, CORE, TOP, profile_of, ret, text_of, tool
+from support.common import ALLOW, CORE, TOP, completed, profile_of, ret, text_of, tool
 from support.measured import MeasuredCase
 
 PROGRAM = "crates/scf/out/scf"
@@ -225,8 +224,7 @@ class Texts(MeasuredCase):
         self.assertEqual(self.ends("objects", *CORE, "compile", given=bundle), 3)
         self.assertIn(f" or {PROGRAM} on a bundle.", text_of(TOP, "docs", "FAULTS.md"))
         with open(bundle, "rb") as file:
-            done = subprocess.run([os.path.join(TOP, PROGRAM), "compile"], stdin=file, stdout=subprocess.PIPE,
-                                  check=False)
+            done = completed([os.path.join(TOP, PROGRAM), "compile"], stdin=file)
         self.assertEqual((done.returncode, len(done.stdout) % 8), (0, 0))
 
     def test_logs(self):

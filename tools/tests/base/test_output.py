@@ -7,7 +7,7 @@ import subprocess
 import sys
 import unittest
 
-from support.common import CORE, PROGRAM, SCF, X86_64, Case, filter_of, insn, profile_of, text_of, tool
+from support.common import CORE, PROGRAM, SCF, X86_64, Case, completed, filter_of, insn, profile_of, text_of, tool
 from support.on_parts import (ALL, ALLOW, ARCH_GATE, NO_TABLE, OnProgram, a_filter, a_table, assembled, beside, bundle,
                               long_filter, ran)
 from scftools.base import output
@@ -139,7 +139,7 @@ class Hostile(Case):
         words = [int.from_bytes(text[at:at + size], "little") for at, size in ((0, 2), (2, 1), (3, 1), (4, 4))]
         spelled = f"raw {words[0]}, {words[1]}, {words[2]}, {words[3]}\n".encode()
         for words in ([*CORE, "asm"], [SCF, "asm"], [SCF, "asm", self.file("spelled", spelled)]):
-            done = subprocess.run(words, input=spelled, stdout=subprocess.PIPE, check=False)
+            done = completed(words, spelled)
             self.assertEqual((done.returncode, done.stdout), (0, text))
         self.is_refused("asm: fault text Mnemonic line 1\nasm: 'LD' is no mnemonic", "asm", self.file("text", "LD"))
 
@@ -168,15 +168,13 @@ class Failing(Case):
             reader, writer = os.pipe()
             os.close(reader)
             with os.fdopen(writer, "wb") as gone:
-                done = subprocess.run([tool(words[0]), *words[1:]], stdout=gone, stderr=subprocess.PIPE,
-                                      stdin=subprocess.DEVNULL, check=False)
+                done = completed([tool(words[0]), *words[1:]], stdout=gone)
             actual = [line for line in done.stderr.decode().split("\n") if not line.startswith("compile: ")]
             self.assertEqual((done.returncode, actual), (-13, [""]), words)
 
     def test_head(self):
-        done = subprocess.run(["sh", "-c", '{ "$0" "$1" "$2"; echo $? >status; } | head -n1', tool("compare"),
-                               self.same, self.profile], cwd=self.folder, stdout=subprocess.PIPE,
-                              stderr=subprocess.PIPE, check=False)
+        done = completed(["sh", "-c", '{ "$0" "$1" "$2"; echo $? >status; } | head -n1', tool("compare"), self.same,
+                          self.profile], cwd=self.folder)
         self.assertEqual((done.stdout, done.stderr), (b"same\n", b""))
         self.assertIn(text_of(self.folder, "status"), ("0\n", "141\n"))
 
@@ -191,8 +189,7 @@ class Failing(Case):
             if "--help" in words:
                 # the words of a tool go to standard error then
                 continue
-            done = subprocess.run(["sh", "-c", '"$@" >&-', "sh", tool(words[0]), *words[1:]], stdin=subprocess.DEVNULL,
-                                  stderr=subprocess.PIPE, check=False)
+            done = completed(["sh", "-c", '"$@" >&-', "sh", tool(words[0]), *words[1:]])
             message = done.stderr.decode()
             self.assertEqual(done.returncode, 2, (words, message))
             self.assertIn(f"{words[0]}: the output failed: ", message)
@@ -201,19 +198,16 @@ class Failing(Case):
     def test_the_other_descriptors_closed(self):
         for closing in ("<&-", "2>&-", "<&- 2>&-"):
             for words in (("decide", "--nr=0", self.same), ("compare", self.same, self.profile)):
-                done = subprocess.run(["sh", "-c", f'"$@" {closing}', "sh", tool(words[0]), *words[1:]],
-                                      stdout=subprocess.PIPE, check=False)
+                done = completed(["sh", "-c", f'"$@" {closing}', "sh", tool(words[0]), *words[1:]])
                 self.assertEqual(done.returncode, 0, (closing, words))
-        done = subprocess.run(["sh", "-c", '"$0" --nr=0 - <&-', tool("run")], stdout=subprocess.PIPE,
-                              stderr=subprocess.PIPE, check=False)
+        done = completed(["sh", "-c", '"$0" --nr=0 - <&-', tool("run")])
         self.assertEqual((done.returncode, done.stdout), (2, b""))
         self.assertIn(b"standard input can't be read", done.stderr)
 
     def test_what_is_said_stays_out_of_the_output_where_standard_error_is_closed(self):
         odd = self.file("odd.json", profile_of("read", "raed"))
         for words in (("compile", odd), ("resolve-profile", odd), ("compile", "none"), ("lint", "--no-such"), ("run",)):
-            ways = [subprocess.run(["sh", "-c", f'exec "$@" {closing}', *PYTHON, tool(words[0]), *words[1:]],
-                                   stdout=subprocess.PIPE, stderr=subprocess.DEVNULL, check=False)
+            ways = [completed(["sh", "-c", f'exec "$@" {closing}', *PYTHON, tool(words[0]), *words[1:]])
                     for closing in ("", "2>&-")]
             self.assertEqual((ways[0].returncode, ways[0].stdout), (ways[1].returncode, ways[1].stdout), words)
 
@@ -231,7 +225,7 @@ class Failing(Case):
     def test_standard_error_that_fails(self):
         with open("/dev/full", "wb") as full:
             for words in (("run", "none"), ("run", "--no-such")):
-                done = subprocess.run([tool(words[0]), *words[1:]], stderr=full, check=False)
+                done = completed([tool(words[0]), *words[1:]], stderr=full)
                 self.assertEqual(done.returncode, 2, words)
 
 
@@ -248,7 +242,7 @@ class OneWrite(OnProgram):
             packets = list(iter(lambda: ours.recv(1 << 20), b""))
         self.assertEqual([len(packet) for packet in packets], [len(ran(words, given)[0])], words)
         with open("/dev/full", "wb") as full:
-            done = subprocess.run([PROGRAM, *words], input=given, stdout=full, check=False)
+            done = completed([PROGRAM, *words], given, stdout=full)
         self.assertEqual(done.returncode, 3, words)
 
     def test_each_command(self):

@@ -10,8 +10,8 @@ import subprocess
 import unittest
 from unittest import mock
 
-from support.common import (CORE, PROGRAM, SCF, TABLE, TOOLS, TOP, Case, bytes_of, filter_of, for_developers, jeq, load,
-                            part, profile_of, ret, source_of, text_of)
+from support.common import (CORE, PROGRAM, SCF, TABLE, TOOLS, TOP, Case, bytes_of, completed, filter_of, for_developers,
+                            jeq, load, part, profile_of, ret, source_of, text_of)
 from support.confined import OLDEST, Confined, here
 from scftools.cli import commands
 
@@ -47,8 +47,7 @@ class Dispatch(Case):
 
     def same(self, first, second, words, given, **settings):
         """Two commands end alike with some words, and print and say the same bytes."""
-        done = [subprocess.run([*command, *words], input=given, capture_output=True, cwd=self.folder, check=False,
-                               **settings) for command in (first, second)]
+        done = [completed([*command, *words], given, cwd=self.folder, **settings) for command in (first, second)]
         self.assertEqual(*((item.returncode, item.stdout, item.stderr) for item in done), words)
 
     def test_core_is_the_program(self):
@@ -88,8 +87,8 @@ class Dispatch(Case):
                                   (["ask", "--nr", "read"], compilation, "ALLOW 0 entry 0\n"),
                                   (["ask", "--nr", "read"], profile, "ALLOW 0 entry 0\n")):
             self.assertEqual(self.scf(*words, given=given), (0, out, ""), words)
-        self.assertEqual(*(subprocess.run(words, input=given, stdout=subprocess.PIPE, check=True).stdout
-                           for words, given in (([SCF, "compile"], profile), ([*CORE, "compile"], compilation))))
+        self.assertEqual(completed([SCF, "compile"], profile, check=True).stdout,
+                         completed([*CORE, "compile"], compilation, check=True).stdout)
         self.assertEqual(json.loads(self.scf("check", "--json", given=filter_)[1])["filters"],
                          [{"file": "-", "status": 0, "instructions": 9}])
 
@@ -126,9 +125,7 @@ class Dispatch(Case):
                          (["explain", "fault", "filter", "Empty"], ["help", "fault", "filter", "Empty"]),
                          (["verify-process", "1", "none"], ["verify", "1", "none"])):
             with self.subTest(old[0]):
-                first, second = (subprocess.run([SCF, *words], input=b"read\nwrite 1\n", stdout=subprocess.PIPE,
-                                                stderr=subprocess.PIPE, cwd=self.folder, check=False)
-                                 for words in (old, new))
+                first, second = (completed([SCF, *words], b"read\nwrite 1\n", cwd=self.folder) for words in (old, new))
                 self.assertEqual((first.returncode, first.stdout, first.stderr.replace(old[0].encode(), b"NAME")), (
                     second.returncode, second.stdout, second.stderr.replace(new[0].encode(), b"NAME")))
                 self.assertEqual((first.returncode, first.stdout), (2, b"") if old[1] == "1" else (0, mock.ANY))

@@ -4,11 +4,10 @@ import glob
 import json
 import os
 import re
-import subprocess
 import sys
 
 from support.common import (ALLOW, CORE, EPERM, I386, KILL_PROCESS, TABLE, TOP, UNKNOWN_ZERO, X86_64, Case, bytes_of,
-                            filter_of, insn, jeq, jge, load, part, profile_of, ret, text_of, tool)
+                            completed, filter_of, insn, jeq, jge, load, part, profile_of, ret, text_of, tool)
 from scftools.cli.commands import NAMES
 from scftools.model import tables
 
@@ -49,8 +48,7 @@ class Check(Case):
 
 class Compile(Case):
     def compiled(self, *words, given=b""):
-        done = subprocess.run([tool("compile"), *words], input=given, stdout=subprocess.PIPE, stderr=subprocess.PIPE,
-                              cwd=self.folder, check=False)
+        done = completed([tool("compile"), *words], given, cwd=self.folder)
         return done.returncode, done.stdout, done.stderr.decode()
 
     def test_usage(self):
@@ -58,7 +56,7 @@ class Compile(Case):
 
     def test_it_is_the_filter_of_scf(self):
         given = part("profile", profile_of("read", "openat")) + part("table", bytes_of(TABLE))
-        expected = subprocess.run([*CORE, "compile"], input=given, stdout=subprocess.PIPE, check=True).stdout
+        expected = completed([*CORE, "compile"], given, check=True).stdout
         profile = self.file("p.json", profile_of("read", "openat"))
         self.assertEqual(self.compiled(profile), (0, expected, ""))
         self.assertEqual(self.compiled("-", given=profile_of("read", "openat")), (0, expected, ""))
@@ -102,8 +100,7 @@ class Compile(Case):
     def test_a_terminal_is_no_place_for_a_filter(self):
         ours, theirs = os.openpty()
         try:
-            done = subprocess.run([tool("compile"), self.file("p.json", profile_of("read"))], stdout=theirs,
-                                  stderr=subprocess.PIPE, check=False)
+            done = completed([tool("compile"), self.file("p.json", profile_of("read"))], stdout=theirs)
         finally:
             os.close(ours)
             os.close(theirs)

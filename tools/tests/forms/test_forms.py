@@ -2,10 +2,10 @@
 import os
 import shutil
 import struct
-import subprocess
 import unittest
 
-from support.common import ALLOW, CORE, EPERM, Case, filter_of, insn, jeq, load, part, profile_of, ret, sample
+from support.common import (ALLOW, CORE, EPERM, Case, completed, filter_of, insn, jeq, load, part, profile_of, ret,
+                            sample)
 from scftools.base import program
 from scftools.forms import c_arrays, filters
 
@@ -22,7 +22,7 @@ WHOLE = INCLUDES + sample("whole_filter.c")
 
 
 def dumped(*words):
-    return subprocess.run(words, input=FILTER, stdout=subprocess.PIPE, check=True).stdout.decode()
+    return completed(words, FILTER, check=True).stdout.decode()
 
 
 class Texts(Case):
@@ -87,11 +87,11 @@ class Texts(Case):
         program_of_it = os.path.join(self.folder, "f")
         status, _, err = self.run_words(["cc", "-w", "-o", program_of_it, source])
         self.assertEqual(status, 0, err)
-        made = subprocess.run([program_of_it], stdout=subprocess.PIPE, check=True).stdout
+        made = completed([program_of_it], check=True).stdout
         self.assertEqual(len(made), 13 * 8)
         for text in (DECLARED, MACROS, "{" + MACROS + "}"):
             self.is_read(text, filters.ARRAY, made)
-        expanded = subprocess.run(["cc", "-E", "-P", source], stdout=subprocess.PIPE, check=True).stdout.decode()
+        expanded = completed(["cc", "-E", "-P", source], check=True).stdout.decode()
         remaining = expanded.split("sock_filter filter")[-1].split("int main")[0]
         self.is_read(f"static const struct sock_filter filter{remaining}", filters.ARRAY, made)
 
@@ -99,7 +99,7 @@ class Texts(Case):
     def test_the_array_of_a_whole_file(self):
         source, program_of_it = self.file("f.c", WHOLE), os.path.join(self.folder, "f")
         self.assertEqual(self.run_words(["cc", "-w", "-o", program_of_it, source])[::2], (0, ""))
-        made = subprocess.run([program_of_it], stdout=subprocess.PIPE, check=True).stdout
+        made = completed([program_of_it], check=True).stdout
         self.assertEqual(len(made), 8 * 8)
         for text in (WHOLE, WHOLE.replace("\n", "\r\n"), WHOLE.replace("filter[] =", "filter[8] =")):
             self.is_read(text, filters.ARRAY, made)
@@ -107,7 +107,7 @@ class Texts(Case):
                                 "struct sock_fprog p = { 8, (struct sock_filter[]) {")
         self.is_read(literal.replace("DENIED),\n    };", "DENIED),\n    } };"), filters.ARRAY, made)
         for words in (["-E"], ["-E", "-P"]):
-            expanded = subprocess.run(["cc", *words, source], stdout=subprocess.PIPE, check=True).stdout.decode()
+            expanded = completed(["cc", *words, source], check=True).stdout.decode()
             self.is_read(expanded, filters.ARRAY, made)
         for words in (["check"], ["surface"], ["compare", self.file("f.bpf", made), "--beside"]):
             self.assertIn(f"'{source}' is read as a C array, instructions: 8\n", self.run_tool(*words, source)[2])
@@ -147,7 +147,7 @@ class Texts(Case):
             self.assertIn(says, self.text_of_error(program.ToolError, filters.form_of, text.encode(), "it"))
 
     def test_assembler(self):
-        listing = subprocess.run([*CORE, "dis"], input=FILTER, stdout=subprocess.PIPE, check=True).stdout.decode()
+        listing = completed([*CORE, "dis"], FILTER, check=True).stdout.decode()
         self.is_read(listing, filters.ASSEMBLER)
         self.is_read("// a comment\n start: ret #0x7fff0000", filters.ASSEMBLER, ret(ALLOW))
         self.assertIn("it begins as scf's assembler text, but isn't one: fault text Operand line 2: the statement is "
@@ -188,7 +188,7 @@ class Raw(Case):
                      insn(0x00, 0x0A0A3130, 0x31, 0x30), insn(0x20, 0x0A0A0A0A, 0x0A, 0x0A)):
             self.assertIsNone(filters.form_of(data, "it"))
             path = self.file("f.bpf", data)
-            expected = subprocess.run([*CORE, "dis"], input=data, stdout=subprocess.PIPE, check=True).stdout.decode()
+            expected = completed([*CORE, "dis"], data, check=True).stdout.decode()
             self.assertIn(expected.split("\n")[0], self.output_of(0, "list", path))
 
     def test_every_code_that_the_kernel_takes_is_below_256(self):

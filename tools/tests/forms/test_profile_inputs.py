@@ -4,7 +4,7 @@ import os
 import subprocess
 import unittest
 
-from support.common import Case, filter_of, profile_of, sample, tool
+from support.common import Case, completed, filter_of, profile_of, sample, tool
 from support.oci import ALLOW, ERRNO
 from scftools.model import profiles
 from scftools.forms import kubernetes
@@ -91,8 +91,7 @@ class Kubernetes(Case):
     def is_plain(self, path):
         """Each tool takes an object as it takes its spec."""
         for words in (("ask", "--nr=socket", "--a0=AF_VSOCK"), ("compile",), ("lint",), ("resolve-profile",)):
-            done = [subprocess.run([tool(words[0]), *words[1:], path_given], stdout=subprocess.PIPE,
-                                   stderr=subprocess.PIPE, check=False) for path_given in (self.plain, path)]
+            done = [completed([tool(words[0]), *words[1:], path_given]) for path_given in (self.plain, path)]
             self.assertEqual([completed.returncode for completed in done], [0, 0], words)
             self.assertEqual(done[0].stdout, done[1].stdout, words)
             self.assertIn(f"{words[0]}: '{path}' is a SeccompProfile of Kubernetes: its spec is the profile\n",
@@ -170,9 +169,8 @@ class Caps(Case):
             done = self.run_tool("resolve-profile", "--keep-first", "--caps", caps, self.engine)
             resolved = self.file(f"{caps}.json", done[1])
             for words in (("ask", "--nr=mount"), ("compile",), ("needs", log), ("lint",), ("why", DENIED_MOUNT)):
-                by_caps, plain = (subprocess.run([tool(words[0]), *more, *words[1:], path], stdout=subprocess.PIPE,
-                                                 stderr=subprocess.PIPE, check=False)
-                                  for more, path in ((("--caps", caps), self.engine), ((), resolved)))
+                by_caps = completed([tool(words[0]), "--caps", caps, *words[1:], self.engine])
+                plain = completed([tool(words[0]), *words[1:], resolved])
                 self.assertEqual(by_caps.returncode, plain.returncode, words)
                 if words[0] != "ask":
                     # (lint tells entries by their places in the engine's file)

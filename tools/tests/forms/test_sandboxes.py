@@ -8,7 +8,7 @@ import subprocess
 import unittest
 from unittest import mock
 
-from support.common import ALLOW, EPERM, Case, bytes_of, jeq, load, ret, text_of
+from support.common import ALLOW, EPERM, Case, bytes_of, completed, jeq, load, ret, text_of
 
 from scftools.model import profiles
 from scftools.forms import filter_loads
@@ -211,8 +211,8 @@ class Templates(Lists):
     @unittest.skipUnless(SNAP_SECCOMP, "there is no snap-seccomp here")
     def test_what_snap_seccomp_compiles(self):
         for text in (self.TEXT, "@complain\nread\nwrite 2\n"):
-            done = subprocess.run([SNAP_SECCOMP, "compile", self.file("source", text), f"{self.folder}/compiled"],
-                                  stdout=subprocess.PIPE, stderr=subprocess.STDOUT, check=False)
+            done = completed([SNAP_SECCOMP, "compile", self.file("source", text), f"{self.folder}/compiled"],
+                             stderr=subprocess.STDOUT)
             self.assertEqual(done.returncode, 0, done.stdout)
             self.loads(text, [bytes_of(f"{self.folder}/compiled")])
 

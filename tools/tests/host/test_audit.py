@@ -9,8 +9,8 @@ import time
 import unittest
 from unittest import mock
 
-from support.common import (ALLOW, EPERM, LOADER, TOP, Case, comes, filter_of, gate, jeq, load, profile_of, ret,
-                            text_of, tool)
+from support.common import (ALLOW, EPERM, LOADER, TOP, Case, comes, completed, filter_of, gate, jeq, load, profile_of,
+                            ret, text_of, tool)
 from support import json_schema
 from support.confined import processes
 from support.own_machine import OwnMachine, Systemd, podman_settings
@@ -1173,8 +1173,8 @@ class Output(Case):
 
     @unittest.skipUnless(shutil.which("promtool"), "there is no promtool here")
     def test_metrics_by_promtool(self):
-        done = subprocess.run(["promtool", "check", "metrics"], input=audit_output.metrics(self.audit).encode(),
-                              stdout=subprocess.PIPE, stderr=subprocess.STDOUT, check=False)
+        done = completed(["promtool", "check", "metrics"], audit_output.metrics(self.audit).encode(),
+                         stderr=subprocess.STDOUT)
         self.assertEqual((done.returncode, done.stdout), (0, b""))
 
     @unittest.skipUnless(shutil.which("promtool"), "there is no promtool here")

@@ -5,10 +5,9 @@ import html.parser
 import os
 import re
 import shutil
-import subprocess
 import unittest
 
-from support.common import ALLOW, EPERM, Case, filter_of, gate, insn, jeq, load, profile_of, ret, text_of
+from support.common import ALLOW, EPERM, Case, completed, filter_of, gate, insn, jeq, load, profile_of, ret, text_of
 from host.test_audit import process
 from scftools.model import tables
 from scftools.ask import verdicts
@@ -163,9 +162,8 @@ class Pages(Case):
     def test_in_a_browser(self):
         """It logs nothing of the page, and shows it with its own style."""
         path = self.file("page.html", self.made())
-        done = subprocess.run([CHROMIUM, "--headless", "--no-sandbox", "--disable-gpu", "--enable-logging=stderr",
-                               f"--user-data-dir={self.folder}/browser", "--dump-dom", f"file://{path}"],
-                              stdout=subprocess.PIPE, stderr=subprocess.PIPE, check=False)
+        done = completed([CHROMIUM, "--headless", "--no-sandbox", "--disable-gpu", "--enable-logging=stderr",
+                          f"--user-data-dir={self.folder}/browser", "--dump-dom", f"file://{path}"])
         self.assertEqual(done.returncode, 0)
         self.assertNotIn(b"CONSOLE", done.stderr)
         self.assertIn(b"<strong class=\"long\">\"&gt;&lt;script&gt;alert(1)&lt;/script&gt;", done.stdout)

@@ -8,7 +8,7 @@ import threading
 import time
 from unittest import mock
 
-from support.common import ALLOW, KILL_PROCESS, PATIENCE, X86_64, comes, insn, jeq, jge, load, ret, tool
+from support.common import ALLOW, KILL_PROCESS, PATIENCE, X86_64, comes, completed, insn, jeq, jge, load, ret, tool
 from support.confined import Confined, FakeKernel, children_of, here, let_on, status_of
 from host.test_filters_of import MOUNT, UMOUNT2, refuses, refusing
 from scftools.base import program
@@ -125,8 +125,8 @@ class OfStates(Hook):
         self.assertEqual((value["hook"]["path"], value["hook"]["args"]), (tool("oci-hook"), ["oci-hook", *words]))
         self.assertRegex(value["hook"]["env"][0], "^PATH=/")
         self.assertEqual(set(value), {"version", "when", "stages", "hook"})
-        done = subprocess.run([value["hook"]["path"], *value["hook"]["args"][1:]], input=b"{}", check=False,
-                              stderr=subprocess.PIPE, env=dict(item.split("=", 1) for item in value["hook"]["env"]))
+        done = completed([value["hook"]["path"], *value["hook"]["args"][1:]], b"{}",
+                         env=dict(item.split("=", 1) for item in value["hook"]["env"]))
         self.assertEqual(done.returncode, 2, done.stderr)
         read, write = os.pipe()
         for file in (read, write):
@@ -513,8 +513,7 @@ class OfTime(Hook):
             status, _, err = self.run_tool("oci-hook", "--kill", f"--deadline={deadline}", "--wait=0", given=given)
             self.assertEqual(status, 2)
             self.assertIn(says, err)
-        done = subprocess.run(["sh", "-c", 'exec "$0" "$@" <&-', tool("oci-hook"), "--kill"], stderr=subprocess.PIPE,
-                              check=False)
+        done = completed(["sh", "-c", 'exec "$0" "$@" <&-', tool("oci-hook"), "--kill"])
         self.assertEqual(done.returncode, 2)
         self.assertIn(b"the state standard input can't be read: Bad file descriptor", done.stderr)
 

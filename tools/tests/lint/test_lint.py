@@ -8,7 +8,7 @@ import subprocess
 import sys
 
 from support import seccomp_library
-from support.common import LOADER, TABLE, TOP, comes, part, profile_of, taken
+from support.common import LOADER, TABLE, TOP, comes, completed, part, profile_of, taken
 from support.stand_in import StandIn
 from base.test_output import HOSTILE
 from forms.test_runtimes import MOBY, PODMAN
@@ -504,8 +504,7 @@ class Partners(Running):
     def run_python(self, given, code):
         """How a Python ends that runs this code behind the filter of a profile."""
         text = f"{LOADER}import signal\nassert load({self.compiled(given)!r}) == 0\n{code}"
-        return subprocess.run([sys.executable, "-IS", "-c", text], stdout=subprocess.PIPE, stderr=subprocess.DEVNULL,
-                              stdin=subprocess.DEVNULL, check=False)
+        return completed([sys.executable, "-IS", "-c", text])
 
     def lacking(self, given, kind):
         return [it.get("names") or it["name"] for it in self.found(given, kinds=(kind,))]
@@ -658,9 +657,8 @@ class Arguments(Linted):
         """What this kernel's tracepoints say of its syscalls."""
         if not os.path.isdir("/sys/kernel/tracing") or os.geteuid():
             self.skipTest("only root reads the kernel's tracepoints")
-        done = subprocess.run(
-            ["unshare", "-m", "sh", "-c", 'mount -t tracefs none "$0" && cd "$0/events/syscalls" && '
-             "cat sys_enter_*/format", self.folder], stdout=subprocess.PIPE, stderr=subprocess.DEVNULL, check=False)
+        done = completed(["unshare", "-m", "sh", "-c", 'mount -t tracefs none "$0" && cd "$0/events/syscalls" && '
+                          "cat sys_enter_*/format", self.folder])
         if done.returncode:
             self.skipTest("this kernel has no tracepoints of syscalls")
         listed, whole = constants.kinds(), {"unsigned long", "long", "size_t", "loff_t", "off_t", "u64", "__u64",
@@ -1456,6 +1454,5 @@ func main() {
         self.file("main.go", source.encode())
         env = {**os.environ, "GOPATH": "/usr/share/gocode", "GO111MODULE": "off", "GOCACHE": self.folder}
         out = self.run_lint(self.ODD, "--sarif")[1]
-        done = subprocess.run(["go", "run", "main.go"], input=out.encode(), cwd=self.folder, env=env,
-                              stderr=subprocess.PIPE, check=False)
+        done = completed(["go", "run", "main.go"], out.encode(), cwd=self.folder, env=env)
         self.assertEqual(done.returncode, 0, done.stderr)

@@ -13,7 +13,7 @@ import unittest
 import unittest.mock
 
 from support.common import (ALLOW, I386, KILL_PROCESS, KILL_THREAD, LOADER, LOG, PATIENCE, TRACE, TRAP, USER_NOTIF,
-                            X86_64, Case, bytes_of, jeq, module, profile_of, ret, sample, text_of)
+                            X86_64, Case, bytes_of, completed, jeq, module, profile_of, ret, sample, text_of)
 from logs import entry, where
 from scftools.model import bpf, tables
 from scftools.forms.filters import Filter
@@ -290,7 +290,7 @@ class Cores(Causes):
     def test_i386(self):
         program = self.built(OF_I386, "-m32")
         self.require_cores()
-        subprocess.run([program, hex(KILL_PROCESS | 3)], cwd=self.folder, check=False)
+        completed([program, hex(KILL_PROCESS | 3)], cwd=self.folder)
         event = cores.read_core(self.found_core())
         self.assertEqual((event.call.number, event.call.architecture, event.call.arguments),
                          (359, I386, (16, 0xFFFFFFFD, 9, 0x77777777, 5, 6)))

@@ -9,7 +9,7 @@ import subprocess
 import sys
 import unittest
 
-from support.common import CONFINED, LOADER, Case, limited, profile_of, sample, taken, text_of
+from support.common import CONFINED, LOADER, Case, completed, limited, profile_of, sample, taken, text_of
 from support.oci import ALLOW, ERRNO
 from logs import entry, read_log, rules, where
 from scftools.model import tables
@@ -810,8 +810,7 @@ class Registers(Case):
         if not os.path.exists(made):
             subprocess.run(["cc", "-x", "c", "-w", "-o", made, "-"], input=CALLS.encode(), check=True)
         data = b"".join(struct.pack("<7q", *call) for call in calls)
-        done = subprocess.run(["strace", "-n", "-o", log, *words, made], input=data, stderr=subprocess.PIPE,
-                              check=False)
+        done = completed(["strace", "-n", "-o", log, *words, made], data)
         if done.returncode == 99 or done.returncode and not os.path.exists(log):
             self.skipTest("strace may not trace, or no filter can be installed here")
         self.assertEqual(done.returncode, 0, done.stderr)
@@ -847,8 +846,7 @@ class Real(Judgement):
     def traced(self, *words, to_file=True):
         log = os.path.join(self.folder, "real.log")
         out = ["-o", log] if to_file else []
-        done = subprocess.run(["strace", "-f", *out, *words, "sh", "-c", self.SCRIPT], stdin=subprocess.DEVNULL,
-                              stdout=subprocess.DEVNULL, stderr=subprocess.PIPE, check=False)
+        done = completed(["strace", "-f", *out, *words, "sh", "-c", self.SCRIPT], stdout=subprocess.DEVNULL)
         if not to_file:
             self.file("real.log", done.stderr)
         elif done.returncode == 1 and not os.path.getsize(log):
@@ -872,8 +870,7 @@ class Real(Judgement):
     def ended(self, profile, *words):
         """How a program ends under a profile's filter, and what it prints."""
         filters = self.filter_file(profile)
-        done = subprocess.run([sys.executable, "-IS", "-c", CONFINED, filters, shutil.which(words[0]), *words[1:]],
-                              stdout=subprocess.PIPE, stderr=subprocess.PIPE, check=False)
+        done = completed([sys.executable, "-IS", "-c", CONFINED, filters, shutil.which(words[0]), *words[1:]])
         if done.returncode == 99:
             self.skipTest("no filter can be installed here")
         return done.returncode, done.stdout
@@ -947,9 +944,8 @@ until curl -s http://127.0.0.1:$p/; do sleep 0.1; done; kill -QUIT $!; wait $!""
                 found = json.loads(self.run_tool("lint", "--json", least)[1])["findings"]
                 self.assertEqual({finding["kind"] for finding in found} - {"dangerous-call"}, set())
                 with open(self.filter_file(least), "rb") as file:
-                    done = subprocess.run(["bwrap", "--bind", "/", "/", "--dev", "/dev", "--proc", "/proc",
-                                           "--seccomp", "0", "sh", program], stdin=file, stdout=subprocess.PIPE,
-                                          stderr=subprocess.PIPE, timeout=120, check=False)
+                    done = completed(["bwrap", "--bind", "/", "/", "--dev", "/dev", "--proc", "/proc", "--seccomp", "0",
+                                      "sh", program], stdin=file, timeout=120)
                 self.assertEqual((done.returncode, done.stdout.decode()), (0, out), done.stderr)
 
     # Makes calls, under a filter where one is given, and prints for each whether it failed with errno 77.

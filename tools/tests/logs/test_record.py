@@ -8,7 +8,7 @@ import subprocess
 import sys
 import unittest
 
-from support.common import ALLOW, EPERM, LOADER, X86_64, Case, bytes_of, jeq, load, ret, text_of, tool
+from support.common import ALLOW, EPERM, LOADER, X86_64, Case, bytes_of, completed, jeq, load, ret, text_of, tool
 from logs import entry, rules, where
 from scftools.model.architectures import NATIVE
 from scftools.forms import c_arrays, filter_loads, filters, strace
@@ -40,7 +40,7 @@ class Traced(Case):
     def trace(self, script, name="log", options=("-f", "-v")):
         """The path of the log of a script of Python's, whose arguments are the filters."""
         log = self.path(name)
-        subprocess.run(["strace", *options, "-o", log, *python(script)], stdout=subprocess.PIPE, check=True)
+        completed(["strace", *options, "-o", log, *python(script)], check=True)
         return log
 
     def run_python(self, name, script, *words):

@@ -11,7 +11,7 @@ import subprocess
 import sys
 import unittest
 
-from support.common import CONFINED, Case, bytes_of, profile_of, sample, text_of
+from support.common import CONFINED, Case, bytes_of, completed, profile_of, sample, text_of
 from support.containers import Box
 from support.oci import ERRNO
 from forms.test_runtimes import config
@@ -54,7 +54,7 @@ class Written(Case):
         log = os.path.join(self.folder, "log")
         # ls asks what its output is
         traced = self.strace("-f", *self.PROGRAM)[0]
-        done = subprocess.run(words, stdout=subprocess.PIPE, stderr=subprocess.PIPE, cwd=self.folder, check=False)
+        done = completed(words, cwd=self.folder)
         text = done.stdout.decode("latin-1")
         if os.path.exists(log):
             text = text_of(log)
@@ -326,8 +326,7 @@ class Containers(Case):
     def least(self, *words):
         log = os.path.join(self.folder, "log")
         if not os.path.exists(log):
-            subprocess.run(["strace", "-f", "-o", log, "busybox", "echo", "begun"], stdout=subprocess.DEVNULL,
-                           check=True)
+            completed(["strace", "-f", "-o", log, "busybox", "echo", "begun"], stdout=subprocess.DEVNULL, check=True)
         status, out, _ = self.run_tool("needs", "--widen", *words, log, self.file("p.json", profile_of()))
         self.assertEqual(status, 0)
         return {**json.loads(out), "architectures": ["SCMP_ARCH_X86_64"]}

@@ -5,11 +5,10 @@ import functools
 import json
 import os
 import random
-import subprocess
 import unittest
 
 from support import judged, several
-from support.common import TOP, Case, insn, jeq, jge, load, ret
+from support.common import TOP, Case, completed, insn, jeq, jge, load, ret
 from support.on_parts import ran
 from support.seccomp_library import NEEDED, Conflict, Library
 from support.stand_in import StandIn, unpacked
@@ -284,8 +283,7 @@ class Worked(Case):
         self.assertEqual(self.run_tool("compare", again, wide)[:2], (0, "same\n"))
 
     def compiled(self, profile, *words):
-        done = subprocess.run([os.path.join(TOP, "tools", "compile"), *words, profile], stdout=subprocess.PIPE,
-                              stderr=subprocess.DEVNULL, check=True)
+        done = completed([os.path.join(TOP, "tools", "compile"), *words, profile], check=True)
         return done.stdout
 
     def test_compile(self):

@@ -4,10 +4,10 @@ import json
 import random
 import re
 import shutil
-import subprocess
 import unittest
 
-from support.common import ALLOW, CORE, EPERM, I386, KILL_PROCESS, X86_64, Case, filter_of, insn, jeq, jge, load, ret
+from support.common import (ALLOW, CORE, EPERM, I386, KILL_PROCESS, X86_64, Case, completed, filter_of, insn, jeq, jge,
+                            load, ret)
 from scftools.model import tables
 from scftools.model.calls import Call
 from scftools.report import flow_graph, listing
@@ -225,7 +225,7 @@ class Graph(Case):
                             ("<b>", "<b>\\l"),
                             ("\x1b[2J\udcff//", "\\\\x1b[2J\\\\xff//\\l"), ("a\nb", "a\\lb\\l")):
             given = flow_graph.digraph([f"n [label={flow_graph.quoted(text)}];"])
-            done = subprocess.run(["dot", "-Tjson"], input=given.encode(), stdout=subprocess.PIPE, check=True)
+            done = completed(["dot", "-Tjson"], given.encode(), check=True)
             self.assertEqual([(node["name"], node["label"]) for node in json.loads(done.stdout)["objects"]],
                              [("n", shown)])
 
@@ -261,6 +261,5 @@ class Graph(Case):
     @unittest.skipUnless(shutil.which("dot"), "there is no graphviz here")
     def test_graphviz_draws_it(self):
         for data in (GATE, insn(0x05, 9), b"".join(insn(code, 0) for code in EVERY_CODE)):
-            done = subprocess.run(["dot", "-Tsvg"], input=self.graph_of(data).encode(), stdout=subprocess.PIPE,
-                                  stderr=subprocess.PIPE, check=False)
+            done = completed(["dot", "-Tsvg"], self.graph_of(data).encode())
             self.assertEqual((done.returncode, done.stderr), (0, b""))

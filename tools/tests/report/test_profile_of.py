@@ -3,12 +3,11 @@ import json
 import operator
 import os
 import random
-import subprocess
 from unittest import mock
 
 from support import several
 from support.common import (ALLOW, EPERM, KILL_PROCESS, KILL_THREAD, LOG, TOP, TRACE, TRAP, USER_NOTIF, X32, X86_64,
-                            Case, gate, insn, jeq, jge, jgt, jset, load, ret, text_of, tool)
+                            Case, completed, gate, insn, jeq, jge, jgt, jset, load, ret, text_of, tool)
 from support.judged import by_disposition
 from support.seccomp_library import NEEDED, Library
 from support.stand_in import StandIn, unpacked
@@ -658,8 +657,7 @@ class OtherArchitectures(Case):
         profile = {"defaultAction": "SCMP_ACT_ERRNO", "architectures": list(several.ARCHITECTURES), "syscalls": [
             entry("ALLOW", "read", "stat64", "waitpid"),
             entry("ALLOW", "personality", index=0, value=8, op="SCMP_CMP_EQ")]}
-        done = subprocess.run([tool("compile"), self.file("p.json", json.dumps(profile))], stdout=subprocess.PIPE,
-                              check=True)
+        done = completed([tool("compile"), self.file("p.json", json.dumps(profile))], check=True)
         self.covers(done.stdout, profile["architectures"], *profile["syscalls"], said=[EACH])
 
     @mock.patch.dict(several.ARCHITECTURES, WITH_TABLES)

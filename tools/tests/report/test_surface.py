@@ -17,8 +17,8 @@ from unittest import mock
 
 from support import several
 from support.common import (ALLOW, EPERM, I386, KILL_PROCESS, KILL_THREAD, LOG, TOP, TRACE, TRAP, UNKNOWN_ZERO,
-                            USER_NOTIF, X32, X86_64, Case, filter_of, gate, insn, jeq, jge, jgt, load, ret, text_of,
-                            tool)
+                            USER_NOTIF, X32, X86_64, Case, completed, filter_of, gate, insn, jeq, jge, jgt, load, ret,
+                            text_of, tool)
 from support.confined import NEWEST, OLDEST, Confined, here
 from support.stand_in import StandIn
 from report.test_why import random_filter
@@ -382,7 +382,7 @@ class Program(Case):
         """It lets -1 through on purpose, and no x32 call."""
         script = ("import seccomp, sys; made = seccomp.SyscallFilter(seccomp.ALLOW); "
                   "made.add_rule(seccomp.ERRNO(1), 'mount'); made.export_bpf(sys.stdout)")
-        done = subprocess.run(["/usr/bin/python3", "-c", script], capture_output=True, check=False)
+        done = completed(["/usr/bin/python3", "-c", script])
         if done.returncode:
             self.skipTest("libseccomp's module of Python isn't here")
         self.assertEqual([StandIn().decide([done.stdout], Call(number)) for number in (0xFFFFFFFF, 0x40000000)],
@@ -754,8 +754,7 @@ class Groups(unittest.TestCase):
     @unittest.skipUnless(shutil.which("systemd-analyze"), "there is no systemd-analyze here")
     def test_the_sets_are_systemds(self):
         """What stands behind a set's name is of this set; systemd's later versions only add to one."""
-        printed = subprocess.run(["systemd-analyze", "syscall-filter"], stdout=subprocess.PIPE,
-                                 stderr=subprocess.DEVNULL, check=False).stdout.decode()
+        printed = completed(["systemd-analyze", "syscall-filter"]).stdout.decode()
         sets = {name: set(names.split()) for name, names in re.findall(r"(?m)^(@\S+)\n((?:    .*\n)*)", printed)}
         self.assertGreater(len(sets), 20)
         now, looked_at = None, 0

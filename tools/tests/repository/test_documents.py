@@ -7,11 +7,10 @@ import json
 import os
 import re
 import shutil
-import subprocess
 import unittest
 
-from support.common import (ALLOW, CORE, PATIENCE, PROGRAM, SCF, TABLE, TOOLS, TOP, Case, bytes_of, filter_of,
-                            for_developers, insn, jeq, load, module, part, profile_of, ret, text_of)
+from support.common import (ALLOW, CORE, PROGRAM, SCF, TABLE, TOOLS, TOP, Case, bytes_of, completed,
+                            filter_of, for_developers, insn, jeq, load, module, part, profile_of, ret, text_of)
 from program import test_answers, test_profiles
 from support.on_parts import assembled, each_of
 
@@ -60,7 +59,7 @@ def status_of(source, kind):
 
 
 def options(command):
-    done = subprocess.run([*CORE, command, "--help"], stdin=subprocess.DEVNULL, stdout=subprocess.PIPE, check=False)
+    done = completed([*CORE, command, "--help"])
     return re.findall(r"--([a-z0-9-]+) <NUMBER>", done.stdout.decode())
 
 
@@ -206,8 +205,7 @@ class Blocks(Page):
         commands = list(commands_of(block))
         script = "".join(f"{command}printf '\\nstatus %s of command {at}\\n' \"$?\"\n" for at,
                          command in enumerate(commands))
-        done = subprocess.run(["sh"], input=script.encode(), cwd=self.folder, stdout=subprocess.PIPE,
-                              stderr=subprocess.PIPE, timeout=PATIENCE, check=False)
+        done = completed(["sh"], script.encode(), cwd=self.folder)
         printed = re.split(r"\nstatus ([0-9]+) of command [0-9]+\n", done.stdout.decode())
         self.assertEqual(len(printed), 2 * len(commands) + 1, done.stderr.decode())
         return [(command, printed[2 * index], int(printed[2 * index + 1]))
@@ -394,8 +392,7 @@ class Manual(Case):
 
     @unittest.skipUnless(shutil.which("groff"), "there is no groff here")
     def test_it_is_shown_without_a_warning(self):
-        done = subprocess.run(["groff", "-man", "-ww", "-Tascii", os.path.join(TOP, "docs", "scf.1")],
-                              stdout=subprocess.PIPE, stderr=subprocess.PIPE, check=False)
+        done = completed(["groff", "-man", "-ww", "-Tascii", os.path.join(TOP, "docs", "scf.1")])
         self.assertEqual((done.returncode, done.stderr.decode()), (0, ""))
         shown = re.sub(r"\x1b\[[0-9;]*m|.\x08", "", done.stdout.decode())
         for heading in ("NAME", "SYNOPSIS", "COMMANDS OF THE PROGRAM", "OPTIONS", "EXIT STATUS", "EXAMPLES"):
@@ -403,7 +400,7 @@ class Manual(Case):
 
     def test_every_command_and_option_stands_there(self):
         text = self.text().replace("\\-", "-").replace("\\", "")
-        done = subprocess.run([PROGRAM, "--help"], stdin=subprocess.DEVNULL, stdout=subprocess.PIPE, check=False)
+        done = completed([PROGRAM, "--help"])
         commands = re.findall(r"^  ([a-z]+) ", done.stdout.decode(), re.M)
         self.assertIn("compare", commands)
         for command in commands:
@@ -495,6 +492,5 @@ class ManualOfTools(Case):
     @unittest.skipUnless(shutil.which("groff"), "there is no groff here")
     def test_they_are_shown_without_a_warning(self):
         for name in TOOLS:
-            done = subprocess.run(["groff", "-man", "-ww", "-Kutf8", "-Tutf8", f"{self.folder}/scf-{name}.1"],
-                                  stdout=subprocess.PIPE, stderr=subprocess.PIPE, check=False)
+            done = completed(["groff", "-man", "-ww", "-Kutf8", "-Tutf8", f"{self.folder}/scf-{name}.1"])
             self.assertEqual((done.returncode, done.stderr.decode()), (0, ""), name)

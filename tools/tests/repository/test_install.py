@@ -9,7 +9,7 @@ import subprocess
 import tempfile
 import unittest
 
-from support.common import TOOLS, TOP, Case, bytes_of, filter_of, profile_of, text_of
+from support.common import TOOLS, TOP, Case, bytes_of, completed, filter_of, profile_of, text_of
 
 MODULES = sorted(os.path.relpath(path, os.path.join(TOP, "tools"))
                  for path in glob.glob(os.path.join(TOP, "tools", "scf*", "**", "*.py"), recursive=True))
@@ -151,8 +151,7 @@ class Install(Case):
     def test_man_finds_the_pages(self):
         self.installed()
         for name in ("scf", *(f"scf-{item}" for item in TOOLS)):
-            done = subprocess.run(["man", "-M", os.path.join(self.prefix, "share", "man"), "-w", name],
-                                  stdout=subprocess.PIPE, stderr=subprocess.PIPE, check=False)
+            done = completed(["man", "-M", os.path.join(self.prefix, "share", "man"), "-w", name])
             self.assertEqual(done.returncode, 0, done.stderr)
 
     def test_every_user_may_use_it_whatever_the_umask(self):

@@ -5,10 +5,9 @@ import json
 import os
 import re
 import shlex
-import subprocess
 
 from support import json_schema
-from support.common import ALLOW, EPERM, SCF, TOOLS, TOP, Case, jeq, load, ret, text_of, tool
+from support.common import ALLOW, EPERM, SCF, TOOLS, TOP, Case, completed, jeq, load, ret, text_of, tool
 from scftools.base import output
 from scftools.cli.commands import ALIASES
 
@@ -39,7 +38,7 @@ def filled(example, printed):
 def commands_with_json():
     """The commands whose --help has --json."""
     for name in TOOLS:
-        done = subprocess.run([tool(name), "--help"], stdin=subprocess.DEVNULL, stdout=subprocess.PIPE, check=True)
+        done = completed([tool(name), "--help"], check=True)
         if b"--json " in done.stdout or b"--json\n" in done.stdout:
             yield name
 

@@ -8,15 +8,14 @@ import random
 import re
 import shlex
 import shutil
-import subprocess
 import sys
 import tempfile
 import unittest
 import zipfile
 from unittest import mock
 
-from support.common import (ALLOW, EPERM, I386, KILL_PROCESS, PATIENCE, TOP, X32, X86_64, Case, filter_of, gate, insn,
-                            jeq, jge, load, part, profile_of, ret, text_of)
+from support.common import (ALLOW, EPERM, I386, KILL_PROCESS, TOP, X32, X86_64, Case, completed, filter_of,
+                            gate, insn, jeq, jge, load, part, profile_of, ret, text_of)
 from support.on_parts import CLONE_BY_AND, assembled
 from support.stand_in import StandIn
 
@@ -726,7 +725,7 @@ class Alike(Case):
         modules = [python_module(), python_module(os.path.join(OUT, "rattle"))]
         refused = compared = 0
         for words, given, made in itertools.islice(self.cases(), self.COUNT):
-            done = subprocess.run([PROGRAM, *words], input=given, stdout=subprocess.PIPE, timeout=PATIENCE, check=False)
+            done = completed([PROGRAM, *words], given)
             printed = self.of_program(words, done.stdout)
             for scf in modules:
                 self.assertEqual(self.of_library(scf, made), (printed, done.returncode), (words, given))

@@ -6,13 +6,12 @@ import os
 import re
 import shlex
 import shutil
-import subprocess
 import sys
 import tarfile
 import tempfile
 import unittest
 
-from support.common import ALLOW, TOP, Case, for_developers, profile_of, ret, text_of
+from support.common import ALLOW, TOP, Case, completed, for_developers, profile_of, ret, text_of
 from repository.test_library import CALLS
 
 HAS_OBJECT = os.path.exists(os.path.join(TOP, "crates", "scf", "out", "scf.o"))
@@ -63,8 +62,7 @@ class Package(Case):
                          (0, "accepted 1\n", ""))
 
     def run_bytes(self, words):
-        done = subprocess.run(words, stdin=subprocess.DEVNULL, stdout=subprocess.PIPE, stderr=subprocess.PIPE,
-                              cwd=self.folder, check=False)
+        done = completed(words, cwd=self.folder)
         return done.returncode, done.stdout, done.stderr
 
     @unittest.skipUnless(shutil.which("dpkg-deb"), "there is no dpkg-deb here")

@@ -170,6 +170,14 @@ def sample(name):
     return text_of(TOP, "tools", "tests", "samples", name)
 
 
+def completed(words, given=b"", **settings):
+    """How a command ends on these bytes: its status, and as bytes what it printed and said."""
+    if "stdin" not in settings:
+        settings["input"] = given
+    return subprocess.run(words, **{"stdout": subprocess.PIPE, "stderr": subprocess.PIPE, "timeout": PATIENCE,
+                                    "check": False, **settings})
+
+
 def comes(holds):
     """Whether something holds in the end."""
     until = time.monotonic() + PATIENCE
@@ -281,17 +289,14 @@ class Case(unittest.TestCase):
         With `seconds` it fails where it and all that it runs take more of them from the processors. A tool isn't
         started but forked, unless it is to have another environment or more files.
         """
-        if isinstance(given, bytes):
-            settings["input"] = given
-        else:
+        if not isinstance(given, bytes):
             settings["stdin"] = given
         if seconds is not None:
             settings["preexec_fn"] = limited(seconds + 1)
         if os.path.dirname(words[0]) == os.path.join(TOP, "tools") and not settings.keys() & {"env", "pass_fds"}:
             settings.update(preexec_fn=forked(words, settings.get("preexec_fn")), restore_signals=False)
         before = taken()
-        done = subprocess.run(words, stdout=settings.pop("stdout", subprocess.PIPE), stderr=subprocess.PIPE,
-                              timeout=PATIENCE, check=False, cwd=settings.pop("cwd", self.folder), **settings)
+        done = completed(words, given, **{"cwd": self.folder, **settings})
         if seconds is not None:
             self.assertLess(taken() - before, seconds, words[:9])
         out = (done.stdout or b"").decode()

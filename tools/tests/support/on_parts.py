@@ -9,7 +9,7 @@ import re
 import subprocess
 import unittest
 
-from .common import CORE, PATIENCE, PROGRAM, part
+from .common import CORE, PROGRAM, completed, part
 
 
 def each_of(rows):
@@ -69,10 +69,7 @@ DIFFERS = re.compile(r"differs\ncall nr (\d+) arch (0x[0-9a-f]{8}) ip 0x[0-9a-f]
 
 def ran(words, given=b"", **settings):
     """What the program prints on these bytes, and its status. It says nothing on standard error."""
-    if "stdin" not in settings:
-        settings["input"] = given
-    done = subprocess.run([PROGRAM, *words], stdout=subprocess.PIPE, stderr=subprocess.PIPE, timeout=PATIENCE,
-                          check=False, **settings)
+    done = completed([PROGRAM, *words], given, **settings)
     if done.stderr:
         raise AssertionError(done.stderr)
     return done.stdout, done.returncode
