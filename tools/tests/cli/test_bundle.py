@@ -7,9 +7,6 @@ from scftools.model import bundles
 
 
 class Bundle(Case):
-    def test_usage(self):
-        self.says_usage("bundle")
-
     def test_a_bundle_is_compared_over_all_records_and_files_are_not(self):
         """As --help says: this filter denies i386's syscalls by another answer than the profile, which doesn't name
         i386."""

@@ -11,7 +11,7 @@ import unittest
 from unittest import mock
 
 from support.common import (CORE, PROGRAM, SCF, TABLE, TOOLS, TOP, Case, bytes_of, completed, filter_of, for_developers,
-                            jeq, load, part, profile_of, ret, source_of, text_of)
+                            jeq, load, part, profile_of, ret, source_of, text_of, tool)
 from support.confined import OLDEST, Confined, here
 from scftools.cli import commands
 
@@ -26,6 +26,56 @@ COMMANDS = re.findall(r"(?m)^  ([a-z-]+) +(\S.*)$", LIST)
 def examples_of(name):
     """The examples in a tool's docstring."""
     return re.findall(r"(?m)^    (scf .*)$", text_of(source_of(name)).partition("\nExamples:\n")[2].partition('"""')[0])
+
+
+# Words that a tool refuses by themselves, and what it says of some.
+WRONG_WORDS = {
+    "answers": [], "ask": [("one", "two"), ("--table=-", "-"), ("none",)], "audit": [("--baseline", "profile.json")],
+    "bundle": [()], "call-table": [("a", "b"), ("--comment",), ("--comment", "two\nlines"), ("--libseccomp", "a"),
+                                   ("-", "-")],
+    "check": [("--json=1",)], "compare": [("one.bpf",)],
+    "compare-profiles": [("one",), ("--no-more", "--no-less", "a", "b"), ("-", "-"), ("--caps", "NO_SUCH", "a", "b"),
+                         ("--kernel", "six", "a", "b"), ("--arch", "arm", "a", "b"), ("--table=-", "-", "b"),
+                         ("none", "none")],
+    "compile": [("one", "two")], "decide": [("--nr",), ("none.bpf",), ("-", "-"), ("--table", "-", "-")],
+    "explain": [("no", "such", "line"), ("a page fault in kernel mode",), ("fault x Y",), ("299",)],
+    "filters-of": [("1",), ("out",), ("--log", "x"), ("--log", "x", "1", "out"), ("1", "out", "--", "true"), ()],
+    "lint": [(), ("--table=-", "-")], "list": [()],
+    "needs": [("a",), ("--profile", "--json", "a", "b"), ("--kubernetes", "a", "log", "p")],
+    "oci-hook": [("x",), ("--policy", "less"), ("--wait", "61"), ("--wait", "nan"), ("--wait", "-1"), ("--table", "-")],
+    "profile-of": [(), ("--no-more", "--no-less", "x"), ("-", "-"), ("--json", "--kubernetes", "a", "f")],
+    "resolve-profile": [(), ("--caps", "NO_SUCH", "-"), ("--kernel", "six", "-"), ("--arch", "arm", "-"),
+                        ("--kubernetes", "A", "p")],
+    "run": [("one", "two")],
+    "surface": [(), ("--pid", "x"), ("--pid", "0"), ("--pid", "1", "f"), ("--pid", str(2**31 - 1)), ("--beside", "f"),
+                ("--table=-", "-"), ("-", "--beside", "-"), ("--arch", "i386", "f", "--beside", "f"), ("none",)],
+    "unit-profile": [()], "verify-process": [("1",)],
+    "why": [(), ("--pid", "1", "--core", "x"), ("--pid", "x"), ("--pid", "0"), ("-", "-")],
+}
+ONE_INPUT, NO_FILE = "only one input can be '-'", "{}: there is no file 'none'\n"
+SAID_OF_WRONG_WORDS = {
+    ("ask", "--table=-", "-"): ONE_INPUT, ("lint", "--table=-", "-"): ONE_INPUT, ("call-table", "-", "-"): ONE_INPUT,
+    **{(name, *["none"] * count): NO_FILE.format(name) for name, count in (("ask", 1), ("compare-profiles", 2),
+                                                                         ("surface", 1))},
+    **{("filters-of", *words): "give PID FOLDER, [FOLDER] -- PROGRAM, or --log LOG FOLDER"
+       for words in WRONG_WORDS["filters-of"][1:]},
+    ("needs", "--profile", "--json", "a", "b"): "leave out --json",
+    ("surface", "--arch", "i386", "f", "--beside", "f"): "either --arch or --beside",
+}
+
+
+class Usage(Case):
+    def test_help(self):
+        """It is printed, by a tool that is started as a user does it."""
+        for name in WRONG_WORDS:
+            self.assertIn("usage", self.out_of(0, self.run_words(["env", tool(name), "--help"])).lower(), name)
+        self.assertIn("EINTR", self.output_of(0, "oci-hook", "--help"))
+
+    def test_wrong_words(self):
+        for name, rows in WRONG_WORDS.items():
+            for words in (("--no-such-option",), *rows):
+                with self.subTest(name, words=words):
+                    self.is_refused(SAID_OF_WRONG_WORDS.get((name, *words), f"{name}: "), name, *words)
 
 
 class Dispatch(Case):

@@ -30,9 +30,6 @@ LOST = "# the profile's default allows syscalls: the rules for these names are l
 
 
 class Check(Case):
-    def test_usage(self):
-        self.says_usage("check", "--json=1")
-
     def test_one_and_several(self):
         good, bad, cut = (self.file(name, data) for name, data in (
             ("good.bpf", ret(ALLOW)), ("bad.bpf", jeq(0, 9, 0) + ret(ALLOW)), ("cut.bpf", b"\6\0")))
@@ -50,9 +47,6 @@ class Compile(Case):
     def compiled(self, *words, given=b""):
         done = completed([tool("compile"), *words], given, cwd=self.folder)
         return done.returncode, done.stdout, done.stderr.decode()
-
-    def test_usage(self):
-        self.says_usage("compile", "one", "two")
 
     def test_it_is_the_filter_of_scf(self):
         given = part("profile", profile_of("read", "openat")) + part("table", bytes_of(TABLE))
@@ -114,9 +108,6 @@ class Calls(Case):
     def setUp(self):
         super().setUp()
         self.filter = self.file("f.bpf", filter_of([0]))
-
-    def test_usage(self):
-        self.says_usage("run", "one", "two")
 
     def test_a_file_without_a_call(self):
         """Number 0 is answered of standard input alone, as by the program."""

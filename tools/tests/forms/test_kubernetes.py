@@ -58,12 +58,6 @@ class Commands(Case):
             expected = {name: it for name, it in json.loads(plain[1]).items() if name != "defaultErrnoRet"}
             self.assertEqual(value["spec"], expected, words)
 
-    def test_usage(self):
-        for words in (("needs", "--kubernetes", "a", "log", "p"), ("profile-of", "--json", "--kubernetes", "a", "f"),
-                      ("resolve-profile", "--kubernetes", "A", "p")):
-            status, out, _ = self.run_tool(*words)
-            self.assertEqual((status, out), (2, ""), words)
-
     def test_what_no_object_states(self):
         profile = self.file("p.json", json.dumps({**READS, "defaultErrnoRet": 38}))
         self.is_refused("the default has the errno 38", "resolve-profile", "--kubernetes", "a", profile)

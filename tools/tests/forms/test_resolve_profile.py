@@ -31,11 +31,6 @@ class ResolveProfile(Case):
         self.is_refusal(says, done)
         self.assertIn("resolve-profile: ", done[2])
 
-    def test_usage(self):
-        self.says_usage("resolve-profile")
-        for words in (("--caps", "NO_SUCH", "-"), ("--kernel", "six", "-"), ("--arch", "arm", "-")):
-            self.is_refused("resolve-profile: ", "resolve-profile", *words)
-
     def test_a_plain_profile_stays(self):
         given = engine(entry("read", args=[{"index": 0, "value": 2**64 - 1, "valueTwo": 0, "op": "SCMP_CMP_EQ"}]),
                        entry("write", action=ERRNO, errnoRet=0), defaultErrnoRet=38, architectures=["SCMP_ARCH_X86_64"],

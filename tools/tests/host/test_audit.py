@@ -1354,7 +1354,6 @@ class Words(Case):
         self.assertTrue(out.endswith(f"# no folder is --runtime-root {self.folder}/no*\n"), out)
 
     def test_usage(self):
-        self.says_usage("audit", "--baseline", "profile.json")
         self.assertIn(": argument --watch: 'x' isn't a number of seconds\n", self.run_tool("audit", "--watch", "x")[2])
         for words in (("--watch", "0"), ("--json", "--json-lines"), ("x",), ("--expect", "none"),
                       ("--baseline", "no-more:none"), ("--expect", "-", "--baseline", "no-more:-")):

@@ -59,12 +59,6 @@ class Hook(Confined):
 class OfStates(Hook):
     """What the runtime says."""
 
-    def test_usage(self):
-        self.assertIn("EINTR", self.output_of(0, "oci-hook", "--help"))
-        for words in (("--no-such-option",), ("x",), ("--policy", "less"), ("--wait", "61"), ("--wait", "nan"),
-                      ("--wait", "-1"), ("--table", "-")):
-            self.is_refused("oci-hook: ", "oci-hook", *words)
-
     def test_states_that_are_none(self):
         bundle = self.bundle(refuses("mount"))
         for given, says in ((b"", "isn't JSON"), (b"{", "isn't JSON"), (b"\xff", "isn't JSON"),

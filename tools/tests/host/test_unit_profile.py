@@ -114,7 +114,6 @@ class UnitProfile(Case):
         self.assertIn(says, err)
 
     def test_usage(self):
-        self.says_usage("unit-profile")
         for words in (("a.service", "--errno", "1"), ("a.service", "--architectures", "x86"), ("a*",), ("",),
                       ("--arch", "i386", "--set", "read"), ("--arch", "mips", "a.service"),
                       ("a.service", "--log", "read"), ("a.service", "b.service"), ("--errno", "EPERM")):

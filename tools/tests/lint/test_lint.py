@@ -78,9 +78,6 @@ class Linted(Checked):
 
 
 class Usage(Linted):
-    def test_usage(self):
-        self.says_usage("lint")
-
     def test_nothing(self):
         clean = profile(entry("read", "write", comment="as it is"), defaultErrnoRet=38)
         for words in ((), ("--strict",)):
@@ -110,7 +107,6 @@ class Usage(Linted):
         config = json.dumps({"ociVersion": "1.0.2", "linux": {"seccomp": profile(entry("reed"))}})
         self.assertEqual(self.run_tool("lint", "-", given=given.encode()), expected)
         self.assertEqual(self.run_tool("lint", self.file("config.json", config)), expected)
-        self.is_refused("only one input can be '-'", "lint", "--table=-", "-")
         self.begins(2, "fault profile TooMany", self.run_tool("lint", "/dev/zero"))
 
     def test_refusals_are_those_of_compile(self):

@@ -736,10 +736,7 @@ class Journals(Causes):
 
 
 class Words(Causes):
-    def test_usage(self):
-        self.says_usage("why")
-        for words in (("--pid", "1", "--core", "x"), ("--pid", "x"), ("--pid", "0"), ("-", "-")):
-            self.assertEqual(self.run_tool("why", *words)[:2], (2, ""), words)
+    def test_files_that_are_no_words(self):
         log = self.file("log", WRITTEN)
         self.is_refused(f"'{log}' is a file: hand it over as standard input", "why", log)
         profile = self.file("p.json", profile_of("read"))

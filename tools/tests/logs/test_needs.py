@@ -286,10 +286,6 @@ class Judgement(Case):
 
 
 class Needs(Judgement):
-    def test_usage(self):
-        self.says_usage("needs", "a")
-        self.is_refused("leave out --json", "needs", "--profile", "--json", "a", "b")
-
     def test_allowed_and_not_allowed(self):
         dispositions, _, out = self.judged("read(3, 0x7f, 1) = 1\nexit_group(0) = ?\n", 0)
         self.assertEqual(dispositions, {"read": "allowed", "exit_group": "allowed"})

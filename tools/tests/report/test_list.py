@@ -30,9 +30,6 @@ class List(Case):
     def meanings(self, data):
         return [line.partition("  // ")[2] for line in self.listed(data)]
 
-    def test_usage(self):
-        self.says_usage("list")
-
     def test_a_listing(self):
         self.assertEqual(self.listed(GATE), [
             "0  ld [4]                 // the architecture",

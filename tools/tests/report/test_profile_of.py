@@ -413,11 +413,6 @@ class Profiles(Case):
         self.table = self.file("own.table", OWN)
         self.assertEqual(self.run_on([ret(ALLOW)], "--limit", "x")[0], 2)
 
-    def test_usage(self):
-        self.says_usage("profile-of")
-        self.assertEqual(self.run_tool("profile-of", "--no-more", "--no-less", "x")[0], 2)
-        self.assertEqual(self.run_tool("profile-of", "-", "-")[0], 2)
-
     def test_an_argument_beside_many_values(self):
         """Each value has an errno of its own, whatever the number: what is known of one number is known of all."""
         code = b"".join(load(16) + jeq(7 * at + 1, 0, 1) + ret(0x00050000 | at + 1) for at in range(100)) + ret(ALLOW)

@@ -58,11 +58,6 @@ class Lines(Case):
         names = [self.file(f"{at}.bpf", data) for at, data in enumerate(filters)]
         return self.run_tool("answers", *words, *names)
 
-    def test_usage(self):
-        out = self.output_of(0, "answers", "--help")
-        self.assertIn("usage: ", out)
-        self.assertEqual(self.run_tool("answers", "--no-such-option")[:2], (2, ""))
-
     def test_standard_input(self):
         """A filter alone is a file; of a bundle the program's own lines are printed."""
         data = filter_of([0])

@@ -293,12 +293,6 @@ class Program(Case):
         names = [self.file(f"{at}.bpf", data) for at, data in enumerate(filters)]
         return self.told("surface", *(["--table", self.table] if table else []), *names, *words)
 
-    def test_usage(self):
-        self.says_usage("surface")
-        for words in (("--pid", "x"), ("--pid", "0"), ("--pid", "1", "f"), ("--beside", "f"), ("--table=-", "-"),
-                      ("-", "--beside", "-")):
-            self.is_refused("surface: ", "surface", *words)
-
     def test_lines(self):
         filters = KNOWN["by an argument"][0]
         status, lines = self.said(filters)
@@ -460,11 +454,9 @@ class Program(Case):
             lines = self.said([only], table=False)[1]
             counted = f"{shown}: allowed 1, depends 0, denied {denied} (--arch {shown} lists them)"
             self.assertEqual(counted in lines, word in ("i386", "x32"), lines[:4])
-        filter_file = self.file("f", ret(ALLOW))
         self.is_refused("surface: no table of the architecture 'sparc': scf has those of x86-64, i386, x32, aarch64, "
                         "arm, riscv64, ppc64le, mipsel, mipsel64, mipsel64n32, loongarch64\n", "surface", "--arch",
-                        "sparc", filter_file)
-        self.is_refused("either --arch or --beside", "surface", "--arch", "i386", filter_file, "--beside", "f")
+                        "sparc", self.file("f", ret(ALLOW)))
 
     def test_json(self):
         filters = KNOWN["all dispositions"][0]
@@ -507,7 +499,6 @@ class Program(Case):
         self.assertTrue(lines[-1].startswith("# the filter is ") and lines[-1].endswith("bad\\x1b[2J.bpf"), lines)
         status, lines = self.said(good, "--json", "--beside", bad)
         self.assertEqual((status, json.loads(lines[0])["fault"]["kind"]), (2, "Jump"))
-        self.is_refused("surface: there is no file 'none'\n", "surface", "none")
 
     def test_what_is_not_understood_ends_it(self):
         """Of a call without a line the relation is taken to hold: so each line must be understood, and the status."""
@@ -734,9 +725,6 @@ class Process(Confined):
         child = self.child([OLDEST], [OLDEST, NEWEST])
         status, out, _ = self.run_tool("surface", "--table", self.file("t", b"read\n"), "--pid", str(child.pid))
         self.assertEqual((status, out.count("fault table Form line 1\n"), out.count("# process")), (2, 1, 0))
-
-    def test_no_process(self):
-        self.is_refused("surface: ", "surface", "--pid", str(2**31 - 1))
 
 
 class Groups(unittest.TestCase):

@@ -173,9 +173,6 @@ class Ask(Case):
     def asked(self, *words, profile=None, given=b""):
         return self.told("ask", *words, profile or self.profile, given=given)
 
-    def test_usage(self):
-        self.says_usage("ask", "one", "two")
-
     def test_an_entry_and_its_conditions(self):
         self.assertEqual(self.asked("--nr", "socket", "--a0", "16", "--a1", "0xf01"), (0, [
             "ALLOW 0 entry 2", "# the syscall is socket (41): socket(AF_NETLINK, SOCK_STREAM|SOCK_NONBLOCK|0x700, "
@@ -217,7 +214,6 @@ class Ask(Case):
         self.assertEqual(expected[1][0], "ALLOW 0 entry 2")
         self.assertEqual(self.asked("--nr=socket", "--a1=1", profile=self.file("config.json", config)), expected)
         self.assertEqual(self.asked("--nr=socket", "--a1=1", profile="-", given=config.encode()), expected)
-        self.is_refused("only one input can be '-'", "ask", "--table=-", "-")
 
     def test_inputs_without_an_end(self):
         for words, status, says in ((("/dev/zero",), 2, "fault profile TooMany"),
@@ -235,7 +231,6 @@ class Ask(Case):
             self.assertTrue(all(line.startswith("# ") for line in lines[1:]) and says[-1] in "\n".join(lines), lines)
         status, lines = self.asked("--nr=99999999999")
         self.assertEqual((status, lines[0]), (2, "fault number nr"))
-        self.is_refused("ask: there is no file 'none'\n", "ask", "none")
 
     def test_a_strangers_entry(self):
         """What an entry holds is one line without a control character, and bounded."""

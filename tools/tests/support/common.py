@@ -340,15 +340,6 @@ class Case(unittest.TestCase):
         with open("/dev/full", "wb") as full:
             return self.run_tool(name, *words, given=given, stdout=full)
 
-    def says_usage(self, name, *without):
-        """--help is printed with status 0; too few words, and an unknown option, are status 2 on standard error.
-
-        For --help it is started, as a user does.
-        """
-        self.assertIn("usage", self.out_of(0, self.run_words(["env", tool(name), "--help"])).lower())
-        for words in (without, ("--no-such-option",)):
-            self.is_refusal(name, self.run_tool(name, *words))
-
     def made_tree(self, scf):
         """A tree with the tools, the table and the page of faults, and a program that stands in for scf."""
         tree = tempfile.mkdtemp(dir=self.folder)
