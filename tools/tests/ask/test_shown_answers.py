@@ -68,7 +68,7 @@ class Tools(Confined):
             self.fails("verify-process", *words, str(child.pid), self.profile)
         self.fails("verify-process", str(child.pid), "--beside", f"{self.folder}/others", side="beside")
         config = {"ociVersion": "1.0.2", "linux": {"seccomp": json.loads(refuses("mount", "swapon"))}}
-        self.file("box/config.json", json.dumps(config))
+        self.file("box/config.json", config)
         state = {"ociVersion": "1.0.2", "id": "box", "status": "running", "pid": child.pid,
                  "bundle": f"{self.folder}/box"}
         status, out, err = self.run_lying("oci-hook", given=json.dumps(state).encode())

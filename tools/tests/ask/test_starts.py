@@ -4,8 +4,8 @@ import json
 import os
 from unittest import mock
 
-from support.common import (ALLOW, EPERM, I386, PROGRAM, X86_64, Case, filter_of, insn, jeq, jge, load, profile_of,
-                            ret, stub, text_of)
+from support.common import (ALLOW, EPERM, I386, PROGRAM, X86_64, Case, bytes_of, filter_of, insn, jeq, jge, load,
+                            profile_of, ret, stub, text_of)
 from support.confined import Confined, here
 from scftools.model import tables
 from scftools.ask import client
@@ -31,8 +31,7 @@ class Counting(Case):
         path = self.file("made.json", text)
         with open(self.file("made.bpf", b""), "wb") as out:
             self.assertEqual(self.run_tool("compile", path, stdout=out)[0], 0)
-        with open(out.name, "rb") as file:
-            return file.read(), path
+        return bytes_of(out.name), path
 
 
 class Starts(Counting):
@@ -91,7 +90,7 @@ class Starts(Counting):
         listed = [f"SCMP_ARCH_{name}" for name in ("X86_64", "X86", "X32")]
         several = {"defaultAction": "SCMP_ACT_ERRNO", "architectures": listed, "syscalls": [
             {"names": [*NAMES, "sigreturn", "ptrace"], "action": "SCMP_ACT_ALLOW"}]}
-        self.assertEqual(self.starts("lint", self.file("p.json", json.dumps(several))), 2)
+        self.assertEqual(self.starts("lint", self.file("p.json", several)), 2)
 
     def test_compare_profiles(self):
         """Both as two sides, where they have the same tables and stubs; else the old one's filter, and its regions."""
@@ -102,9 +101,9 @@ class Starts(Counting):
             self.assertEqual(self.starts("compare-profiles", *words, first, fewer, status=words != ["--no-more"]), 1)
 
         def stated(name, names, architectures=("X86_64",)):
-            return self.file(name, json.dumps({
+            return self.file(name, {
                 "defaultAction": "SCMP_ACT_ERRNO", "architectures": [f"SCMP_ARCH_{each}" for each in architectures],
-                "syscalls": [{"names": names, "action": "SCMP_ACT_ALLOW"}]}))
+                "syscalls": [{"names": names, "action": "SCMP_ACT_ALLOW"}]})
 
         first, other, alike = stated("1", NAMES), stated("2", NAMES[::-1]), stated("3", NAMES[1:])
         greater, listed = stated("4", [*NAMES, "futex_waitv"]), stated("5", NAMES, ("X86_64", "X86"))
@@ -142,7 +141,7 @@ class Starts(Counting):
         number of it."""
         profile = {"defaultAction": "SCMP_ACT_ERRNO", "architectures": ["SCMP_ARCH_X86_64"],
                    "syscalls": [{"names": ["read", "openat2"], "action": "SCMP_ACT_ALLOW"}]}
-        given, says = self.file("p.json", json.dumps(profile)), (
+        given, says = self.file("p.json", profile), (
             "compare: not in the profile: runc answers the numbers from 438 on, above all that the profile names, with "
             "ENOSYS\n")
         for data, status, starts in ((stub(438) + filter_of([0, 437]), 0, 1), (stub(438) + filter_of([0]), 1, 3),

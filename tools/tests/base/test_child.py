@@ -66,8 +66,7 @@ class Child(Case):
 
             for work in (waits, lambda: time.sleep(600), lambda: os.kill(os.getpid(), signal.SIGSTOP)):
                 begun = time.monotonic()
-                with self.assertRaises(child.Late):
-                    child.run_in_child(work, 0.2)
+                self.assertRaises(child.Late, child.run_in_child, work, 0.2)
                 self.assertLess(time.monotonic() - begun, 60)
 
     def test_its_own_timer_ends_it(self):
@@ -201,8 +200,7 @@ class Child(Case):
             self.assertEqual(child.checked(value, form), value)
         for value in (None, {}, {"a": True, "b": [], "c": None}, {"a": 1, "b": [1], "c": None}, [True], "x",
                       {"a": 1, "b": [], "c": 0}, {"a": 1, "b": [], "c": None, "d": 1}, {"a": 1.0, "b": [], "c": None}):
-            with self.assertRaises(TypeError):
-                child.checked(value, form)
+            self.assertRaises(TypeError, child.checked, value, form)
 
     def test_shares(self):
         """Each has what the others leave, and no more than its share of the rest."""
@@ -233,8 +231,7 @@ class Child(Case):
         with mock.patch.object(child, "TO_END", 0.1), self.assertRaises(child.Interrupted):
             child.run_in_child(lambda: os.kill(os.getppid(), signal.SIGTERM) or time.sleep(600), 60)
         signal.signal(signal.SIGTERM, signal.SIG_IGN)
-        with self.assertRaises(child.Late):
-            child.run_in_child(waits, 0.3)
+        self.assertRaises(child.Late, child.run_in_child, waits, 0.3)
 
     def test_where_ended_children_are_not_told(self):
         """SIGCHLD is ignored, which a program inherits."""

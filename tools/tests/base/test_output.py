@@ -65,7 +65,7 @@ class Hostile(Case):
     def profile(self, *names, architectures=()):
         top = {"defaultAction": "SCMP_ACT_ERRNO", "architectures": ["SCMP_ARCH_X86_64", *architectures],
                "syscalls": [{"names": ["read", *names, "write"], "action": "SCMP_ACT_ALLOW"}]}
-        return self.file("p.json", json.dumps(top))
+        return self.file("p.json", top)
 
     def test_each_name_is_one_line_without_a_control_character(self):
         for name, shown in HOSTILE.items():

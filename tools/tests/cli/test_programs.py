@@ -80,7 +80,7 @@ class Compile(Case):
                             (("X86_64", "MIPS"), "compile: the profile's other architectures aren't judged, since scf "
                              f"has no table of them: {kills}")):
             given = {"defaultAction": "SCMP_ACT_ALLOW", "architectures": [f"SCMP_ARCH_{name}" for name in names]}
-            self.assertEqual(self.compiled(self.file("p.json", json.dumps(given)))[2], says)
+            self.assertEqual(self.compiled(self.file("p.json", given))[2], says)
 
     def test_refusals_go_to_standard_error(self):
         table = self.file("t", b"read\n")

@@ -150,7 +150,7 @@ class Hot(Case):
         """The steps in some architectures, by counts."""
         names = ["execve", *list(tables.read_table(None).names())[::3]]
         profile = {**json.loads(profile_of(*names)), "architectures": listed}
-        hot, path = self.file("hot", text), self.file("p.json", json.dumps(profile))
+        hot, path = self.file("hot", text), self.file("p.json", profile)
         out = self.output_of(0, "compile", "--json", "--no-bitmap", "--hot", hot, path)
         filter_ = bytes.fromhex(json.loads(out)["hex"])
         return [steps(filter_, tables.architecture_table(name).number_of("execve"), JUDGED[name].number)

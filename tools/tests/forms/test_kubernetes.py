@@ -48,7 +48,7 @@ class Commands(Case):
     def test_each_prints_one(self):
         """What a command prints is read again as what it prints without the option."""
         log = self.file("log", "read(0, 1, 2) = 0\nsocket(AF_INET, 1, 0) = 3\n")
-        profile, filter_ = self.file("p.json", json.dumps(SPEC)), self.file("f.bpf", filter_of([0, 1]))
+        profile, filter_ = self.file("p.json", SPEC), self.file("f.bpf", filter_of([0, 1]))
         for words in (("needs", "--profile", log, profile), ("profile-of", filter_), ("resolve-profile", profile)):
             plain = self.run_tool(*words)
             status, out, err = self.run_tool(words[0], "--kubernetes", "a.b", *words[1:])
@@ -59,16 +59,16 @@ class Commands(Case):
             self.assertEqual(value["spec"], expected, words)
 
     def test_what_no_object_states(self):
-        profile = self.file("p.json", json.dumps({**READS, "defaultErrnoRet": 38}))
+        profile = self.file("p.json", {**READS, "defaultErrnoRet": 38})
         self.is_refused("the default has the errno 38", "resolve-profile", "--kubernetes", "a", profile)
 
     def test_recordings(self):
         """A recorded object is a log of what it allows."""
-        profile = self.file("p.json", json.dumps(READS))
+        profile = self.file("p.json", READS)
         yaml = [YAML, YAML.removeprefix("---\n")] if HAS_YAML else []
         for name, text in enumerate([json.dumps(OBJECT), *yaml]):
             status, out, err = self.run_tool("needs", self.file(str(name), text), profile)
             self.assertEqual((status, [line.split()[1] for line in out.splitlines() if line[0] != "#"]),
                              (1, ["write", "socket", "exit_group"]), (out, err))
-        status, _, err = self.run_tool("needs", self.file("o.json", json.dumps({**OBJECT, "kind": "Pod"})), profile)
+        status, _, err = self.run_tool("needs", self.file("o.json", {**OBJECT, "kind": "Pod"}), profile)
         self.assertEqual((status, "it is a Kubernetes object of the kind Pod" in err), (2, True))

@@ -29,8 +29,7 @@ class Files(Case):
         self.assertEqual((of_profile.name, of_file.data), (profile, filter_of([0])))
         made = self.file("made.bpf", of_profile.data)
         self.assertEqual(self.run_tool("compare", "--table", TABLE, made, profile)[0], 0)
-        with self.assertRaises(program.ToolError):
-            operands.read_stacks([profile])
+        self.assertRaises(program.ToolError, operands.read_stacks, [profile])
 
     def test_what_is_refused(self):
         filter_, profile = self.file("f.bpf", filter_of([0])), self.file("p.json", profile_of("read"))

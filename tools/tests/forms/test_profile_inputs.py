@@ -36,7 +36,7 @@ class Unread(Case):
         allows = self.file("f.bpf", filter_of([0]))
         for profile, says in misspelt.values():
             remark = f": 'p.json': nothing reads the member {says}\n"
-            self.file("p.json", json.dumps(profile))
+            self.file("p.json", profile)
             for words in (("ask", "--nr=0"), ("compare", allows), ("needs", self.file("log", "read() = 0\n"))):
                 status, out, err = self.run_tool(*words, "p.json")
                 self.assertIn(status, (0, 1), words)
@@ -54,7 +54,7 @@ class Unread(Case):
         whole = {"ociVersion": "1.0", "process": {"x": 1}, "linux": {"y": 1, "seccomp": {
             **SPEC, "comment": "mine", "flags": ["SECCOMP_FILTER_FLAG_LOG"], "listenerPath": "/x"}}}
         for value in (SPEC, {**SPEC, "archMap": []}, whole, {**OBJECT, "spec": {**SPEC, "disabled": False}}):
-            name = self.file("p.json", json.dumps(value))
+            name = self.file("p.json", value)
             status, _, err = self.run_tool("compile", "--strict", name, stdout=subprocess.DEVNULL)
             self.assertNotIn("nothing reads", err)
             self.assertEqual(status, 0, err)
@@ -86,7 +86,7 @@ class Others(Case):
 class Kubernetes(Case):
     def setUp(self):
         super().setUp()
-        self.plain = self.file("plain.json", json.dumps(SPEC))
+        self.plain = self.file("plain.json", SPEC)
 
     def is_plain(self, path):
         """Each tool takes an object as it takes its spec."""
@@ -98,7 +98,7 @@ class Kubernetes(Case):
                           done[1].stderr.decode())
 
     def test_json(self):
-        self.is_plain(self.file("object.json", json.dumps(OBJECT)))
+        self.is_plain(self.file("object.json", OBJECT))
 
     @unittest.skipUnless(HAS_YAML, "there is no PyYAML here")
     def test_yaml(self):
@@ -140,7 +140,7 @@ class Kubernetes(Case):
             text = json.dumps({"defaultAction": ERRNO, "comment": comment, "syscalls": []})
             self.assertIsNone(kubernetes.spec_of(text.encode()))
         for kind, says in (("Pod", "of the kind Pod, not SeccompProfile"), ("List", "of the kind List")):
-            path = self.file("o.json", json.dumps({**OBJECT, "kind": kind}))
+            path = self.file("o.json", {**OBJECT, "kind": kind})
             self.assertIn(says, self.run_tool("ask", path)[2])
 
 
@@ -160,7 +160,7 @@ class Caps(Case):
 
     def setUp(self):
         super().setUp()
-        self.engine = self.file("engine.json", json.dumps(self.ENGINE))
+        self.engine = self.file("engine.json", self.ENGINE)
 
     def test_each_command(self):
         log = self.file("log", "1 mount(1) = 0\n")
@@ -186,12 +186,12 @@ class Caps(Case):
 
     def test_another_machine(self):
         """What an engine passes on there: the architectures and the entries of arm64 (moby's `arches`)."""
-        engine = self.file("m.json", json.dumps({
+        engine = self.file("m.json", {
             "defaultAction": ERRNO, "defaultErrnoRet": 1,
             "archMap": [{"architecture": "SCMP_ARCH_X86_64", "subArchitectures": []},
                         {"architecture": "SCMP_ARCH_AARCH64", "subArchitectures": ["SCMP_ARCH_ARM"]}],
             "syscalls": [{"names": ["read"], "action": ALLOW, "includes": {"arches": ["arm64"]}},
-                         {"names": ["write"], "action": ALLOW, "excludes": {"arches": ["arm64"]}}]}))
+                         {"names": ["write"], "action": ALLOW, "excludes": {"arches": ["arm64"]}}]})
         words = ("--caps=none", "--machine=arm64")
         # numbers of asm/unistd_64.h of arm64
         for name, answer in (("read", "ALLOW 0 entry 0"), ("write", "ERRNO 1 default")):
@@ -227,7 +227,7 @@ class Caps(Case):
         """A line of what a tool made of a file would be none of that file."""
         wrong = {**OBJECT, "spec": {**SPEC, "defaultAction": "ALLOW"}}
         self.assertIn('# spec.defaultAction is "ALLOW", which is none\n',
-                      self.run_tool("ask", "--nr=0", self.file("o.json", json.dumps(wrong)))[1])
+                      self.run_tool("ask", "--nr=0", self.file("o.json", wrong))[1])
         first = {"names": ["bpf"], "action": ALLOW, "includes": {"caps": ["CAP_BPF"]}}
         engine = json.dumps({"defaultAction": ERRNO, "syscalls": [first, {"names": ["read"], "action": "X"}]})
         out = self.run_tool("ask", "--nr=0", "--caps=none", self.file("e.json", engine))[1]

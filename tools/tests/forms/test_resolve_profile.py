@@ -209,7 +209,7 @@ class ResolveProfile(Case):
     def test_inputs(self):
         config = {"ociVersion": "1.0.2", "linux": {"seccomp": engine(entry("read"))}}
         self.assertEqual(self.resolved(config)[0], engine(entry("read")))
-        path = self.file("p.json", json.dumps(engine(entry("read"))).encode())
+        path = self.file("p.json", engine(entry("read")))
         self.assertEqual(self.run_tool("resolve-profile", path)[0], 0)
         for name, says in (("none", "there is no file 'none'"), (self.folder, "is a folder")):
             self.is_refused(says, "resolve-profile", name)

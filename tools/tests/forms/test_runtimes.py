@@ -154,15 +154,15 @@ class Runtimes(Case):
                 self.assertTrue(comparison.of_numbers(X86_64, last, last).holds, (runtime, given))
 
     def test_capabilities_need_an_engine(self):
-        name = self.file("p.json", json.dumps(profile()))
+        name = self.file("p.json", profile())
         for runtime, status in (("runc", 2), ("crun", 2), ("docker", 0), ("podman", 0)):
             done = self.run_tool("ask", "--nr=0", "--runtime", runtime, "--caps", "none", name)
             self.assertEqual((done[0], "takes a resolved one" in done[2]), (status, status == 2), done)
 
     def test_what_is_said_of_a_conflict(self):
         """Where it was given, --runtime isn't what is advised."""
-        name = self.file("p.json", json.dumps(profile(
-            entry("mkdir", args=[condition(0, "EQ", 1)]), entry("mkdir", action=TRAP, args=[condition(1, "EQ", 2)]))))
+        name = self.file("p.json", profile(
+            entry("mkdir", args=[condition(0, "EQ", 1)]), entry("mkdir", action=TRAP, args=[condition(1, "EQ", 2)])))
         for words in ((), ("--runtime", "runc"), ("--runtime", "crun")):
             status, out, _ = self.run_tool("ask", *words, "--nr=mkdir", name)
             self.assertEqual((status, out.split("\n")[0]), (2, "fault profile Conflict number 83 first 1 second 2"))
@@ -491,7 +491,7 @@ class Tools(Case):
             entry("mkdir", action=ERRNO, errnoRet=1), entry("mkdir", "read", "lchown"),
             entry("read", action=ERRNO, errnoRet=13),
             entry("rmdir", args=[condition(0, "EQ", value) for value in (1, 2)])]}
-        self.path = self.file("p.json", json.dumps(self.given))
+        self.path = self.file("p.json", self.given)
 
     def test_ask(self):
         for runtime, newer in (("runc", "ERRNO 38 stub"), ("crun", "ERRNO 1 default")):
@@ -511,7 +511,7 @@ class Tools(Case):
             for name, verdict in ((runtime, "same"), (other_runtime, word)):
                 self.begins(int(verdict == "differs"), verdict,
                             self.run_tool("compare", "--runtime", name, "f.bpf", self.path))
-        refused = self.file("r.json", json.dumps({**self.given, "architectures": [X86_64, "SCMP_ARCH_S390X"]}))
+        refused = self.file("r.json", {**self.given, "architectures": [X86_64, "SCMP_ARCH_S390X"]})
         self.is_refused("crun refuses the profile: libseccomp takes no big-endian", "compile", "--runtime", "crun",
                         refused)
         self.is_refused("--runtime speaks of a profile", "compare", "f.bpf", "--beside", "f.bpf", "--runtime", "runc")
@@ -519,7 +519,7 @@ class Tools(Case):
     def test_an_engines_profile(self):
         given = {**self.given, "architectures": None, "archMap": [{"architecture": X86_64}], "syscalls": [
             {**entry("mount"), "includes": {"caps": ["CAP_SYS_ADMIN"]}}, *self.given["syscalls"]]}
-        path = self.file("e.json", json.dumps(given))
+        path = self.file("e.json", given)
         for words, line in (((), "ERRNO 1 default"), (("--caps", "docker,SYS_ADMIN"), "ALLOW 0 entry 0")):
             self.begins(0, line, self.run_tool("ask", "--runtime", "podman", *words, "--nr", "mount", path))
         self.assertEqual(self.run_tool("ask", "--runtime", "podman", "--caps", "X", path)[0], 2)
@@ -537,14 +537,13 @@ class VerifyProcess(Case):
     """tools/verify-process --runtime on containers."""
 
     def verify(self, process, given, *words):
-        path = given if isinstance(given, str) else self.file("p.json", json.dumps(given))
+        path = given if isinstance(given, str) else self.file("p.json", given)
         status, out, err = self.run_tool("verify-process", *words, str(process), path)
         self.assertNotIn("Traceback", err)
         return status, out, err
 
     def test_the_default_profile_of_docker(self):
-        if not os.path.exists(MOBY):
-            raise unittest.SkipTest("no profile of Docker's")
+        self.skip_if(not os.path.exists(MOBY), "no profile of Docker's")
         engine = engines.Resolver(runtimes.setting_of(runtimes.RUNTIMES["docker"]), lambda _: None)
         handed_on = engine.resolved(json.loads(bytes_of(MOBY)))
         with container("runc", config(handed_on)) as (process, why):
@@ -596,8 +595,7 @@ class VerifyProcess(Case):
 
     def test_a_call_above_the_stub_that_is_allowed(self):
         """Beside it, what runc answers by ENOSYS isn't told as what differs."""
-        if os.geteuid():
-            raise unittest.SkipTest("needs root")
+        self.skip_if(os.geteuid(), "needs root")
         table, given = tables.read_table(None), {"defaultAction": ERRNO, "architectures": [X86_64]}
         given["syscalls"] = [entry(*(name for name in NAMES if table.number_of(name) <= 449))]
         applied = runtimes.applied(given, "runc")

@@ -113,7 +113,7 @@ class Audited:
         config = json.loads(text_of(path))
         config["linux"].pop("seccomp", None)
         config["linux"].update({} if seccomp is None else {"seccomp": seccomp})
-        self.file(path, json.dumps(config))
+        self.file(path, config)
 
     def enters(self, number, hierarchy, path, owner=0):
         """Puts a process into a new group of a hierarchy of version 1, in a folder of this owner."""
@@ -137,8 +137,7 @@ class Audited:
         """Starts a container of crun, without a control group."""
         status, out, err = self.on(*words, "--cgroup-manager=disabled", "run", "--detach", "--bundle", where, name,
                                    **env)
-        if status:
-            self.skipTest(f"crun starts no container here: {(out + err).strip()}")
+        self.skip_if(status, f"crun starts no container here: {(out + err).strip()}")
 
 
 class Programs(Audited, OwnMachine):
@@ -167,13 +166,13 @@ class Programs(Audited, OwnMachine):
         self.crowd(("alpha", [filter_of([0])], 1, 1))
         value = self.audit()
         name, count = value["rows"][0]["name"], "other confined programs: stricter 1"
-        out = self.out_of(4, self.on(tool("audit"), "--since", self.file("same.json", json.dumps(value))))
+        out = self.out_of(4, self.on(tool("audit"), "--since", self.file("same.json", value)))
         lines = out.splitlines()
         self.assertIn(f"# nothing changed since {value['time']}", lines)
         self.assertIn(f"# {count}; without a configuration, and listed by --programs: 1", lines)
         self.assertNotIn(name, out)
         value["rows"][0]["id"] = value["rows"][0]["name"] = "/bin/gone"
-        path = self.file("earlier.json", json.dumps(value))
+        path = self.file("earlier.json", value)
         since = self.audit("--since", path)["since"]
         self.assertEqual((since["time"], [(change["change"], change["row"]) for change in since["changes"]]),
                          (value["time"], [("new", f"program {name}"), ("gone", "program /bin/gone")]))
@@ -200,8 +199,7 @@ class Programs(Audited, OwnMachine):
         """It doesn't keep the others from being read."""
         freezer = f"/sys/fs/cgroup/freezer/{self.group}/frozen"
         numbers = self.crowd(("warm", [filter_of([0])], 2, 1), ("cold", [filter_of([0])], 1, 2))
-        if not os.path.ismount("/sys/fs/cgroup/freezer"):
-            self.skipTest("no control group of version 1 can be frozen here")
+        self.skip_if(not os.path.ismount("/sys/fs/cgroup/freezer"), "no control group of version 1 can be frozen here")
         os.makedirs(freezer)
         script = f"echo {numbers[2]} >{freezer}/cgroup.procs && echo FROZEN >{freezer}/freezer.state"
         self.assertEqual(self.on("sh", "-c", script)[0], 0)
@@ -300,8 +298,7 @@ class Containers(Audited, OwnMachine):
                   "for it in bin lib lib64 sbin; do ln -s usr/$it scf-web/root/$it; done; "
                   "lxc-start -d -n scf-web && lxc-wait -n scf-web -s RUNNING -t 10")
         status, out, err = self.on("sh", "-c", script, given=config.encode())
-        if status:
-            self.skipTest(f"LXC starts no container here: {out + err}")
+        self.skip_if(status, f"LXC starts no container here: {out + err}")
         self.addCleanup(self.on, "lxc-stop", "-k", "-n", "scf-web")
         row = self.rows("--allow-unconfined")["container", "scf-web"]
         self.assertEqual((row["engine"], row["verdict"], row["profile"]["source"]), ("LXC", "as configured", policy))
@@ -318,8 +315,7 @@ class Containers(Audited, OwnMachine):
         pid = self.audit()["rows"][0]["parts"][0]["processes"][0]["process"]
         script = (f"nsenter --target {pid} --pid --mount sleep 1000 >/dev/null 2>&1 & "
                   "until [ $(grep -lx sleep /proc/[0-9]*/comm | wc -l) -ge 2 ]; do sleep 0.05; done")
-        if self.on("timeout", "300", "sh", "-c", script)[0]:
-            self.skipTest("nothing can be brought into a container here")
+        self.skip_if(self.on("timeout", "300", "sh", "-c", script)[0], "nothing can be brought into a container here")
         (row,) = self.audit(status=1)["rows"]
         self.assertEqual((row["verdict"], [part["verdict"] for part in row["parts"]]),
                          ("unconfined though configured", ["unconfined though configured", "as configured"]))
@@ -328,8 +324,7 @@ class Containers(Audited, OwnMachine):
         """The folders of a container's control groups, by their hierarchies."""
         folders = {os.path.basename(os.path.dirname(os.path.dirname(path))): path
                    for path in glob.glob(f"/sys/fs/cgroup/*/{self.group}/{name}")}
-        if not {"pids", "systemd"} <= folders.keys():
-            self.skipTest("there are no control groups of version 1 here")
+        self.skip_if(not {"pids", "systemd"} <= folders.keys(), "there are no control groups of version 1 here")
         return folders
 
     def verify_all(self, name):
@@ -383,8 +378,8 @@ class Containers(Audited, OwnMachine):
         looked at."""
         self.container("runc", "box", STATED)
         numbers = self.crowd(*((name, [filter_of([0])], 1, 1) for name in ("alpha", "beta", "gamma")))
-        config = self.file("odd/config.json", json.dumps({"linux": {"seccomp": {
-            "defaultAction": "SCMP_ACT_ALLOW", "syscalls": 5}}}))
+        config = self.file("odd/config.json", {"linux": {"seccomp": {
+            "defaultAction": "SCMP_ACT_ALLOW", "syscalls": 5}}})
         states = {"runc/labels/state.json": {"init_process_pid": numbers[0], "config": {"labels": 5}},
                   "runc/text/state.json": {"init_process_pid": numbers[1], "cgroup_paths": {"a": "\ud800"}},
                   "crun/config/status": {"pid": numbers[2], "bundle": os.path.dirname(config)},
@@ -408,8 +403,7 @@ class Containers(Audited, OwnMachine):
         where = self.bundle("other", None)
         status, out, err = self.on("runc", "--root", "/run/containerd/runc/k8s.io", "run", "--detach", "--bundle",
                                    where, "web")
-        if status:
-            self.skipTest(f"runc starts no second container here: {(out + err).strip()}")
+        self.skip_if(status, f"runc starts no second container here: {(out + err).strip()}")
         rows = self.audit(status=1)["rows"]
         self.assertEqual([(row["name"], row["verdict"]) for row in rows],
                          [("web", "unconfined by configuration"), ("web", "as configured")])
@@ -491,7 +485,7 @@ class Users(Audited, OwnMachine):
         self.says("a", numbers[0], self.users_bundle())
         self.process("x")
         self.says("d", 1, self.users_bundle())
-        state = self.file("state", json.dumps({"pid": numbers[0], "bundle": self.folder}))
+        state = self.file("state", {"pid": numbers[0], "bundle": self.folder})
         script = f"mkdir b c; mkfifo b/status; ln -s {state} c/status; chown -hR {self.USER} ."
         self.assertEqual(self.on("sh", "-c", f"cd /run/user/{self.USER}/crun && {script}")[0], 0)
         value = self.audit(status=4)
@@ -504,8 +498,7 @@ class Users(Audited, OwnMachine):
         number = self.process("old")
         self.container("runc", "web", STATED)
         groups = glob.glob(f"/sys/fs/cgroup/pids/{self.group}/web")
-        if not groups:
-            self.skipTest("there are no control groups of version 1 here")
+        self.skip_if(not groups, "there are no control groups of version 1 here")
         self.assertEqual(self.on("sh", "-c", f"echo {number} >{groups[0]}/cgroup.procs")[0], 0)
         self.says("mine", number, self.users_bundle())
         (row,) = self.audit("--allow-unconfined", status=1)["rows"]
@@ -523,8 +516,7 @@ class Users(Audited, OwnMachine):
     def test_what_only_root_can_read(self):
         """A link in the bundle's path, a bundle that isn't the user's, a link to a file, and one out of a folder:
         nothing of it is shown, not even whether it is there."""
-        secret = self.file("secret/config.json", json.dumps({"linux": {}, "annotations": {
-            "io.podman.annotations.name": "hidden"}}))
+        secret = self.file("secret/config.json", {"linux": {}, "annotations": {"io.podman.annotations.name": "hidden"}})
         os.chmod(os.path.dirname(secret), 0o700)
         os.chmod(secret, 0o600)
         mine = self.users_bundle()
@@ -643,8 +635,7 @@ class Pods(Podman, OwnMachine):
                       ("pod", "create", "--name", "two", "--cgroup-parent", f"/{self.group}", *first),
                       ("run", "--detach", "--pod", "two", "--name", "front", "--rootfs", rootfs, "sleep", "1000")):
             status, _, err = self.podman(*words)
-            if status:
-                self.skipTest(f"podman starts no pod here: {err.strip()}")
+            self.skip_if(status, f"podman starts no pod here: {err.strip()}")
         watching = self.on("sh", "-c", "grep -lx conmon /proc/[0-9]*/comm | cut -d / -f 3")[1].split()
         groups = "".join(self.on("cat", f"/proc/{process_id}/cgroup")[1] for process_id in watching)
         self.assertRegex(groups, f"/{self.group}/[0-9a-f]{{64}}/conmon\n")
@@ -669,14 +660,12 @@ class Node(Podman, Systemd):
     def start_pod(self):
         """Starts a pod of two in podman, a container with a capability more, and one without a profile."""
         rootfs = f"{self.bundle('pod', None)}/rootfs"
-        if self.podman("pod", "create", "--infra=false", "--name", "two")[0]:
-            self.skipTest("podman makes no pod here")
+        self.skip_if(self.podman("pod", "create", "--infra=false", "--name", "two")[0], "podman makes no pod here")
         for name, words in (("front", ["--pod", "two"]), ("back", ["--pod", "two"]),
                             ("admin", ["--cap-add", "SYS_ADMIN"]), ("free", ["--security-opt", "seccomp=unconfined"])):
             self.addCleanup(self.podman, "rm", "--force", "--time", "0", name)
             status, _, err = self.podman("run", "--detach", "--name", name, *words, "--rootfs", rootfs, "sleep", "1000")
-            if status:
-                self.skipTest(f"podman starts no container here: {err}")
+            self.skip_if(status, f"podman starts no container here: {err}")
 
     def test_each(self):
         for name in ("runc", "crun", "podman"):
@@ -1193,10 +1182,10 @@ class Output(Case):
             series = [{"series": name, "values": f"0+{step}x60" if name == "scf_audit_timestamp_seconds" else
                        f"{value}x60"} for name, _, value in (line.rpartition(" ") for line in text.splitlines())
                       if name[:1] not in ("", "#")]
-            self.file("test.json", json.dumps({"rule_files": [rules], "evaluation_interval": "1m", "tests": [{
+            self.file("test.json", {"rule_files": [rules], "evaluation_interval": "1m", "tests": [{
                 "interval": "1m", "input_series": series, "promql_expr_test": [{
                     "expr": 'count by (alertname) (ALERTS{alertstate="firing"})', "eval_time": "50m",
-                    "exp_samples": [{"labels": f'{{alertname="{alert}"}}', "value": 1} for alert in alerts]}]}]}))
+                    "exp_samples": [{"labels": f'{{alertname="{alert}"}}', "value": 1} for alert in alerts]}]}]})
             status, out, err = self.run_words(["promtool", "test", "rules", "test.json"])
             self.assertEqual(status, 0, (alerts, out, err))
 
@@ -1315,7 +1304,7 @@ class Words(Case):
         """What no engine writes is refused by a line, whatever runtime applies it."""
         seccomp = {"defaultAction": "SCMP_ACT_ALLOW", "syscalls": 5}
         for value in ({"linux": {"seccomp": seccomp}}, seccomp):
-            name = self.file("config.json", json.dumps(value))
+            name = self.file("config.json", value)
             for runtime in ("runc", "crun", "docker", "podman"):
                 for words in (("resolve-profile", "--runtime", runtime, name),
                               ("verify-process", "--runtime", runtime, str(os.getpid()), name)):
@@ -1343,8 +1332,8 @@ class Words(Case):
 
     def test_what_runtimes_accept(self):
         """Two answers to a syscall are no reason to look at nothing."""
-        name = self.file("p.json", json.dumps({"defaultAction": "SCMP_ACT_ALLOW", "syscalls": [
-            {"names": ["mount"], "action": name} for name in ("SCMP_ACT_ERRNO", "SCMP_ACT_LOG")]}))
+        name = self.file("p.json", {"defaultAction": "SCMP_ACT_ALLOW", "syscalls": [
+            {"names": ["mount"], "action": name} for name in ("SCMP_ACT_ERRNO", "SCMP_ACT_LOG")]})
         self.assertIn(self.run_tool("audit", "--expect", name)[0], (0, 1, 4))
 
     def test_places_that_are_not_there(self):

@@ -32,7 +32,7 @@ def config(*names, **members):
 @here
 class Configurations(Confined):
     def verify(self, child, given, *words):
-        path = self.file("config.json", json.dumps(given))
+        path = self.file("config.json", given)
         status, out, err = self.run_tool("verify-process", *words, str(child.pid), path)
         self.assertEqual(err, "")
         return status, out
@@ -113,7 +113,7 @@ class Configurations(Confined):
                             ({"id": "x", "init_process_pid": 7, "config": {}},
                              "it is a container's state, which says nothing about seccomp: take the config.json of its "
                              "bundle\n"), ({"pid": 7, "bundle": "/b"}, "take /b/config.json\n")):
-            path = self.file("config.json", json.dumps(given))
+            path = self.file("config.json", given)
             for words in RUNTIMES:
                 self.is_refused(says, "verify-process", *words, str(child.pid), path)
 
@@ -121,7 +121,7 @@ class Configurations(Confined):
         """Nothing is said of a configuration that no runtime takes."""
         child = self.child([])
         for seccomp in (7, {"syscalls": [{}]}, {"defaultAction": "SCMP_ACT_X"}):
-            path = self.file("config.json", json.dumps({"linux": {"seccomp": seccomp}}))
+            path = self.file("config.json", {"linux": {"seccomp": seccomp}})
             status, out, err = self.run_tool("verify-process", str(child.pid), path)
             self.assertEqual((status, out), (1, f"# process {child.pid} (python3) has no filter: it isn't confined, "
                                                 "and every syscall is allowed\n"), err)
@@ -131,7 +131,7 @@ class Configurations(Confined):
     def test_a_filter_that_the_configuration_of_a_hook_lacks(self):
         """The hook doesn't say that it isn't there."""
         state = {"ociVersion": "1.0.2", "id": "box", "status": "running", "bundle": self.folder}
-        self.file("config.json", json.dumps(WITHOUT[0]))
+        self.file("config.json", WITHOUT[0])
         for filters, says in (([], "the container isn't confined"),
                               ([refusing(MOUNT)], "the container's first process has a filter that isn't its "
                                                   "runtime's")):
@@ -290,10 +290,9 @@ class Mistakes(Confined):
     @here
     def test_the_configuration_of_another_container(self):
         child = self.child([])
-        path = self.file("config.json", json.dumps(config("mount", namespaces=[{"type": "pid"}])))
+        path = self.file("config.json", config("mount", namespaces=[{"type": "pid"}]))
         with open("/proc/self/ns/pid", "rb") as file:
             is_first = os.fstat(file.fileno()).st_ino == 0xEFFFFFFC
-        if not is_first:
-            self.skipTest("this isn't the machine's own PID namespace")
+        self.skip_if(not is_first, "this isn't the machine's own PID namespace")
         self.assertIn(" is in no container with this configuration, which has a PID namespace of its own: `podman "
                       "inspect -f '{{.State.Pid}} {{.OCIConfigPath}}' NAME` prints", self.says(str(child.pid), path))

@@ -27,20 +27,18 @@ class Containerd(Audited, OwnMachine):
         super().setUp()
         self.runtime("runc")
         self.file("config.toml", CONFIG.format(self.folder))
-        if self.on("sh", "-c", SERVE.format(self.folder))[0]:
-            self.skipTest("containerd doesn't start here")
+        self.skip_if(self.on("sh", "-c", SERVE.format(self.folder))[0], "containerd doesn't start here")
 
     def started(self, name, *words):
         """Starts a container: the path of its configuration."""
         rootfs = f"{self.bundle(name, None)}/rootfs"
         status, out, err = self.on("ctr", "run", "--detach", "--cgroup", f"/{self.group}/{name}", *words, "--rootfs",
                                    rootfs, name, "/bin/sleep", "1000")
-        if status:
-            self.skipTest(f"containerd starts no container here: {(out + err).strip()}")
+        self.skip_if(status, f"containerd starts no container here: {(out + err).strip()}")
         return f"/run/containerd/io.containerd.runtime.v2.task/default/{name}/config.json"
 
     def test_each_verdict(self):
-        stated = self.file("stated.json", json.dumps(STATED))
+        stated = self.file("stated.json", STATED)
         self.started("open")
         paths = {name: self.started(name, "--seccomp", "--seccomp-profile", stated) for name in ("same", "more")}
         annotations = [word for name, item in KUBERNETES.items() for word in
@@ -75,7 +73,7 @@ class Containerd(Audited, OwnMachine):
             words = f"{tool('oci-hook')} --runtime runc --kill >{self.folder}/{name}.said 2>&1"
             config["hooks"] = {"poststart": [{"path": "/bin/sh", "args": ["sh", "-c", words], "timeout": 62,
                                               "env": [f"PATH={os.environ['PATH']}"]}]}
-            path = self.file(f"{name}.json", json.dumps(config))
+            path = self.file(f"{name}.json", config)
             self.assertEqual(self.on("ctr", "run", "--detach", "--config", path, name)[0], status)
             said = text_of(f"{self.folder}/{name}.said").splitlines()
             self.assertEqual(said[0], f"oci-hook: container {name}: {says}")

@@ -85,8 +85,7 @@ class Programs(Confined):
         script = f"{tool('verify-process')} 1 {self.file('p', ALLOWS_ALL)}; echo status $?; {tool('filters-of')} 1 out"
         words = ["unshare", "--pid", "--fork", "--mount-proc", "sh", "-c", script]
         status, out, err = self.run_words(words)
-        if err.startswith("unshare:"):
-            self.skipTest(err)
+        self.skip_if(err.startswith("unshare:"), err)
         self.assertEqual(out, "# process 1 (sh) has no filter: it isn't confined, and every syscall is allowed\n"
                               "status 1\n")
         self.assertEqual((status, err), (1, "filters-of: process 1 has no filter\n"))
@@ -100,8 +99,7 @@ class Programs(Confined):
 
     @here
     def test_without_rights(self):
-        if not os.access("/usr/bin/python3", os.X_OK):
-            self.skipTest("there is no Python that every user may run")
+        self.skip_if(not os.access("/usr/bin/python3", os.X_OK), "there is no Python that every user may run")
         child = self.child([OLDEST])
         done = subprocess.run([f"{self.beside()}/tools/filters-of", str(child.pid), "out"], user=65534, group=65534,
                               extra_groups=[], env={"PATH": "/usr/bin:/bin"}, stdout=subprocess.PIPE,
@@ -381,7 +379,7 @@ class VerifyProcess(Confined):
                       comments(out))
         reads = {"defaultAction": "SCMP_ACT_ERRNO", "architectures": ["SCMP_ARCH_X86"],
                  "syscalls": [{"names": ["read"], "action": "SCMP_ACT_LOG"}]}
-        of_i386 = self.file("i386.json", json.dumps(reads))
+        of_i386 = self.file("i386.json", reads)
         self.begins(0, "same", self.verify(self.child([logs_one]), refuses("mount"), "--also", of_i386))
 
     @here
@@ -444,8 +442,7 @@ class Containers(Confined):
         kernel = processes.Kernel()
         if any(kernel.groups_of(pid).get(name, b"/") != b"/" for name in containers.HIERARCHIES):
             self.skipTest("the tests run in a control group of their own")
-        if not kernel.is_root_the_first():
-            self.skipTest("the tests run in a cgroup namespace of their own")
+        self.skip_if(not kernel.is_root_the_first(), "the tests run in a cgroup namespace of their own")
 
     def child_in_a_namespace(self):
         """A child whose own child is the first process of a PID namespace, and that one's number."""
@@ -453,8 +450,7 @@ class Containers(Confined):
         child = subprocess.Popen(["unshare", "--pid", "--fork", "--kill-child", sys.executable, "-c", CHILD, "[[]]"],
                                  stdin=subprocess.PIPE, stdout=subprocess.PIPE, text=True)
         self.addCleanup(ended, child)
-        if child.stdout.readline() != "1\n":
-            self.skipTest("no PID namespace can be made here")
+        self.skip_if(child.stdout.readline() != "1\n", "no PID namespace can be made here")
         first = children_of(child.pid)[0]
         self.skip_in_a_group(first)
         return child, first

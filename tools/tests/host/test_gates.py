@@ -90,8 +90,7 @@ class Gates(Podman, OwnMachine):
         rootfs = f"{self.bundle('box', None)}/rootfs"
         status, _, err = self.podman("run", "--detach", "--name", "box", "--cgroup-parent", f"/{self.group}",
                                      "--rootfs", rootfs, "sleep", "1000")
-        if status:
-            self.skipTest(f"podman starts no container here: {err}")
+        self.skip_if(status, f"podman starts no container here: {err}")
         pid, config, identifier = self.podman("inspect", "-f", "{{.State.Pid}} {{.OCIConfigPath}} {{.Id}}",
                                               "box")[1].split()
         state = {"id": identifier, "status": "running", "pid": int(pid), "bundle": os.path.dirname(config)}
@@ -102,7 +101,7 @@ class Gates(Podman, OwnMachine):
     def test_a_sandbox(self):
         """bwrap, which loads what scf made of a profile; nothing is configured for it but what an audit expects."""
         self.needs("bwrap")
-        loaded, stated = (self.file(f"{name}.json", json.dumps(profile)) for name, profile in (
+        loaded, stated = (self.file(f"{name}.json", profile) for name, profile in (
             ("loaded", denying(NATIVE, I386)), ("stated", denying(NATIVE))))
         self.on("sh", "-c", f"bwrap --bind / / --seccomp 9 sleep 1234 9<{self.compiled(loaded)} >/dev/null 2>&1 &")
         self.assertTrue(comes(lambda: self.on("pgrep", "-xf", "sleep 1234")[0] == 0))

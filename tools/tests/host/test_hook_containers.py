@@ -43,7 +43,7 @@ class Containers(Hook):
         config["linux"]["namespaces"] = [namespace for namespace in config["linux"]["namespaces"]
                                          if namespace["type"] not in shared]
         config["linux"]["seccomp"] = stated
-        second = self.file("other.json", json.dumps(config))
+        second = self.file("other.json", config)
         config["linux"]["seccomp"] = loaded
         config["hooks"] = {**(hooks or {}), "poststart": [
             {"path": shutil.which("cp"), "args": ["cp", second, self.box.config], **PATH},
@@ -111,8 +111,7 @@ class Runtimes(Containers):
     def test_the_default_profiles(self):
         """What is loaded of them is plainly the same by --runtime, by the hook and by verify-process."""
         for engine, path in (("docker", MOBY), ("podman", PODMAN)):
-            if not os.path.exists(path):
-                self.skipTest(f"there is no {path} here")
+            self.skip_if(not os.path.exists(path), f"there is no {path} here")
             resolved = json.loads(self.run_tool("resolve-profile", "--engine", engine, path)[1])
             for runtime in ("runc", "crun"):
                 with self.subTest(f"{engine}'s by {runtime}"), self.container(
@@ -167,8 +166,7 @@ class Runtimes(Containers):
         with self.container("runc") as (status, message, pid):
             self.assertEqual(status, 0, message)
             status, message = self.box.call("pause", self.box.name)
-            if status:
-                self.skipTest(f"runc pauses no container here: {message.strip()}")
+            self.skip_if(status, f"runc pauses no container here: {message.strip()}")
             began = time.monotonic()
             status, lines = self.by_hand("--kill", "--wait=0", "--deadline=1")
             self.assertLess(time.monotonic() - began, 30)
@@ -193,8 +191,7 @@ class Runtimes(Containers):
             if program is not None:
                 shutil.copy(program, f"{self.box.where}/rootfs/bin")
             status, message, pid = self.box.make(self.configuration(stated=LOADED, words=words, **settings), "create")
-            if status:
-                self.skipTest(f"crun creates no container here: {message.strip()}")
+            self.skip_if(status, f"crun creates no container here: {message.strip()}")
             # (where a hook kills the container early, crun may write to one that is gone)
             status, _ = self.box.call("start", self.box.name)
             self.assertTrue(status == 0 or "--kill" in words and status == -signal.SIGPIPE, status)
@@ -257,8 +254,7 @@ class Podman(Containers):
         self.addCleanup(self.podman, "rm", "--force", "--time", "0", name)
         status, message = self.podman("--runtime", shutil.which(runtime), "run", "--detach", "--name", name, *words,
                                       "--rootfs", f"{self.where}/rootfs", "sleep", "1000")
-        if status:
-            self.skipTest(f"podman starts no container here: {message.strip()}")
+        self.skip_if(status, f"podman starts no container here: {message.strip()}")
         shown = self.podman("inspect", "--format", "{{.Id}} {{.State.Pid}} {{.OCIConfigPath}}", name)[1]
         return shown.split()
 
@@ -291,8 +287,7 @@ class Podman(Containers):
         pod, parent = f"{self.name}-pod", ("--cgroup-parent", f"/{self.name}")
         self.addCleanup(self.podman, "pod", "rm", "--force", pod)
         status, message = self.podman("pod", "create", "--infra=false", "--name", pod, *parent)
-        if status:
-            self.skipTest(f"podman makes no pod here: {message.strip()}")
+        self.skip_if(status, f"podman makes no pod here: {message.strip()}")
         actual = []
         for runtime, name, words, expected in (
                 ("crun", "plain", parent, "as configured"), ("crun", "in", ("--pod", pod), "as configured"),
@@ -321,8 +316,7 @@ class Podman(Containers):
         status, message = self.podman("--hooks-dir", f"{prefix}/share/scf/hooks.d", "run", "--detach", "--name",
                                       self.name, "--cgroup-parent", f"/{self.name}", "--rootfs",
                                       f"{self.where}/rootfs", "sleep", "1000")
-        if status and "oci-hook" not in message:
-            self.skipTest(f"podman starts no container here: {message.strip()}")
+        self.skip_if(status and "oci-hook" not in message, f"podman starts no container here: {message.strip()}")
         self.assertEqual(status, 0, message)
         pid = int(self.podman("inspect", "--format", "{{.State.Pid}}", self.name)[1])
         bundle = os.path.dirname(self.config_of(message.strip()))

@@ -5,7 +5,7 @@ import subprocess
 import unittest
 from unittest import mock
 
-from support.common import ALLOW, LOADER, TOP, comes, filter_of, ret, text_of
+from support.common import ALLOW, LOADER, TOP, Case, comes, filter_of, ret, text_of
 from support.confined import processes
 from support.own_machine import ROOT, OwnMachine
 from scfhost import machine_pass
@@ -127,14 +127,13 @@ class Ended(unittest.TestCase):
         for value in ({"filter": 1}, {"filter": "x"}, {"process": 8, "stacks": [], "notes": []}, [], {"process": "7"},
                       {"process": 7, "stacks": [{"filters": [1], "is_strict": False, "threads": [7]}], "notes": []},
                       {"process": 7, "stacks": [{"filters": [0], "is_strict": 0, "threads": [7]}], "notes": []}):
-            with self.assertRaises((TypeError, ValueError, LookupError)):
-                copies.receive(value)
+            self.assertRaises((TypeError, ValueError, LookupError), copies.receive, value)
             copies.waiting = {7: None}
         self.assertEqual((copies.filters, copies.unread), ([ret(ALLOW)], {}))
 
 
 @ROOT
-class Owners(unittest.TestCase):
+class Owners(Case):
     """The user who answers for a process in user namespaces, however deep."""
 
     def test_owners(self):
@@ -145,8 +144,7 @@ class Owners(unittest.TestCase):
                 try:
                     kernel = processes.Kernel()
                     self.assertTrue(comes(lambda: kernel.name_of(child.pid) == b"sleep" or child.poll() is not None))
-                    if child.poll() is not None:
-                        self.skipTest("a user can make no user namespace here")
+                    self.skip_if(child.poll() is not None, "a user can make no user namespace here")
                     # (what the process has as its own user is told otherwise in a namespace)
                     self.assertEqual(kernel.owner_of(child.pid, 12345 if "unshare" not in command else 7), 12345)
                 finally:

@@ -97,8 +97,7 @@ class Files(Case):
         for path in ("none", "a/none"):
             with self.assertRaises(Absent):
                 owned_files.read_own(os.path.join(self.folder, path), 100)
-        with self.assertRaises(UnreadableFile):
-            owned_files.read_own("a/b/c", 100)
+        self.assertRaises(UnreadableFile, owned_files.read_own, "a/b/c", 100)
 
     def test_file_systems_of_users(self):
         """They aren't asked, whatever characters a user puts into the place of one, its source and its kind; and who
@@ -126,8 +125,7 @@ class Files(Case):
 
     def test_sizes(self):
         self.assertEqual(owned_files.read_file(self.path, 4), b"text")
-        with self.assertRaises(UnreadableFile):
-            owned_files.read_file(self.path, 3)
+        self.assertRaises(UnreadableFile, owned_files.read_file, self.path, 3)
 
     def test_leases(self):
         """A file that its owner holds a lease on (fcntl(2)) isn't waited for, which takes 45 seconds by default."""

@@ -298,8 +298,7 @@ class Asked(Case):
         for error in (KeyboardInterrupt(), MemoryError(), ValueError()):
             kernel = FakeKernel([OLDEST], listings=[(7, 8, 9)])
             kernel.name_of = mock.Mock(side_effect=error)
-            with self.assertRaises(type(error)):
-                self.look(kernel)
+            self.assertRaises(type(error), self.look, kernel)
             self.assertEqual((kernel.held, kernel.let_go()), (set(), [0, 0, 0]))
             self.assertEqual(signal.pthread_sigmask(signal.SIG_BLOCK, ()), set())
 
@@ -393,8 +392,7 @@ class Real(Confined):
         kernel = processes.Kernel()
         is_of_kernel = (process for process in kernel.processes() if kernel.flags_of(process) & hold.PF_KTHREAD)
         number = next(is_of_kernel, None)
-        if number is None:
-            self.skipTest("no kernel thread is seen here")
+        self.skip_if(number is None, "no kernel thread is seen here")
         self.assertEqual(self.text_of_error(processes.Unreadable, processes.look_at_process, kernel, number),
                          f"process {number} is a kernel thread, which makes no syscalls")
 

@@ -153,8 +153,7 @@ class Restarts(Confined):
         words = (("filters-of", "{}", "out"), ("verify-process", "{}", profile), ("surface", "--pid", "{}"))
         children = [self.waiting() for _ in words]
         for child, (name, *remaining) in zip(children, words):
-            status, out, err = self.run_tool(name, *(item.format(child.pid) for item in remaining))
-            self.assertEqual((status, err), (1 if name == "verify-process" else 0, ""), out)
+            self.output_of(1 if name == "verify-process" else 0, name, *(item.format(child.pid) for item in remaining))
             self.ends(child, "nanosleep")
 
     def test_another_thread_than_the_main_one(self):
@@ -186,8 +185,7 @@ class Restarts(Confined):
 
     def test_a_program_of_i386(self):
         program, given = self.built(PROGRAM_32, "-m32", f"-DWAIT={WAIT}"), self.file("f", denying(KILL_PROCESS))
-        if self.run_words([program])[0]:
-            self.skipTest("no program of i386 can be run here")
+        self.skip_if(self.run_words([program])[0], "no program of i386 can be run here")
         with subprocess.Popen([program, given], stdout=subprocess.PIPE, text=True) as child:
             self.assertEqual(child.stdout.readline(), "begins\n")
             self.assertTrue(comes(lambda: self.call_of(child.pid) in (NANOSLEEP_32, CLOCK_NANOSLEEP_32, 407)))

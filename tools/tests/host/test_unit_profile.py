@@ -591,8 +591,7 @@ class OtherSettings(Audited, OwnUnits):
     def setUp(self):
         super().setUp()
         version = self.on("systemctl", "show", "--property=Version", "--value")[1].strip()
-        if not unit_restrictions.is_modelled(version):
-            self.skipTest(f"what systemd {version} denies isn't known")
+        self.skip_if(not unit_restrictions.is_modelled(version), f"what systemd {version} denies isn't known")
 
     def start(self, *names):
         """Starts units, until each has its process."""

@@ -8,7 +8,7 @@ import subprocess
 import sys
 
 from support import seccomp_library
-from support.common import LOADER, TABLE, TOP, comes, completed, part, profile_of, taken
+from support.common import LOADER, TABLE, TOP, bytes_of, comes, completed, part, profile_of, taken, text_of
 from support.stand_in import StandIn
 from base.test_output import HOSTILE
 from forms.test_runtimes import MOBY, PODMAN
@@ -26,8 +26,7 @@ NATIVE, I386, X32, AARCH64, ARM = (f"SCMP_ARCH_{it}" for it in ("X86_64", "X86",
 # What the list of an engine names on x86-64; and the first value that no argument of 32 bits has.
 ENGINES, WIDE = [NATIVE, I386, X32], 1 << 32
 ACTIONS = ("ALLOW", "LOG", "ERRNO", "TRACE", "TRAP", "NOTIFY", "KILL", "KILL_THREAD", "KILL_PROCESS")
-with open(TABLE, "rb") as opened:
-    TABLE_TEXT = opened.read()
+TABLE_TEXT = bytes_of(TABLE)
 TABLE_NAMES = [*tables.Table(TABLE_TEXT).names()]
 
 
@@ -285,8 +284,8 @@ class Dangerous(Linted):
     def test_the_list(self):
         listed, table = dangerous_calls.dangerous(), tables.read_table(TABLE)
         self.assertEqual(list(listed), sorted(listed))
-        with open(os.path.join(TOP, "tables", "dangerous.calls"), encoding="ascii") as file:
-            self.assertEqual(len(listed), sum(not line.startswith("#") for line in file))
+        lines = text_of(TOP, "tables", "dangerous.calls").splitlines()
+        self.assertEqual(len(listed), sum(not line.startswith("#") for line in lines))
         for name, danger in listed.items():
             self.assertIsNotNone(table.number_of(name), name)
             self.assertGreater(len(danger.reason), 20, name)
@@ -413,15 +412,12 @@ class Running(Linted):
         path = os.path.join(self.folder, str(pid))
         if not os.path.exists(path):
             return None
-        with open(path, encoding="ascii") as file:
-            return tuple(map(int, file.read().split()))
+        return tuple(map(int, text_of(path).split()))
 
     @staticmethod
     def is_in(pid, number, state):
-        with open(f"/proc/{pid}/stat", encoding="ascii", errors="replace") as file:
-            found = file.read().rpartition(") ")[2][0]
-        with open(f"/proc/{pid}/syscall", encoding="ascii") as file:
-            return found == state and (state != "S" or file.read().split()[0] == str(number))
+        found = text_of(f"/proc/{pid}/stat").rpartition(") ")[2][0]
+        return found == state and (state != "S" or text_of(f"/proc/{pid}/syscall").split()[0] == str(number))
 
     def results(self, given, calls):
         pids = self.start(given, calls)
@@ -545,8 +541,7 @@ class Errnos(Running):
             kinds=("odd-errno",))]
 
     def test_which_are_odd(self):
-        with open("/usr/include/asm-generic/errno.h", encoding="ascii") as file:
-            last = max(map(int, re.findall(r"#define\s+E\w+\s+([0-9]+)", file.read())))
+        last = max(map(int, re.findall(r"#define\s+E\w+\s+([0-9]+)", text_of("/usr/include/asm-generic/errno.h"))))
         self.assertEqual(last, oddities.LAST_ERRNO)
         self.assertEqual(self.odd(0, 1, 38, last, last + 1, 511, 512, 516, 4094, 4095, 4096, 65535),
                          list(zip((0, *range(4, 12)), (0, last + 1, 511, 512, 516, 4094, 4095, 4096, 65535))))
@@ -655,8 +650,7 @@ class Arguments(Linted):
             self.skipTest("only root reads the kernel's tracepoints")
         done = completed(["unshare", "-m", "sh", "-c", 'mount -t tracefs none "$0" && cd "$0/events/syscalls" && '
                           "cat sys_enter_*/format", self.folder])
-        if done.returncode:
-            self.skipTest("this kernel has no tracepoints of syscalls")
+        self.skip_if(done.returncode, "this kernel has no tracepoints of syscalls")
         listed, whole = constants.kinds(), {"unsigned long", "long", "size_t", "loff_t", "off_t", "u64", "__u64",
                                             "aio_context_t"}
         # the kernel's function has another name
@@ -677,8 +671,8 @@ class Arguments(Linted):
 
     def test_each_name_once(self):
         table = tables.read_table(TABLE)
-        with open(os.path.join(TOP, "tables", "x86_64.arguments"), encoding="ascii") as file:
-            names = [name for line in file if not line.startswith("#") for name in line.split()[1:]]
+        lines = text_of(TOP, "tables", "x86_64.arguments").splitlines()
+        names = [name for line in lines if not line.startswith("#") for name in line.split()[1:]]
         self.assertEqual(len(names), len(set(names)))
         self.assertEqual([name for name in names if table.number_of(name) is None], [])
 
@@ -1111,8 +1105,7 @@ class Hostile(Linted):
         for name, shown in HOSTILE.items():
             given = profile(entry("read", name), entry("write", **{f"{name}x": 1}),
                             architectures=["SCMP_ARCH_X86_64", name])
-            status, out, err = self.run_lint(given)
-            self.assertEqual((status, err), (0, ""))
+            out = self.out_of(0, self.run_lint(given))
             lines = out.split("\n")[:-1]
             self.assertTrue(all(line.isprintable() for line in lines), out)
             self.assertEqual([line.partition(":")[0] for line in lines], [
@@ -1289,8 +1282,7 @@ class Runtimes(Linted):
         """None is a conflict for its runtime; what scf calls needless is that to libseccomp, too: a second machine runs
         the filters that it makes of the list, and of the list without."""
         for path, engine, runtime in ((PODMAN, "podman", "crun"), (PODMAN, "podman", "runc"), (MOBY, "docker", "runc")):
-            if not os.path.exists(path):
-                self.skipTest(f"there is no {path}")
+            self.skip_if(not os.path.exists(path), f"there is no {path}")
             resolved = json.loads(self.run_tool("resolve-profile", "--engine", engine, "--caps", engine, path)[1])
             config = {"ociVersion": "1.0.2", "linux": {"seccomp": resolved}}
             findings, _ = self.of_runtime(config, runtime)
@@ -1360,7 +1352,7 @@ class Gate(Linted):
 
     def test_several_profiles(self):
         """One run: each has its name before; the status is the worst, and a log of SARIF has one run of all."""
-        names = [self.file(name, json.dumps(given)) for name, given in (
+        names = [self.file(name, given) for name, given in (
             ("a.json", profile(entry("read"))), ("b.json", profile(entry("ptrcae"))), ("c.json", {}))]
         self.file(".scf-lint.json", b'{"findings": [{"kind": "unknown-architecture"}]}')
         single = [self.run_tool("lint", "--fail-on=error", name)[:2] for name in names]
@@ -1408,8 +1400,7 @@ class Gate(Linted):
         """Required members and levels as in section 3 of SARIF 2.1.0; a region is where the entry begins."""
         text = json.dumps(self.ODD, indent=2).encode()
         for data in (text, b'{"linux": {"seccomp": ' + text + b"}}"):
-            status, out, err = self.run_lint(data, "--sarif")
-            self.assertEqual((status, err), (0, ""))
+            out = self.out_of(0, self.run_lint(data, "--sarif"))
             log = json.loads(out)
             run, = log["runs"]
             self.assertEqual((set(log), log["version"]), ({"$schema", "version", "runs"}, "2.1.0"))
@@ -1436,8 +1427,7 @@ class Gate(Linted):
     def test_sarif_by_another_reader(self):
         """Go structs of SARIF's schema take all members."""
         folder = "/usr/share/gocode/src/github.com/haya14busa/go-sarif/sarif"
-        if not os.path.isdir(folder):
-            self.skipTest("golang-github-haya14busa-go-sarif-dev isn't installed")
+        self.skip_if(not os.path.isdir(folder), "golang-github-haya14busa-go-sarif-dev isn't installed")
         source = """package main
 import ("encoding/json"; "os"; "github.com/haya14busa/go-sarif/sarif")
 func main() {

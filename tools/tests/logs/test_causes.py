@@ -106,7 +106,7 @@ class Causes(Case):
         return child.pid, child.returncode, out.decode()
 
     def profile(self, *entries, default="SCMP_ACT_ALLOW", **members):
-        return self.file("p.json", json.dumps({"defaultAction": default, "syscalls": list(entries), **members}))
+        return self.file("p.json", {"defaultAction": default, "syscalls": list(entries), **members})
 
     def of_filter(self, text, data, status=0):
         """What the tool prints of a text, judged by a filter."""
@@ -260,8 +260,7 @@ class Cores(Causes):
 
     def require_cores(self):
         pattern = text_of("/proc/sys/kernel/core_pattern").strip()
-        if pattern != "core":
-            self.skipTest(f"cores are written otherwise here: {pattern}")
+        self.skip_if(pattern != "core", f"cores are written otherwise here: {pattern}")
 
     def found_core(self):
         return next(os.path.join(self.folder, name) for name in os.listdir(self.folder) if name.startswith("core"))
@@ -314,7 +313,7 @@ class Cores(Causes):
                                             "action": "SCMP_ACT_ALLOW"},
                                            {"names": ["socket"], "action": "SCMP_ACT_ALLOW", **args}])):
             given = {"defaultAction": default, "syscalls": entries}
-            profile = self.file("p.json", json.dumps(given))
+            profile = self.file("p.json", given)
             core = self.core(self.compiled(given))
             lines = self.why("--core", core, profile, status=0)
             os.remove(core)
@@ -334,7 +333,7 @@ class Cores(Causes):
                         self.assertEqual(after[1], 0)
 
     def compiled(self, profile):
-        return bytes_of(self.filter_file(self.file("c.json", json.dumps(profile))))
+        return bytes_of(self.filter_file(self.file("c.json", profile)))
 
     @staticmethod
     def changed(profile, steps):

@@ -43,7 +43,7 @@ HEAD = re.compile(r"# (?:process \d+|a process): the syscall is (\w+) \(\d+\)(?:
 
 class Denials(Case):
     def why(self, log, *words, profile=None):
-        given = self.file("p.json", json.dumps(PROFILE if profile is None else profile))
+        given = self.file("p.json", PROFILE if profile is None else profile)
         return self.told("why", *words, "-", given, given=log.encode("latin-1"))
 
     def denied(self, log, *words, **settings):
@@ -107,7 +107,7 @@ class Traced(Denials):
     """Programs under a filter, as strace logs them."""
 
     def traced(self, before, of_child, after, status=0, profile=None):
-        filters = self.filter_file(self.file("c.json", json.dumps(PROFILE if profile is None else profile)))
+        filters = self.filter_file(self.file("c.json", PROFILE if profile is None else profile))
         words = map(repr, (status, before, of_child, after))
         return text_of(self.strace("-f", sys.executable, "-ISc", UNDER, filters, *words)[0])
 
@@ -133,7 +133,7 @@ class Traced(Denials):
         profile, seen = PROFILE, []
         for _ in range(3):
             log = self.traced([], [], calls, 1, profile)
-            given = self.file("p.json", json.dumps(profile))
+            given = self.file("p.json", profile)
             value = json.loads(self.run_tool("why", "--json", "-", given, given=log.encode("latin-1"))[1])
             first = value["events"][0]
             seen.append(first["call"]["names"][0])
@@ -276,7 +276,7 @@ class Logs(Denials):
         self.assertEqual((status, lines[-1]), (4, "# syscalls that failed, of which it isn't known: 1"))
 
     def test_json(self):
-        given = self.file("p.json", json.dumps(PROFILE))
+        given = self.file("p.json", PROFILE)
         log = (f"7  {DENIED}\n7  {LOAD}\n7  {DENIED}\n7  acct(NULL) = -1 EPERM (Operation not permitted)\n"
                "7  +++ exited with 2 +++\n")
         status, out, err = self.run_tool("why", "--json", "-", given, given=log.encode())

@@ -266,7 +266,7 @@ class Judgement(Case):
 
     def needs(self, log, *words, profile=None, **settings):
         return self.run_tool("needs", *words, self.file("log", log),
-                             self.file("p.json", json.dumps(profile or self.PROFILE)), **settings)
+                             self.file("p.json", profile or self.PROFILE), **settings)
 
     def judged(self, log, status, profile=None):
         """The disposition of each call, by name, as --json and the lines tell it."""
@@ -274,8 +274,7 @@ class Judgement(Case):
         self.assertEqual((exit_status, err, out.count("\n")), (status, "", 1), out)
         report = json.loads(out)
         self.assertEqual(report["status"], status)
-        exit_status, out, err = self.needs(log, profile=profile)
-        self.assertEqual((exit_status, err), (status, ""))
+        out = self.out_of(status, self.needs(log, profile=profile))
         dispositions = [(" ".join([*([call["architecture"]] if "architecture" in call else []), call["name"]]),
                          call["disposition"]) for call in report["calls"]]
         lines = [line for line in out.split("\n")[:-1] if line[0] != "#"]
@@ -432,7 +431,7 @@ class Needs(Judgement):
         self.is_refused("is a folder", "needs", self.folder, self.file("p.json", profile_of("read")))
 
     def test_inputs(self):
-        config = self.file("c.json", json.dumps({"linux": {"seccomp": self.PROFILE}}))
+        config = self.file("c.json", {"linux": {"seccomp": self.PROFILE}})
         expected = self.needs("open(1) = 1\n")
         self.assertEqual(self.run_tool("needs", "-", config, given=b"open(1) = 1\n"), expected)
         self.assertEqual(self.run_tool("needs", self.file("log", "open(1) = 1"), "-",
@@ -751,9 +750,8 @@ class Hostile(Judgement):
                                   (b"".join(b"wait4(%d) = 1\n" % number for number in range(110000)), 2, many),
                                   (b"".join(b"no_%d(1) = 1\n" % number for number in range(110000)), 2, many)):
             before = taken()
-            exit_status, _, err = self.run_tool("needs", self.file("log", log),
-                                                self.file("p.json", json.dumps(self.PROFILE)),
-                                          preexec_fn=limited(90, 500 << 20))
+            exit_status, _, err = self.run_tool("needs", self.file("log", log), self.file("p.json", self.PROFILE),
+                                                preexec_fn=limited(90, 500 << 20))
             self.assertEqual((exit_status, says in err), (status, True), log[:30])
             self.assertLess(taken() - before, 80)
 
@@ -850,7 +848,7 @@ class Real(Judgement):
         return log
 
     def test_each_form(self):
-        profile = self.file("p.json", json.dumps(self.PROFILE))
+        profile = self.file("p.json", self.PROFILE)
         for words in ((), ("-t",), ("-ttt",), ("-r",), ("-T", "-i"), ("-y",), ("-X", "raw"), ("-X", "verbose"),
                       ("--quiet=none",)):
             for to_file in (True, False):
@@ -867,15 +865,14 @@ class Real(Judgement):
         """How a program ends under a profile's filter, and what it prints."""
         filters = self.filter_file(profile)
         done = completed([sys.executable, "-IS", "-c", CONFINED, filters, shutil.which(words[0]), *words[1:]])
-        if done.returncode == 99:
-            self.skipTest("no filter can be installed here")
+        self.skip_if(done.returncode == 99, "no filter can be installed here")
         return done.returncode, done.stdout
 
     def test_a_program_runs_under_its_least_profile(self):
         conditions = {"defaultAction": ERRNO, "syscalls": [
             entry(name, args=[where(index, "EQ", 0)])
             for name, index in (("clone", 0), ("socket", 0), ("openat", 2), ("mprotect", 2), ("fcntl", 1))]}
-        given = self.file("p.json", json.dumps(conditions))
+        given = self.file("p.json", conditions)
         for options in ((), ("-X", "verbose", "-yy", "-T"), ("-v", "-tt", "-n")):
             for words in (("ls", "/"), ("sh", "-c", "ls / | head -n 1; (exit 3) & wait $!; exit 4"),
                           ("git", "--version"), ("python3", "-ISc", "import json; print(json.dumps([1]))")):
@@ -891,15 +888,13 @@ class Real(Judgement):
     def listed(self):
         """A list as Docker's: without what makes a sandbox useless, and ENOSYS for clone3."""
         names = [name for name in TABLE.names() if name not in watchlist.dangerous()]
-        return self.file("list.json", json.dumps({**Least.CLONES, "syscalls": [
-            entry(*names), *Least.CLONES["syscalls"][1:2],
-            entry("clone3", action=ERRNO, errnoRet=38)]}))
+        return self.file("list.json", {**Least.CLONES, "syscalls": [entry(*names), *Least.CLONES["syscalls"][1:2],
+                                                                    entry("clone3", action=ERRNO, errnoRet=38)]})
 
     def test_a_program_that_calls_clone3(self):
         """Under a list that answers ENOSYS no least profile allows it, which a filter can't keep from namespaces."""
         made = self.built(self.CLONING)
-        if self.run_words([made])[:2] != (0, "0\n"):
-            self.skipTest("no such program can be run here")
+        self.skip_if(self.run_words([made])[:2] != (0, "0\n"), "no such program can be run here")
         for words in ((), ("--widen",)):
             status, out, err = self.run_tool("record", "--profile", self.listed(), *words, "least.json", "--", made)
             self.assertEqual((status, out, err), (0, "0\n", ""))
@@ -961,8 +956,7 @@ for number, *arguments in eval(sys.argv[1]):
         """A 32-bit program that makes these calls."""
         made = self.built(self.NARROW % ", ".join(f"{{{nr}, {at}}}" for _, nr, at in calls), "-m32", "-O1", "-static",
                           "-nostdlib", "-fno-pie", "-no-pie", "-fno-stack-protector")
-        if self.run_words([made])[0]:
-            self.skipTest("no 32-bit program can be run here")
+        self.skip_if(self.run_words([made])[0], "no 32-bit program can be run here")
         return made
 
     def test_calls_of_a_32_bit_program(self):
@@ -971,10 +965,10 @@ for number, *arguments in eval(sys.argv[1]):
         denied = [("getpid", 0, None, 0), ("personality", 0, "SCMP_CMP_EQ", 0xFFFFFFFF),
                   ("dup", 0, "SCMP_CMP_EQ", (1 << 32) + 99), ("socket", 0, "SCMP_CMP_EQ", 40),
                   ("alarm", 0, "SCMP_CMP_GT", 0xFFFFFFF0), ("socketcall", 0, "SCMP_CMP_EQ", 1)]
-        profile = self.file("p.json", json.dumps({
+        profile = self.file("p.json", {
             "defaultAction": ALLOW, "architectures": ["SCMP_ARCH_X86_64", "SCMP_ARCH_X86"], "syscalls": [
                 entry(name, action=ERRNO, errnoRet=77, args=[{"index": index, "op": op, "value": value}] if op else [])
-                for name, index, op, value in denied]}))
+                for name, index, op, value in denied]})
         calls = {("getpid", 20, 0): True, ("personality", 136, -1): True, ("personality", 136, 0): False,
                  ("dup", 41, 99): False, ("socket", 359, 40): True, ("socket", 359, 99): False,
                  ("alarm", 27, -1): True, ("alarm", 27, 0): False, ("socketcall", 102, 1): True,
@@ -993,8 +987,7 @@ for number, *arguments in eval(sys.argv[1]):
                 self.assertEqual(dispositions.get(("i386", number, shown)), "not allowed" if is_denied else "allowed",
                                  (options, name, value))
         # under the least profile it runs as alone
-        status, out, _ = self.run_tool("needs", "--widen", log, self.file("q.json", json.dumps(
-            {"defaultAction": ERRNO, "defaultErrnoRet": 77, "architectures": ["SCMP_ARCH_X86_64", "SCMP_ARCH_X86"]})))
+        status, out, _ = self.run_tool("needs", "--widen", log, self.file("q.json", {"defaultAction": ERRNO, "defaultErrnoRet": 77, "architectures": ["SCMP_ARCH_X86_64", "SCMP_ARCH_X86"]}))
         self.assertEqual((status, self.ended(self.file("least.json", out), made)), (0, (0, b"0" * len(calls))))
 
     def test_each_call_becomes_what_is_said(self):
@@ -1011,11 +1004,10 @@ for number, *arguments in eval(sys.argv[1]):
                  ("ioctl", 0, 0x5401, 0), ("umask", -1), ("umask", 0xFFFF), ("umask", 0o22), ("dup3", 0, -5, 0),
                  ("dup3", 0, 0xFFFFFFFB, 0), ("mprotect", 0, 0, 5), ("mprotect", 0, 0, 1)]
         numbered = repr([(TABLE.number_of(name), *arguments) for name, *arguments in calls])
-        profile, looked = self.file("p.json", json.dumps(denied)), {entry["names"][0]: entry["args"][0]["index"]
+        profile, looked = self.file("p.json", denied), {entry["names"][0]: entry["args"][0]["index"]
                                                                     for entry in denied["syscalls"]}
         done = self.run_words([sys.executable, "-IS", "-c", self.CALLS, numbered, self.filter_file(profile)])
-        if done[0] == 99:
-            self.skipTest("no filter can be installed here")
+        self.skip_if(done[0] == 99, "no filter can be installed here")
         failed = [line == "1" for line in done[1].split()]
         self.assertEqual((len(failed), sum(failed)), (len(calls), 7))
         for options in ((), ("-X", "raw"), ("-X", "verbose"), ("-y",), ("-e", "raw=all")):

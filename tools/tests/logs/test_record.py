@@ -138,8 +138,7 @@ sys.exit(5)""", "out")
                 form = filters.form_of(data, "x")
                 self.assertEqual((form.name, form.data), ("a strace log", FIRST))
             else:
-                with self.assertRaisesRegex(filters.program.ToolError, text):
-                    filters.form_of(data, "x")
+                self.assertRaisesRegex(filters.program.ToolError, text, filters.form_of, data, "x")
 
     def test_libseccomp(self):
         """What strace shows of libseccomp's loading is what libseccomp writes."""
@@ -237,7 +236,7 @@ class Recorded(Traced):
         self.assertIn((NATIVE, "syscall_0x3e8", ((1 << 31,), (1 << 63 | 5,), (0,), (2 ** 64 - 1,))), log.calls)
 
     def test_least_profile(self):
-        base = self.file("base.json", json.dumps(rules(entry("personality", args=[where(0, "EQ", 0xFFFFFFFF)]))))
+        base = self.file("base.json", rules(entry("personality", args=[where(0, "EQ", 0xFFFFFFFF)])))
         script = "libc.personality(ctypes.c_ulong(0xFFFFFFFF)); print('ran')"
         status, out, err = self.run_python("record", script, "--profile", base, "least.json")
         self.assertEqual((status, out), (1, "ran\n"))

@@ -58,8 +58,7 @@ class Written(Case):
         text = done.stdout.decode("latin-1")
         if os.path.exists(log):
             text = text_of(log)
-        if not text:
-            self.skipTest(f"{words[0]} may not trace here: {done.stderr[-200:]}")
+        self.skip_if(not text, f"{words[0]} may not trace here: {done.stderr[-200:]}")
         expected = calls_of(text_of(traced))[0]
         found, log = calls_of(text)
         expected = {name: count for name, count in expected.items() if name not in without}
@@ -86,8 +85,7 @@ class Written(Case):
 
     def test_bpftrace(self):
         program = "tracepoint:raw_syscalls:sys_enter /pid == cpid/ { @[args->id] = count(); }"
-        if os.geteuid():
-            self.skipTest("bpftrace needs root")
+        self.skip_if(os.geteuid(), "bpftrace needs root")
         # (it begins the program with a file of its own open)
         words = ("-o", "log", "-e", program, "-c", f"{shutil.which(self.PROGRAM[0])} /")
         self.written("bpftrace", *words, is_counted=False)
@@ -292,7 +290,7 @@ class Words(Case):
         for listed, shown, counts in ((("X86_64", "X86"), lines.values(), (3, 3)),
                                       (("X86_64", "X86", "AARCH64"), (lines["i386"], lines["foreign"]), (4, 2))):
             profile = {"defaultAction": ERRNO, "architectures": [f"SCMP_ARCH_{it}" for it in listed], "syscalls": rules}
-            self.assertEqual(self.run_tool("needs", log, self.file("p.json", json.dumps(profile))),
+            self.assertEqual(self.run_tool("needs", log, self.file("p.json", profile)),
                              (1, "".join(shown) + counted.format(*counts), ""))
 
     def test_what_runtimes_call(self):
@@ -364,7 +362,7 @@ class Containers(Case):
         table = tables.read_table(None)
         denying = rules(entry(*(name for name in table.names() if name not in ("mkdir", "clone3"))),
                         architectures=["SCMP_ARCH_X86_64"])
-        given = self.file("denying.json", json.dumps(denying))
+        given = self.file("denying.json", denying)
         for _ in range(9):
             self.assertEqual(self.run_container(runtime, denying, tracer=("strace", "-f", "-o", log), args=args), "")
             lines = text_of(log).splitlines()
@@ -396,7 +394,7 @@ class Containers(Case):
             for call in calls[-1:]:
                 profile = rules(entry(*(name for name in tables.read_table(None).names() if name != call)),
                                 default=action, architectures=["SCMP_ARCH_X86_64"])
-                out = self.run_tool("lint", "--runtime", runtime, self.file("l.json", json.dumps(profile)))[1]
+                out = self.run_tool("lint", "--runtime", runtime, self.file("l.json", profile))[1]
                 where = " without noNewPrivileges" if starts[1] else ""
                 self.assertEqual(f"starts nothing{where}: it calls {call} itself" in out, not all(starts), out)
                 self.assertEqual("no-start" in out, not all(starts))

@@ -129,8 +129,8 @@ class Tools(Case):
         self.assertEqual(self.told("diff", good, profile)[1][0], "differs")
 
     def test_disposition_of_a_profile(self):
-        profile = self.file("p.json", json.dumps({"defaultAction": "SCMP_ACT_ERRNO", "syscalls": [
-            {"names": ["read"], "action": "SCMP_ACT_LOG"}]}).encode())
+        profile = self.file("p.json", {"defaultAction": "SCMP_ACT_ERRNO", "syscalls": [
+            {"names": ["read"], "action": "SCMP_ACT_LOG"}]})
         first = self.file("1.bpf", filter_of([READ]))
         self.assertEqual(self.told("compare", "--disposition", first, profile), (0, ["same disposition"]))
         self.assertEqual(self.told("compare", first, profile)[1][0], "differs")
@@ -154,7 +154,7 @@ class Tools(Case):
         for words, first in (([], alike), (["--no-more"], one)):
             out = self.run_tool("diff", *words, other, first)[1].split("\n")
             self.assertEqual(out[1], shown[0].replace("161", str(X32)))
-        profile = self.file("p.json", json.dumps({"defaultAction": "SCMP_ACT_ALLOW", "syscalls": []}))
+        profile = self.file("p.json", {"defaultAction": "SCMP_ACT_ALLOW", "syscalls": []})
         self.assertEqual(self.run_tool("compare", "--all", one, profile)[1].split("\n")[1:4],
                          [*shown, "profile ALLOW 0"])
 

@@ -1,7 +1,7 @@
 """`compare --calls`: each call that a table names, compared by itself."""
 import itertools
 
-from support.common import TABLE, X32, X86_64, part, taken
+from support.common import TABLE, X32, X86_64, part, taken, text_of
 from support.on_parts import (ALL, ALLOW, NATIVE, NO_TABLE, ONE_CALL, READ_WRITE_TABLE, OnProgram, a_filter, a_profile,
                               a_table, bundle, ran)
 
@@ -194,8 +194,7 @@ class Calls(OnProgram):
 
     def test_many_slow_calls_end(self):
         """Each call of the table takes all its steps: within the limit of all, and within seconds of a processor."""
-        with open(TABLE, encoding="utf-8") as file:
-            rows = a_table(file.read())
+        rows = a_table(text_of(TABLE))
         before = taken()
         out, status = self.compared("", bundle([SLOW, ALL, rows]))
         lines = out.decode().splitlines()

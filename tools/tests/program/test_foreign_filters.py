@@ -2,7 +2,7 @@
 import json
 
 from support import seccomp_library
-from support.common import Case, part
+from support.common import Case, bytes_of, part
 from support.oci import condition
 from support.on_parts import ran
 from support.seccomp_library import NEEDED, Library
@@ -31,22 +31,20 @@ class Filters(Case):
         """The architectures, their profiles, and what libseccomp makes of these."""
         for name in NAMES:
             profile = profile_for(name)
-            yield (architectures.JUDGED[name], self.file(f"{name}.json", json.dumps(profile)),
+            yield (architectures.JUDGED[name], self.file(f"{name}.json", profile),
                    self.file(f"{name}.bpf", self.library.filter_of(profile)))
 
     def compiled(self, name):
         """What scf itself makes of the profile."""
         parts = [part("profile", json.dumps(profile_for(name)).encode())]
         for architecture in (architectures.JUDGED[each] for each in (NATIVE, name)):
-            with open(architecture.file, "rb") as file:
-                parts.append(part(architecture.kind, file.read()))
+            parts.append(part(architecture.kind, bytes_of(architecture.file)))
         return self.file(f"{name}.compiled.bpf", ran(["compile", "--architectures"], b"".join(parts))[0])
 
     @NEEDED
     def test_they_answer_as_the_profile_says(self):
         for architecture, profile, made in self.each():
-            status, out, _ = self.run_tool("compare", made, profile)
-            self.assertEqual((status, out.split("\n")[0]), (0, "same"), architecture.name)
+            self.begins(0, "same", self.run_tool("compare", made, profile))
             self.assertEqual(self.run_tool("compare", self.compiled(architecture.oci), profile)[:2], (0, "same\n"))
 
     @NEEDED
@@ -67,7 +65,7 @@ class Filters(Case):
             profile["syscalls"] += [
                 {"names": ["socket"], "action": "SCMP_ACT_ALLOW", "args": [condition(1, "EQ", 2)]},
                 {"names": ["shmget"], "action": "SCMP_ACT_ALLOW"}]
-            made, alone = self.library.filter_of(profile), self.file("alone.json", json.dumps(profile))
+            made, alone = self.library.filter_of(profile), self.file("alone.json", profile)
             status, resolved, _ = self.run_tool("resolve-profile", "--multiplexed", alone)
             statuses = [self.run_tool("compare", self.file("made.bpf", made), path)[0]
                         for path in (alone, self.file("resolved.json", resolved))]

@@ -2,7 +2,6 @@
 and what the tools say of each."""
 import collections
 import functools
-import json
 import os
 import random
 import unittest
@@ -232,7 +231,7 @@ class Worked(Case):
             {"names": ["read"], "action": "SCMP_ACT_ALLOW"},
             {"names": ["personality"], "action": "SCMP_ACT_ALLOW",
              "args": [{"index": 0, "value": 8, "op": "SCMP_CMP_EQ"}]}]}
-        self.profile = self.file("p.json", json.dumps(self.top))
+        self.profile = self.file("p.json", self.top)
 
     def filter(self, at=None, text=""):
         lines = [line.strip() for line in WORKED.split(";")]
@@ -267,16 +266,16 @@ class Worked(Case):
                              ["same", "other SCMP_ARCH_X86", "other SCMP_ARCH_X32"])
 
     def test_some_of_them(self):
-        two = self.file("two.json", json.dumps({**self.top, "architectures": NAMED[:2]}))
+        two = self.file("two.json", {**self.top, "architectures": NAMED[:2]})
         # x32's syscalls aren't judged there, and it is said that some are allowed
         status, lines = self.said(at=5, text="jge 0x40000000 14 0", profile=two)
         self.assertEqual((status, lines[0]), (0, "same"))
-        path = self.file("one.json", json.dumps({**self.top, "architectures": ["SCMP_ARCH_X86"]}))
+        path = self.file("one.json", {**self.top, "architectures": ["SCMP_ARCH_X86"]})
         self.assertEqual(self.said(at=9, text="jeq 0x0 0 0", profile=path)[1][0], "same")
 
     def test_a_wide_value(self):
         self.top["syscalls"][1]["args"][0]["value"] = 4294967304
-        wide = self.file("wide.json", json.dumps(self.top))
+        wide = self.file("wide.json", self.top)
         status, lines = self.said(profile=wide)
         self.assertEqual((status, lines[0]), (1, "differs"))
         again = self.file("wide.bpf", self.compiled(wide))
@@ -297,12 +296,9 @@ class Worked(Case):
     def test_a_conflict(self):
         """On i386 alone, since only there both names are one number: it has the name that it has there."""
         entries = [{"names": ["waitpid"], "action": "SCMP_ACT_ALLOW"}, {"names": ["waitpid"], "action": "SCMP_ACT_LOG"}]
-        given = self.file("c.json", json.dumps({"defaultAction": "SCMP_ACT_ERRNO", "architectures": NAMED,
-                                                "syscalls": entries}))
+        given = self.file("c.json", {"defaultAction": "SCMP_ACT_ERRNO", "architectures": NAMED, "syscalls": entries})
         for tool, words in (("compare", (self.filter(),)), ("ask", ()), ("lint", ())):
-            status, out, _ = self.run_tool(tool, *words, given)
-            self.assertEqual((status, out.split("\n")[0]), (2, "fault profile Conflict number 7 first 0 second 1"),
-                             tool)
+            out = self.begins(2, "fault profile Conflict number 7 first 0 second 1", self.run_tool(tool, *words, given))
             self.assertIn("# the syscall is waitpid (7) of the architecture i386\n", out)
             self.assertFalse(self.run_tool(tool, "--native", *words, given)[1].startswith("fault"), tool)
 

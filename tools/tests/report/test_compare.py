@@ -261,7 +261,7 @@ class OtherAbis(Case):
 
     def profile(self, *architectures):
         names = [f"SCMP_ARCH_{name}" for name in ("X86_64", *architectures)]
-        return self.file("p.json", json.dumps({**json.loads(profile_of("read")), "architectures": names}))
+        return self.file("p.json", {**json.loads(profile_of("read")), "architectures": names})
 
     def said(self, *words):
         return self.told("compare", *words)
@@ -390,7 +390,7 @@ class OtherAbis(Case):
         fits = self.file("f.bpf", of_abis(native, load(0) + jeq(4, 1, 0) + ret(EPERM) + ret(ALLOW), ret(EPERM), 0))
         ours = self.profile()
         i386 = {"architectures": ["SCMP_ARCH_X86"]}
-        writes, reads = (self.file(f"{name}.json", json.dumps({**json.loads(profile_of(name)), **i386}))
+        writes, reads = (self.file(f"{name}.json", {**json.loads(profile_of(name)), **i386})
                          for name in ("write", "read"))
         self.assertEqual(self.said("--also", writes, fits, ours), (0, ["same"]))
         self.assertEqual(self.said(fits, ours)[1][0], "differs")
@@ -413,8 +413,7 @@ class OtherAbis(Case):
                                           ("x86_64", "-1", ("X86", "X32"), "ERRNO 1 default"),
                                           ("x86_64", "read", ("X86", "X32"), "ALLOW 0 entry 0")):
             words = ("ask", f"--arch={arch}", "--nr", number)
-            status, out, _ = self.run_tool(*words, self.profile(*names))
-            self.assertEqual((status, out.split("\n")[0]), (4 if line == self.UNDETERMINED else 0, line), words)
+            self.begins(4 if line == self.UNDETERMINED else 0, line, self.run_tool(*words, self.profile(*names)))
             first_call = json.loads(self.run_tool(*words, "--json", self.profile(*names))[1])["calls"][0]
             self.assertEqual("answer" in first_call, line != self.UNDETERMINED)
         native = self.run_tool("ask", "--native", "--arch=i386", "--nr=read", self.profile("X86"))
@@ -461,10 +460,8 @@ class WithAnotherScf(Case):
         self.assertEqual(words, "compare --native --limit=7\n")
         self.assertIn("without a verdict: 1\n# 39 getpid unfinished\n", done[1])
         self.assertEqual(text_of(os.path.join(self.folder, "kept.calls")), "compare --calls --limit=7\n")
-        with open(os.path.join(self.folder, "kept.relations"), encoding="ascii") as handed:
-            self.assertEqual(handed.read().split("\n"), [f"compare --native --no-{word} --limit=7"
-                                                         for word in ("more", "less")]
-                             + [""])
+        self.assertEqual(text_of(self.folder, "kept.relations").split("\n"), [f"compare --native --no-{word} --limit=7"
+                                                                              for word in ("more", "less")] + [""])
         self.assertEqual(self.run_fake("--all", "--table", "t", "a.bpf", "p.json")[2], "compare --limit=1000000000\n")
 
 

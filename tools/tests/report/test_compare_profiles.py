@@ -250,7 +250,7 @@ class Engines(Case):
                                {"names": ["reboot"], "action": ALLOW, "includes": {"caps": ["CAP_SYS_BOOT"]}}]}
 
     def compared(self, *words, old=None, new=None):
-        names = [self.file(f"{name}.json", json.dumps(value)) for name, value in (("old", old or self.OLD),
+        names = [self.file(f"{name}.json", value) for name, value in (("old", old or self.OLD),
                                                                             ("new", new or self.NEW))]
         status, out, err = self.run_tool("compare-profiles", *words, *names)
         return status, [line.split()[:3] for line in out.split("\n") if line[:1].isdigit()], err
@@ -272,7 +272,7 @@ class Engines(Case):
                          (0, []))
 
     def test_without_an_option_scf_refuses_an_engines_form(self):
-        out = self.output_of(2, "compare-profiles", *[self.file("old.json", json.dumps(self.OLD))] * 2)
+        out = self.output_of(2, "compare-profiles", *[self.file("old.json", self.OLD)] * 2)
         self.assertTrue(out.startswith("fault profile EngineForm\n"), out)
         self.assertTrue(out.endswith("# it is the old profile\n# --caps and the like resolve both profiles as an "
                                      "engine does\n"), out)
@@ -287,7 +287,7 @@ class Runtimes(Case):
     """Profiles as a runtime applies them, and entries by their index in the user's files."""
 
     def lines(self, old, new, *words):
-        names = [self.file(f"{name}.json", json.dumps(value)) for name, value in (("old", old), ("new", new))]
+        names = [self.file(f"{name}.json", value) for name, value in (("old", old), ("new", new))]
         status, out, err = self.run_tool("compare-profiles", *words, *names)
         self.assertNotIn("Traceback", err)
         return status, out.splitlines(), err.splitlines()
@@ -331,7 +331,7 @@ class Runtimes(Case):
             return
         child, _ = started([[self.file("f.bpf", ret(0x7FFF0000))]])
         self.addCleanup(ended, child)
-        out = self.run_tool("verify-process", "--runtime", "crun", str(child.pid), self.file("p", json.dumps(old)))[1]
+        out = self.run_tool("verify-process", "--runtime", "crun", str(child.pid), self.file("p", old))[1]
         self.assertIn("\n# in the original file that is entry 2 (mkdir) and entry 3 (mkdir)\n", out)
 
     def test_what_runc_answers_by_enosys(self):

@@ -294,7 +294,7 @@ class Profiles(Case):
             self.assertIn(text, remarks_in(out, err))
         names = [self.file(f"{at}.bpf", data) for at, data in enumerate(filters)]
         for relation, profile in (("--no-more", profiles[0]), ("--no-less", profiles[-1])):
-            path = self.file("bound.json", json.dumps(profile))
+            path = self.file("bound.json", profile)
             words = (*(SANDBOX if has_trap_data(profile) else ()), "--table", self.table, relation)
             self.assertEqual(self.run_tool("compare", *words, *names, path)[0], 0)
         return profiles
@@ -492,7 +492,7 @@ class OtherArchitectures(Case):
         self.assertEqual((status, err), (0, said))
         self.assertEqual(profile, {**members_of_default(default), "architectures": [name], "syscalls": list(entries)})
         native = ["--native"] if name == NATIVE else []
-        done = self.run_tool("compare", *native, self.file("f.bpf", data), self.file("p.json", json.dumps(profile)))
+        done = self.run_tool("compare", *native, self.file("f.bpf", data), self.file("p.json", profile))
         self.assertEqual((done[0], done[1].splitlines()[0]), (0, "same"))
 
     def covers(self, data, names, *entries, default="ERRNO 1", said=(), words=()):
@@ -502,7 +502,7 @@ class OtherArchitectures(Case):
                                                "syscalls": list(entries)}))
         self.assertEqual(err.splitlines(), [f"profile-of: {line}" for line in said])
         if not words:
-            done = self.run_tool("compare", self.file("f.bpf", data), self.file("p.json", json.dumps(profile)))
+            done = self.run_tool("compare", self.file("f.bpf", data), self.file("p.json", profile))
             # (a profile that leaves an open ABI of its machine out denies that)
             is_open = any(line.startswith("i386: ") for line in said)
             self.assertEqual((done[0], done[1].splitlines()[0]), (1, "differs") if is_open else (0, "same"))
@@ -652,7 +652,7 @@ class OtherArchitectures(Case):
         profile = {"defaultAction": "SCMP_ACT_ERRNO", "architectures": list(several.ARCHITECTURES), "syscalls": [
             entry("ALLOW", "read", "stat64", "waitpid"),
             entry("ALLOW", "personality", index=0, value=8, op="SCMP_CMP_EQ")]}
-        done = completed([tool("compile"), self.file("p.json", json.dumps(profile))], check=True)
+        done = completed([tool("compile"), self.file("p.json", profile)], check=True)
         self.covers(done.stdout, profile["architectures"], *profile["syscalls"], said=[EACH])
 
     @mock.patch.dict(several.ARCHITECTURES, WITH_TABLES)

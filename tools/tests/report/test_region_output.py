@@ -188,5 +188,4 @@ class Reader(unittest.TestCase):
         self.addCleanup(setattr, client, "answers", given)
         for status, out in ((0, b"unfinished\n"), (4, b""), (1, b"no\n"), (0, b"fault filter Empty\n")):
             client.answers = lambda *_, status=status, out=out: client.Run(status, out)
-            with self.assertRaises(ToolError):
-                regions.regions_of_filters([])
+            self.assertRaises(ToolError, regions.regions_of_filters, [])

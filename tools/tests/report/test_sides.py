@@ -94,10 +94,10 @@ class Sides(Case):
 
     def test_an_architecture_that_one_profile_alone_names(self):
         """The other one kills for it."""
-        both = self.file("both.json", json.dumps({"defaultAction": "SCMP_ACT_ERRNO", "architectures": [
-            "SCMP_ARCH_X86_64", "SCMP_ARCH_X86"], "syscalls": [{"names": ["read"], "action": "SCMP_ACT_ALLOW"}]}))
-        native = self.file("native.json", json.dumps({"defaultAction": "SCMP_ACT_ERRNO", "architectures": [
-            "SCMP_ARCH_X86_64"], "syscalls": [{"names": ["read"], "action": "SCMP_ACT_ALLOW"}]}))
+        both = self.file("both.json", {"defaultAction": "SCMP_ACT_ERRNO", "architectures": [
+            "SCMP_ARCH_X86_64", "SCMP_ARCH_X86"], "syscalls": [{"names": ["read"], "action": "SCMP_ACT_ALLOW"}]})
+        native = self.file("native.json", {"defaultAction": "SCMP_ACT_ERRNO", "architectures": [
+            "SCMP_ARCH_X86_64"], "syscalls": [{"names": ["read"], "action": "SCMP_ACT_ALLOW"}]})
         for words, verdict in (((both, native), "differs"), ((NO_MORE, native, both), "no more"),
                                ((NO_MORE, both, native), "more"), (("--native", both, native), "same")):
             with self.subTest(words=words):
@@ -110,17 +110,15 @@ class Processes(Confined):
         denies_mount = load(0) + jeq(165, 0, 1) + ret(EPERM) + ret(ALLOW)
         child = self.child([denies_mount])
         name = f"pid:{child.pid}"
-        profile = self.file("p.json", json.dumps({"defaultAction": "SCMP_ACT_ALLOW", "architectures": [
+        profile = self.file("p.json", {"defaultAction": "SCMP_ACT_ALLOW", "architectures": [
             "SCMP_ARCH_X86_64", "SCMP_ARCH_X86", "SCMP_ARCH_X32"], "syscalls": [
-                {"names": ["mount"], "action": "SCMP_ACT_ERRNO"}]}))
+                {"names": ["mount"], "action": "SCMP_ACT_ERRNO"}]})
         stack = self.file("f.bpf", denies_mount)
         for words in (("compare", name, stack), ("compare", stack, name), ("diff", stack, name),
                       ("compare", "--native", name, profile), ("compare", "--native", profile, name)):
             with self.subTest(words=words):
-                status, out, _ = self.run_tool(*words)
-                self.assertEqual((status, out.split("\n")[0]), (0, "same"))
+                self.begins(0, "same", self.run_tool(*words))
         value = json.loads(self.run_tool("compare", "--json", name, stack)[1])
         self.assertEqual([(each["status"], each["verdict"], each["confined"]) for each in value["stacks"]],
                          [(0, "same", "by filters")])
-        status, out, _ = self.run_tool("compare", f"pid:{os.getpid()}", stack)
-        self.assertEqual((status, out.split("\n")[0]), (1, "unconfined"))
+        self.begins(1, "unconfined", self.run_tool("compare", f"pid:{os.getpid()}", stack))

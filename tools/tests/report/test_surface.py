@@ -356,7 +356,7 @@ class Program(Case):
         """It stands for the filter that scf compiles of it; an engine's is resolved for a machine."""
         profile = {"defaultAction": "SCMP_ACT_ERRNO", "architectures": ["SCMP_ARCH_X86_64"],
                    "syscalls": [{"names": ["read"], "action": "SCMP_ACT_ALLOW"}]}
-        path = self.file("p.json", json.dumps(profile))
+        path = self.file("p.json", profile)
         self.run_words(["sh", "-c", f"{tool('compile')} {path} >{self.folder}/p.bpf"])
         shown = [self.run_tool("surface", name) for name in (path, "p.bpf")]
         self.assertEqual(shown[0], shown[1])
@@ -366,19 +366,18 @@ class Program(Case):
         engines = {**profile, "archMap": [{"architecture": "SCMP_ARCH_AARCH64", "subArchitectures": ["SCMP_ARCH_ARM"]}],
                    "syscalls": [{"names": ["read"], "action": "SCMP_ACT_ALLOW", "includes": {"caps": ["CAP_KILL"]}}]}
         del engines["architectures"]
-        words = ("surface", "--caps", "CAP_KILL", "--machine", "arm64", self.file("e.json", json.dumps(engines)))
+        words = ("surface", "--caps", "CAP_KILL", "--machine", "arm64", self.file("e.json", engines))
         status, out, _ = self.run_tool(*words)
         self.assertEqual((status, out.splitlines()[0].split(",")[0]), (0, "aarch64: allowed 1"))
         self.assertTrue(out.splitlines()[1].startswith("arm: allowed 1, "), out)
-        self.is_refused("p.json': fault profile EngineForm", "surface", self.file("p.json", json.dumps(engines)))
+        self.is_refused("p.json': fault profile EngineForm", "surface", self.file("p.json", engines))
 
     def test_the_filter_of_libseccomp(self):
         """It lets -1 through on purpose, and no x32 call."""
         script = ("import seccomp, sys; made = seccomp.SyscallFilter(seccomp.ALLOW); "
                   "made.add_rule(seccomp.ERRNO(1), 'mount'); made.export_bpf(sys.stdout)")
         done = completed(["/usr/bin/python3", "-c", script])
-        if done.returncode:
-            self.skipTest("libseccomp's module of Python isn't here")
+        self.skip_if(done.returncode, "libseccomp's module of Python isn't here")
         self.assertEqual([StandIn().decide([done.stdout], Call(number)) for number in (0xFFFFFFFF, 0x40000000)],
                          ["ALLOW 0", "KILL_THREAD 0"])
         self.assertEqual(self.said([done.stdout])[1][1], NO_FOREIGN)

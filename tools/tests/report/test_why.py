@@ -168,7 +168,7 @@ class Ask(Case):
     def setUp(self):
         super().setUp()
         self.own = {"defaultAction": "SCMP_ACT_ERRNO", "syscalls": self.ENTRIES}
-        self.profile = self.file("p.json", json.dumps(self.own))
+        self.profile = self.file("p.json", self.own)
 
     def asked(self, *words, profile=None, given=b""):
         return self.told("ask", *words, profile or self.profile, given=given)
@@ -238,7 +238,7 @@ class Ask(Case):
             entry = {"names": ["read", name], "action": "SCMP_ACT_LOG", "comment": name}
             if name == "\ud800":
                 entry = {**entry, "names": ["read"], "comment": "\u00e9\U0001f512"}
-            profile = self.file("h.json", json.dumps({"defaultAction": "SCMP_ACT_ERRNO", "syscalls": [entry]}))
+            profile = self.file("h.json", {"defaultAction": "SCMP_ACT_ERRNO", "syscalls": [entry]})
             status, lines = self.asked("--nr=read", profile=profile)
             self.assertEqual((status, len(lines), lines[0]), (0, 4, "LOG 0 entry 0"))
             self.assertTrue(all(line.isprintable() and line.isascii() for line in lines), lines)
@@ -283,8 +283,7 @@ class Behind(Case):
     """What stands behind a difference: the entry, and the last tests on the way."""
 
     def added(self, *words, status=1):
-        found, out, err = self.run_tool("compare", *words)
-        self.assertEqual((found, err), (status, ""))
+        out = self.output_of(status, "compare", *words)
         return [line[2:] for line in out.split("\n") if line.startswith("# ")]
 
     def way(self, lines):
@@ -363,8 +362,7 @@ class Behind(Case):
                                 stdout=subprocess.DEVNULL, stderr=subprocess.DEVNULL)
         try:
             comes(lambda: is_program(innermost(jail.pid), "cat") or jail.poll() is not None)
-            if jail.poll() is not None:
-                self.skipTest("firejail doesn't run here")
+            self.skip_if(jail.poll() is not None, "firejail doesn't run here")
             pid = innermost(jail.pid)
             profile = self.file("p.json", b'{"defaultAction":"SCMP_ACT_ALLOW","syscalls":[{"names":["clone"],'
                                           b'"action":"SCMP_ACT_ERRNO"}]}')
@@ -380,8 +378,8 @@ class Behind(Case):
     def test_the_entry(self):
         conditions = [{"index": 2, "value": 7, "op": "SCMP_CMP_GE"}]
         entry = {"names": ["write", "\x9b\n# same"], "action": "SCMP_ACT_ALLOW", "args": conditions}
-        profile = self.file("p.json", json.dumps({"defaultAction": "SCMP_ACT_ERRNO", "syscalls": [
-            {"names": ["read"], "action": "SCMP_ACT_ALLOW"}, entry]}))
+        profile = self.file("p.json", {"defaultAction": "SCMP_ACT_ERRNO", "syscalls": [
+            {"names": ["read"], "action": "SCMP_ACT_ALLOW"}, entry]})
         lines = self.added(self.file("f.bpf", filter_of([0])), profile)
         self.assertIn(f"by entry 1 of syscalls: {json.dumps(entry)}", lines)
         self.assertTrue(any(re.fullmatch(r"argument 2 is [0-9]+ \(0x[0-9a-f]+\): SCMP_CMP_GE 7 \(0x7\) holds", line)

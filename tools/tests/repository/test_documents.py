@@ -429,8 +429,7 @@ class Manual(Case):
         ran = 0
         for block in self.examples():
             for line in block:
-                status, _, err = self.run_words(["sh", "-c", line], env=env)
-                self.assertEqual((status, err), (0, ""), line)
+                self.out_of(0, self.run_words(["sh", "-c", line], env=env))
                 ran += 1
         self.assertGreaterEqual(ran, 5)
 
@@ -480,8 +479,7 @@ class ManualOfTools(Case):
         self.assertEqual(len(of_pages), 2)
         for line in (*of_pages, "scf asm filter.s >filter.bpf", "scf dis old.bpf | scf asm >again.bpf"):
             with self.subTest(line):
-                status, _, err = self.run_words(["sh", "-c", line], env=env)
-                self.assertEqual((status, err), (0, ""))
+                self.out_of(0, self.run_words(["sh", "-c", line], env=env))
         self.assertEqual(bytes_of(self.folder, "again.bpf"), filter_of([0]))
 
     def test_the_page_of_the_assembler_has_each_of_its_mnemonics(self):

@@ -6,7 +6,7 @@ import signal
 import subprocess
 import sys
 
-from support.common import PATIENCE, TOP, Case
+from support.common import PATIENCE, TOP, Case, text_of
 
 # Prints what it is told, and makes what the gate takes from it.
 RT = """#!/bin/sh
@@ -88,8 +88,7 @@ class Gate(Case):
                     "cat \"$HELD\"\necho '1 passed, 0 failed'\n")
         held = os.path.join(self.tree, "crates/scf/out/scf")
         self.assertIn("old", self.gate(HELD=held)[1])
-        with open(held, encoding="utf-8") as program:
-            self.assertEqual(program.read(), "new\n")
+        self.assertEqual(text_of(held), "new\n")
 
     def test_modules_are_counted_together_and_a_failed_one_is_shown(self):
         status, lines = self.gate(WELL, WELL + MIXED)
@@ -170,5 +169,4 @@ class Seconds(Case):
         """One that doesn't end, and two processes that take more together and not alone."""
         two = "import os, time\nother = os.fork()\nwhile time.process_time() < 0.7:\n    pass\nother and os.wait()\n"
         for script in ("while True:\n    pass\n", two):
-            with self.assertRaises(self.failureException):
-                self.run_words([sys.executable, "-c", script], seconds=1)
+            self.assertRaises(self.failureException, self.run_words, [sys.executable, "-c", script], seconds=1)

@@ -2,7 +2,6 @@
 import copy
 import itertools
 import json
-import os
 import re
 import shlex
 
@@ -11,8 +10,7 @@ from support.common import ALLOW, EPERM, SCF, TOOLS, TOP, Case, completed, jeq, 
 from scftools.base import output
 from scftools.cli.commands import ALIASES
 
-with open(os.path.join(TOP, "docs", "JSON.md"), encoding="utf-8") as page:
-    PAGE = page.read()
+PAGE = text_of(TOP, "docs", "JSON.md")
 # What stands in an example for any object, and for any list.
 GAPS = ({"..": None}, [".."])
 # Each command line of the page, and what it prints.
@@ -121,8 +119,7 @@ class Checker(Examples):
                 self.assertEqual(self.faults(value, schema), 0, (schema, value))
             for value in bad:
                 self.assertGreater(self.faults(value, schema), 0, (schema, value))
-        with self.assertRaises(AssertionError):
-            self.faults(1, {"minimum": 0})
+        self.assertRaises(AssertionError, self.faults, 1, {"minimum": 0})
 
     def test_a_member_that_the_schema_lacks_or_has_otherwise(self):
         for line, printed in self.whole_examples():

@@ -300,7 +300,7 @@ class Interface(Built):
         allowed = {"defaultAction": "SCMP_ACT_ALLOW", "architectures": ["SCMP_ARCH_X86_64", "SCMP_ARCH_X86"],
                    "syscalls": [{"names": ["socket"], "action": "SCMP_ACT_ERRNO"},
                                 {"names": ["socket"], "action": "SCMP_ACT_ALLOW"}]}
-        config = self.file("config.json", json.dumps({"linux": {"seccomp": allowed}}))
+        config = self.file("config.json", {"linux": {"seccomp": allowed}})
         denied = "import socket\ntry: socket.socket()\nexcept OSError as error: print(error.errno)\n"
         for reading in ("runc", "crun"):
             self.assertEqual(self.runs(program, "--reading", reading, config, sys.executable, "-c", denied), "1\n")
@@ -330,7 +330,7 @@ class Interface(Built):
                  f" of x86-64 {more}")):
             profile = {"defaultAction": "SCMP_ACT_ALLOW", "architectures": [f"SCMP_ARCH_{name}" for name in names]}
             status, _, err = self.run_words([program, "--filter", self.file("filter.bpf", data),
-                                             self.file("config.json", json.dumps(profile)), "true"])
+                                             self.file("config.json", profile), "true"])
             with self.subTest(names=names, says=says):
                 self.assertEqual((status, err[-len(says):] if says else err), (1 if says else 0, says))
 
@@ -423,8 +423,7 @@ class Bindings(Built):
         needed = "import setuptools, wheel, pip"
         python = next((path for path in (sys.executable, "/usr/bin/python3")
                        if os.path.exists(path) and not self.run_words([path, "-c", needed])[0]), None)
-        if python is None:
-            self.skipTest(f"no Python can {needed} here")
+        self.skip_if(python is None, f"no Python can {needed} here")
         pip = [python, "-m", "pip", "--quiet", "--no-cache-dir", "--disable-pip-version-check"]
         done = self.run_words([*pip, "wheel", "--no-index", "--no-deps", "--no-build-isolation", "-w", folder, "."],
                               cwd=f"{self.tree}/python")
@@ -484,7 +483,7 @@ class Memory(Built):
         filters = self.file("own.bpf", filter_of([0, 1, 231]))
         text = {**json.loads(profile_of("read", "write", "socket", "absent")),
                 "architectures": ["SCMP_ARCH_X86_64", "SCMP_ARCH_X86"]}
-        profile = self.file("own.json", json.dumps(text))
+        profile = self.file("own.json", text)
         return filters, profile, self.file("own.table", "read 0\nwrite 1\nsocket 41\nexit_group 231\nclone 56\n")
 
     def test_each_allocation_fails_in_turn_and_calls_run_side_by_side(self):

@@ -150,22 +150,19 @@ class Values(unittest.TestCase):
                 with self.assertRaises(AttributeError):
                     point.x = 3
                 for given, named in (((), {}), ((1, 2, 3), {}), ((1,), {"x": 1}), ((1,), {"z": 1})):
-                    with self.assertRaises(TypeError):
-                        Point(*given, **named)
+                    self.assertRaises(TypeError, Point, *given, **named)
                 bag = Bag()
                 bag.items.append(1)
                 self.assertEqual(Bag(), Bag([]))
                 bag.items = [2]
                 self.assertEqual(bag, Bag([2]))
-                with self.assertRaises(TypeError):
-                    hash(bag)
+                self.assertRaises(TypeError, hash, bag)
 
     def test_patterns_are_compiled_when_they_are_used(self):
         pattern = values.Pattern("(A)(b)", re.I)
         self.assertEqual((pattern.fullmatch("aB")[2], pattern.sub(r"\2\1", "abc"), pattern.groups), ("B", "bac", 2))
-        wrong = values.Pattern("(")
         with self.assertRaises(re.error):
-            wrong.match("x")
+            values.Pattern("(").match("x")
 
     def test_they_are_pickled(self):
         fault = client.Fault.read("fault profile Conflict number 41 first 0 second 1")

@@ -15,8 +15,7 @@ from support.common import ALLOW, TOP, Case, completed, for_developers, profile_
 from repository.test_library import CALLS
 
 HAS_OBJECT = os.path.exists(os.path.join(TOP, "crates", "scf", "out", "scf.o"))
-with open(os.path.join(TOP, "VERSION"), encoding="ascii") as version_file:
-    VERSION = version_file.read().strip()
+VERSION = text_of(TOP, "VERSION").strip()
 PAGES = {f"{name}.3" for name in ("libscf", *sorted(CALLS))}
 
 
@@ -87,8 +86,7 @@ class Package(Case):
         self.assertTrue(os.path.isfile(os.path.join(root, "usr", "share", "man", "man1", "scf-compare.1.gz")))
         with open(os.path.join(root, "usr", "lib", "scf", "tools", "compare"), "rb") as tool:
             self.assertEqual(tool.readline(), b"#!/usr/bin/python3 -IS\n")
-        with open(os.path.join(root, "usr", "bin", "scf"), encoding="ascii") as command:
-            self.assertEqual(set(re.findall(r"(\S+) -IS", command.read())), {"/usr/bin/python3"})
+        self.assertEqual(set(re.findall(r"(\S+) -IS", text_of(root, "usr", "bin", "scf"))), {"/usr/bin/python3"})
         self.places(os.path.join(root, "usr"), "/usr")
         self.example(os.path.join(root, "usr"))
 
@@ -112,8 +110,7 @@ class Package(Case):
         macros = {"buildroot": root, "_prefix": "/usr", "_bindir": "/usr/bin", "_libdir": "/usr/lib64",
                   "_datadir": "/usr/share", "_includedir": "/usr/include", "_mandir": "/usr/share/man",
                   "python3_sitelib": "/usr/lib/python3/site-packages"}
-        with open(os.path.join(TOP, "contrib", "scf.spec"), encoding="utf-8") as file:
-            spec = re.sub(r"%{(\w+)}", lambda match: macros.get(match[1], match[0]), file.read())
+        spec = re.sub(r"%{(\w+)}", lambda match: macros.get(match[1], match[0]), text_of(TOP, "contrib", "scf.spec"))
         patterns = re.findall(r"(?m)^/.*", spec)
         self.assertEqual(self.run_words(shlex.split(re.search(r"(?m)^make .*", spec)[0]), cwd=TOP)[0], 0)
         installed = [os.path.join(at, name)[len(root):] for at, _, names in os.walk(root) for name in names]
@@ -142,8 +139,7 @@ class Package(Case):
     @unittest.skipUnless(shutil.which("podman") and os.geteuid() == 0, "there is no podman here, or no root")
     def test_an_image_of_the_program(self):
         """Of a stand-in for the program, that is linked statically as well."""
-        if self.run_words(["podman", "info"])[0]:
-            self.skipTest("podman doesn't work here")
+        self.skip_if(self.run_words(["podman", "info"])[0], "podman doesn't work here")
         name = f"scf-{VERSION}-x86_64"
         program = self.file(f"{name}/lib/scf/program/scf.c", '#include <stdio.h>\nint main() { puts("stands in"); }\n')
         self.assertEqual(self.run_words(["cc", "-static", "-o", program[:-2], program])[0], 0)
@@ -164,8 +160,7 @@ class Package(Case):
         """The unit and the hook below a folder name the programs below this prefix."""
         for path, name in (("lib/systemd/system/scf-audit.service", "scf-audit"),
                            ("share/scf/hooks.d/scf.json", "scf-oci-hook")):
-            with open(os.path.join(root, path), encoding="ascii") as file:
-                self.assertEqual(re.findall(rf"/[a-z0-9./_-]*/bin/{name}\b", file.read()), [f"{prefix}/bin/{name}"])
+            self.assertEqual(re.findall(rf"/[a-z0-9./_-]*/bin/{name}\b", text_of(root, path)), [f"{prefix}/bin/{name}"])
 
     def packages_of_the_library(self, made):
         """The packages of libscf have these files, and a program is compiled and run with what they unpack."""

@@ -220,11 +220,15 @@ class Case(unittest.TestCase):
         self.folder = tempfile.mkdtemp()
         self.addCleanup(shutil.rmtree, self.folder, ignore_errors=True)
 
+    def skip_if(self, is_lacking, why):
+        """Skips the test where this machine lacks what it needs."""
+        if is_lacking:
+            self.skipTest(why)
+
     def needs(self, *programs):
         """Skips the test where one of these programs isn't there."""
         for name in programs:
-            if not shutil.which(name):
-                self.skipTest(f"there is no {name} here")
+            self.skip_if(not shutil.which(name), f"there is no {name} here")
 
     def text_of_error(self, error, call, *words, **settings):
         """The text of an error that a call raises."""
@@ -246,10 +250,12 @@ class Case(unittest.TestCase):
         return child
 
     def file(self, name, data):
+        """A file with these bytes, this text, or another value as JSON."""
         path = os.path.join(self.folder, name)
         os.makedirs(os.path.dirname(path), exist_ok=True)
+        text = data if isinstance(data, (bytes, str)) else json.dumps(data)
         with open(path, "wb") as file:
-            file.write(data if isinstance(data, bytes) else data.encode())
+            file.write(text if isinstance(text, bytes) else text.encode())
         return path
 
     def built(self, source, *words):
@@ -266,8 +272,7 @@ class Case(unittest.TestCase):
         log = os.path.join(self.folder, "strace.log")
         done = subprocess.run(["strace", "-o", log, *words], stdin=subprocess.DEVNULL, stdout=subprocess.PIPE,
                               stderr=subprocess.DEVNULL, cwd=self.folder, check=False)
-        if not os.path.exists(log) or not os.path.getsize(log):
-            self.skipTest("strace may not trace here")
+        self.skip_if(not os.path.exists(log) or not os.path.getsize(log), "strace may not trace here")
         return log, (done.returncode, done.stdout)
 
     def compile(self, *words):

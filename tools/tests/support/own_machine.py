@@ -171,7 +171,7 @@ class Machine(Case):
         if seccomp is not None:
             config["linux"]["seccomp"] = seccomp
         change(config)
-        self.file(f"bundles/{name}/config.json", json.dumps(config))
+        self.file(f"bundles/{name}/config.json", config)
         return where
 
     def container(self, runtime, name, seccomp, **settings):
@@ -179,8 +179,7 @@ class Machine(Case):
         words = self.runtime(runtime)
         where = self.bundle(name, seccomp, **settings)
         status, out, err = self.on(*words, "run", "--detach", "--bundle", where, name)
-        if status:
-            self.skipTest(f"{runtime} starts no container here: {(out + err).strip()}")
+        self.skip_if(status, f"{runtime} starts no container here: {(out + err).strip()}")
 
 
 @here
@@ -251,8 +250,7 @@ class Systemd(Machine):
 
     def made_cgroup(self):
         mounts = [line.split()[1] for line in text_of("/proc/mounts").splitlines() if line.split()[2] == "cgroup2"]
-        if not mounts:
-            self.skipTest("there are no cgroups of version 2 here")
+        self.skip_if(not mounts, "there are no cgroups of version 2 here")
         try:
             path = tempfile.mkdtemp(prefix="scf-systemd-", dir=mounts[0])
         except OSError as error:
