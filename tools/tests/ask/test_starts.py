@@ -75,9 +75,8 @@ class Starts(Counting):
 
     def test_profile_of_runc(self):
         """The stub is one side's with the profile, so that nothing is compared twice."""
-        listed = {"defaultAction": "SCMP_ACT_ERRNO", "architectures": ["SCMP_ARCH_X86_64"],
-                  "syscalls": [{"names": ["read", "openat2"], "action": "SCMP_ACT_ALLOW"}]}
-        data, _ = self.compiled(json.dumps(listed))
+        data, _ = self.compiled(json.dumps({"defaultAction": "SCMP_ACT_ERRNO", "architectures": ["SCMP_ARCH_X86_64"],
+                                            "syscalls": [{"names": ["read", "openat2"], "action": "SCMP_ACT_ALLOW"}]}))
         # (runc leaves the numbers of x32 to the filter)
         behind = load(4) + jeq(X86_64, 0, 4) + load(0) + jge(0x40000000, 2, 0) + jge(438, 0, 1) + ret(0x00050026) + data
         for filter_, said in ((data, ""), (behind, "profile-of: runc answers the numbers from 438 on, above all that "
@@ -167,8 +166,7 @@ class OfProcesses(Confined, Counting):
     def test_verify_process(self):
         data, path = self.compiled(json.dumps({"defaultAction": "SCMP_ACT_ALLOW", "syscalls": [
             {"names": ["mount"], "action": "SCMP_ACT_ERRNO"}]}))
-        child = self.child([data])
-        self.assertEqual(self.starts("verify-process", str(child.pid), path), 2)
+        self.assertEqual(self.starts("verify-process", str(self.child([data]).pid), path), 2)
 
     @here
     def test_one_of_runc(self):

@@ -221,8 +221,7 @@ class Child(Case):
                 time.sleep(0.01)
 
         came = []
-        old = signal.signal(signal.SIGTERM, lambda *_: came.append(1))
-        self.addCleanup(signal.signal, signal.SIGTERM, old)
+        self.addCleanup(signal.signal, signal.SIGTERM, signal.signal(signal.SIGTERM, lambda *_: came.append(1)))
         with self.assertRaises(child.Interrupted) as caught:
             child.run_in_child(waits, 60)
         self.assertEqual((caught.exception.args, came), ((signal.SIGTERM,), []))
@@ -235,8 +234,7 @@ class Child(Case):
 
     def test_where_ended_children_are_not_told(self):
         """SIGCHLD is ignored, which a program inherits."""
-        old = signal.signal(signal.SIGCHLD, signal.SIG_IGN)
-        self.addCleanup(signal.signal, signal.SIGCHLD, old)
+        self.addCleanup(signal.signal, signal.SIGCHLD, signal.signal(signal.SIGCHLD, signal.SIG_IGN))
         self.assertEqual(child.run_in_child(lambda: 7, 60), 7)
 
     def test_a_tool_that_inherits_ignored_signals(self):

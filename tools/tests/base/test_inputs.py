@@ -82,8 +82,7 @@ class Limits(Measured):
 
     def test_many_long_filters(self):
         """Of more filters than scf reads no more are kept than show it."""
-        long = self.file("long.bpf", bytes(FILTER + 1))
-        self.ends(("decide", "--nr=0", *[long] * 1500), 2, "fault input TooLong\n")
+        self.ends(("decide", "--nr=0", *[self.file("long.bpf", bytes(FILTER + 1))] * 1500), 2, "fault input TooLong\n")
 
     def test_names_as_long_as_a_profile(self):
         long = self.file("long.json", profile_of("read", "r" * (TEXT - 500), *map(str, range(20))))

@@ -35,6 +35,5 @@ class Failing(Case):
             self.assertLess(len(err), 400)
 
     def test_what_was_printed_stays(self):
-        out, _ = self.fails("check", "from scftools.base import output\n"
-                                     "def main():\n    output.put_line('first')\n    1 / 0\n")
-        self.assertEqual(out, "first\n")
+        self.assertEqual(self.fails("check", "from scftools.base import output\n"
+                                    "def main():\n    output.put_line('first')\n    1 / 0\n")[0], "first\n")

@@ -1,6 +1,5 @@
 """What the tools print: nothing of a stranger's text works on a terminal or looks like scf's; output that fails; and
 that the program prints in one write."""
-import json
 import os
 import socket
 import subprocess
@@ -91,7 +90,7 @@ class Hostile(Case):
             out = self.run_tool("compare", "--verbose", *words, self.wrong, self.profile(name))[1]
             self.assertNotIn("\n41 ", out)
             self.assertNotIn("# 41 ", out)
-            value = json.loads(self.run_tool("compare", "--json", *words, self.wrong, self.profile(name))[1])
+            value = self.json_of("compare", "--json", *words, self.wrong, self.profile(name))
             self.assertEqual([call["number"] for call in value["calls"]], [231])
             self.assertEqual(value["skipped"], [name])
         out = self.run_tool("compare", "--native", self.wrong, self.profile(name))[1]
@@ -107,7 +106,7 @@ class Hostile(Case):
     def test_where_a_skipped_name_stands_for_several(self):
         """Two names and one name with a line end in it are printed alike by scf, and told apart by the profile."""
         for names in (["x", "y"], ["x\nskipped y"], ["x\nskipped y", "x", "y\nskipped "]):
-            value = json.loads(self.run_tool("compare", "--json", self.same, self.profile(*names))[1])
+            value = self.json_of("compare", "--json", self.same, self.profile(*names))
             self.assertEqual(value["skipped"], names)
 
     def test_explain_and_compile(self):
@@ -129,8 +128,7 @@ class Hostile(Case):
             status, out, err = self.run_tool(*words)
             self.assertEqual(status, 2, words)
             self.assertTrue(all(line.isprintable() for line in (out + err).split("\n")), (out, err))
-        calls = self.file("calls", "read\n\x1b[2J\n")
-        status, out, err = self.run_tool("decide", "--calls-from", calls, self.same)
+        status, out, err = self.run_tool("decide", "--calls-from", self.file("calls", "read\n\x1b[2J\n"), self.same)
         self.assertTrue(all(line.isprintable() for line in (out + err).split("\n")), (out, err))
 
     def test_nothing_is_added_to_a_filter(self):
@@ -225,8 +223,7 @@ class Failing(Case):
     def test_standard_error_that_fails(self):
         with open("/dev/full", "wb") as full:
             for words in (("run", "none"), ("run", "--no-such")):
-                done = completed([tool(words[0]), *words[1:]], stderr=full)
-                self.assertEqual(done.returncode, 2, words)
+                self.assertEqual(completed([tool(words[0]), *words[1:]], stderr=full).returncode, 2, words)
 
 
 class OneWrite(OnProgram):

@@ -27,9 +27,8 @@ class Bundle(Case):
         for kind in bundles.PART_KINDS:
             self.assertEqual(self.run_tool("bundle", kind, self.file("a", b"7")), (0, f"{kind} 1\n7", ""))
         one = self.file("one.bpf", filter_of([0]))
-        status, out, _ = self.run_words(["sh", "-c", '"$0" filter "$1" beside "$1" | "$2" compare --beside',
-                                         tool("bundle"), one, SCF])
-        self.assertEqual((status, out), (0, "same\n"))
+        self.assertEqual(self.run_words(["sh", "-c", '"$0" filter "$1" beside "$1" | "$2" compare --beside',
+                                         tool("bundle"), one, SCF])[:2], (0, "same\n"))
         for architecture in ("", "-x86", "-x32", "-aarch64", "-arm"):
             for kind, most in (("table", 4194304), ("stub-table", 1024)):
                 for text in (b"0", b"4294967295", b"0" * (most - 1) + b"7"):

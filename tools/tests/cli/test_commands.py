@@ -506,8 +506,7 @@ class Completion(Case):
 
     def test_every_option_of_a_tool(self):
         for name in sorted({*TOOLS} - {"bundle", "help"}):
-            out = self.run_words([SCF, "help", name])[1]
-            options = set(re.findall(r"(?m)^  (?:-h, )?(--[a-z0-9-]+)", out))
+            options = set(re.findall(r"(?m)^  (?:-h, )?(--[a-z0-9-]+)", self.run_words([SCF, "help", name])[1]))
             self.assertEqual(self.completed("scf", name, "--"), options, name)
 
     def test_other_shells_read_theirs(self):

@@ -6,16 +6,15 @@ import os
 import re
 import sys
 
-from support.common import (ALLOW, CORE, EPERM, I386, KILL_PROCESS, TABLE, TOP, UNKNOWN_ZERO, X86_64, Case, bytes_of,
-                            completed, filter_of, insn, jeq, jge, load, part, profile_of, ret, text_of, tool)
+from support.common import (ALLOW, CORE, EPERM, I386, TABLE, TOP, UNKNOWN_ZERO, Case, bytes_of, completed, filter_of,
+                            gate, insn, jeq, load, part, profile_of, ret, text_of, tool)
 from scftools.cli.commands import NAMES
 from scftools.model import tables
 
-NATIVE = load(4) + jeq(X86_64, 1, 0) + ret(KILL_PROCESS) + load(0) + jge(0x40000000, 0, 1) + ret(KILL_PROCESS)
 # Allows each call, but behind a test that scf leaves undecided.
-UNKNOWN = NATIVE + UNKNOWN_ZERO + jeq(0, 1, 0) + ret(EPERM) + ret(ALLOW)
+UNKNOWN = gate(UNKNOWN_ZERO + jeq(0, 1, 0) + ret(EPERM) + ret(ALLOW))
 # A is the number times the number, of which single bits are known. The one number whose square is 49 fails.
-SQUARE = NATIVE + insn(0x07, 0) + insn(0x2C, 0) + jeq(49, 0, 1) + ret(EPERM) + ret(ALLOW)
+SQUARE = gate(insn(0x07, 0) + insn(0x2C, 0) + jeq(49, 0, 1) + ret(EPERM) + ret(ALLOW))
 # Modules that Debian's python3-minimal lacks, hidden from a tool that is run as its file is.
 LACKING = """import runpy, sys
 class Lacking:
@@ -51,8 +50,7 @@ class Compile(Case):
     def test_it_is_the_filter_of_scf(self):
         given = part("profile", profile_of("read", "openat")) + part("table", bytes_of(TABLE))
         expected = completed([*CORE, "compile"], given, check=True).stdout
-        profile = self.file("p.json", profile_of("read", "openat"))
-        self.assertEqual(self.compiled(profile), (0, expected, ""))
+        self.assertEqual(self.compiled(self.file("p.json", profile_of("read", "openat"))), (0, expected, ""))
         self.assertEqual(self.compiled("-", given=profile_of("read", "openat")), (0, expected, ""))
         table = self.file("own.table", b"look 0\n")
         status, out, err = self.compiled("--table", table, self.file("q.json", profile_of("look")))
@@ -146,8 +144,7 @@ class Calls(Case):
 
     def test_the_worst_status(self):
         """A wrong number is said in its place, and the other calls are answered."""
-        status, out, _ = self.run_tool("decide", "--nr", "99999999999", "--nr", "read", self.filter)
-        self.assertEqual(status, 2)
+        out = self.of_status(2, self.run_tool("decide", "--nr", "99999999999", "--nr", "read", self.filter))
         self.assertTrue(out.startswith("fault number nr\n# The option's text"), out)
         self.assertIn("\nALLOW 0\n# the syscall is read (0)\n", out)
 
@@ -206,7 +203,7 @@ class WhichFilter(Case):
             status, out, _ = self.run_tool("compare", "--limit=100000", *stack, self.profile)
             self.assertEqual((status, out.split(" ")[0]), (4, "undecided"))
             self.assertTrue(out.endswith("".join(f"# alone, {path} is undecided at {place}\n" for path in alone)), out)
-        value = json.loads(self.run_tool("compare", "--json", "--limit=100000", self.allow, unknown, self.profile)[1])
+        value = self.json_of("compare", "--json", "--limit=100000", self.allow, unknown, self.profile)
         self.assertEqual(value["files"], [unknown])
         status, out, _ = self.run_tool("compare", self.allow, square, self.allow, self.profile)
         self.assertEqual((status, out.split(" arch ")[0]), (1, "differs\ncall nr 7"))
@@ -343,8 +340,7 @@ class Objects(Case):
             "schema": 3, "status": 0, "calls": [{"status": 0, "call": call, "answer": answer, "filters": [two],
                                                  "path": {"filter": two, "indexes": [0]}}]})
         self.assertEqual(self.run_tool("run", "--json", "--a0=7", "--nr", "read", "--nr", "x", two)[0], 2)
-        status, out, _ = self.run_tool("run", "--json", "--a0=7", "--nr=read", "--nr=99999999999", two)
-        self.assertEqual(status, 2)
+        out = self.of_status(2, self.run_tool("run", "--json", "--a0=7", "--nr=read", "--nr=99999999999", two))
         first, second = json.loads(out)["calls"]
         self.assertEqual(first, {"status": 0, "call": call, "answer": answer, "steps": 1})
         self.assertEqual((second["status"], second["fault"]["source"], second["fault"]["kind"]), (2, "number", "nr"))

@@ -107,8 +107,7 @@ class Texts(Case):
                                 "struct sock_fprog p = { 8, (struct sock_filter[]) {")
         self.is_read(literal.replace("DENIED),\n    };", "DENIED),\n    } };"), filters.ARRAY, made)
         for words in (["-E"], ["-E", "-P"]):
-            expanded = completed(["cc", *words, source], check=True).stdout.decode()
-            self.is_read(expanded, filters.ARRAY, made)
+            self.is_read(completed(["cc", *words, source], check=True).stdout.decode(), filters.ARRAY, made)
         for words in (["check"], ["surface"], ["compare", self.file("f.bpf", made), "--beside"]):
             self.assertIn(f"'{source}' is read as a C array, instructions: 8\n", self.run_tool(*words, source)[2])
 
@@ -147,8 +146,7 @@ class Texts(Case):
             self.assertIn(says, self.text_of_error(program.ToolError, filters.form_of, text.encode(), "it"))
 
     def test_assembler(self):
-        listing = completed([*CORE, "dis"], FILTER, check=True).stdout.decode()
-        self.is_read(listing, filters.ASSEMBLER)
+        self.is_read(completed([*CORE, "dis"], FILTER, check=True).stdout.decode(), filters.ASSEMBLER)
         self.is_read("// a comment\n start: ret #0x7fff0000", filters.ASSEMBLER, ret(ALLOW))
         self.assertIn("it begins as scf's assembler text, but isn't one: fault text Operand line 2: the statement is "
                       "'ret #x'", self.text_of_error(program.ToolError, filters.form_of, b"ld [4]\nret #x\n", "it"))
@@ -194,8 +192,7 @@ class Raw(Case):
     def test_every_code_that_the_kernel_takes_is_below_256(self):
         """What the rule stands on: seccomp_check_filter of kernel/seccomp.c, by scf."""
         for code in (0x100, 0x106, 0x120, 0x2020, 0x457F, 0x7B20, 0x8006, 0xFF20):
-            out = self.run_words([*CORE, "check"], insn(code, 0) + ret(0))[1]
-            self.assertEqual(out, "fault filter Code at 0\n")
+            self.assertEqual(self.run_words([*CORE, "check"], insn(code, 0) + ret(0))[1], "fault filter Code at 0\n")
 
     def test_other_bytes_go_to_scf(self):
         for data, line in ((b"", "fault filter Empty"), (bytes(32769), "fault filter TooLong"),

@@ -78,7 +78,7 @@ class Processes(Confined):
                 self.assertEqual(confined[:len(begins)], begins)
                 self.assertIn("has 2 filters, of 1, 4 instructions", confined)
                 if words[0] != "list" or words[1] != "--plain":
-                    stacks = json.loads(self.run_tool(words[0], "--json", *words[1:])[1])["stacks"]
+                    stacks = self.json_of(words[0], "--json", *words[1:])["stacks"]
                     self.assertEqual([stack["confined"] for stack in stacks], ["not", "by filters"])
 
     @here

@@ -54,8 +54,7 @@ class Unread(Case):
         whole = {"ociVersion": "1.0", "process": {"x": 1}, "linux": {"y": 1, "seccomp": {
             **SPEC, "comment": "mine", "flags": ["SECCOMP_FILTER_FLAG_LOG"], "listenerPath": "/x"}}}
         for value in (SPEC, {**SPEC, "archMap": []}, whole, {**OBJECT, "spec": {**SPEC, "disabled": False}}):
-            name = self.file("p.json", value)
-            status, _, err = self.run_tool("compile", "--strict", name, stdout=subprocess.DEVNULL)
+            status, _, err = self.run_tool("compile", "--strict", self.file("p.json", value), stdout=subprocess.DEVNULL)
             self.assertNotIn("nothing reads", err)
             self.assertEqual(status, 0, err)
 
@@ -140,8 +139,7 @@ class Kubernetes(Case):
             text = json.dumps({"defaultAction": ERRNO, "comment": comment, "syscalls": []})
             self.assertIsNone(kubernetes.spec_of(text.encode()))
         for kind, says in (("Pod", "of the kind Pod, not SeccompProfile"), ("List", "of the kind List")):
-            path = self.file("o.json", {**OBJECT, "kind": kind})
-            self.assertIn(says, self.run_tool("ask", path)[2])
+            self.assertIn(says, self.run_tool("ask", self.file("o.json", {**OBJECT, "kind": kind}))[2])
 
 
 # What the kernel logs of a syscall that a filter denied.
@@ -212,7 +210,7 @@ class Caps(Case):
     def test_entries_have_their_places_in_the_file(self):
         out = self.run_tool("ask", "--caps=SYS_ADMIN", "--nr=mount", self.engine)[1]
         self.assertIn("# by entry 3 of syscalls: ", out)
-        report = json.loads(self.run_tool("ask", "--caps=SYS_ADMIN", "--nr=mount", "--json", self.engine)[1])
+        report = self.json_of("ask", "--caps=SYS_ADMIN", "--nr=mount", "--json", self.engine)
         self.assertEqual(report["calls"][0]["entry"], 3)
 
     def test_what_is_refused(self):

@@ -93,9 +93,8 @@ class ResolveProfile(Case):
                          "an integer" if version == 4.8 else "a kernel version")
 
     def test_all_conditions_of_an_entry_hold_together(self):
-        both = {"includes": {"caps": ["CAP_SYSLOG"], "arches": ["amd64"], "minKernel": "4.8"},
-                "excludes": {"caps": ["CAP_BPF"]}}
-        given = engine(entry("a", **both))
+        given = engine(entry("a", **{"includes": {"caps": ["CAP_SYSLOG"], "arches": ["amd64"], "minKernel": "4.8"},
+                                     "excludes": {"caps": ["CAP_BPF"]}}))
         self.assertEqual(self.names(given, "--caps", "SYSLOG", "--kernel", "5.0"), ["a"])
         for words in (("--caps", "none", "--kernel", "5.0"), ("--caps", "SYSLOG,BPF", "--kernel", "5.0"),
                       ("--caps", "SYSLOG", "--kernel", "4.0")):
@@ -209,8 +208,7 @@ class ResolveProfile(Case):
     def test_inputs(self):
         config = {"ociVersion": "1.0.2", "linux": {"seccomp": engine(entry("read"))}}
         self.assertEqual(self.resolved(config)[0], engine(entry("read")))
-        path = self.file("p.json", engine(entry("read")))
-        self.assertEqual(self.run_tool("resolve-profile", path)[0], 0)
+        self.assertEqual(self.run_tool("resolve-profile", self.file("p.json", engine(entry("read"))))[0], 0)
         for name, says in (("none", "there is no file 'none'"), (self.folder, "is a folder")):
             self.is_refused(says, "resolve-profile", name)
 

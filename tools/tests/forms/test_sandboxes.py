@@ -43,8 +43,7 @@ def entry(names, action, lines, errno=None, *args):
 class Lists(Case):
     def profile(self, text, *remarks):
         """The profile of a list, with what is said of it beside that it is one."""
-        path = self.file("list", text)
-        status, out, err = self.run_tool("resolve-profile", path)
+        status, out, err = self.run_tool("resolve-profile", self.file("list", text))
         self.assertEqual(status, 0, err)
         self.assertEqual([line.removeprefix("resolve-profile: ") for line in err.splitlines()][1:], list(remarks))
         return json.loads(out)
@@ -55,9 +54,8 @@ class Lists(Case):
 
     def loads(self, text, filters):
         """What a program loads for a list is proved to be what the list's profile answers."""
-        paths = [self.file(f"{at}.bpf", data) for at, data in enumerate(filters)]
-        self.assertTrue(paths, text)
-        self.begins(0, "same", self.run_tool("compare", *paths, self.file("list", text)))
+        self.assertTrue(filters, text)
+        self.begins(0, "same", self.run_tool("compare", *self.filter_files(filters), self.file("list", text)))
 
     def traced(self, words, log="log"):
         """The stacks of filters that processes of a command load, in their order."""
@@ -242,8 +240,7 @@ class Profiles(Lists):
         self.assertEqual(rules, dict.fromkeys([("mount", "ERRNO 1"), ("rmdir", "ERRNO 1")], 1))
         rules, _ = self.rules("# x\nseccomp\nseccomp-error-action kill\n")
         self.assertEqual(rules, dict.fromkeys([("mount", "KILL_THREAD"), ("ptrace", "KILL_THREAD")], 2))
-        rules, _ = self.rules("allow-debuggers\nseccomp\n")
-        self.assertEqual(rules, {("mount", "ERRNO 1"): 2})
+        self.assertEqual(self.rules("allow-debuggers\nseccomp\n")[0], {("mount", "ERRNO 1"): 2})
         rules, _ = self.rules("seccomp rmdir\nseccomp.drop rmdir\nseccomp.keep read,!prctl,mkdir:ENOENT\n", "ERRNO 1")
         self.assertEqual(rules, dict.fromkeys([("execveat", "ALLOW"), ("execve", "ALLOW"), ("read", "ALLOW"),
                                                ("mkdir", "ERRNO 2")], 3))

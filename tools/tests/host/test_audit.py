@@ -234,8 +234,7 @@ class Programs(Audited, OwnMachine):
             self.assertEqual(self.audit("--expect", profile)["rows"][0]["verdict"], expected, names)
             row = self.audit("--baseline", f"no-more:{profile}")["rows"][0]
             self.assertEqual(row["verdict"], baseline, names)
-        call = row["parts"][0]["call"]
-        self.assertEqual((call["names"], row["parts"][0]["baseline"]), (["write"], True))
+        self.assertEqual((row["parts"][0]["call"]["names"], row["parts"][0]["baseline"]), (["write"], True))
         (part,) = row["parts"]
         self.assertEqual((part["filter"]["action"], part["profile"]["action"]), ("ALLOW", "ERRNO"))
 
@@ -345,8 +344,7 @@ class Containers(Audited, OwnMachine):
             (row,) = self.audit(status=1)["rows"]
             self.assertEqual((row["verdict"], row["parts"][0]["processes"][0]["process"]),
                              ("unconfined though configured", number))
-            status, out, _ = self.verify_all("box")
-            self.assertEqual(status, 1)
+            out = self.of_status(1, self.verify_all("box"))
             self.assertRegex(out, NO_FILTER.format(number, "alpha"))
 
     def test_a_main_thread_that_has_ended(self):
@@ -361,8 +359,7 @@ class Containers(Audited, OwnMachine):
         (process,) = row["parts"][0]["processes"]
         self.assertEqual((row["verdict"], process["process"], process["threads"]),
                          ("unconfined though configured", number, 1))
-        status, out, _ = self.verify_all("box")
-        self.assertEqual(status, 1)
+        out = self.of_status(1, self.verify_all("box"))
         self.assertRegex(out, NO_FILTER.format(number, "python3"))
 
     def test_one_of_a_user(self):
@@ -400,9 +397,8 @@ class Containers(Audited, OwnMachine):
         self.container("runc", "web", STATED)
         rows = self.audit()["rows"]
         pid = rows[0]["parts"][0]["processes"][0]["process"]
-        where = self.bundle("other", None)
         status, out, err = self.on("runc", "--root", "/run/containerd/runc/k8s.io", "run", "--detach", "--bundle",
-                                   where, "web")
+                                   self.bundle("other", None), "web")
         self.skip_if(status, f"runc starts no second container here: {(out + err).strip()}")
         rows = self.audit(status=1)["rows"]
         self.assertEqual([(row["name"], row["verdict"]) for row in rows],
@@ -754,8 +750,7 @@ class Belonging(Case):
                                ("/", None), ("/box/ssh.service", None), ("/../ssh.service", None),
                                ("/system.slice/a\nb.service", None)):
             for hierarchy in ("", "name=systemd"):
-                unit = container_files.unit_of(process(groups={hierarchy: path.encode()}))
-                self.assertEqual(unit, expected, path)
+                self.assertEqual(container_files.unit_of(process(groups={hierarchy: path.encode()})), expected, path)
 
     kernel = mock.Mock(group_owner=lambda *_: None)
 
@@ -818,8 +813,7 @@ class Firejail(Case):
         now = int(time.clock_gettime(time.CLOCK_BOOTTIME) * os.sysconf("SC_CLK_TCK"))
         for ago, is_its in ((0, True), (3600, False)):
             os.utime(path, (time.time() - ago,) * 2)
-            found = sandbox_programs.firejails_of({5: process(5, start=now)})[5]
-            self.assertEqual(found is not None, is_its)
+            self.assertEqual(sandbox_programs.firejails_of({5: process(5, start=now)})[5] is not None, is_its)
 
     def test_what_is_expected(self):
         expectations = Expectations(Options(tables.read_table(None)))
@@ -881,8 +875,7 @@ class Snaps(Case):
     def test_verdicts(self):
         """The filter of all snaps makes nothing stricter than configured; a filter that allows more is weaker."""
         expected, judge = self.expectations.of_snap("snap.web.run"), audit_judge.StackJudge(self.expectations.options)
-        path = self.file("p.json", expected.asked.profile)
-        compiled = self.compile(path)[1]
+        compiled = self.compile(self.file("p.json", expected.asked.profile))[1]
         for filters, verdict in (((compiled, self.OF_ALL), "as configured"), ((compiled,), "as configured"),
                                  ((self.OF_ALL,), "weaker"), ((gate(ret(ALLOW)), self.OF_ALL), "weaker"),
                                  ((compiled, gate(ret(EPERM))), "stricter")):
@@ -963,51 +956,37 @@ class Descriptions(Case):
         container = members.container_of(every[number], is_stated)
         return None if container is None else container.identifier
 
-    def test_root_and_a_user(self):
-        root, user = ("root", 7, None), ("user", 7, self.USER)
-        for described, settings, expected in (
-                ((root, user), {}, "root"), ((user, root), {}, "root"), ((user,), {}, "user"),
-                # another user's process, and one that runs as root, as sudo does
-                ((user,), {"user": 1}, None), ((user,), {"user": 0}, None),
-                ((user,), {"user": 0, "real": self.USER}, None),
-                # a descendant of the user's first process, in a namespace of a container of root's
-                ((user, root), {"spaces": ((1, 5), (1, 1)), "inner": 1}, "root"),
-                ((("user", 8, self.USER),), {"parent": 8}, "user")):
-            self.assertEqual(self.belongs("/", *described, **settings), expected, (described, settings))
-
-    def test_a_group_that_a_user_states(self):
-        """It isn't believed, and a named one only in the slices of users."""
-        self.assertIsNone(self.belongs("/x", ("user", 8, self.USER, "/x"), neighbour=(8, "/x")))
-        self.assertEqual(self.belongs("/x", ("root", 7, None, "/x")), "root")
-        named = f"/machine.slice/libpod-{IDENTIFIER}.scope"
-        self.assertEqual(self.belongs(named, ("user", 7, self.USER)), IDENTIFIER)
-        self.assertEqual(self.belongs(self.OWN, ("user", 7, self.USER)), "user")
-        self.assertEqual(self.belongs(self.OWN, ("user", 7, self.USER), user=1), IDENTIFIER)
-        self.assertEqual(self.belongs(self.OWN), IDENTIFIER)
-
-    def test_a_group_that_a_user_made(self):
-        """Outside of users' slices, where root gave the user a group: it takes no process from a unit of the system."""
-        name = f"libpod-{IDENTIFIER}.scope"
-        self.assertEqual(self.belongs(f"/mine/{name}", owner=self.USER), IDENTIFIER)
-        self.assertEqual(self.belongs(f"/mine/{name}", ("user", 7, self.USER), owner=self.USER), "user")
-        self.assertIsNone(self.belongs(f"/system.slice/x.service/{name}", owner=self.USER))
-        self.assertEqual(self.belongs(f"/system.slice/x.service/{name}"), IDENTIFIER)
-
-    def test_a_unit_that_states_something(self):
-        """Its processes are the unit's, whatever users say, and whatever their groups are called; root's containers in
-        it are containers."""
-        path = f"/system.slice/x.service/libpod-{IDENTIFIER}"
-        for described, stated, expected in (((("user", 7, self.USER),), None, IDENTIFIER), ((), None, IDENTIFIER),
-                                            ((("root", 7, None),), "root", "root")):
-            self.assertEqual(self.belongs(path, *described, is_stated=True), stated)
-            self.assertEqual(self.belongs(path, *described), expected)
-
-    def test_a_pod(self):
-        """The group of a pod, in which root's containers have groups, isn't a container's, wherever it is."""
-        pod = f"/mine/{IDENTIFIER}"
+    def test_each(self):
+        root, user, name = ("root", 7, None), ("user", 7, self.USER), f"libpod-{IDENTIFIER}.scope"
+        of_user, stated = {"owner": self.USER}, {"is_stated": True}
+        in_unit, pod = f"/system.slice/x.service/libpod-{IDENTIFIER}", f"/mine/{IDENTIFIER}"
         inside = {"number": 8, "neighbour": (7, f"{pod}/libpod-x")}
-        self.assertIsNone(self.belongs(f"{pod}/conmon", ("root", 7, None, f"{pod}/libpod-x"), **inside))
-        self.assertEqual(self.belongs(f"{pod}/conmon", **inside), IDENTIFIER)
+        for path, described, settings, expected in (
+                ("/", (root, user), {}, "root"), ("/", (user, root), {}, "root"), ("/", (user,), {}, "user"),
+                # another user's process, and one that runs as root, as sudo does
+                ("/", (user,), {"user": 1}, None), ("/", (user,), {"user": 0}, None),
+                ("/", (user,), {"user": 0, "real": self.USER}, None),
+                # a descendant of the user's first process, in a namespace of a container of root's
+                ("/", (user, root), {"spaces": ((1, 5), (1, 1)), "inner": 1}, "root"),
+                ("/", (("user", 8, self.USER),), {"parent": 8}, "user"),
+                # a group that a user states isn't believed, and a named one only in the slices of users
+                ("/x", (("user", 8, self.USER, "/x"),), {"neighbour": (8, "/x")}, None),
+                ("/x", (("root", 7, None, "/x"),), {}, "root"), (f"/machine.slice/{name}", (user,), {}, IDENTIFIER),
+                (self.OWN, (user,), {}, "user"), (self.OWN, (user,), {"user": 1}, IDENTIFIER),
+                (self.OWN, (), {}, IDENTIFIER),
+                # a group that a user made outside of users' slices, where root gave the user one, takes no process from
+                # a unit of the system
+                (f"/mine/{name}", (), of_user, IDENTIFIER), (f"/mine/{name}", (user,), of_user, "user"),
+                (f"{in_unit}.scope", (), of_user, None), (f"{in_unit}.scope", (), {}, IDENTIFIER),
+                # what a unit states is for its processes, whatever users say, and whatever their groups are called;
+                # root's containers in it are containers
+                (in_unit, (), stated, None), (in_unit, (user,), stated, None), (in_unit, (root,), stated, "root"),
+                (in_unit, (), {}, IDENTIFIER), (in_unit, (user,), {}, IDENTIFIER), (in_unit, (root,), {}, "root"),
+                # the group of a pod, in which root's containers have groups, isn't a container's, wherever it is
+                (f"{pod}/conmon", (("root", 7, None, f"{pod}/libpod-x"),), inside, None),
+                (f"{pod}/conmon", (), inside, IDENTIFIER)):
+            with self.subTest(path, described=described, **settings):
+                self.assertEqual(self.belongs(path, *described, **settings), expected)
 
 
 class Files(unittest.TestCase):
@@ -1114,11 +1093,9 @@ class Output(Case):
                                              digest="cd" * 32)]
         self.audit = audit_rows.Audit([self.row], machine.Snapshot({7: self.row.processes[0]}), 0.0, 1.5)
 
-    def test_lines(self):
+    def test_lines_and_json(self):
         for line in audit_output.audit_lines(self.audit, self.table):
             self.assertIn(line[:4], ("not ", "    ", "# co", "# un", "# ot", "# pr"))
-
-    def test_json(self):
         value = audit_output.audit_json(self.audit, self.table)
         self.assertEqual((value["status"], value["time"], value["rows"][0]["name"]),
                          (4, "1970-01-01T00:00:00Z", 'a"} 1\\x0ab\\'))

@@ -85,8 +85,7 @@ class Configurations(Confined):
     def test_a_thread_beside_others(self):
         child = self.child([refusing(MOUNT)], [])
         for given, word in ((config("mount"), THOUGH), ({"linux": {}}, BY_CONFIGURATION)):
-            status, out = self.verify(child, given)
-            self.assertEqual(status, 1)
+            out = self.of_status(1, self.verify(child, given))
             self.assertIn(word, out.splitlines())
             value = json.loads(self.verify(child, given, "--json")[1])
             self.assertIn(word, [stack["verdict"] for stack in value["stacks"]])
@@ -97,7 +96,7 @@ class Configurations(Confined):
         path = self.file("p.json", refuses("mount"))
         status, out, _ = self.run_tool("verify-process", str(child.pid), path)
         self.assertEqual((status, len(out.splitlines())), (1, 1), out)
-        value = json.loads(self.run_tool("verify-process", "--json", str(child.pid), path)[1])
+        value = self.json_of("verify-process", "--json", str(child.pid), path)
         self.assertEqual(value["verdict"], "unconfined")
 
     def test_what_only_some_runtimes_read(self):
@@ -245,7 +244,7 @@ class Named(Confined):
             status, out, _ = self.run_tool("verify", TWO[:6])
             self.assertEqual((status, out.splitlines()[:2]),
                              (1, [f"container {TWO[:6]} ({TWO}), podman, /box/config.json", BY_CONFIGURATION]))
-            value = json.loads(self.run_tool("verify", "--json", TWO[:6])[1])
+            value = self.json_of("verify", "--json", TWO[:6])
             self.assertEqual((value["verdict"], value["named"]), (BY_CONFIGURATION, {
                 "name": None, "id": TWO, "engine": "podman", "config": "/box/config.json"}))
 

@@ -31,9 +31,8 @@ class Containerd(Audited, OwnMachine):
 
     def started(self, name, *words):
         """Starts a container: the path of its configuration."""
-        rootfs = f"{self.bundle(name, None)}/rootfs"
         status, out, err = self.on("ctr", "run", "--detach", "--cgroup", f"/{self.group}/{name}", *words, "--rootfs",
-                                   rootfs, name, "/bin/sleep", "1000")
+                                   f"{self.bundle(name, None)}/rootfs", name, "/bin/sleep", "1000")
         self.skip_if(status, f"containerd starts no container here: {(out + err).strip()}")
         return f"/run/containerd/io.containerd.runtime.v2.task/default/{name}/config.json"
 
@@ -52,8 +51,7 @@ class Containerd(Audited, OwnMachine):
                          {"open": "unconfined by configuration", "same": "as configured", "more": "as configured",
                           "web": "as configured"})
         # (runc keeps what it was started with)
-        changed = {name for (_, name), row in rows.items() if row["profile"].get("changed")}
-        self.assertEqual(changed, {"more"})
+        self.assertEqual({name for (_, name), row in rows.items() if row["profile"].get("changed")}, {"more"})
         self.assertEqual({(row["engine"], row["runtime"]) for row in rows.values()}, {("containerd", "runc")})
         web = rows["container", "web"]
         self.assertEqual((web["id"], web["image"], web["pod"]), ("0" * 64, KUBERNETES["image-name"], "default/web-1"))

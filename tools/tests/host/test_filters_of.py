@@ -9,8 +9,8 @@ import sys
 import time
 import unittest
 
-from support.common import (ALLOW, EPERM, I386, KILL_PROCESS, PATIENCE, TABLE, X86_64, bytes_of, comes, jeq, jge, load,
-                            module, profile_of, ret, text_of, tool)
+from support.common import (ALLOW, EPERM, I386, PATIENCE, TABLE, bytes_of, comes, gate, jeq, load, module, profile_of,
+                            ret, text_of, tool)
 from support.confined import CHILD, NEWEST, OLDEST, OTHER, Confined, children_of, ended, here, processes, status_of
 from support.containers import Box
 from support.own_machine import remove_groups, spec_of
@@ -26,8 +26,8 @@ ROOT = unittest.skipIf(os.geteuid(), "only root may do this")
 
 def refusing(*numbers):
     """A filter that refuses these native calls and all foreign ones, and lets a test's process do the rest."""
-    return (load(4) + jeq(X86_64, 1, 0) + ret(KILL_PROCESS) + load(0) + jge(0x40000000, 0, 1) + ret(KILL_PROCESS) +
-            b"".join(jeq(number, len(numbers) - at, 0) for at, number in enumerate(numbers)) + ret(ALLOW) + ret(EPERM))
+    return gate(b"".join(jeq(number, len(numbers) - at, 0) for at, number in enumerate(numbers)) + ret(ALLOW)
+                + ret(EPERM))
 
 
 def refuses(*names, **members):
@@ -83,8 +83,7 @@ class Programs(Confined):
         """It is looked at as any other; a process without a filter isn't confined."""
         self.needs("unshare")
         script = f"{tool('verify-process')} 1 {self.file('p', ALLOWS_ALL)}; echo status $?; {tool('filters-of')} 1 out"
-        words = ["unshare", "--pid", "--fork", "--mount-proc", "sh", "-c", script]
-        status, out, err = self.run_words(words)
+        status, out, err = self.run_words(["unshare", "--pid", "--fork", "--mount-proc", "sh", "-c", script])
         self.skip_if(err.startswith("unshare:"), err)
         self.assertEqual(out, "# process 1 (sh) has no filter: it isn't confined, and every syscall is allowed\n"
                               "status 1\n")
@@ -101,48 +100,40 @@ class Programs(Confined):
     def test_without_rights(self):
         self.skip_if(not os.access("/usr/bin/python3", os.X_OK), "there is no Python that every user may run")
         child = self.child([OLDEST])
-        done = subprocess.run([f"{self.beside()}/tools/filters-of", str(child.pid), "out"], user=65534, group=65534,
-                              extra_groups=[], env={"PATH": "/usr/bin:/bin"}, stdout=subprocess.PIPE,
-                              stderr=subprocess.PIPE, text=True, check=False, cwd=self.folder)
-        self.assertEqual((done.returncode, done.stdout, done.stderr),
-                         (2, "", "filters-of: the kernel shows filters only to a process with CAP_SYS_ADMIN: run this "
-                                 "as root, outside of containers\n"))
+        done = self.run_words([f"{self.beside()}/tools/filters-of", str(child.pid), "out"], user=65534, group=65534,
+                              extra_groups=[], env={"PATH": "/usr/bin:/bin"})
+        self.assertEqual(done, (2, "", "filters-of: the kernel shows filters only to a process with CAP_SYS_ADMIN: run "
+                                       "this as root, outside of containers\n"))
 
     @here
     def test_under_a_filter_itself(self):
         child = self.child([OLDEST])
         script = CHILD.partition("numbers =")[0] + "confine(sys.argv[1:2]); os.execv(sys.argv[2], sys.argv[2:])"
-        done = subprocess.run([sys.executable, "-c", script, self.file("own", OLDEST), tool("filters-of"),
-                               str(child.pid), "out"], stdout=subprocess.PIPE, stderr=subprocess.PIPE, text=True,
-                              check=False, cwd=self.folder)
-        self.assertEqual((done.returncode, done.stdout), (2, ""))
-        self.assertIn("this tool runs under a filter itself", done.stderr)
+        self.is_refusal("this tool runs under a filter itself", self.run_words(
+            [sys.executable, "-c", script, self.file("own", OLDEST), tool("filters-of"), str(child.pid), "out"]))
 
-    def traced(self, child):
-        """Waits until a child is traced."""
+    def holding(self, child, number, does):
+        """A tool that holds a child, and gets a signal, which it was started to heed or to ignore: whoever runs the
+        tests may do either, as nohup does."""
+        held = subprocess.Popen([tool("filters-of"), str(child.pid), "out"], stdout=subprocess.PIPE,
+                                stderr=subprocess.PIPE, text=True, cwd=self.folder,
+                                preexec_fn=lambda: signal.signal(number, does))
         self.assertTrue(comes(lambda: status_of(child.pid)["TracerPid"] != "0"))
+        held.send_signal(number)
+        return held
 
     @here
     def test_a_signal_while_threads_are_held(self):
         """The tool ends by it, says so, and the process runs on; a signal that is ignored ends nothing."""
         child, fifo = self.stuck([OLDEST], [OLDEST])
         for number in (signal.SIGTERM, signal.SIGINT, signal.SIGHUP):
-            # whoever runs the tests may ignore it, as nohup does
-            held = subprocess.Popen([tool("filters-of"), str(child.pid), "out"], stdout=subprocess.PIPE,
-                                    stderr=subprocess.PIPE, text=True, cwd=self.folder,
-                                    preexec_fn=lambda heeded=number: signal.signal(heeded, signal.SIG_DFL))
-            self.traced(child)
-            held.send_signal(number)
+            held = self.holding(child, number, signal.SIG_DFL)
             out, err = held.communicate(timeout=PATIENCE)
             # so it was ended by the signal, and not since the child didn't stop, which it says after some seconds
             self.assertEqual((held.returncode, out, err),
                              (-number, "", f"filters-of: ended by {number.name}; all stopped threads continue\n"))
             self.let_go(child)
-        held = subprocess.Popen([tool("filters-of"), str(child.pid), "out"], stdout=subprocess.PIPE,
-                                stderr=subprocess.PIPE, text=True, cwd=self.folder,
-                                preexec_fn=lambda: signal.signal(signal.SIGHUP, signal.SIG_IGN))
-        self.traced(child)
-        held.send_signal(signal.SIGHUP)
+        held = self.holding(child, signal.SIGHUP, signal.SIG_IGN)
         with open(fifo, "wb"):
             self.assertEqual(held.communicate(timeout=PATIENCE), ("out/0.bpf\n", ""))
         self.wait_for(child.pid, "S")
@@ -206,8 +197,7 @@ class FiltersOf(Confined):
 
     @here
     def test_a_thread_stands_for_its_process(self):
-        child = self.child([OLDEST], [NEWEST])
-        self.assertEqual(self.run_tool("filters-of", str(child.threads[1]), "out")[0], 2)
+        self.assertEqual(self.run_tool("filters-of", str(self.child([OLDEST], [NEWEST]).threads[1]), "out")[0], 2)
 
     @here
     def test_a_process_without_filters(self):
@@ -275,8 +265,7 @@ class VerifyProcess(Confined):
         child = self.child([OLDEST, load(0) + jeq(1, 0, 1) + ret(ALLOW) + ret(ALLOW)])
         out = self.begins(0, "same", self.verify(child, ALLOWS_ALL))
         self.assertEqual(comments(out)[-1], f"{self.called(child)} has 2 filters, of 1, 4 instructions")
-        status, out = self.verify(child, profile_of("read"))
-        self.assertEqual(status, 1)
+        out = self.of_status(1, self.verify(child, profile_of("read")))
         self.assertTrue(out.startswith("differs\ncall nr "), out)
         self.assertIn("the filters answer ALLOW: the syscall is executed", comments(out))
         self.runs_on(child)
@@ -286,8 +275,7 @@ class VerifyProcess(Confined):
         """It is called as `filters-of` calls its file. The kernel takes an answer from the newest filter that gives it,
         and ALLOW from none: then the one is shown that looks at the call."""
         child = self.child([refusing(MOUNT), OLDEST])
-        status, out = self.verify(child, ALLOWS_ALL)
-        self.assertEqual(status, 1)
+        out = self.of_status(1, self.verify(child, ALLOWS_ALL))
         self.assertIn("\n# the last tests on the path in 0.bpf:\n", out)
         out = self.begins(1, "more", self.verify(child, refuses("umount2"), "--no-more"))
         self.assertIn("\n# the last tests on the path in 0.bpf:\n", out)
@@ -349,8 +337,7 @@ class VerifyProcess(Confined):
 
     @here
     def test_a_refused_profile_is_told_once(self):
-        child = self.child([refusing(MOUNT)], [refusing(UMOUNT2)], [])
-        status, out = self.verify(child, "{")
+        status, out = self.verify(self.child([refusing(MOUNT)], [refusing(UMOUNT2)], []), "{")
         self.assertEqual((status, out.count("fault profile Json\n")), (1, 1))
         self.assertIn("isn't confined", out)
 
@@ -377,9 +364,8 @@ class VerifyProcess(Confined):
             "profile KILL_PROCESS 0"]))
         self.assertIn("i386: some syscalls are allowed, such as read (3): LOG; the profile doesn't name SCMP_ARCH_X86",
                       comments(out))
-        reads = {"defaultAction": "SCMP_ACT_ERRNO", "architectures": ["SCMP_ARCH_X86"],
-                 "syscalls": [{"names": ["read"], "action": "SCMP_ACT_LOG"}]}
-        of_i386 = self.file("i386.json", reads)
+        of_i386 = self.file("i386.json", {"defaultAction": "SCMP_ACT_ERRNO", "architectures": ["SCMP_ARCH_X86"],
+                                          "syscalls": [{"names": ["read"], "action": "SCMP_ACT_LOG"}]})
         self.begins(0, "same", self.verify(self.child([logs_one]), refuses("mount"), "--also", of_i386))
 
     @here
@@ -591,8 +577,7 @@ class Containers(Confined):
                                          "first is process_madvise (440)"), first)
         self.assertIn(f"# process {pid} (busybox) has 1 filter, of ", out)
         profile["syscalls"][0]["names"] = [name for name in allowed if name != "chroot"] + ["mount"]
-        status, out, _ = self.verify(pid, json.dumps(profile))
-        self.assertEqual(status, 1)
+        out = self.of_status(1, self.verify(pid, json.dumps(profile)))
         notes = comments(out)
         self.assertEqual(notes[0], "syscalls in the table that differ: 2")
         self.assertEqual([line.split()[:2] for line in notes[1:3]], [["161", "chroot"], ["165", "mount"]])

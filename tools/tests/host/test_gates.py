@@ -15,8 +15,7 @@ AUDITED = {"no more": "as configured", "more": "weaker"}
 
 def denying(*architectures):
     """A profile that denies mount and ptrace, for some architectures, or without a list."""
-    listed = {"architectures": list(architectures)} if architectures else {}
-    return {"defaultAction": "SCMP_ACT_ALLOW", **listed,
+    return {"defaultAction": "SCMP_ACT_ALLOW", **({"architectures": list(architectures)} if architectures else {}),
             "syscalls": [{"names": ["mount", "ptrace"], "action": "SCMP_ACT_ERRNO", "errnoRet": 1}]}
 
 
@@ -87,9 +86,8 @@ class Gates(Podman, OwnMachine):
     def test_a_default_list(self):
         """podman's, which names all ABIs of the machine."""
         self.runtime("podman")
-        rootfs = f"{self.bundle('box', None)}/rootfs"
         status, _, err = self.podman("run", "--detach", "--name", "box", "--cgroup-parent", f"/{self.group}",
-                                     "--rootfs", rootfs, "sleep", "1000")
+                                     "--rootfs", f"{self.bundle('box', None)}/rootfs", "sleep", "1000")
         self.skip_if(status, f"podman starts no container here: {err}")
         pid, config, identifier = self.podman("inspect", "-f", "{{.State.Pid}} {{.OCIConfigPath}} {{.Id}}",
                                               "box")[1].split()

@@ -112,7 +112,7 @@ class Runtimes(Containers):
         """What is loaded of them is plainly the same by --runtime, by the hook and by verify-process."""
         for engine, path in (("docker", MOBY), ("podman", PODMAN)):
             self.skip_if(not os.path.exists(path), f"there is no {path} here")
-            resolved = json.loads(self.run_tool("resolve-profile", "--engine", engine, path)[1])
+            resolved = self.json_of("resolve-profile", "--engine", engine, path)
             for runtime in ("runc", "crun"):
                 with self.subTest(f"{engine}'s by {runtime}"), self.container(
                         runtime, resolved, resolved, "--kill", f"--runtime={runtime}") as (status, message, pid):
@@ -125,8 +125,7 @@ class Runtimes(Containers):
             with self.subTest(runtime), self.container(runtime) as (status, message, pid):
                 self.assertEqual(status, 0, message)
                 self.box.call("exec", "--detach", self.box.name, "sleep", "999")
-                status, lines = self.by_hand("--kill")
-                self.assertEqual(status, 0, lines)
+                lines = self.of_status(0, self.by_hand("--kill"))
                 named = [line for line in lines if re.fullmatch(r"# process \d+ \(sleep\) has 1 filter, .*", line)]
                 self.assertEqual(len(named), 2, lines)
                 self.assertTrue(self.runs(pid))
@@ -266,9 +265,9 @@ class Podman(Containers):
             actual, out, err = self.run_tool("verify-process", "--runtime", runtime, *given, pid, path)
             self.assertEqual((actual, out.splitlines()[0], err), (
                 status, "no more" if given == ("--no-more",) and word == "same" else word, ""))
-        actual = json.loads(self.run_tool("verify-process", "--runtime", runtime, "--json", pid, path)[1])
+        actual = self.json_of("verify-process", "--runtime", runtime, "--json", pid, path)
         self.assertEqual((actual["status"], actual["verdict"]), (status, word))
-        rows = json.loads(self.run_tool("audit", "--json")[1])["rows"]
+        rows = self.json_of("audit", "--json")["rows"]
         rows = [row for row in rows if row.get("id") == identifier]
         self.assertEqual([row["verdict"] for row in rows], [expected], rows)
         actual, out, err = self.run_tool("filters-of", pid, f"filters-{identifier}")

@@ -8,7 +8,7 @@ import threading
 import time
 from unittest import mock
 
-from support.common import ALLOW, KILL_PROCESS, PATIENCE, X86_64, comes, completed, insn, jeq, jge, load, ret, tool
+from support.common import ALLOW, PATIENCE, comes, completed, gate, insn, jeq, load, ret, tool
 from support.confined import Confined, FakeKernel, children_of, here, let_on, status_of
 from host.test_filters_of import MOUNT, UMOUNT2, refuses, refusing
 from scftools.base import program
@@ -108,7 +108,7 @@ class OfStates(Hook):
             lines = self.fails(self.state(os.getpid(), "/none", **members), "")
             self.assertEqual(len(lines), 2)
             self.assertIn(shown, lines[at])
-        value = json.loads(self.run_tool("oci-hook", "--json", given=self.state(os.getpid(), "/none", id=name))[1])
+        value = self.json_of("oci-hook", "--json", given=self.state(os.getpid(), "/none", id=name))
         self.assertEqual((value["id"], value["status"]), (shown, 2))
 
     def test_the_file_for_hooks(self):
@@ -161,8 +161,7 @@ class OfProcesses(Hook):
                 ((MOUNT,), "no-more", 0, "no more"), ((MOUNT, UMOUNT2), "no-more", 0, "no more"),
                 ((UMOUNT2,), "no-more", 1, "more")):
             child = self.child([refusing(*numbers)])
-            actual, lines = self.hook(child, refuses("mount"), "--policy", policy)
-            self.assertEqual(actual, status, lines)
+            lines = self.of_status(status, self.hook(child, refuses("mount"), "--policy", policy))
             word = "not confined" if status else "confined"
             self.assertEqual(lines[:2], [f"container box: {word} as configured ({verdict})", verdict])
             self.assertIn(f"# process {child.pid} (", lines[-2])
@@ -175,8 +174,7 @@ class OfProcesses(Hook):
         self.assertIn("# the syscall is mount (165)", lines)
 
     def test_a_process_without_a_filter(self):
-        child = self.child([])
-        status, lines = self.hook(child, refuses("mount"), "--wait=0")
+        status, lines = self.hook(self.child([]), refuses("mount"), "--wait=0")
         self.assertEqual((status, lines[0]), (1, "container box: not confined as configured (unconfined)"))
         self.assertIn("has no filter: it isn't confined", lines[1])
 
@@ -292,8 +290,7 @@ class OfProcesses(Hook):
         value = json.loads(refuses("mount"))
         for config in ({"linux": {"seccomp": value}, "Linux": {}}, {"linux": {"seccomp": value, "\u017feccomp": value}},
                        {"LINUX": {"seccomp": value}}):
-            status, lines = self.hook(self.child([refusing(MOUNT)]), json.dumps(config).encode())
-            self.assertEqual(status, 2)
+            lines = self.of_status(2, self.hook(self.child([refusing(MOUNT)]), json.dumps(config).encode()))
             self.assertIn("which runc reads as", lines[1])
 
     def test_a_profile_beside_the_one_that_runtimes_read(self):
@@ -368,8 +365,7 @@ class OfProcesses(Hook):
         self.assertEqual(child.wait(PATIENCE), -signal.SIGKILL)
 
     def test_names_of_a_stranger_in_the_profile(self):
-        status, lines = self.hook(self.child([refusing(MOUNT)]), refuses("mount", "\x1b[2J\nsame"))
-        self.assertEqual(status, 0)
+        lines = self.of_status(0, self.hook(self.child([refusing(MOUNT)]), refuses("mount", "\x1b[2J\nsame")))
         self.assertIn("# no known syscall is named \\x1b[2J\\x0asame", lines)
         self.assertFalse([line for line in lines if line.startswith("skipped ")])
 
@@ -379,8 +375,7 @@ def slow(count):
     ways at each of many tests."""
     tests = b"".join(load(16 + 8 * (at % 6)) + insn(0x24, 2 * at + 3) + insn(0x45, 1 << at % 31, 1, 0) + insn(0x05, 0)
                      for at in range(count))
-    return (load(4) + jeq(X86_64, 1, 0) + ret(KILL_PROCESS) + load(0) + jge(0x40000000, 0, 1) + ret(KILL_PROCESS)
-            + jeq(MOUNT, 0, 1) + ret(ALLOW) + tests + ret(ALLOW))
+    return gate(jeq(MOUNT, 0, 1) + ret(ALLOW) + tests + ret(ALLOW))
 
 
 @here
@@ -424,8 +419,7 @@ class OfTime(Hook):
 
     def test_the_deadline_without_kill(self):
         child, fifo = self.stuck([refusing(MOUNT)])
-        hook = self.begin(child, "--deadline=0.5", "--wait=0")
-        self.assertEqual(hook.wait(PATIENCE), 4)
+        self.assertEqual(self.begin(child, "--deadline=0.5", "--wait=0").wait(PATIENCE), 4)
         self.is_let_on(child, fifo)
         self.let_go(child)
         self.runs_on(child)

@@ -10,7 +10,7 @@ import threading
 import time
 from unittest import mock
 
-from support.common import ALLOW, PATIENCE, Case, comes, ret, sample
+from support.common import ALLOW, PATIENCE, TOP, Case, comes, ret, sample
 from support.confined import NEWEST, OLDEST, OTHER, Confined, FakeKernel, here, processes, ptrace, status_of
 from scftools.base import child as children
 from scftools.ask import verdicts
@@ -370,6 +370,10 @@ class Real(Confined):
         kernel = processes.Kernel()
         return processes.look_at_process(kernel, processes.process_of(kernel, child.pid), patience=PATIENCE, **settings)
 
+    @staticmethod
+    def trying(child, *words):
+        return [sys.executable, "-c", TRY, os.path.join(TOP, "tools"), str(child.pid), *words]
+
     def test_threads_that_come_while_others_are_stopped(self):
         """While all are held the process has just the threads that are found, though it begins one after another."""
         child = self.child([OLDEST])
@@ -400,9 +404,8 @@ class Real(Confined):
         child = self.child([OLDEST])
         kernel = processes.Kernel()
         kernel.ptrace(SEIZE, child.pid, None, None)
-        message = subprocess.run([sys.executable, "-c", TRY, os.path.dirname(os.path.dirname(processes.__file__)),
-                                  str(child.pid)], stdout=subprocess.PIPE, text=True, check=True).stdout
-        self.assertIn(f"process {child.pid} is already traced by process {os.getpid()}", message)
+        self.assertIn(f"process {child.pid} is already traced by process {os.getpid()}",
+                      self.out_of(0, self.run_words(self.trying(child))))
         kernel.ptrace(INTERRUPT, child.pid, None, None)
         os.waitpid(child.pid, ptrace.WALL)
         kernel.ptrace(DETACH, child.pid, None, None)
@@ -445,8 +448,7 @@ class Real(Confined):
     def test_one_that_waits_for_its_child_in_vfork(self):
         """It stops no sooner than the child runs on: that is said, and both run on."""
         child, fifo = self.stuck([OLDEST])
-        message = subprocess.run([sys.executable, "-c", TRY, os.path.dirname(os.path.dirname(processes.__file__)),
-                                  str(child.pid), "200", "0.01"], stdout=subprocess.PIPE, text=True, check=True).stdout
+        message = self.out_of(0, self.run_words(self.trying(child, "200", "0.01")))
         self.assertRegex(message, rf"\Aprocess {child.pid} didn't stop within 2 seconds: its state is D "
                                r"\(disk sleep\)\n\Z")
         with open(fifo, "wb"):
@@ -484,8 +486,7 @@ class Real(Confined):
     def held(self, *words):
         """A process that looks at a child which doesn't stop, with a thread of it held, and that thread."""
         child, _ = self.stuck([OLDEST], [OLDEST])
-        looks = self.alongside(sys.executable, "-c", TRY, os.path.dirname(os.path.dirname(processes.__file__)),
-                               str(child.pid), *words, stdout=subprocess.PIPE, text=True)
+        looks = self.alongside(*self.trying(child, *words), stdout=subprocess.PIPE, text=True)
         self.assertTrue(comes(lambda: status_of(child.threads[1])["TracerPid"] != "0"))
         return child, looks
 

@@ -155,9 +155,8 @@ class UnitProfile(Case):
     def denied(self, *texts, **members):
         """What a unit denies by an errno of their own whose file and drop-ins have these texts."""
         paths = [self.unit_file(f"{at} unit.conf", text) for at, text in enumerate(texts)]
-        drop_ins = " ".join(f'"{path}"' for path in paths[1:])
         status, calls, _, err = self.of_unit(**{"SystemCallFilter": "read write", "FragmentPath": paths[0],
-                                                "DropInPaths": drop_ins, **members})
+                                                "DropInPaths": " ".join(f'"{path}"' for path in paths[1:]), **members})
         self.assertEqual(status, (KILL, None))
         self.assertEqual(calls.pop((ALLOW, None)), {"read", "write"})
         return calls, err
@@ -565,8 +564,7 @@ class RealSystemd(OwnUnits):
         for unit in ("scf-allow.service", "scf-deny.service"):
             self.assertEqual(self.on("systemctl", "start", "--no-block", unit)[0], 0)
             self.assertTrue(self.starts(lambda unit=unit: self.pid_of(unit)), unit)
-            status, out, err = self.on(tool("unit-profile"), unit)
-            self.assertEqual(status, 0, err)
+            out = self.of_status(0, self.on(tool("unit-profile"), unit))
             profile = self.file("profile.json", out)
             actual = self.run_tool("verify-process", self.pid_of(unit), profile)
             self.assertEqual((actual[0], actual[1].split("\n")[0]), (0, "same"), actual)

@@ -1,5 +1,6 @@
 """tools/lint: each kind of finding where it is, and its absence at the border; what is said as proved, beside scf and
 the running kernel."""
+import contextlib
 import json
 import os
 import random
@@ -399,10 +400,8 @@ class Running(Linted):
     @staticmethod
     def end(child, pids):
         for pid in pids:
-            try:
+            with contextlib.suppress(ProcessLookupError):
                 os.kill(pid, 9)
-            except ProcessLookupError:
-                pass
         child.stdin.close()
         child.stdout.close()
         child.wait()
@@ -1266,8 +1265,7 @@ class Runtimes(Linted):
         text = json.dumps(given, indent=1).encode()
         lines = text.decode().split("\n")
         for words in (("--caps=docker",), ("--runtime=docker",), ("--runtime=podman",)):
-            status, out, _ = self.run_lint(text, "--json", *words)
-            self.assertEqual(status, 0)
+            out = self.of_status(0, self.run_lint(text, "--json", *words))
             starts = [] if words == ("--caps=docker",) else [("no-start", None)]
             self.assertEqual([(it["kind"], it.get("entry")) for it in json.loads(out)["findings"]],
                              [("unknown-name", 5), ("covered", 4), ("dangerous-call", 3), *starts], words)
@@ -1283,7 +1281,7 @@ class Runtimes(Linted):
         the filters that it makes of the list, and of the list without."""
         for path, engine, runtime in ((PODMAN, "podman", "crun"), (PODMAN, "podman", "runc"), (MOBY, "docker", "runc")):
             self.skip_if(not os.path.exists(path), f"there is no {path}")
-            resolved = json.loads(self.run_tool("resolve-profile", "--engine", engine, "--caps", engine, path)[1])
+            resolved = self.json_of("resolve-profile", "--engine", engine, "--caps", engine, path)
             config = {"ociVersion": "1.0.2", "linux": {"seccomp": resolved}}
             findings, _ = self.of_runtime(config, runtime)
             if engine == "podman":
@@ -1307,8 +1305,7 @@ class Gate(Linted):
     ODD = profile(entry("read", "reed"), entry("socket", args=((0, "NE", 40),)), entry("ptrace", action=ERRNO))
 
     def kinds(self, given, *words, status=0, **settings):
-        ended, out, _ = self.run_lint(given, "--json", *words, **settings)
-        self.assertEqual(ended, status)
+        out = self.of_status(status, self.run_lint(given, "--json", *words, **settings))
         return [it["kind"] for it in json.loads(out)["findings"]]
 
     def test_grades(self):
@@ -1360,10 +1357,10 @@ class Gate(Linted):
         self.assertEqual((status, out), (1, "".join(f"# {name}\n{printed}" for name, (_, printed)
                                                     in zip(names, single[:2]))))
         self.assertEqual([status for status, _ in single], [0, 1, 2])
-        report = json.loads(self.run_tool("lint", "--json", "--fail-on=error", *names)[1])
+        report = self.json_of("lint", "--json", "--fail-on=error", *names)
         self.assertEqual((report["status"], [(it["file"], it["status"]) for it in report["profiles"]]),
                          (1, [*zip(names, (0, 1, 2))]))
-        run, = json.loads(self.run_tool("lint", "--sarif", *names)[1])["runs"]
+        run, = self.json_of("lint", "--sarif", *names)["runs"]
         uris = [os.path.basename(name) for name in names]
         result, = run["results"]
         self.assertEqual((result["ruleId"], result["level"]), ("unknown-name", "error"))
@@ -1400,8 +1397,7 @@ class Gate(Linted):
         """Required members and levels as in section 3 of SARIF 2.1.0; a region is where the entry begins."""
         text = json.dumps(self.ODD, indent=2).encode()
         for data in (text, b'{"linux": {"seccomp": ' + text + b"}}"):
-            out = self.out_of(0, self.run_lint(data, "--sarif"))
-            log = json.loads(out)
+            log = json.loads(self.out_of(0, self.run_lint(data, "--sarif")))
             run, = log["runs"]
             self.assertEqual((set(log), log["version"]), ({"$schema", "version", "runs"}, "2.1.0"))
             rules = {it["id"]: it for it in run["tool"]["driver"]["rules"]}

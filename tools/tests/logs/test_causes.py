@@ -135,8 +135,7 @@ class Records(Causes):
             process, line = self.record(answering(answer), flags=flags)
             name = action.removeprefix("SCMP_ACT_").replace("NOTIFY", "USER_NOTIF")
             name = "KILL_THREAD" if name == "KILL" else name
-            profile = self.profile(entry("socket", action=action))
-            lines = self.why(line, profile, status=0)
+            lines = self.why(line, self.profile(entry("socket", action=action)), status=0)
             self.assertRegex(lines[0], rf"^# process {process} \(python3[^ ]*\): the syscall is socket \(41\)$")
             self.assertTrue(lines[1].startswith(f"# the action is {name}: "), lines)
             self.assertRegex(lines[3], rf"^{name} [01] entry 0$")
@@ -353,8 +352,7 @@ class Cores(Causes):
         return {**profile, "syscalls": remaining + added}
 
     def test_hostile_cores(self):
-        core = self.core(answering(KILL_PROCESS))
-        data = bytes_of(core)[:1 << 20]
+        data = bytes_of(self.core(answering(KILL_PROCESS)))[:1 << 20]
         for cut in (0, 3, 4, 16, 24, 51, 63, 64, 100, 1000, 3000, 3450, 4000):
             self.refused(data[:cut], "the core")
         for at, text, says in ((0, b"\x28\xb5\x2f\xfd", "is compressed"), (16, b"\2\0", "isn't one, but a program"),
@@ -373,8 +371,7 @@ class Cores(Causes):
             self.refused(bytes(changed), says)
 
     def refused(self, data, says):
-        name = self.file("hostile", data)
-        status, out, err = self.run_tool("why", "--core", name)
+        status, out, err = self.run_tool("why", "--core", self.file("hostile", data))
         if status != 0:
             self.assertEqual((status, out), (2, ""), (out, err))
             self.assertIn(says, err)
@@ -532,8 +529,7 @@ class Lines(Causes):
         (event,), _ = self.event("type=SECCOMP msg=audit(1:2) : " + self.INTERPRETED.replace(
             "exe=/usr/bin/python3.11", f"exe=/tmp/x{forged} pid=1 comm=init"))
         self.assertEqual((event.call.number, event.call.architecture, event.process), (41, X86_64, 12551))
-        read_events, _ = self.event(f'write(1, " {WRITTEN} ", 300) = 300\n')
-        self.assertEqual(read_events, [])
+        self.assertEqual(self.event(f'write(1, " {WRITTEN} ", 300) = 300\n')[0], [])
 
     def test_what_another_message_has_message_is_no_record(self):
         suppressed = "audit: kauditd_printk_skb: 12 callbacks suppressed"
@@ -728,8 +724,7 @@ class Journals(Causes):
             self.assertEqual(self.why("-", given=text.encode(), status=4), lines)
         for text in ('[{"pid": "x", "sig": 31}]', '[{"sig": 31}, 7]'):
             self.assertIn("# no syscall that a filter may have", self.why("-", given=text.encode(), status=4)[0])
-        many = json.dumps([self.LISTED[1]] * 300)
-        self.assertEqual(len(self.why("-", given=many.encode(), status=4)), 200)
+        self.assertEqual(len(self.why("-", given=json.dumps([self.LISTED[1]] * 300).encode(), status=4)), 200)
         out = self.run_tool("why", "--json", "-", given=short.encode())[1]
         self.assertEqual([core["process"] for core in json.loads(out)["cores"] if core["is_present"]], [1065])
 

@@ -134,8 +134,7 @@ class Traced(Denials):
         for _ in range(3):
             log = self.traced([], [], calls, 1, profile)
             given = self.file("p.json", profile)
-            value = json.loads(self.run_tool("why", "--json", "-", given, given=log.encode("latin-1"))[1])
-            first = value["events"][0]
+            first = self.json_of("why", "--json", "-", given, given=log.encode("latin-1"))["events"][0]
             seen.append(first["call"]["names"][0])
             change = first["changes"][0]
             entries = [dict(entry, names=[name for name in entry["names"] if at not in change["taken_out"]
@@ -291,7 +290,6 @@ class Logs(Denials):
     def test_many_failures(self):
         """More kinds than are kept are counted, and the answer isn't known then."""
         log = "".join(f"7  socket(AF_NETLINK, SOCK_RAW, {at}) = -1 EAFNOSUPPORT (x)\n" for at in range(1007))
-        status, lines = self.why(log)
-        self.assertEqual(status, 4)
+        lines = self.of_status(4, self.why(log))
         self.assertIn("such failures: 1000", lines[0])
         self.assertEqual(lines[-1], "# syscalls that failed with too many different arguments, which aren't judged: 7")

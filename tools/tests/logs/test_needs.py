@@ -90,10 +90,8 @@ class Arguments(unittest.TestCase):
                                ("(0</dev/null<char 1:3>>, 5)", ["0</dev/null<char 1:3>>", " 5"]),
                                ('(3</q\\"[x]\\76, 7\\74>(deleted), 5)', ['3</q\\"[x]\\76, 7\\74>(deleted)', " 5"]),
                                ("(6<TCPv6:[[::1]:1->[::1]:2]>, 5)", ["6<TCPv6:[[::1]:1->[::1]:2]>", " 5"])):
-            arguments, end = strace.arguments_in(text, 1)
-            self.assertEqual((arguments, end), (expected, len(text)), text)
-
-    def test_what_is_cut(self):
+            self.assertEqual(strace.arguments_in(text, 1), (expected, len(text)), text)
+        # what is cut
         for text, expected in (("(1, 2", ["1"]), ('(1, "ab', ["1"]), ("(1, [2, 3", ["1"]), ("(1, 3</a", ["1"]),
                                ("(1, 2 /* x", ["1"]), ("(", [])):
             self.assertEqual(strace.arguments_in(text, 1), (expected, None), text)
@@ -375,8 +373,7 @@ class Needs(Judgement):
     def test_a_number_of_another_abi(self):
         """By -n strace prints a call's number: 20 is getpid of i386 (asm/unistd_32.h), and writev of x86-64."""
         both = {**self.PROFILE, "architectures": ["SCMP_ARCH_X86_64", "SCMP_ARCH_X86"]}
-        log = "7 [   0] read(1) = 1\n7 [  20] getpid() = 7\n7 [   3] read(1) = 1\n"
-        self.assertEqual(self.judged(log, 1, both)[0],
+        self.assertEqual(self.judged("7 [   0] read(1) = 1\n7 [  20] getpid() = 7\n7 [   3] read(1) = 1\n", 1, both)[0],
                          {"read": "allowed", "i386 read": "allowed", "i386 getpid": "not allowed"})
         dispositions, report, _ = self.judged("7 [   0] read(1) = 1\n7 [ 999] getpid() = 7\n", 4)
         self.assertEqual((dispositions, report["not_judged"]["foreign"]), ({"read": "allowed"}, 1))
@@ -758,14 +755,12 @@ class Hostile(Judgement):
     def test_many_values(self):
         log = "".join(f"wait4({number}) = 1\n" for number in range(2, 6002))
         # each of the thousand is judged by two runs of scf, which takes four seconds in all
-        status, out, _ = self.needs(log, seconds=120)
-        self.assertEqual(status, 1)
+        out = self.of_status(1, self.needs(log, seconds=120))
         self.assertIn("# syscalls not judged, since there are too many with other arguments: 5000\n", out)
         # six registers of two values each are 64 ways
         every = rules(entry("wait4", args=[ where(index, "EQ", 1) for index in range(6)]))
         log = "".join(f"wait4({', '.join([str(-number)] * 6)}) = 1\n" for number in range(1, 201))
-        status, out, _ = self.needs(log, profile=every, seconds=120)
-        self.assertEqual(status, 1)
+        out = self.of_status(1, self.needs(log, profile=every, seconds=120))
         self.assertIn("# syscalls not judged, since there are too many with other arguments: 169\n", out)
 
     def test_a_log_without_an_end(self):
@@ -932,7 +927,7 @@ until curl -s http://127.0.0.1:$p/; do sleep 0.1; done; kill -QUIT $!; wait $!""
                                                  program, seconds=120)
                 self.assertIn(status, (0, 1), err)
                 least = os.path.join(self.folder, "least.json")
-                found = json.loads(self.run_tool("lint", "--json", least)[1])["findings"]
+                found = self.json_of("lint", "--json", least)["findings"]
                 self.assertEqual({finding["kind"] for finding in found} - {"dangerous-call"}, set())
                 with open(self.filter_file(least), "rb") as file:
                     done = completed(["bwrap", "--bind", "/", "/", "--dev", "/dev", "--proc", "/proc", "--seccomp", "0",
@@ -978,7 +973,7 @@ for number, *arguments in eval(sys.argv[1]):
         self.assertEqual(self.ended(profile, made), (0, expected.encode()))
         for options in (("--quiet=none",), ("-n",), ("-n", "-X", "raw", "--quiet=none"), ("-e", "raw=all", "-n")):
             log, _ = self.strace("-f", *options, made)
-            judged = json.loads(self.run_tool("needs", "--json", log, profile)[1])
+            judged = self.json_of("needs", "--json", log, profile)
             self.assertEqual([count for count in judged["not_judged"].values() if count], [])
             dispositions = {(call.get("architecture"), call["number"], *call["arguments"].get("0", ["0x0"])):
                             call["disposition"] for call in judged["calls"]}
@@ -987,7 +982,8 @@ for number, *arguments in eval(sys.argv[1]):
                 self.assertEqual(dispositions.get(("i386", number, shown)), "not allowed" if is_denied else "allowed",
                                  (options, name, value))
         # under the least profile it runs as alone
-        status, out, _ = self.run_tool("needs", "--widen", log, self.file("q.json", {"defaultAction": ERRNO, "defaultErrnoRet": 77, "architectures": ["SCMP_ARCH_X86_64", "SCMP_ARCH_X86"]}))
+        status, out, _ = self.run_tool("needs", "--widen", log, self.file("q.json", {
+            "defaultAction": ERRNO, "defaultErrnoRet": 77, "architectures": ["SCMP_ARCH_X86_64", "SCMP_ARCH_X86"]}))
         self.assertEqual((status, self.ended(self.file("least.json", out), made)), (0, (0, b"0" * len(calls))))
 
     def test_each_call_becomes_what_is_said(self):
@@ -1012,7 +1008,7 @@ for number, *arguments in eval(sys.argv[1]):
         self.assertEqual((len(failed), sum(failed)), (len(calls), 7))
         for options in ((), ("-X", "raw"), ("-X", "verbose"), ("-y",), ("-e", "raw=all")):
             log, _ = self.strace("-f", *options, sys.executable, "-IS", "-c", self.CALLS, numbered)
-            judged = json.loads(self.run_tool("needs", "--json", log, profile)[1])["calls"]
+            judged = self.json_of("needs", "--json", log, profile)["calls"]
             for (name, *arguments), is_denied in zip(calls, failed):
                 value = hex(arguments[looked[name]] % HIGH)
                 dispositions = {call["disposition"] for call in judged if call["name"] == name and value in

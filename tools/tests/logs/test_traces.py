@@ -99,8 +99,7 @@ class Written(Case):
         except OSError as error:
             self.skipTest(f"the kernel's audit records can't be heard here: {error.strerror}")
         self.addCleanup(listener.close)
-        profile = self.file("p.json", profile_of(default="SCMP_ACT_LOG"))
-        filters = self.filter_file(profile)
+        filters = self.filter_file(self.file("p.json", profile_of(default="SCMP_ACT_LOG")))
         child = subprocess.Popen([sys.executable, "-ISc", CONFINED, filters, shutil.which("true")])
         child.wait()
         # the kernel's thread hands them on when it runs; the last is that of exit_group
@@ -295,8 +294,7 @@ class Words(Case):
 
     def test_what_runtimes_call(self):
         log, profile = self.file("log", "read(1) = 1\n"), self.file("p.json", profile_of("read", "execve", "write"))
-        status, out, _ = self.run_tool("needs", "--runtime", "crun", log, profile)
-        self.assertEqual(status, 1)
+        out = self.of_status(1, self.run_tool("needs", "--runtime", "crun", log, profile))
         self.assertIn("126 capset ERRNO 1 default\n# made by crun itself, before it executes the program\n", out)
         for runtime, calls in runtimes.OWN_CALLS.items():
             # x86-64 has no sigreturn
@@ -325,8 +323,7 @@ class Containers(Case):
         log = os.path.join(self.folder, "log")
         if not os.path.exists(log):
             completed(["strace", "-f", "-o", log, "busybox", "echo", "begun"], stdout=subprocess.DEVNULL, check=True)
-        status, out, _ = self.run_tool("needs", "--widen", *words, log, self.file("p.json", profile_of()))
-        self.assertEqual(status, 0)
+        out = self.of_status(0, self.run_tool("needs", "--widen", *words, log, self.file("p.json", profile_of())))
         return {**json.loads(out), "architectures": ["SCMP_ARCH_X86_64"]}
 
     def run_container(self, runtime, seccomp, is_created=False, tracer=(), **process):
@@ -376,8 +373,7 @@ class Containers(Case):
         status, out, _ = self.run_tool("needs", "--runtime", runtime, log, given)
         self.assertEqual((status, [line for line in out.split("\n")[:-1] if line[0] != "#"]),
                          (1, ["83 mkdir ERRNO 1 default"]))
-        before = re.search("in a process without one, which aren't judged: ([0-9]+)", out)
-        self.assertGreater(int(before[1]), 100)
+        self.assertGreater(int(re.search("in a process without one, which aren't judged: ([0-9]+)", out)[1]), 100)
         status, out, err = self.run_tool("needs", "--widen", "--runtime", runtime, log, given)
         self.assertEqual((status, "mount" in out), (0, False))
         self.assertEqual(err.count("allowed, though PROFILE denies it: 83 mkdir"), 1)

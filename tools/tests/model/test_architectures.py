@@ -1,5 +1,4 @@
 """Architectures on the command line: by which names and numbers `--arch` takes them, and what a call is there."""
-import json
 import os
 import re
 import unittest
@@ -136,7 +135,7 @@ class Words(Case):
         for number in ("41", "0x40000029"):
             self.assertEqual(self.answer("--arch=x32", "--nr", number, self.x32), "ERRNO 1")
         self.assertEqual(self.answer("--nr", "41", self.x32), "ALLOW 0")
-        value = json.loads(self.run_tool("decide", "--nr=0", "--json", "--arch=x32", self.x32)[1])
+        value = self.json_of("decide", "--nr=0", "--json", "--arch=x32", self.x32)
         self.assertEqual(value["calls"][0]["call"]["number"], X32)
 
     def test_a_name_is_that_of_the_architecture(self):
@@ -151,7 +150,7 @@ class Words(Case):
         for word, number in (("i386", 359), ("0x40000003", 359), ("x32", X32 + 41), ("aarch64", 198), ("arm", 281)):
             for words in (("decide", "--nr=socket", self.i386), ("run", "--nr=socket", self.i386),
                           ("ask", "--nr=socket", self.profile), ("decide", "--calls-from", calls, self.i386)):
-                value = json.loads(self.run_tool(words[0], "--json", "--arch", word, *words[1:])[1])
+                value = self.json_of(words[0], "--json", "--arch", word, *words[1:])
                 self.assertEqual(value["calls"][0]["call"]["number"], number, (word, words))
             shown = "0x40000000 + 41" if word == "x32" else f"{number}"
             self.assertIn(f"# the syscall is socket ({shown})",

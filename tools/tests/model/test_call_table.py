@@ -258,7 +258,6 @@ class OtherArchitectures(Case):
             self.assertRegex(name, r"^[a-z0-9_]+$")
 
     def test_it_has_none_of_x86_64_and_all_that_engines_name(self):
-        names = {row[0] for row in rows(TABLE)}
-        self.assertEqual(names & set(self.lines()), set())
+        self.assertEqual({row[0] for row in rows(TABLE)} & set(self.lines()), set())
         self.assertEqual(set(self.NAMED.split()) - set(self.lines()), set())
         self.assertEqual({"umont2", "reed", "syscalls", "BASE"} & set(self.lines()), set())

@@ -80,7 +80,7 @@ class Arguments(Case):
         for text, number in self.TEXTS:
             self.assertEqual(self.call(f"--a1={text}")["arguments"][1], hex(number), text)
         listed = self.file("calls", "".join(f"read 0 {text.replace(' ', '')}\n" for text, _ in self.TEXTS))
-        actual = json.loads(self.run_tool("decide", "--json", "--calls-from", listed, self.any)[1])["calls"]
+        actual = self.json_of("decide", "--json", "--calls-from", listed, self.any)["calls"]
         self.assertEqual([first["call"]["arguments"][1] for first in actual], [hex(number) for _, number in self.TEXTS])
 
     def test_each_tool_takes_them(self):

@@ -105,7 +105,7 @@ class Tools(Case):
 
     def test_json(self):
         first, second = self.file("1.bpf", filter_of([READ])), self.file("2.bpf", filter_of([WRITE]))
-        value = json.loads(self.run_tool("diff", "--json", first, second)[1])
+        value = self.json_of("diff", "--json", first, second)
         self.assertEqual((value["status"], value["scope"], value["verdict"]), (1, "all", "differs"))
         self.assertEqual({value["old"]["action"], value["new"]["action"]}, {"ALLOW", "ERRNO"})
         self.assertEqual((value["path_old"]["filter"], value["path_new"]["filter"]), (first, second))
@@ -113,7 +113,7 @@ class Tools(Case):
         self.assertEqual([(call["number"], call["names"], call["old"]["action"], call["new"]["action"])
                           for call in value["calls"]],
                          [(READ, ["read"], "ALLOW", "ERRNO"), (WRITE, ["write"], "ERRNO", "ALLOW")])
-        self.assertEqual(json.loads(self.run_tool("diff", "--json", first, first)[1])["verdict"], "same")
+        self.assertEqual(self.json_of("diff", "--json", first, first)["verdict"], "same")
 
     def test_faults(self):
         good, bad = self.file("1.bpf", filter_of([READ])), self.file("2.bpf", jeq(0, 0, 9) + ret(ALLOW))
@@ -149,7 +149,7 @@ class Tools(Case):
             out = self.run_tool("diff", *words, other, one)[1].split("\n")
             self.assertEqual(out[1:4], [shown[0], "old ALLOW 0", "new ERRNO 1"])
             self.assertIn("# the syscall is chroot (161)", out)
-            found = json.loads(self.run_tool("diff", "--json", *words, other, one)[1])
+            found = self.json_of("diff", "--json", *words, other, one)
             self.assertEqual((found["call"]["names"], found["new"]["action"]), (["chroot"], "ERRNO"))
         for words, first in (([], alike), (["--no-more"], one)):
             out = self.run_tool("diff", *words, other, first)[1].split("\n")

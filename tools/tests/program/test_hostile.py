@@ -91,8 +91,7 @@ class Hostile(MeasuredCase):
         full = with_table(text % b",".join([entry] * 4096))
         self.faults(["compile"], full, "fault compile TooLarge", 1)
         for program in (ret(ALLOW), GATE + ret(ALLOW)):
-            out = self.ends(["compare"], part("filter", program) + full, (1, None))
-            self.assertTrue(out.startswith(b"differs\n"))
+            self.assertTrue(self.ends(["compare"], part("filter", program) + full, (1, None)).startswith(b"differs\n"))
 
     def test_many_numbers(self):
         """And each call that the table names is compared by itself, with a profile that has rules for all of them."""

@@ -57,8 +57,7 @@ class Compare(Case):
     """tools/compare with both flags."""
 
     def compare(self, filters, given, *options):
-        names = [self.file(f"{at}.bpf", data) for at, data in enumerate(filters)]
-        return self.told("compare", *options, *names, self.file("p.json", given))
+        return self.told("compare", *options, *self.filter_files(filters), self.file("p.json", given))
 
     def test_no_more_and_no_less(self):
         for words in (["--no-more"], ["--no-more", "--native"], ["--no-more", "--calls"]):
@@ -116,10 +115,9 @@ class Compare(Case):
 
     def test_json(self):
         filters, given, *_ = PAIRS["a rule is dropped"]
-        names = [self.file(f"{at}.bpf", data) for at, data in enumerate(filters)]
 
         def report_of(*words):
-            return json.loads(self.run_tool("compare", "--json", *words, *names, self.file("p.json", given))[1])
+            return self.json_of("compare", "--json", *words, *self.filter_files(filters), self.file("p.json", given))
 
         plain = report_of()
         self.assertEqual([plain[member] for member in ("status", "verdict", "no_more", "no_less")],
@@ -226,7 +224,7 @@ class VerifyProcess(Confined):
                 (["--no-less"], 1, "less", "\n# the syscall is denied by the filter, and allowed by the profile\n")):
             done = self.run_tool("verify-process", *words, str(child.pid), given)
             self.assertIn(says, self.begins(status, verdict, done))
-        report = json.loads(self.run_tool("verify-process", "--no-more", "--json", str(child.pid), given)[1])
+        report = self.json_of("verify-process", "--no-more", "--json", str(child.pid), given)
         stack = report["stacks"][0]
         self.assertEqual((report["verdict"], stack["relation"]), ("no more", "no more"))
         self.assertEqual(stack["foreign"], [{"kind": kind.name, "is_decided": True, "not_denied": []}

@@ -278,12 +278,10 @@ class Worked(Case):
         wide = self.file("wide.json", self.top)
         status, lines = self.said(profile=wide)
         self.assertEqual((status, lines[0]), (1, "differs"))
-        again = self.file("wide.bpf", self.compiled(wide))
-        self.assertEqual(self.run_tool("compare", again, wide)[:2], (0, "same\n"))
+        self.assertEqual(self.run_tool("compare", self.file("wide.bpf", self.compiled(wide)), wide)[:2], (0, "same\n"))
 
     def compiled(self, profile, *words):
-        done = completed([os.path.join(TOP, "tools", "compile"), *words, profile], check=True)
-        return done.stdout
+        return completed([os.path.join(TOP, "tools", "compile"), *words, profile], check=True).stdout
 
     def test_compile(self):
         """All three, or x86-64 alone."""

@@ -4,14 +4,12 @@ import os
 import re
 
 from support.common import (ALLOW, CORE, EPERM, I386, KILL_PROCESS, KILL_THREAD, TABLE, TOP, UNKNOWN_ZERO, X86_64, Case,
-                            filter_of, insn, jeq, jge, load, part, profile_of, ret, text_of)
+                            filter_of, gate, insn, jeq, jge, load, part, profile_of, ret, text_of)
 from scftools.model import bundles, profiles, tables
 from scftools.ask import client
 from scftools.report import compare
 
 READ, WRITE, EXIT_GROUP = 0, 1, 231
-# Goes on for x86-64 syscalls alone.
-NATIVE = load(4) + jeq(X86_64, 1, 0) + ret(KILL_PROCESS) + load(0) + jge(0x40000000, 0, 1) + ret(KILL_PROCESS)
 
 
 class Compare(Case):
@@ -101,8 +99,7 @@ class Compare(Case):
         allows, table = self.file("a.json", b'{"defaultAction":"SCMP_ACT_ALLOW"}'), self.file("t", b"read 0\n")
         for data, pointers in ((of_one, (None, "0x1234")), (of_all, ("0x0", "0x0"))):
             for words, pointer in zip((("--calls",), ("--native",)), pointers):
-                report = json.loads(self.run_tool("compare", "--json", *words, "--table", table,
-                                                  self.file("f.bpf", data), allows)[1])
+                report = self.json_of("compare", "--json", *words, "--table", table, self.file("f.bpf", data), allows)
                 members = report["calls"][0] if words == ("--calls",) else report
                 self.assertEqual(members["call"]["pointer"], pointer, (words, report))
 
@@ -132,7 +129,7 @@ class Compare(Case):
 
     def of_each(self, data):
         """The command lines that compare a filter with one that allows each x86-64 syscall, or a profile that does."""
-        first, second = self.file("one.bpf", NATIVE + data), self.file("other.bpf", NATIVE + ret(ALLOW))
+        first, second = self.file("one.bpf", gate(data)), self.file("other.bpf", gate(ret(ALLOW)))
         profile = self.file("p", b'{"defaultAction":"SCMP_ACT_ALLOW"}')
         return ["compare", first, profile], ["diff", first, second], ["compare", first, "--beside", second]
 
@@ -164,7 +161,7 @@ class Compare(Case):
         self.assertEqual(self.run_tool("compare", self.same, profile), (0, f"same\n{added}", ""))
         self.assertEqual(self.run_tool("compare", "--verbose", self.same, profile),
                          (0, f"same\nskipped gone\n{added}", ""))
-        self.assertEqual(json.loads(self.run_tool("compare", "--json", self.same, profile)[1])["skipped"], ["gone"])
+        self.assertEqual(self.json_of("compare", "--json", self.same, profile)["skipped"], ["gone"])
 
     def test_what_is_left_out_is_what_scf_says(self):
         """By each reading, over x86-64 alone and over each architecture with a table; names may look like its lines."""
@@ -284,7 +281,7 @@ class OtherAbis(Case):
         self.assertEqual((status, lines[0]), (1, "differs"))
         self.assertEqual(named[0], "i386 3 read differs args 0x0 0x0 0x0 0x0 0x0 0x0 filter ERRNO 1 profile ALLOW 0")
         self.assertEqual([line.split()[:2] for line in named[1:]], [["x32", str(number)] for number in numbers])
-        report_json = json.loads(self.run_tool("compare", "--calls", "--json", self.lets_both, profile)[1])
+        report_json = self.json_of("compare", "--calls", "--json", self.lets_both, profile)
         self.assertEqual([(call["architecture"], call["call"]["number"], call["call"]["architecture"])
                           for call in report_json["calls"]],
                          [("i386", 3, hex(I386)), *(("x32", 0x40000000 + number, hex(X86_64)) for number in numbers)])
@@ -304,7 +301,7 @@ class OtherAbis(Case):
         rows = [line for line in lines if line.startswith(("# i386 ", "# x32 "))]
         self.assertEqual(rows[0], "# i386 3 read differs args 0x0 0x0 0x0 0x0 0x0 0x0 filter ERRNO 1 profile ALLOW 0")
         self.assertEqual(rows[1].split()[1:5], ["x32", "1", "write", "differs"])
-        report_json = json.loads(self.run_tool("compare", "--json", self.lets_i386, self.profile("X86"))[1])
+        report_json = self.json_of("compare", "--json", self.lets_i386, self.profile("X86"))
         self.assertEqual((report_json["scope"], report_json["architectures"]),
                          ("listed", ["SCMP_ARCH_X86_64", "SCMP_ARCH_X86"]))
         self.assertEqual([(call["architecture"], call["number"], call["names"]) for call in report_json["calls"]],
@@ -340,7 +337,7 @@ class OtherAbis(Case):
             self.assertEqual((status, lines[0]), (0, "no less") if words else (4, self.UNDETERMINED))
         self.assertEqual(lines[2:3],
                          ["# the profile's other architectures aren't judged, since scf has no table of them"])
-        report_json = json.loads(self.run_tool("compare", "--all", "--json", fits, self.profile("MIPS"))[1])
+        report_json = self.json_of("compare", "--all", "--json", fits, self.profile("MIPS"))
         self.assertEqual((report_json["status"], report_json["verdict"]), (4, "undetermined"))
         self.assertNotIn("profile", report_json)
         self.assertEqual(self.said("--all", fits, self.profile())[1][0], "differs")
@@ -369,7 +366,7 @@ class OtherAbis(Case):
             "differs", "x32 0 read differs args 0x0 0x0 0x0 0x0 0x0 0x0 filter ALLOW 0 profile KILL_PROCESS 0",
             open_abi]))
         self.assertEqual(self.said("--no-less", fits, self.profile("X86")), (0, ["no less"]))
-        report_json = json.loads(self.run_tool("compare", "--json", fits, self.profile("X86"))[1])
+        report_json = self.json_of("compare", "--json", fits, self.profile("X86"))
         self.assertEqual((report_json["call"]["number"], report_json["profile"]["action"], report_json["no_more"]),
                          (0x40000000, "KILL_PROCESS", "more"))
         self.assertEqual([(access["kind"], len(access["not_denied"])) for access in report_json["foreign"]],
@@ -414,7 +411,7 @@ class OtherAbis(Case):
                                           ("x86_64", "read", ("X86", "X32"), "ALLOW 0 entry 0")):
             words = ("ask", f"--arch={arch}", "--nr", number)
             self.begins(4 if line == self.UNDETERMINED else 0, line, self.run_tool(*words, self.profile(*names)))
-            first_call = json.loads(self.run_tool(*words, "--json", self.profile(*names))[1])["calls"][0]
+            first_call = self.json_of(*words, "--json", self.profile(*names))["calls"][0]
             self.assertEqual("answer" in first_call, line != self.UNDETERMINED)
         native = self.run_tool("ask", "--native", "--arch=i386", "--nr=read", self.profile("X86"))
         self.assertEqual((native[0], native[1].split("\n")[0]), (4, self.UNDETERMINED))
@@ -521,8 +518,7 @@ class Explain(Case):
     """What a pasted line means."""
 
     def explained(self, *words, **settings):
-        out = self.output_of(0, "explain", *words, **settings)
-        return out.split("\n")[:-1]
+        return self.output_of(0, "explain", *words, **settings).split("\n")[:-1]
 
     def test_lines_of_logs(self):
         """A fault, a verdict or a status is found behind what a log puts before it."""

@@ -45,10 +45,9 @@ class Expectations(Counting):
         rows = ("# a comment\n\nsocket AF_NETLINK SOCK_RAW = ERRNO EPERM\n  socket AF_INET|0x0 = ALLOW \n"
                 "socket 16=ERRNO 1\nsocket 16 = ERRNO\nsocket 16 = ERRNO 2\nsocket = ERRNO 0x1\n"
                 "__NR_read 1 2 3 4 5 -6 = ALLOW 0\n")
-        status, lines, err = self.decided(rows)
-        self.assertEqual((status, lines, err), (1, ["line 7: socket 16 is answered by ERRNO 1, not by ERRNO 2",
-                                                    "line 8: socket is answered by ALLOW, not by ERRNO 1",
-                                                    "# rows: 7; answered otherwise than expected: 2"], ""))
+        self.assertEqual(self.decided(rows), (1, ["line 7: socket 16 is answered by ERRNO 1, not by ERRNO 2",
+                                                  "line 8: socket is answered by ALLOW, not by ERRNO 1",
+                                                  "# rows: 7; answered otherwise than expected: 2"], ""))
         for words, row in ((("--arch=i386",), "socket = KILL_PROCESS"), (("--a0=16",), "socket = ERRNO 1"),
                            (("--a0=16",), "socket 2 = ALLOW"), ((f"--arch={I386:#x}",), "41 16 = KILL_PROCESS"),
                            (("--arch=0x1234",), "41 = KILL_PROCESS")):

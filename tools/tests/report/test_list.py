@@ -24,8 +24,7 @@ EVERY_CODE = (0x20, 0x80, 0x81, 0x00, 0x01, 0x60, 0x61, 0x02, 0x03, 0x04, 0x0C, 
 
 class List(Case):
     def listed(self, data):
-        out = self.output_of(0, "list", self.file("f.bpf", data))
-        return out.split("\n")[:-1]
+        return self.output_of(0, "list", self.file("f.bpf", data)).split("\n")[:-1]
 
     def meanings(self, data):
         return [line.partition("  // ")[2] for line in self.listed(data)]
@@ -176,8 +175,7 @@ class List(Case):
                          ["ERRNO 0", "ALLOW 2", "an unknown action"])
 
     def test_pipes_and_a_table_of_ones_own(self):
-        table = self.file("t", b"look 231\n")
-        out = self.output_of(0, "list", "--table", table, "-", given=GATE)
+        out = self.output_of(0, "list", "--table", self.file("t", b"look 231\n"), "-", given=GATE)
         self.assertIn("// look: to 7, else 8\n", out)
         self.assertEqual(self.run_tool("list", "-"), (0, "", ""))
 
@@ -235,8 +233,7 @@ class Graph(Case):
         for data in (b"".join(tests), filter_of(range(0, 40, 3)), load(0) + chain + ret(ALLOW)):
             graph = flow_graph.Graph(data)
             for number, first in itertools.product(range(12), (0, 1, 3, 2**32 + 3)):
-                call = Call(number, arguments=(first, *[0] * 5))
-                places = listing.path_of(data, call.words()).indexes
+                places = listing.path_of(data, Call(number, arguments=(first, *[0] * 5)).words()).indexes
                 way = flow_graph.Drawing(graph, [""] * (len(data) // 8), tables.read_table(None), places).way
                 self.assertEqual(way[0], graph.behind_jumps(0))
                 self.assertEqual(way[-1], graph.behind_jumps(places[-1]))

@@ -177,8 +177,7 @@ class Profiles(Case):
         self.table = self.file("own.table", OWN)
 
     def run_on(self, filters, *words, **settings):
-        names = [self.file(f"{at}.bpf", data) for at, data in enumerate(filters)]
-        return self.run_tool("profile-of", "--table", self.table, *words, *names, **settings)
+        return self.run_tool("profile-of", "--table", self.table, *words, *self.filter_files(filters), **settings)
 
     def is_read(self, filters, default, *entries, words=(), runtime=(), said=""):
         """The whole profile of filters, which are answered by it, on request as a runtime reads it."""
@@ -187,8 +186,8 @@ class Profiles(Case):
         self.assertEqual(json.loads(out), {**members_of_default(default), "architectures": ["SCMP_ARCH_X86_64"],
                                            "syscalls": list(entries)})
         profile = self.file("printed.json", out)
-        names = [self.file(f"{at}.bpf", data) for at, data in enumerate(filters)]
-        self.assertEqual(self.run_tool("compare", *runtime, "--table", self.table, *names, profile)[:2], (0, "same\n"))
+        words = (*runtime, "--table", self.table, *self.filter_files(filters), profile)
+        self.assertEqual(self.run_tool("compare", *words)[:2], (0, "same\n"))
 
     def is_judged(self, filters, profile, holds, records):
         """The relation between the words of the filters and of the profile, at each record."""
@@ -292,11 +291,10 @@ class Profiles(Case):
         self.assertEqual((status, "# " in out, err == ""), (4, len(profiles) == 2, len(profiles) == 2))
         for text in ("# no profile was found that scf proves to answer as the filters do\n", *says):
             self.assertIn(text, remarks_in(out, err))
-        names = [self.file(f"{at}.bpf", data) for at, data in enumerate(filters)]
         for relation, profile in (("--no-more", profiles[0]), ("--no-less", profiles[-1])):
-            path = self.file("bound.json", profile)
             words = (*(SANDBOX if has_trap_data(profile) else ()), "--table", self.table, relation)
-            self.assertEqual(self.run_tool("compare", *words, *names, path)[0], 0)
+            self.assertEqual(self.run_tool("compare", *words, *self.filter_files(filters),
+                                           self.file("bound.json", profile))[0], 0)
         return profiles
 
     def test_data_that_no_profile_says(self):
@@ -386,10 +384,9 @@ class Profiles(Case):
 
     def test_numbers_without_a_name(self):
         """A profile gives them its default; if they differ, that is said."""
-        filter_data = of_numbers({7: ret(ALLOW), 0: ret(ALLOW)}, EPERM)
-        profiles = self.is_bounded([filter_data],
+        profiles = self.is_bounded([of_numbers({7: ret(ALLOW), 0: ret(ALLOW)}, EPERM)],
                                    "# numbers that the table doesn't name differ, such as 2: filter ERRNO 1 "
-                                "profile ALLOW\n")
+                                   "profile ALLOW\n")
         self.assertEqual([given["defaultAction"] for given in profiles], ["SCMP_ACT_ALLOW", "SCMP_ACT_ERRNO"])
 
     def test_the_stub_of_runc(self):

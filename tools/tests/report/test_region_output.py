@@ -55,15 +55,13 @@ class Lines(Case):
     """What is printed."""
 
     def said(self, filters, *words):
-        names = [self.file(f"{at}.bpf", data) for at, data in enumerate(filters)]
-        return self.run_tool("answers", *words, *names)
+        return self.run_tool("answers", *words, *self.filter_files(filters))
 
     def test_standard_input(self):
         """A filter alone is a file; of a bundle the program's own lines are printed."""
         data = filter_of([0])
         self.assertEqual(self.run_tool("answers", given=data), self.said([data]))
-        out = self.output_of(0, "answers", given=part("filter", data))
-        self.assertRegex(out, r"\nregions [0-9]+ steps [0-9]+\n\Z")
+        self.assertRegex(self.output_of(0, "answers", given=part("filter", data)), r"\nregions [0-9]+ steps [0-9]+\n\Z")
 
     def test_lines(self):
         """Those of the syscalls that are looked at."""
@@ -87,8 +85,7 @@ class Lines(Case):
                 jeq(dice.choice((0, 1, 9)), *dice.choices(range(4), k=2)), insn(0x45, dice.choice((2, 12)), 1, 2)))
                 for _ in range(dice.randrange(4, 14)))
             data = code + b"".join(ret(dice.choice((ALLOW, EPERM, TRACE))) for _ in range(5))
-            status, out, _ = self.said([data], "--table", table, "--arch", "x86-64")
-            self.assertEqual(status, 0)
+            out = self.of_status(0, self.said([data], "--table", table, "--arch", "x86-64"))
             lines = [re.fullmatch(r"(.+?) at 0:([0-9]+): (.*?)(?: where (.*))?", line).groups() for line in
                      out.split("\n")[:-1]]
             for _ in range(60):
@@ -184,8 +181,7 @@ class Reader(unittest.TestCase):
             self.assertIsNone(regions.parse_regions(printed), printed)
         for text in ("7", "0x1,8", "&0x1", "0x1!0x2", "0x1!0x2=3"):
             self.assertRaises(ValueError, Word.read, text)
-        given = client.answers
-        self.addCleanup(setattr, client, "answers", given)
+        self.addCleanup(setattr, client, "answers", client.answers)
         for status, out in ((0, b"unfinished\n"), (4, b""), (1, b"no\n"), (0, b"fault filter Empty\n")):
             client.answers = lambda *_, status=status, out=out: client.Run(status, out)
             self.assertRaises(ToolError, regions.regions_of_filters, [])

@@ -23,16 +23,14 @@ RANKS = ("denied", "delegated", "allowed")
 
 class Lines(Case):
     def shown(self, filters, *words, table=OWN):
-        names = [self.file(f"{at}.bpf", data) for at, data in enumerate(filters)]
         status, out, err = self.run_tool("surface", "--conditions", "--table", self.file("own.table", table), *words,
-                                         *names)
+                                         *self.filter_files(filters))
         self.assertEqual(err, "")
         return status, out
 
-    def is_said(self, code, text, number=41, default=ALLOW):
+    def is_said(self, code, text, number=41, table=OWN):
         """What is said of a number that this code answers."""
-        status, out = self.shown([of_numbers({number: code}, default)])
-        self.assertEqual(status, 0)
+        out = self.of_status(0, self.shown([of_numbers({number: code}, ALLOW)], table=table))
         self.assertIn(f" {number} {text}\n", out)
 
     def test_names(self):
@@ -50,24 +48,20 @@ class Lines(Case):
     def test_bits(self):
         """Bits of a mask have names if each has one; a half is a mask."""
         code = where(0, "SCMP_CMP_MASKED_EQ", NAMESPACES, 0, ret(ALLOW), ret(EPERM))
-        status, out = self.shown([of_numbers({272: code}, ALLOW)], table="unshare 272\n")
-        self.assertEqual(status, 0)
+        out = self.of_status(0, self.shown([of_numbers({272: code}, ALLOW)], table="unshare 272\n"))
         match = re.search(r"unshare allowed where flags & \(([A-Z_|]+)\) == 0, else denied \(EPERM\)\n", out)
         # linux/sched.h: the flags of all namespaces but that of time, which is a bit of CSIGNAL
         self.assertEqual(set(match[1].split("|")), {f"CLONE_NEW{flag}" for flag in
                                                     ("NS", "CGROUP", "UTS", "IPC", "USER", "PID", "NET")})
         # O_RDONLY is no bit (asm-generic/fcntl.h)
         code = where(1, "SCMP_CMP_MASKED_EQ", 0x40, 0x40, ret(EPERM), ret(ALLOW))
-        status, out = self.shown([of_numbers({2: code}, ALLOW)], table="open 2\n")
-        self.assertIn(" open denied (EPERM) where flags & O_CREAT == O_CREAT, else allowed\n", out)
+        self.is_said(code, "open denied (EPERM) where flags & O_CREAT == O_CREAT, else allowed", 2, "open 2\n")
         self.is_said(load(16) + jeq(2, 0, 1) + ret(ALLOW) + ret(EPERM),
                      "socket allowed where domain & 0xffffffff == AF_INET, else denied (EPERM)")
 
-    def said_of(self, name, number, code):
-        """What is said of a syscall that this code answers, behind its name."""
-        status, out = self.shown([of_numbers({number: code}, ALLOW)], table=f"{name} {number}\n")
-        self.assertEqual(status, 0)
-        return re.search(f" {number} {name} (.*)\n", out)[1]
+    def is_allowed(self, name, number, text, code):
+        """What is said of a syscall that this code answers."""
+        self.is_said(code, f"{name} allowed where {text}, else denied (EPERM)", number, table=f"{name} {number}\n")
 
     def test_masks_as_people_write_them(self):
         """By the bits that they lack, where these are fewer; bits that have no name take no other's name away."""
@@ -76,8 +70,7 @@ class Lines(Case):
         for name, number, index, op, value, two, text in (
                 ("socket", 41, 1, "SCMP_CMP_MASKED_EQ", WORD ^ free, 1,
                  "type & ~(SOCK_NONBLOCK|SOCK_CLOEXEC) == SOCK_STREAM"),
-                ("socket", 41, 1, "SCMP_CMP_MASKED_EQ", WORD ^ free, 0,
-                 "type & ~(SOCK_NONBLOCK|SOCK_CLOEXEC) == 0"),
+                ("socket", 41, 1, "SCMP_CMP_MASKED_EQ", WORD ^ free, 0, "type & ~(SOCK_NONBLOCK|SOCK_CLOEXEC) == 0"),
                 ("unshare", 272, 0, "SCMP_CMP_MASKED_EQ", 0x10000001, 0, "flags & (CLONE_NEWUSER|0x1) == 0"),
                 ("unshare", 272, 0, "SCMP_CMP_MASKED_EQ", WORD ^ 0x10000001, 0, "flags & ~(CLONE_NEWUSER|0x1) == 0"),
                 ("mprotect", 10, 2, "SCMP_CMP_LE", 3, 0, "prot & ~(PROT_READ|PROT_WRITE) == 0"),
@@ -91,8 +84,7 @@ class Lines(Case):
                 # a mask that leaves bits free that aren't flags is a set of values
                 ("tgkill", 234, 2, "SCMP_CMP_MASKED_EQ", WORD ^ 0x10, 1, "sig in {SIGHUP, SIGCHLD}"),
                 ("tgkill", 234, 2, "SCMP_CMP_MASKED_EQ", 0xFFFFFFEF, 1, "sig & 0xffffffff in {SIGHUP, SIGCHLD}")):
-            code = where(index, op, value, two, ret(ALLOW), ret(EPERM))
-            self.assertEqual(self.said_of(name, number, code), f"allowed where {text}, else denied (EPERM)")
+            self.is_allowed(name, number, text, where(index, op, value, two, ret(ALLOW), ret(EPERM)))
 
     def test_sets_of_values(self):
         """Several alternatives on one argument are its values, where these are few."""
@@ -100,34 +92,26 @@ class Lines(Case):
                              ((1, 17, 2, 10, 4, 12, 15), "sig in {SIGHUP, SIGINT, SIGILL, SIGUSR1, SIGUSR2, SIGTERM, "
                                                          "SIGCHLD}")):
             tests = b"".join(jeq(value, 0, 1) + ret(ALLOW) for value in values)
-            code = load(28) + jeq(0, 1, 0) + ret(EPERM) + load(24) + tests + ret(EPERM)
-            self.assertEqual(self.said_of("kill", 62, code), f"allowed where {text}, else denied (EPERM)")
+            self.is_allowed("kill", 62, text, load(28) + jeq(0, 1, 0) + ret(EPERM) + load(24) + tests + ret(EPERM))
 
     def test_options_by_level(self):
         """The options of a socket have the names of their level (socket(7), tcp(7))."""
         for level, option, text in ((1, 15, "level == SOL_SOCKET and optname == SO_REUSEPORT"),
                                     (6, 1, "level == IPPROTO_TCP and optname == TCP_NODELAY"),
                                     (77, 1, "level == 0x4d and optname == 1")):
-            code = where(1, "SCMP_CMP_EQ", level, 0, where(2, "SCMP_CMP_EQ", option, 0, ret(ALLOW), ret(EPERM)),
-                         ret(EPERM))
-            self.assertEqual(self.said_of("setsockopt", 54, code), f"allowed where {text}, else denied (EPERM)")
+            of_option = where(2, "SCMP_CMP_EQ", option, 0, ret(ALLOW), ret(EPERM))
+            self.is_allowed("setsockopt", 54, text, where(1, "SCMP_CMP_EQ", level, 0, of_option, ret(EPERM)))
 
     def test_answers_of_one_disposition(self):
-        """They are told apart, too."""
+        """They are told apart, too, but for data that no profile says: then the dispositions are told."""
         self.is_said(where(0, "SCMP_CMP_NE", 1, 0, ret(0x00050000 | 97), ret(0x00050000)),
                      "socket denied (ERRNO 0) where domain == AF_UNIX, else denied (EAFNOSUPPORT)")
-
-    def test_data_that_no_profile_says(self):
-        """The dispositions are told, not the answers."""
-        denied = where(1, "SCMP_CMP_EQ", 2, 0, ret(EPERM), ret(KILL_PROCESS | 9))
-        self.is_said(where(0, "SCMP_CMP_EQ", 1, 0, ret(ALLOW), denied),
-                     "socket allowed where domain == AF_UNIX, else denied")
-
-    def test_data_of_trap(self):
-        denied = where(1, "SCMP_CMP_EQ", 2, 0, ret(EPERM), ret(TRAP | 9))
-        self.is_said(where(0, "SCMP_CMP_EQ", 1, 0, ret(ALLOW), denied),
-                     "socket allowed where domain == AF_UNIX; denied (EPERM) where domain != AF_UNIX and "
-                     "type == SOCK_DGRAM, else denied (TRAP 9)")
+        for answer, others in ((KILL_PROCESS | 9, ", else denied"),
+                               (TRAP | 9, "; denied (EPERM) where domain != AF_UNIX and type == SOCK_DGRAM, else "
+                                          "denied (TRAP 9)")):
+            denied = where(1, "SCMP_CMP_EQ", 2, 0, ret(EPERM), ret(answer))
+            self.is_said(where(0, "SCMP_CMP_EQ", 1, 0, ret(ALLOW), denied),
+                         f"socket allowed where domain == AF_UNIX{others}")
 
     def test_many_alternatives(self):
         """Those of dispositions, if they are fewer: as chromium answers an upper half that isn't the extended lower
@@ -138,8 +122,7 @@ class Lines(Case):
 
     def test_what_no_condition_tests_has_examples(self):
         pointer = load(8) + jeq(7, 0, 1) + ret(ALLOW) + ret(EPERM)
-        status, out = self.shown([of_numbers({41: pointer}, ALLOW)])
-        self.assertEqual(status, 0)
+        out = self.of_status(0, self.shown([of_numbers({41: pointer}, ALLOW)]))
         self.assertRegex(out, r" 41 socket allowed ip 0x\w+ args .* denied args 0x0 ")
 
     def test_nothing_is_said_that_is_not_proved(self):
@@ -169,8 +152,7 @@ class Lines(Case):
     def is_said_of(self, name, number, code, text):
         """What is said of a number of an architecture, which this code answers."""
         data = of_records({name: tests_of({several.ARCHITECTURES[name][1] + number: code}, EPERM)})
-        status, out = self.shown([data], "--arch", FILES[name], table=f"{text.split()[0]} {number}\n")
-        self.assertEqual(status, 0)
+        out = self.of_status(0, self.shown([data], "--arch", FILES[name], table=f"{text.split()[0]} {number}\n"))
         self.assertIn(f" depends {number} {text}", out)
 
     def test_other_architectures(self):

@@ -1,5 +1,4 @@
 """scf compare and scf diff of filters, profiles and processes, whichever side they are."""
-import json
 import os
 
 from support.common import ALLOW, EPERM, Case, filter_of, jeq, load, profile_of, ret
@@ -52,7 +51,7 @@ class Sides(Case):
                     words = *filter(None, [option]), self.path("few", kinds[0]), self.path("many", kinds[1])
                     actual, out, err = self.run_tool("diff", *words)
                     self.assertEqual((actual, err, out.split("\n")[0]), (status, "", verdict))
-                    value = json.loads(self.run_tool("diff", "--json", *words)[1])
+                    value = self.json_of("diff", "--json", *words)
                     self.assertEqual((value["status"], value["verdict"]), (status, verdict))
                     if kinds == ("json", "json"):
                         self.assertIn("1 write more args 0x0 0x0 0x0 0x0 0x0 0x0 old ERRNO 1 default new ALLOW entry 0",
@@ -68,8 +67,7 @@ class Sides(Case):
                                            ("many.json", "few.bpf", "profile", "entry"),
                                            ("few.json", "many.json", "beside", "entry")):
             with self.subTest(judged=judged, by=by):
-                value = json.loads(self.run_tool("compare", "--json", *(os.path.join(self.folder, name)
-                                                                        for name in (judged, by)))[1])
+                value = self.json_of("compare", "--json", *(os.path.join(self.folder, name) for name in (judged, by)))
                 found = value if "path" in value else value[member]
                 self.assertEqual(found["reason"], reason)
                 self.assertEqual("path" in value, by.endswith("bpf"))
@@ -118,7 +116,7 @@ class Processes(Confined):
                       ("compare", "--native", name, profile), ("compare", "--native", profile, name)):
             with self.subTest(words=words):
                 self.begins(0, "same", self.run_tool(*words))
-        value = json.loads(self.run_tool("compare", "--json", name, stack)[1])
+        value = self.json_of("compare", "--json", name, stack)
         self.assertEqual([(each["status"], each["verdict"], each["confined"]) for each in value["stacks"]],
                          [(0, "same", "by filters")])
         self.begins(1, "unconfined", self.run_tool("compare", f"pid:{os.getpid()}", stack))

@@ -1,5 +1,6 @@
 """tools/surface: what filters let through, beside another machine's answers to each call at which something can change;
 and what calls are for."""
+import contextlib
 import fcntl
 import functools
 import itertools
@@ -277,8 +278,7 @@ class Unnamed(unittest.TestCase):
 
     def test_gaps(self):
         self.assertEqual(list(questions.gaps(tables.Table(OWN))), [(2, 39), (40, 41), (42, 231), (232, X32)])
-        last = tables.Table(b"a 0\nz 1073741823\n")
-        self.assertEqual(list(questions.gaps(last)), [(1, X32 - 1)])
+        self.assertEqual(list(questions.gaps(tables.Table(b"a 0\nz 1073741823\n"))), [(1, X32 - 1)])
         self.assertEqual(list(questions.gaps(tables.Table(b""))), [(0, X32)])
 
 
@@ -290,8 +290,7 @@ class Program(Case):
         self.table = self.file("own.table", OWN)
 
     def said(self, filters, *words, table=True):
-        names = [self.file(f"{at}.bpf", data) for at, data in enumerate(filters)]
-        return self.told("surface", *(["--table", self.table] if table else []), *names, *words)
+        return self.told("surface", *(["--table", self.table] if table else []), *self.filter_files(filters), *words)
 
     def test_lines(self):
         filters = KNOWN["by an argument"][0]
@@ -374,9 +373,8 @@ class Program(Case):
 
     def test_the_filter_of_libseccomp(self):
         """It lets -1 through on purpose, and no x32 call."""
-        script = ("import seccomp, sys; made = seccomp.SyscallFilter(seccomp.ALLOW); "
-                  "made.add_rule(seccomp.ERRNO(1), 'mount'); made.export_bpf(sys.stdout)")
-        done = completed(["/usr/bin/python3", "-c", script])
+        done = completed(["/usr/bin/python3", "-c", "import seccomp, sys; made = seccomp.SyscallFilter(seccomp.ALLOW); "
+                          "made.add_rule(seccomp.ERRNO(1), 'mount'); made.export_bpf(sys.stdout)"])
         self.skip_if(done.returncode, "libseccomp's module of Python isn't here")
         self.assertEqual([StandIn().decide([done.stdout], Call(number)) for number in (0xFFFFFFFF, 0x40000000)],
                          ["ALLOW 0", "KILL_THREAD 0"])
@@ -386,8 +384,7 @@ class Program(Case):
         """Each name of it once, in a group of its own; what a filter allows, and nothing else, is made."""
         allowed = ["read", "mount", "ptrace", "keyctl", "clock_settime", "init_module"]
         own_table = tables.read_table(None)
-        status, lines = self.said([filter_of([own_table.number_of(name) for name in allowed])], table=False)
-        self.assertEqual(status, 0)
+        lines = self.of_status(0, self.said([filter_of([own_table.number_of(name) for name in allowed])], table=False))
         self.assertTrue(lines[3].startswith("dangerous syscalls: allowed 4 (init_module, keyctl, mount, ptrace), "))
         rows = [line.split() for line in lines[4:]]
         self.assertEqual(sorted(int(row[2]) for row in rows), sorted(own_table.numbers()))
@@ -522,15 +519,13 @@ class Terminal(Case):
         fcntl.ioctl(theirs, termios.TIOCSWINSZ, struct.pack("HHHH", 24, columns, 0, 0))
         child = subprocess.Popen([tool("surface"), *words], stdout=theirs, stdin=subprocess.DEVNULL)
         os.close(theirs)
-        chain = b""
-        while True:
-            try:
-                piece = os.read(ours, 1 << 16)
-            except OSError:
-                break
-            if not piece:
-                break
-            chain += piece
+
+        def piece():
+            with contextlib.suppress(OSError):
+                return os.read(ours, 1 << 16)
+            return b""
+
+        chain = b"".join(iter(piece, b""))
         os.close(ours)
         return child.wait(), chain.decode().replace("\r\n", "\n").split("\n")[:-1]
 
@@ -539,8 +534,7 @@ class Terminal(Case):
         own_table = tables.read_table(None)
         for columns in (12, 30, 44, 60, 100, 250):
             with self.subTest(columns):
-                status, lines = self.shown(columns, name)
-                self.assertEqual(status, 0)
+                lines = self.of_status(0, self.shown(columns, name))
                 for line in lines:
                     self.assertTrue(len(line) <= columns or len(line.split()) == 1 or columns < 30, line)
                 words = re.findall(r"[a-z_0-9]+", "\n".join(lines))
@@ -558,8 +552,7 @@ class Terminal(Case):
     def test_beside(self):
         first, second = self.file("f.bpf", filter_of([READ])), self.file("g.bpf", filter_of([READ, WRITE]))
         for columns in (16, 40, 100):
-            status, lines = self.shown(columns, first, "--beside", second)
-            self.assertEqual(status, 1)
+            lines = self.of_status(1, self.shown(columns, first, "--beside", second))
             self.assertTrue(columns < 20 or max(map(len, lines)) <= columns, lines)
             text = " ".join(" ".join(lines).split())
             self.assertTrue(text.endswith("syscalls that differ: 1 files write (1) denied ERRNO 1 "
@@ -646,7 +639,7 @@ class Beside(Case):
             "files 0 read,too allowed ALLOW beside denied ERRNO 1\nfiles 1 write denied ERRNO 1 beside allowed ALLOW\n"
             "numbers without a name: some get different answers\n"),
             ""))
-        report = json.loads(self.run_tool("surface", "--json", *words)[1])
+        report = self.json_of("surface", "--json", *words)
         self.assertEqual([(pair["filter"]["number"], *(pair[side]["disposition"] for side in ("filter", "beside")))
                           for pair in report["beside"]["differs"]], [(0, M, R), (1, R, M)])
         self.assertEqual((report["status"], report["beside"]["unnamed_differ"]), (1, True))
@@ -663,8 +656,7 @@ class Process(Confined):
 
     @here
     def test_one_stack(self):
-        refuses = of_number(0x0FFFFFFE, EPERM, ALLOW)
-        child = self.child([OLDEST, refuses])
+        child = self.child([OLDEST, of_number(0x0FFFFFFE, EPERM, ALLOW)])
         status, lines = self.surface("--pid", str(child.pid))
         self.assertEqual((status, lines[0]), (0, "allowed 5, depends 0, denied 0"))
         self.assertEqual(lines[2], f"numbers without a name: {OTHERS - 1} of {OTHERS} {SOME} 2: ALLOW")
@@ -678,8 +670,7 @@ class Process(Confined):
     @here
     def test_threads_with_other_filters_and_without(self):
         child = self.child([OLDEST], [OLDEST, NEWEST], [])
-        status, lines = self.surface("--pid", str(child.pid))
-        self.assertEqual(status, 1)
+        lines = self.of_status(1, self.surface("--pid", str(child.pid)))
         self.assertEqual(lines.count(""), 2)
         self.assertEqual(lines[0], "unconfined")
         self.assertRegex(lines[1], r"\A# thread [0-9]+ of process [0-9]+ \(.*\) has no filter: it isn't confined, and "

@@ -336,8 +336,7 @@ class Behind(Case):
             header, tests = self.way(self.added("--native", *filters, profile))
             self.assertTrue(header.endswith("/b\\x1b.bpf:"), header)
             self.assertTrue(tests[-1].endswith("// ERRNO 1 (EPERM)"), tests)
-            out = self.run_tool("decide", "--nr=write", *filters)[1]
-            self.assertIn("/b\\x1b.bpf: 0 1 3 4 6 7\n", out)
+            self.assertIn("/b\\x1b.bpf: 0 1 3 4 6 7\n", self.run_tool("decide", "--nr=write", *filters)[1])
 
     def test_a_filter_that_looks_at_the_architecture_alone_is_not_shown(self):
         """As firejail's newest, which is for i386."""
@@ -350,7 +349,7 @@ class Behind(Case):
         out = self.run_tool("decide", "--nr=read", other, of_i386)[1]
         self.assertIn("# both filters answer so\n", out)
         self.assertIn("/b.bpf: 0 1 3 4 6 8\n", out)
-        path = json.loads(self.run_tool("decide", "--json", "--nr=read", other, of_i386)[1])["calls"][0]["path"]
+        path = self.json_of("decide", "--json", "--nr=read", other, of_i386)["calls"][0]["path"]
         self.assertEqual((path["filter"], path["indexes"]), (other, [0, 1, 3, 4, 6, 8]))
         # where all look at the architecture alone, it is the newest
         self.assertIn("/i386.bpf: 0-2\n", self.run_tool("decide", "--nr=read", of_i386, of_i386)[1])
@@ -403,6 +402,6 @@ class Behind(Case):
         name = self.file("f.bpf", filter_of([0]))
         self.assertEqual(self.run_tool("run", "--path", "--nr=write", name)[1].split("\n")[:3],
                          ["ERRNO 1 steps 6", "path 0 1 3 4 6 7", "# the syscall is write (1)"])
-        found = json.loads(self.run_tool("run", "--path", "--json", "--nr=write", name)[1])["calls"][0]
+        found = self.json_of("run", "--path", "--json", "--nr=write", name)["calls"][0]
         self.assertEqual((found["steps"], found["path"]), (6, {"filter": name, "indexes": [0, 1, 3, 4, 6, 7]}))
         self.assertNotIn("path", self.run_tool("run", "--json", "--nr=write", name)[1])

@@ -24,28 +24,22 @@ class Believe(Case):
     def believe(self, *words, **changed):
         return self.run_words([for_developers("believe"), "--repository", self.tree(**changed), *words])
 
-    def prints(self, words, *lines):
-        self.assertEqual(self.out_of(0, self.believe(*words)).splitlines(), list(lines))
-
     def test_what_a_clause_stands_on(self):
-        self.prints(["low::made", "fine"], IS_FINE, LOW, BY_KINDS, KIND, PART,
-                    "low::made, clause fine: 3 definitions, 10 lines; beside them 2 types, 11 lines of the code")
-        self.prints(["low::made", "small"],
-                    "low::made, clause small: 0 definitions, 0 lines; beside them 0 types, 0 lines of the code")
-
-    def test_the_name_of_a_field_is_not_cited(self):
-        """`of_kind` is a definition, which this clause cites, and a field of a record that the other one stands on."""
-        self.prints(["low::made", "kind"], LOW, f"{WORDS}:21-23 of_kind", KIND, PART,
-                    "low::made, clause kind: 2 definitions, 7 lines; beside them 2 types, 11 lines of the code")
-
-    def test_a_method_and_its_data(self):
-        for call in ("get", "Made::get", "low::Made::get"):
-            self.prints([call], f"{WORDS}:16-19 Outcome",
-                        "low::Made::get: 1 definition, 4 lines; beside them 0 types, 0 lines of the code")
-
-    def test_over_crates_and_traits(self):
-        self.prints(["put"], IS_FINE, LOW, BY_KINDS, f"{ALIKE}:3-4 Alike", KIND, PART,
-                    "top::Store::put: 4 definitions, 12 lines; beside them 2 types, 11 lines of the code")
+        """The second and the first of these clauses cite `of_kind` as a definition and as a field of a record, which is
+        not cited. A method stands on its data, over crates and traits."""
+        no_types, types = "0 types, 0 lines of the code", "2 types, 11 lines of the code"
+        for words, stands_on, count in (
+                (["low::made", "fine"], [IS_FINE, LOW, BY_KINDS, KIND, PART],
+                 f"low::made, clause fine: 3 definitions, 10 lines; beside them {types}"),
+                (["low::made", "kind"], [LOW, f"{WORDS}:21-23 of_kind", KIND, PART],
+                 f"low::made, clause kind: 2 definitions, 7 lines; beside them {types}"),
+                (["low::made", "small"], [],
+                 f"low::made, clause small: 0 definitions, 0 lines; beside them {no_types}"),
+                *(([call], [f"{WORDS}:16-19 Outcome"], f"low::Made::get: 1 definition, 4 lines; beside them {no_types}")
+                  for call in ("get", "Made::get", "low::Made::get")),
+                (["put"], [IS_FINE, LOW, BY_KINDS, f"{ALIKE}:3-4 Alike", KIND, PART],
+                 f"top::Store::put: 4 definitions, 12 lines; beside them {types}")):
+            self.assertEqual(self.out_of(0, self.believe(*words)).splitlines(), [*stands_on, count])
         self.begins(0, "crates/top/src/calls.rt:3-8 Store", self.believe("stored"))
 
     def test_definitions_with_parameters_in_common(self):

@@ -59,8 +59,7 @@ def status_of(source, kind):
 
 
 def options(command):
-    done = completed([*CORE, command, "--help"])
-    return re.findall(r"--([a-z0-9-]+) <NUMBER>", done.stdout.decode())
+    return re.findall(r"--([a-z0-9-]+) <NUMBER>", completed([*CORE, command, "--help"]).stdout.decode())
 
 
 class Faults(Case):
@@ -188,8 +187,7 @@ class Page(Case):
         super().setUp()
         for name in ("scf", "tools", "tables", "docs", "crates"):
             os.symlink(os.path.join(TOP, name), os.path.join(self.folder, name))
-        stub = self.file("test", "#!/bin/sh\necho '0 passed, 0 failed'\n")
-        os.chmod(stub, 0o755)
+        os.chmod(self.file("test", "#!/bin/sh\necho '0 passed, 0 failed'\n"), 0o755)
         self.env = {**os.environ, "PATH": f"{self.folder}:{os.environ['PATH']}", "TMPDIR": self.folder}
 
 
@@ -363,8 +361,7 @@ class Consoles(Page):
         self.assertGreater(len(actual), 30)
         for name, options_of_command in sorted(set(actual)):
             with self.subTest(name):
-                status, out, _ = self.run_tool(name, "--help")
-                self.assertEqual(status, 0)
+                out = self.of_status(0, self.run_tool(name, "--help"))
                 for option in options_of_command:
                     self.assertRegex(out, rf"{option}\b(?!-)")
 
@@ -400,8 +397,7 @@ class Manual(Case):
 
     def test_every_command_and_option_stands_there(self):
         text = self.text().replace("\\-", "-").replace("\\", "")
-        done = completed([PROGRAM, "--help"])
-        commands = re.findall(r"^  ([a-z]+) ", done.stdout.decode(), re.M)
+        commands = re.findall(r"^  ([a-z]+) ", completed([PROGRAM, "--help"]).stdout.decode(), re.M)
         self.assertIn("compare", commands)
         for command in commands:
             self.assertRegex(text, rf"(?m)^\.B[R]? {command}\b", command)
@@ -444,8 +440,7 @@ class ManualOfTools(Case):
     def test_each_tool_has_a_page_that_names_its_options(self):
         for name in TOOLS:
             page = text_of(self.folder, f"scf-{name}.1").replace("\\-", "-")
-            status, shown, _ = self.run_tool(name, "--help")
-            self.assertEqual(status, 0)
+            shown = self.of_status(0, self.run_tool(name, "--help"))
             for option in re.findall(r"^  (?:-\w, )?(--[a-z0-9-]+)", shown, re.M):
                 self.assertRegex(page, rf"(?m)^\.B .*{option}\b", name)
 

@@ -132,8 +132,7 @@ class Gate(Case):
         self.script("tree/library/build", "#!/bin/sh\ntouch begun\nsleep 3600\n")
         self.script("bin/rt", "#!/bin/sh\nuntil [ -e \"$BEGUN\" ]; do sleep 0.1; done\n"
                     "echo '4 passed, 1 failed'\nexit 1\n")
-        begun = os.path.join(self.tree, "begun")
-        self.assertEqual(self.gate(BEGUN=begun)[1][-1], "4 passed, 1 failed")
+        self.assertEqual(self.gate(BEGUN=os.path.join(self.tree, "begun"))[1][-1], "4 passed, 1 failed")
 
     def test_a_status_without_a_count_is_a_failure(self):
         for ci, ended, last in (("7 passed, 0 failed", "3", "7 passed, 1 failed"),

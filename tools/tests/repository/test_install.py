@@ -59,8 +59,7 @@ class Install(Case):
                        *(f"share/man/man1/scf-{name}.1" for name in TOOLS)])
 
     def run_installed(self, *words, given=b""):
-        env = {**os.environ, "PATH": f"{self.prefix}/bin:{os.environ['PATH']}"}
-        return self.run_words(words, given, env=env)
+        return self.run_words(words, given, env={**os.environ, "PATH": f"{self.prefix}/bin:{os.environ['PATH']}"})
 
     def test_the_links_of_the_readme(self):
         folder = os.path.join(self.once, "share", "doc", "scf")

@@ -122,9 +122,8 @@ class Built(Case):
         key = name, *compiler, *flags
         if key not in self.objects:
             made = os.path.join(self.objects_folder, f"{len(self.objects)}.o")
-            done = self.run_words([*compiler, *STRICT, *flags, "-O1", "-g", f"-I{LIBRARY}", "-c", "-o", made,
-                                   os.path.join(LIBRARY, name)])
-            self.assertEqual(done, (0, "", ""), name)
+            self.assertEqual(self.run_words([*compiler, *STRICT, *flags, "-O1", "-g", f"-I{LIBRARY}", "-c", "-o", made,
+                                             os.path.join(LIBRARY, name)]), (0, "", ""), name)
             self.objects[key] = made
         return self.objects[key]
 
@@ -145,9 +144,8 @@ class Interface(Built):
         names = self.runs("nm", "-D", "--defined-only", shared).split("\n")
         self.assertEqual({line.split()[-1] for line in names if line},
                          {f"{name}@@{version}" for version, calls in BROUGHT.items() for name in calls} | {*BROUGHT})
-        dynamic = self.runs("readelf", "-dW", shared)
-        self.assertEqual(re.findall(r"\((NEEDED|SONAME|TEXTREL)\).*?\[?(\S+?)\]?$", dynamic, re.M),
-                         [("NEEDED", "libc.so.6"), ("SONAME", "libscf.so.0")])
+        self.assertEqual(re.findall(r"\((NEEDED|SONAME|TEXTREL)\).*?\[?(\S+?)\]?$", self.runs("readelf", "-dW", shared),
+                                    re.M), [("NEEDED", "libc.so.6"), ("SONAME", "libscf.so.0")])
         # what may be written before it is made read-only
         sections = re.findall(r"^ +\[ *\d+\] (\S+) +\S+ +\S+ +\S+ +(\S+) +\S+ +([A-Z]*W[A-Z]*) ",
                               self.runs("readelf", "-SW", shared), re.M)
@@ -291,8 +289,7 @@ class Interface(Built):
         self.file("page.cpp", "#include <scf.hpp>\nint prove(std::span<const std::uint8_t> filter, "
                               f"std::string_view json) {{\n{cpp}return -1;\n}}\n")
         for words in (["gcc", "-std=c99", "page.c"], ["g++", "-std=c++20", "page.cpp"]):
-            done = self.run_words([*words, *STRICT, f"-I{LIBRARY}", "-c", "-o", "page.o"])
-            self.assertEqual(done, (0, "", ""))
+            self.assertEqual(self.run_words([*words, *STRICT, f"-I{LIBRARY}", "-c", "-o", "page.o"]), (0, "", ""))
 
     def test_the_example(self):
         """A config.json that no reading but a runtime's takes, since two entries have one syscall; a changed filter."""

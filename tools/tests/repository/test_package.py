@@ -100,8 +100,7 @@ class Package(Case):
     @unittest.skipUnless(shutil.which("lintian"), "there is no lintian here")
     def test_lintian_finds_nothing(self):
         """No error and no warning; the maintainer's address is a placeholder, but well formed."""
-        made = self.debian_packages()
-        done = self.run_words(["lintian", "--allow-root", "--fail-on", "error,warning", *made])
+        done = self.run_words(["lintian", "--allow-root", "--fail-on", "error,warning", *self.debian_packages()])
         self.assertEqual(done[:2], (0, ""), done)
 
     def test_the_spec_has_each_installed_file_in_one_package(self):

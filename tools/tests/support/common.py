@@ -311,6 +311,19 @@ class Case(unittest.TestCase):
     def run_tool(self, name, *words, given=b"", **settings):
         return self.run_words([tool(name), *words], given, **settings)
 
+    def filter_files(self, filters):
+        """The files of some filters."""
+        return [self.file(f"{at}.bpf", data) for at, data in enumerate(filters)]
+
+    def json_of(self, *words, **settings):
+        """The object that a tool prints."""
+        return json.loads(self.run_tool(*words, **settings)[1])
+
+    def of_status(self, status, done):
+        """What something printed that ended with a status, whatever it said."""
+        self.assertEqual(done[0], status, done)
+        return done[1]
+
     def out_of(self, status, done):
         """What something printed that ended with a status and said nothing else."""
         self.assertEqual((done[0], done[2]), (status, ""), done[1])

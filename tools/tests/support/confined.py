@@ -1,4 +1,5 @@
 """Processes for tests: their threads are put under raw filters by ctypes, and then wait."""
+import contextlib
 import ctypes
 import errno
 import fcntl
@@ -60,11 +61,9 @@ def ended(child):
     child.kill()
     while child.poll() is None:
         for thread in ptrace.numbers_in(f"/proc/{child.pid}/task"):
-            try:
+            with contextlib.suppress(OSError):
                 if thread != child.pid:
                     os.waitpid(thread, ptrace.WALL | os.WNOHANG)
-            except OSError:
-                pass
         time.sleep(0.001)
     child.stdin.close()
     child.stdout.close()
@@ -72,10 +71,8 @@ def ended(child):
 
 def let_on(fifo):
     """Lets one go on that waits for a writer of a pipe, if one does."""
-    try:
+    with contextlib.suppress(OSError):
         os.close(os.open(fifo, os.O_WRONLY | os.O_NONBLOCK))
-    except OSError:
-        pass
 
 
 def why_not_here():
