@@ -1,5 +1,6 @@
 -- Why filters and texts are refused, and a stack's decision as numbers.
-use Rattle.std.specs.Prelude.{ℕ, List, [], ◌∷◌, Option, Some, None, Err}
+use Rattle.std.specs.Prelude.{◌≢◌, ℕ, List, [], ◌∷◌, Option, Some, None, Err}
+use Rattle.scf_insn.specs.declared.encoding.ReadFault.TheVariants as reads
 use Rattle.scf_machine.specs.declared.stack.DecidingInsn.{DecidingInsn}
 use Rattle.scf_text.specs.Faults.{IsFault, fault_of}
 use Rattle.scf_text.specs.declared.fault.TextFault.{TextFault}
@@ -22,7 +23,7 @@ IsStackRefused filters why = HasNoStack (known_bytes filters) why × NoReadFaile
 
 -- why the bytes are no list of instructions
 abbrev pub IsListRefused : List ℕ → VerifyFault → Type 0
-IsListRefused bytes (FilterRead fault) = ReadsFilter (Some bytes) (Err fault) × NoReadFailed (FilterRead fault)
+IsListRefused bytes (FilterRead fault) = ReadsFilter (Some bytes) (Err fault) × (fault ≢ reads.Read)
 IsListRefused bytes why = ⊥
 
 -- why a text spells no instructions: its first fault, or out of memory

@@ -26,11 +26,11 @@ pub use Rattle.scf_insn.specs.declared.architecture.Architecture.{Architecture}
 pub use Rattle.scf_insn.specs.declared.architecture.Architecture.TheVariants.{X8664, X86}
 pub use Rattle.scf_insn.specs.declared.number.NumeralFault.{NumeralFault}
 pub use Rattle.scf_profile.proofs.Common.{All-contains, All-more, IfOk-weaker, err_from_is_err_and, filter_map-append, map-append, option_map_or, nat_tests}
-pub use Rattle.scf_request.specs.Bundle.{AreNoParts, HasHeader, Held, IsBundlePart, IsHeader, IsPartFault, SpellsParts, architecture_kinds, content_of, contents_by, contents_of, held_of, is_beside, is_beside_profile, is_filter, is_profile, kind_word, split_kinds, counts_architecture, stub_architecture, table_architecture}
-pub use Rattle.scf_request.specs.Options.{NumberOption, choice_in, first_wrong, chosen_of, is_given, number_by, number_in, one_of}
+pub use Rattle.scf_request.specs.Bundle.{AreNoParts, HasHeader, Held, IsBundlePart, IsHeader, IsPartFault, SpellsParts, content_of, held_of, holds_nothing, kind_word, split_kinds, with_part}
+pub use Rattle.scf_request.specs.Options.{NumberOption, choice_in, first_wrong, is_given, number_by, number_in, one_of}
 pub use Rattle.scf_request.specs.Requests.{CommandName as Asked, command_word}
 pub use Rattle.scf_request.specs.Requests.CommandName.{Answers, Ask, Asm, Check, Compare, Compile, Decide, Dis, Run}
-pub use Rattle.scf_request.specs.CommandLine.{flag_rule, option_rule, rules_of_options, scf, scf_shape, shape_for}
+pub use Rattle.scf_request.specs.CommandLine.{flag_rule, scf, shape_for}
 pub use Rattle.scf_request.specs.declared.bundle.BundleFault.{BundleFault}
 pub use Rattle.scf_request.specs.declared.bundle.BundleFault.TheVariants.{Header, Memory, Short}
 pub use Rattle.scf_request.specs.declared.bundle.Part.{Part}
@@ -39,5 +39,5 @@ pub use Rattle.scf_request.specs.declared.bundle.PartKind.TheVariants.{Beside, B
 pub use Rattle.scf_request.specs.Contents.{held_by, rest_of_table}
 pub use Rattle.scf_request.specs.declared.contents.PartReader.{PartReader}
 pub use Rattle.scf_request.specs.declared.contents.TableReader.{TableReader}
-pub use Rattle.scf_request.specs.internal.Contents.{with_part}
-pub use Rattle.scf_request.specs.internal.Parsing.{IsNamed, ReadsAsProgram, bare, command_of, flags_in, names_of_flags, option_of, options_kept, program_of, scf_with, shape_of}
+pub use Rattle.scf_request.specs.internal.Contents.{architecture_kinds}
+pub use Rattle.scf_request.specs.internal.Parsing.{IsNamed, ReadsAsProgram, bare, chosen_of, command_of, flags_in, names_of_flags, option_of, option_rule, options_kept, program_of, rules_of_options, scf_shape, scf_with, shape_of}

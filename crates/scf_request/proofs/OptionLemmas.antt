@@ -2,7 +2,7 @@
 use Rattle.scf_request.proofs.Common.{codes, false, Bool, filter_map, ◌≡◌, ◌||◌, ◌-◌, ◌^◌, ◌<◌, ◌+◌, ℕ, Bor, List, [], ◌∷◌, ◌++◌, Option, Some, None, true, false, append-nil, append_assoc, length, take, drop, get_or, map, refl, sym, ap, ◌∙◌, drop_more, map-append, map_more, map_push, take-append-drop, if◌then◌else◌, Architecture, is_some, option_to_list, filter_map-append, Row, first_value, with_rule, rows_of, Found, first_value-rows, NumberOption, choice_in, first_wrong, chosen_of, is_given, number_by, number_in, one_of, command_of, flags_in}
 use Rattle.clap.specs.Words.{Rule, first_of}
 use Rattle.scf_request.specs.declared.request.Limits.{Limits}
-use Rattle.scf_request.specs.Options.{SelectsCalls, comparison_options, has_range, numbers_of_limits, numbers_of_range, range_options, scope_flags, word_option}
+use Rattle.scf_request.specs.Options.{SelectsCalls, comparison_options, has_range, numbers_of_range, option_of_bits, range_options, scope_flags}
 use Rattle.scf_request.specs.declared.request.Scopes.{Scopes}
 use Rattle.scf_request.specs.declared.request.Scopes.TheVariants.{AtOnce, EachCall}
 use Rattle.scf_profile.specs.declared.scope.Scope.TheVariants.{All, Native, Numbers}
@@ -26,9 +26,9 @@ none_wrong (o ∷ options) rows (n ∷ numbers) e =
 
 -- the ends of another range behind the same limits
 pub with_range : (rows : List Row) (limits : Limits) (range moved_range : List ℕ)
-    → map Some (numbers_of_limits limits ++ range) ≡ map (number_in rows) comparison_options
+    → map Some (limits.each ∷ limits.total ∷ limits.splits ∷ range) ≡ map (number_in rows) comparison_options
     → (map Some range ≡ map (number_in rows) range_options → map Some moved_range ≡ map (number_in rows) range_options)
-    → map Some (numbers_of_limits limits ++ moved_range) ≡ map (number_in rows) comparison_options
+    → map Some (limits.each ∷ limits.total ∷ limits.splits ∷ moved_range) ≡ map (number_in rows) comparison_options
 with_range rows limits range moved_range spelled moved =
     let ends : map Some range ≡ map (number_in rows) range_options = cc in
     let moved_ends : map Some moved_range ≡ map (number_in rows) range_options = moved ends in
@@ -70,8 +70,8 @@ pub open_range : (rows : List Row) → has_range rows ≡ false
     → map Some (0 ∷ (2 ^ 32 - 1) ∷ []) ≡ map (number_in rows) range_options
 open_range rows none =
     let both = both_absent (first_of (codes "nr-from") rows) (first_of (codes "nr-to") rows) none in
-    let first = without_text (word_option (codes "nr-from") 0) (first_of (codes "nr-from") rows) both.0 in
-    let last = without_text (word_option (codes "nr-to") (2 ^ 32 - 1)) (first_of (codes "nr-to") rows) both.1 in
+    let first = without_text (option_of_bits 32 (codes "nr-from") 0) (first_of (codes "nr-from") rows) both.0 in
+    let last = without_text (option_of_bits 32 (codes "nr-to") (2 ^ 32 - 1)) (first_of (codes "nr-to") rows) both.1 in
     rw (first, last) refl
 
 -- they stand for the calls of a flag

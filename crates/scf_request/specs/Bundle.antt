@@ -1,6 +1,5 @@
 -- Files one after another, each behind a header.
-use Rattle.std.specs.Prelude.{Contains, ◌≡◌, ◌≢◌, ℕ, ◌+◌, ◌<◌, ◌≤◌, Bool, true, false, List, [], ◌∷◌, ◌++◌, length, take, drop, codes, map, Option, Some, None, option_map, if◌then◌else◌}
-use Rattle.std.specs.List.{filter_map}
+use Rattle.std.specs.Prelude.{Contains, ◌≡◌, ◌≢◌, ℕ, ◌+◌, ◌<◌, ◌≤◌, true, false, List, [], ◌∷◌, ◌++◌, length, take, drop, codes, fold, map, Some}
 use Rattle.scf_insn.specs.Architectures.{architectures, row_of}
 use Rattle.scf_insn.specs.Numbers.{numeral}
 use Rattle.scf_insn.specs.declared.architecture.Architecture.{Architecture}
@@ -31,17 +30,14 @@ kind_word kind = (word_parts kind).0 ++ (word_parts kind).1
 abbrev pub split_kinds : List PartKind
 split_kinds = Filter ∷ Profile ∷ Table ∷ []
 
--- those for several architectures, each of which may have a table, a stub and counts of calls
-abbrev pub architecture_kinds : List PartKind
-architecture_kinds =
+-- Those by the form of a bundle. With several architectures each of them may have a table, a stub and counts of calls;
+-- beside other filters there is a table call by call.
+abbrev pub kinds_of : BundleForm → List PartKind
+kinds_of OfProfile = Filter ∷ Profile ∷ BesideProfile ∷ Table ∷ StubOf X8664 ∷ CountsOf X8664 ∷ []
+kinds_of OfArchitectures =
     Filter ∷ Profile ∷ BesideProfile ∷ map (λ architecture. TableOf architecture) architectures
     ++ map (λ architecture. StubOf architecture) architectures
     ++ map (λ architecture. CountsOf architecture) architectures
-
--- those by the form of a bundle: beside other filters there is a table call by call
-abbrev pub kinds_of : BundleForm → List PartKind
-kinds_of OfProfile = Filter ∷ Profile ∷ BesideProfile ∷ Table ∷ StubOf X8664 ∷ CountsOf X8664 ∷ []
-kinds_of OfArchitectures = architecture_kinds
 kinds_of (OfBeside true) = Filter ∷ Beside ∷ Table ∷ []
 kinds_of (OfBeside false) = Filter ∷ Beside ∷ []
 
@@ -106,46 +102,6 @@ IsBundleFault bytes fault = AreNoParts split_kinds bytes fault
 abbrev pub content_of : List ℕ → Part → List ℕ
 content_of bytes part = take part.length (drop part.start bytes)
 
-abbrev pub is_filter : PartKind → Bool
-is_filter Filter = true
-is_filter kind = false
-
-abbrev pub is_profile : PartKind → Bool
-is_profile Profile = true
-is_profile kind = false
-
-abbrev pub is_beside : PartKind → Bool
-is_beside Beside = true
-is_beside kind = false
-
-abbrev pub is_beside_profile : PartKind → Bool
-is_beside_profile BesideProfile = true
-is_beside_profile kind = false
-
--- the architecture of a table, of a stub, and of counts of calls
-abbrev pub table_architecture : PartKind → Option Architecture
-table_architecture Table = Some X8664
-table_architecture (TableOf architecture) = Some architecture
-table_architecture kind = None
-
-abbrev pub stub_architecture : PartKind → Option Architecture
-stub_architecture (StubOf architecture) = Some architecture
-stub_architecture kind = None
-
-abbrev pub counts_architecture : PartKind → Option Architecture
-counts_architecture (CountsOf architecture) = Some architecture
-counts_architecture kind = None
-
--- what the parts of a kind hold, in their order
-abbrev pub contents_of : (PartKind → Bool) → List ℕ → List Part → List (List ℕ)
-contents_of is_kind bytes parts =
-    filter_map (λ part. if is_kind part.kind then Some (content_of bytes part) else None) parts
-
--- what those of the architectures hold, each with its architecture, in their order
-abbrev pub contents_by : (PartKind → Option Architecture) → List ℕ → List Part → List (Architecture × List ℕ)
-contents_by architecture_of bytes parts = filter_map
-    (λ part. option_map (λ architecture. (architecture, content_of bytes part)) (architecture_of part.kind)) parts
-
 -- What the parts of a bundle hold, those of each kind in their order.
 pub record Held : Type 0 where
   pub filters : List (List ℕ)
@@ -156,16 +112,23 @@ pub record Held : Type 0 where
   pub stubs : List (Architecture × List ℕ)
   pub counts : List (Architecture × List ℕ)
 
+-- one more part is held, behind those of its kind
+abbrev pub with_part : PartKind → List ℕ → Held → Held
+with_part Filter bytes held = record held { filters = held.filters ++ bytes ∷ [] }
+with_part Profile bytes held = record held { profiles = held.profiles ++ bytes ∷ [] }
+with_part Beside bytes held = record held { beside = held.beside ++ bytes ∷ [] }
+with_part BesideProfile bytes held = record held { beside_profiles = held.beside_profiles ++ bytes ∷ [] }
+with_part Table bytes held = record held { tables = held.tables ++ (X8664, bytes) ∷ [] }
+with_part (TableOf architecture) bytes held = record held { tables = held.tables ++ (architecture, bytes) ∷ [] }
+with_part (StubOf architecture) bytes held = record held { stubs = held.stubs ++ (architecture, bytes) ∷ [] }
+with_part (CountsOf architecture) bytes held = record held { counts = held.counts ++ (architecture, bytes) ∷ [] }
+
+abbrev pub holds_nothing : Held
+holds_nothing =
+    record { filters = []; profiles = []; beside = []; beside_profiles = []; tables = []; stubs = []; counts = [] }
+
 abbrev pub held_of : List ℕ → List Part → Held
-held_of bytes parts = record {
-  filters = contents_of is_filter bytes parts;
-  profiles = contents_of is_profile bytes parts;
-  beside = contents_of is_beside bytes parts;
-  beside_profiles = contents_of is_beside_profile bytes parts;
-  tables = contents_by table_architecture bytes parts;
-  stubs = contents_by stub_architecture bytes parts;
-  counts = contents_by counts_architecture bytes parts;
-}
+held_of bytes = fold (λ held part. with_part part.kind (content_of bytes part) held) holds_nothing
 
 -- Bytes are a bundle of a form, whose parts hold this.
 pub record IsBundle (form : BundleForm) (bytes : List ℕ) (held : Held) : Type 0 where

@@ -1,5 +1,5 @@
 -- How a profile is read: by a reading, and with runc's stub for the calls of some architectures.
-use Rattle.std.specs.Prelude.{◌≡◌, ◌-◌, ◌^◌, ℕ, List, [], map, nat_le, Option, Some, None, option_map, if◌then◌else◌}
+use Rattle.std.specs.Prelude.{◌≡◌, ◌-◌, ◌^◌, ℕ, List, [], map, nat_le, Option, Some, None, if◌then◌else◌}
 use Rattle.std.specs.List.{filter_map, fold}
 use Rattle.std.specs.Option.{option_and_then}
 use Rattle.scf_insn.specs.declared.architecture.Architecture.{Architecture}
@@ -12,7 +12,6 @@ use Rattle.scf_profile.specs.declared.loaded.Loaded.{Loaded}
 use Rattle.scf_profile.specs.declared.loaded.LoadedProfiles.{LoadedProfiles}
 use Rattle.scf_profile.specs.declared.reading.Reading.{Reading}
 use Rattle.scf_profile.specs.declared.reading.Reading.TheVariants.{Strict}
-use Rattle.scf_request.specs.Bundle.{Held}
 use Rattle.scf_request.specs.declared.interpretation.Stub.{Stub}
 
 pub record Interpretation : Type 0 where
@@ -41,17 +40,12 @@ LoadsBy by text table loaded = LoadsEachBy by text (only_table table) (as_only l
 
 -- ---- the stubs of a bundle
 
--- the number of a stub: decimal digits that spell one of a call record
-abbrev pub stub_number : List ℕ → Option ℕ
-stub_number text = option_and_then (λ n. if nat_le n (2 ^ 32 - 1) then Some n else None) (numeral 10 text)
-
+-- the stub of a part: decimal digits that spell the number of a call record
 abbrev pub stub_of : Architecture × List ℕ → Option Stub
-stub_of part = option_map (λ first. record { architecture = part.0; first = first }) (stub_number part.1)
+stub_of part = option_and_then
+    (λ first. if nat_le first (2 ^ 32 - 1) then Some (record { architecture = part.0; first = first }) else None)
+    (numeral 10 part.1)
 
 -- the stubs of the parts that have the number of one
 abbrev pub stubs_of : List (Architecture × List ℕ) → List Stub
 stubs_of parts = filter_map stub_of parts
-
--- how a profile of a bundle is read
-abbrev pub interpretation_of : Reading → Held → Interpretation
-interpretation_of reading held = record { reading = reading; stubs = stubs_of held.stubs }

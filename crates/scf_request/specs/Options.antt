@@ -1,5 +1,5 @@
 -- The options of the program, and the numbers that they spell.
-use Rattle.std.specs.Prelude.{◌≡◌, ◌&&◌, ◌||◌, ℕ, Bool, true, false, ◌-◌, ◌^◌, List, [], ◌∷◌, ◌++◌, codes, bytes_eq, map, find, nat_le, not, is_none, is_some, Option, Some, None, Result, Ok, Err, option_map, if◌then◌else◌}
+use Rattle.std.specs.Prelude.{◌≡◌, ◌&&◌, ◌||◌, ℕ, Bool, true, false, ◌-◌, ◌^◌, List, [], ◌∷◌, codes, bytes_eq, map, find, nat_le, not, is_none, is_some, Option, Some, None, Result, Ok, Err, option_map, if◌then◌else◌}
 use Rattle.std.specs.List.{filter_map}
 use Rattle.std.specs.Option.{option_and_then, option_map_or}
 use Rattle.clap.specs.Words.{Row, first_of}
@@ -17,7 +17,6 @@ use Rattle.scf_request.specs.declared.options.NumberFault.{NumberFault}
 use Rattle.scf_request.specs.declared.request.Comparison.{Comparison}
 use Rattle.scf_request.specs.declared.request.Detail.{Detail}
 use Rattle.scf_request.specs.declared.request.Detail.TheVariants.{Answer, Instruction, Paths}
-use Rattle.scf_request.specs.declared.request.Limits.{Limits}
 use Rattle.scf_request.specs.declared.request.Scopes.{Scopes}
 use Rattle.scf_profile.specs.declared.scope.Scope.{Scope}
 use Rattle.scf_profile.specs.declared.scope.Scope.TheVariants as scopes
@@ -38,25 +37,16 @@ number_by o (Some text) = option_and_then (λ n. if nat_le n o.most then Some n 
 abbrev pub number_in : List Row → NumberOption → Option ℕ
 number_in rows o = number_by o (first_of o.name rows)
 
--- an option of 32 bits, and one of 64
-abbrev pub word_option : List ℕ → ℕ → NumberOption
-word_option name default = record { name = name; default = default; most = 2 ^ 32 - 1 }
-
-abbrev pub long_option : List ℕ → ℕ → NumberOption
-long_option name default = record { name = name; default = default; most = 2 ^ 64 - 1 }
+-- an option whose number has so many bits
+abbrev pub option_of_bits : ℕ → List ℕ → ℕ → NumberOption
+option_of_bits bits name default = record { name = name; default = default; most = 2 ^ bits - 1 }
 
 -- the options of a call record, in the order of its fields; without one the architecture is x86-64's
 abbrev pub call_options : List NumberOption
 call_options =
-    word_option (codes "nr") 0 ∷ word_option (codes "arch") audit_arch_x86_64 ∷ map (λ name. long_option name 0)
+    option_of_bits 32 (codes "nr") 0 ∷ option_of_bits 32 (codes "arch") audit_arch_x86_64
+    ∷ map (λ name. option_of_bits 64 name 0)
     (codes "ip" ∷ codes "a0" ∷ codes "a1" ∷ codes "a2" ∷ codes "a3" ∷ codes "a4" ∷ codes "a5" ∷ [])
-
--- the options of limits: the most steps of a comparison, and of those of single calls together, and the most splits
--- of a comparison
-abbrev pub limit_options : List NumberOption
-limit_options =
-    long_option (codes "limit") 1000000 ∷ long_option (codes "total-limit") 10000000
-    ∷ long_option (codes "splits") 10000 ∷ []
 
 -- the numbers of a record, in the order of its fields
 abbrev pub numbers_of_record : CallRecord → List ℕ
@@ -73,27 +63,28 @@ SpellsCall rows (Err fault) = first_wrong call_options rows ≡ Some fault.name.
 
 -- the options of the ends of a range of numbers, which without them are those of all numbers
 abbrev pub range_options : List NumberOption
-range_options = word_option (codes "nr-from") 0 ∷ word_option (codes "nr-to") (2 ^ 32 - 1) ∷ []
+range_options = option_of_bits 32 (codes "nr-from") 0 ∷ option_of_bits 32 (codes "nr-to") (2 ^ 32 - 1) ∷ []
 
--- the options of a comparison
+-- the options of a comparison: the most steps of one, and of those of single calls together, the most splits of one,
+-- and the ends of a range
 abbrev pub comparison_options : List NumberOption
-comparison_options = limit_options ++ range_options
-
--- the limits, in that order
-abbrev pub numbers_of_limits : Limits → List ℕ
-numbers_of_limits limits = limits.each ∷ limits.total ∷ limits.splits ∷ []
+comparison_options =
+    option_of_bits 64 (codes "limit") 1000000 ∷ option_of_bits 64 (codes "total-limit") 10000000
+    ∷ option_of_bits 64 (codes "splits") 10000 ∷ range_options
 
 -- the ends of the range over which a comparison goes
 abbrev pub numbers_of_range : Scopes → List ℕ
 numbers_of_range (AtOnce (scopes.Numbers architecture first last)) = first ∷ last ∷ []
 numbers_of_range over = 0 ∷ (2 ^ 32 - 1) ∷ []
 
+-- the numbers of a comparison, in the order of its options
 abbrev pub numbers_of_comparison : Comparison → List ℕ
-numbers_of_comparison comparison = numbers_of_limits comparison.limits ++ numbers_of_range comparison.scopes
+numbers_of_comparison comparison =
+    comparison.limits.each ∷ comparison.limits.total ∷ comparison.limits.splits ∷ numbers_of_range comparison.scopes
 
 -- the options of a walk over the records of a scope: its most steps, and the ends of a range
 abbrev pub exploration_options : List NumberOption
-exploration_options = long_option (codes "limit") 1000000 ∷ range_options
+exploration_options = option_of_bits 64 (codes "limit") 1000000 ∷ range_options
 
 -- the option of the reading of a profile, and the readings by their names; without it the reading is by the words
 abbrev pub reading_option : List ℕ
@@ -115,10 +106,6 @@ is_given rows name = option_map_or (λ text. bytes_eq text (codes "true")) (firs
 
 -- ---- flags of which at most one may be given
 
--- what the flags of a group stand for that are given
-abbrev pub chosen_of : {A : Type 0} → List Row → List (List ℕ × A) → List A
-chosen_of rows group = filter_map (λ flag. if is_given rows flag.0 then Some flag.1 else None) group
-
 -- the only one of several, what stands without any, or None where they are more than one
 abbrev pub one_of : {A : Type 0} → A → List A → Option A
 one_of without [] = Some without
@@ -127,7 +114,8 @@ one_of without (first ∷ second ∷ more) = None
 
 -- what a group comes to, of what stands without a flag and of its flags: None where more than one of them is given
 abbrev pub choice_in : {A : Type 0} → List Row → A × List (List ℕ × A) → Option A
-choice_in rows group = one_of group.0 (chosen_of rows group.1)
+choice_in rows group =
+    one_of group.0 (filter_map (λ flag. if is_given rows flag.0 then Some flag.1 else None) group.1)
 
 -- over which calls a comparison goes: all without a flag
 abbrev pub scope_flags : Scopes × List (List ℕ × Scopes)

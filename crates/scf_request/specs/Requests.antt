@@ -20,44 +20,36 @@ use Rattle.scf_request.specs.Options.{AsksToCompare, NumberOption, call_options,
 pub data CommandName : Type 0 where
   Answers Ask Asm Check Compare Compile Decide Dis Run : CommandName
 
--- the words of each command: its own, those of its options, each with a number, and those of its flags
-abbrev pub words_of_command : CommandName → List ℕ × List NumberOption × List (List ℕ)
+-- the words of each command: its own, those of its options, each with a number, whether it takes a reading, too, as
+-- those on profiles do, and those of its flags
+abbrev pub words_of_command : CommandName → List ℕ × List NumberOption × Bool × List (List ℕ)
 words_of_command Answers = (
   codes "answers",
   exploration_options,
+  true,
   codes "native" ∷ codes "differences" ∷ codes "beside" ∷ codes "architectures" ∷ codes "examples" ∷ [],
 )
-words_of_command Ask = (codes "ask", call_options, codes "architectures" ∷ [])
-words_of_command Asm = (codes "asm", [], [])
-words_of_command Check = (codes "check", [], [])
+words_of_command Ask = (codes "ask", call_options, true, codes "architectures" ∷ [])
+words_of_command Asm = (codes "asm", [], false, [])
+words_of_command Check = (codes "check", [], false, [])
 words_of_command Compare = (
   codes "compare",
   comparison_options,
+  true,
   flag_names scope_flags ++ flag_names relation_flags ++ codes "beside" ∷ codes "architectures" ∷ [],
 )
-words_of_command Compile = (codes "compile", [], codes "architectures" ∷ codes "left-out" ∷ [])
-words_of_command Decide = (codes "decide", call_options, codes "at" ∷ codes "path" ∷ [])
-words_of_command Dis = (codes "dis", [], [])
-words_of_command Run = (codes "run", call_options, codes "path" ∷ [])
-
--- the commands on profiles take a reading, too
-abbrev pub takes_reading : CommandName → Bool
-takes_reading Answers = true
-takes_reading Ask = true
-takes_reading Compare = true
-takes_reading Compile = true
-takes_reading name = false
+words_of_command Compile = (codes "compile", [], true, codes "architectures" ∷ codes "left-out" ∷ [])
+words_of_command Decide = (codes "decide", call_options, false, codes "at" ∷ codes "path" ∷ [])
+words_of_command Dis = (codes "dis", [], false, [])
+words_of_command Run = (codes "run", call_options, false, codes "path" ∷ [])
 
 abbrev pub command_word : CommandName → List ℕ
 command_word name = (words_of_command name).0
 
-abbrev pub options_of : CommandName → List NumberOption
-options_of name = (words_of_command name).1
-
--- those that it reads: those of a comparison that `answers` lacks have no text
+-- the options that it reads: those of a comparison that `answers` lacks have no text
 abbrev pub options_read : CommandName → List NumberOption
 options_read Answers = comparison_options
-options_read name = options_of name
+options_read name = (words_of_command name).1
 
 -- the name of a command, and the numbers of its options
 abbrev pub name_and_numbers : Command → CommandName × List ℕ
@@ -91,17 +83,13 @@ form_in Ask rows = Some (form_of_profile rows)
 form_in Compile rows = Some (form_of_profile rows)
 form_in name rows = Some forms.Profile
 
--- A word and the values of options spell a command: it has this name, the options have its numbers, and its flags are
--- given.
-pub record SpellCommand (word : List ℕ) (rows : List Row) (command : Command) : Type 0 where
-  pub is_named : word ≡ command_word (name_and_numbers command).0
-  pub numbers : map Some (name_and_numbers command).1
-      ≡ map (number_in rows) (options_read (name_and_numbers command).0)
-  pub flags : HasFlags rows command
-
--- They spell a request: its command, the form of its bundle and the reading of a profile.
+-- A word and the values of options spell a request: its command has this name, the options have its numbers, its flags
+-- are given, and they say the form of its bundle and the reading of a profile.
 pub record SpellRequest (word : List ℕ) (rows : List Row) (request : Request) : Type 0 where
-  pub command : SpellCommand word rows request.command
+  pub is_named : word ≡ command_word (name_and_numbers request.command).0
+  pub numbers : map Some (name_and_numbers request.command).1
+      ≡ map (number_in rows) (options_read (name_and_numbers request.command).0)
+  pub flags : HasFlags rows request.command
   pub form : form_in (name_and_numbers request.command).0 rows ≡ Some request.form
   pub reading : reading_in rows ≡ Some request.reading
 
@@ -119,16 +107,11 @@ HaveRecord forms.Architectures (AtOnce (scopes.Numbers each first last)) =
 HaveRecord form (AtOnce scope) = HasRecord (IsInScope scope)
 HaveRecord form EachCall = Unit {0}
 
--- A request for the answers to the records of a scope goes over one at least.
-abbrev pub GoesOverRecord : BundleForm → Command → Type 0
-GoesOverRecord form (commands.Answers comparison has_examples has_differences) = HaveRecord form comparison.scopes
-GoesOverRecord form (commands.Compare comparison) = HaveRecord form comparison.scopes
-GoesOverRecord form command = Unit {0}
-
--- what is asked for by a command's word and the values of its options
-pub record IsRequest (word : List ℕ) (rows : List Row) (request : Request) : Type 0 where
-  pub spelled : SpellRequest word rows request
-  pub has_record : GoesOverRecord request.form request.command
+-- the records over which a command goes: those of a comparison, and all for another command
+abbrev pub scopes_of : Command → Scopes
+scopes_of (commands.Answers comparison has_examples has_differences) = comparison.scopes
+scopes_of (commands.Compare comparison) = comparison.scopes
+scopes_of command = AtOnce scopes.All
 
 -- Flags of a comparison exclude each other: two of a group, and that of single calls a range.
 abbrev pub AreExclusiveOfComparison : List Row → Type 0
@@ -152,10 +135,11 @@ SpellNone word rows Flags = (name : CommandName) × (word ≡ command_word name)
 SpellNone word rows NoCommand = (name : CommandName) → word ≢ command_word name
 SpellNone word rows Reading = reading_in rows ≡ None
 SpellNone word rows Range = (request : Request) × SpellRequest word rows request
-    × (GoesOverRecord request.form request.command → ⊥)
+    × (HaveRecord request.form (scopes_of request.command) → ⊥)
 
--- What a command's word and the values of its options ask for, or why for nothing.
+-- What a command's word and the values of its options ask for, which goes over one record at least, or why for nothing.
 abbrev pub AsksFor : Option (List ℕ × List Row) → Result Request RequestFault → Type 0
 AsksFor None result = result ≡ Err NoCommand
-AsksFor (Some asked) (Ok request) = IsRequest asked.0 asked.1 request
+AsksFor (Some asked) (Ok request) =
+    SpellRequest asked.0 asked.1 request × HaveRecord request.form (scopes_of request.command)
 AsksFor (Some asked) (Err fault) = SpellNone asked.0 asked.1 fault

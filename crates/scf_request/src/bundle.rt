@@ -231,7 +231,7 @@ const ARCHITECTURE_KINDS: usize = 3 + 3 * ARCHITECTURES;
 
 /// The kinds of parts of a bundle with a profile of several architectures.
 pub(crate) fn architecture_kinds() -> [PartKind; ARCHITECTURE_KINDS]
-    ensures { result ≡ spec.architecture_kinds }
+    ensures { result ≡ spec.kinds_of BundleForm.Architectures }
 {
     let all = Architecture::all();
     let mut kinds = [PartKind::Filter; ARCHITECTURE_KINDS];
@@ -248,7 +248,7 @@ pub(crate) fn architecture_kinds() -> [PartKind; ARCHITECTURE_KINDS]
 impl BundleForm {
     /// The kinds of parts; `architectures` are those with a profile of several architectures.
     pub(crate) fn kinds(self, architectures: &[PartKind; ARCHITECTURE_KINDS]) -> &[PartKind]
-        requires { architectures.now ≡ spec.architecture_kinds }
+        requires { architectures.now ≡ spec.kinds_of BundleForm.Architectures }
         ensures { result.now ≡ spec.kinds_of self }
     {
         match self {

@@ -3,8 +3,8 @@
 ghost use Rattle.std.specs.Prelude.{◌≡◌, [], Contains, false, map, IfOk, IfSome};
 ghost use Rattle.std.specs.List.{AllByRecursion};
 ghost use Rattle.clap.specs.Words.{FailsBy, app_of, fault_of, rule_of, subcommand_of, subcommand_rows_of, with_subcommand};
-ghost use Rattle.scf_request.specs.CommandLine.{flag_rule, option_rule, rules_of_options, scf, valued_rule};
-ghost use Rattle.scf_request.specs.internal.Parsing.{IsNamed, ReadsAsProgram, bare, command_of, option_of, options_kept, program_of, shape_of};
+ghost use Rattle.scf_request.specs.CommandLine.{flag_rule, scf, valued_rule};
+ghost use Rattle.scf_request.specs.internal.Parsing.{IsNamed, ReadsAsProgram, bare, command_of, option_of, option_rule, options_kept, program_of, rules_of_options, shape_of};
 
 use crate::options::{
     ARCHITECTURES_FLAG, AT_FLAG, BESIDE_FLAG, CALL_OPTIONS, CALLS_FLAG, COMPARISON_OPTIONS,

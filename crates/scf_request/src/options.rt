@@ -1,6 +1,6 @@
 //! Options that take a number, and flags.
 
-ghost use Rattle.std.specs.Prelude.{◌≡◌, ◌≤◌, ◌++◌, ◌∷◌, [], Some, None, IfOk, IfErr, is_some, length, map};
+ghost use Rattle.std.specs.Prelude.{◌≡◌, ◌≤◌, ◌∷◌, [], Some, None, IfOk, IfErr, is_some, length, map};
 ghost use Rattle.std.specs.List.{AllByRecursion};
 ghost use Rattle.clap.specs.Words.{first_of, found_of, rows_of};
 ghost use Rattle.scf_request.specs.Options as table;
@@ -305,7 +305,7 @@ pub fn record_of(matches: &ArgMatches<'_>) -> Result<CallRecord, NumberFault>
 pub(crate) fn comparison_numbers(
     matches: &ArgMatches<'_>,
 ) -> Result<(Limits, u32, u32), NumberFault>
-    ensures ok { IfOk result (λ n. map Some (table.numbers_of_limits n.0 ++ n.1 ∷ n.2 ∷ [])
+    ensures ok { IfOk result (λ n. map Some (n.0.each ∷ n.0.total ∷ n.0.splits ∷ n.1 ∷ n.2 ∷ [])
         ≡ map (table.number_in (rows_of (found_of matches.now))) table.comparison_options) }
     ensures err { IfErr result (λ fault.
         table.first_wrong table.comparison_options (rows_of (found_of matches.now)) ≡ Some fault.name.now) }

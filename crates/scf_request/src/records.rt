@@ -2,10 +2,10 @@
 
 ghost use Rattle.std.specs.Prelude.{◌↔◌, IsTrue};
 ghost use Rattle.scf_profile.specs.Scope.{IsInScope};
-ghost use Rattle.scf_request.specs.Requests.{GoesOverRecord, HasRecord};
+ghost use Rattle.scf_request.specs.Requests.{HasRecord, HaveRecord};
 
 use crate::bundle::BundleForm;
-use crate::request::{Command, Scopes};
+use crate::request::Scopes;
 use scf_profile::Scope;
 
 /// Whether a scope has a record.
@@ -23,23 +23,17 @@ pub fn has_record(scope: Scope) -> bool
     }
 }
 
-/// Whether a command that asks for the answers to the records of a scope goes over one at least; true of any other. Of
-/// several architectures a range is one of each.
+/// Whether scopes have a record. Of several architectures a range is one of each.
 #[tactic(auto, using(crate::proofs::RecordLemmas::of_any))]
-pub(crate) fn goes_over_record(form: BundleForm, command: Command) -> bool
-    ensures { IsTrue result ↔ GoesOverRecord form command }
+pub(crate) fn have_record(form: BundleForm, over: Scopes) -> bool
+    ensures { IsTrue result ↔ HaveRecord form over }
 {
-    match command {
-        Command::Answers { comparison, .. } | Command::Compare(comparison) => {
-            match (form, comparison.scopes) {
-                (_, Scopes::EachCall) => true,
-                // Every number is one of i386's.
-                (BundleForm::Architectures, Scopes::AtOnce(Scope::Numbers { first, last, .. })) => {
-                    first <= last
-                }
-                (_, Scopes::AtOnce(scope)) => has_record(scope),
-            }
+    match (form, over) {
+        (_, Scopes::EachCall) => true,
+        // Every number is one of i386's.
+        (BundleForm::Architectures, Scopes::AtOnce(Scope::Numbers { first, last, .. })) => {
+            first <= last
         }
-        _ => true,
+        (_, Scopes::AtOnce(scope)) => has_record(scope),
     }
 }

@@ -13,7 +13,9 @@ ghost use Rattle.scf_request.specs.Options.{
   numbers_of_record,
   range_options,
 };
-ghost use Rattle.scf_request.specs.Requests.{AreExclusiveOfComparison, AsksFor, CommandName, IsRequest, SpellCommand, SpellNone, command_word, options_read};
+ghost use Rattle.scf_request.specs.Requests as spec;
+ghost use Rattle.scf_request.specs.Requests.{AreExclusiveOfComparison, AsksFor, CommandName, HaveRecord, SpellNone, SpellRequest, command_word, options_read};
+ghost use Rattle.scf_request.specs.internal.Parsing.{SpellCommand};
 
 use crate::bundle::BundleForm;
 use crate::options::{
@@ -21,7 +23,7 @@ use crate::options::{
     chosen_flag, comparison_numbers, detail_of, excludes_walk, form_of, has_range, is_given,
     reading_in, record_of,
 };
-use crate::records::goes_over_record;
+use crate::records::have_record;
 use crate::request_fault::RequestFault;
 use clap::ArgMatches;
 use scf_insn::{Architecture, CallRecord};
@@ -95,6 +97,18 @@ pub enum Command {
         /// Whether the path is printed.
         has_path: bool,
     },
+}
+
+impl Command {
+    /// The records over which a command goes: those of a comparison, and all for another command.
+    pub fn scopes(self) -> Scopes
+        ensures { result ≡ spec.scopes_of self }
+    {
+        match self {
+            Command::Answers { comparison, .. } | Command::Compare(comparison) => comparison.scopes,
+            _ => Scopes::AtOnce(Scope::All),
+        }
+    }
 }
 
 /// What the program is asked for.
@@ -208,7 +222,8 @@ fn command_of(name: &str, options: &ArgMatches<'_>) -> Result<Command, RequestFa
 
 /// The request of the command with this name and these options, if it goes over a record at least.
 fn request_named(name: &str, options: &ArgMatches<'_>) -> Result<Request, RequestFault>
-    ensures request { IfOk result (IsRequest name.now (rows_of (found_of options.now))) }
+    ensures request { IfOk result (λ request. SpellRequest name.now (rows_of (found_of options.now)) request
+        × HaveRecord request.form (spec.scopes_of request.command)) }
     ensures fault { IfErr result (SpellNone name.now (rows_of (found_of options.now))) }
 {
     let Some(reading) = reading_in(options) else {
@@ -218,7 +233,7 @@ fn request_named(name: &str, options: &ArgMatches<'_>) -> Result<Request, Reques
     let Some(form) = form_of(options, &command) else {
         return Err(RequestFault::Flags);
     };
-    if !goes_over_record(form, command) {
+    if !have_record(form, command.scopes()) {
         return Err(RequestFault::Range);
     }
     Ok(Request {

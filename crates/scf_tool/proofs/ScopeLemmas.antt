@@ -18,7 +18,7 @@ use Rattle.scf_tool.proofs.Common.{List, Ok, PartReader, [], arith, get_or, leng
 use Rattle.scf_tool.specs.ArchitectureScopes.{HasRecordAmong, NameNoCall, scope_of}
 use Rattle.scf_tool.proofs.Common.{AllZip}
 use Rattle.scf_tool.specs.Inputs.{SpellsTable}
-use Rattle.scf_tool.specs.Commands.{AreCounts}
+use Rattle.scf_tool.specs.internal.Sides.{AreTables}
 
 -- ---- architectures
 
@@ -70,26 +70,26 @@ module _ (texts : List (Architecture × List ℕ)) (table : Architecture × Name
       by_text : (texts : List (Architecture × List ℕ)) → AllZip SpellsTable texts (table ∷ []) → NameNoCall texts
       by_text [] each = absurd each
       by_text (text ∷ []) each =
-          (text, refl, (table.1, each.0.1, λ name. some_named table.1 calls name (get table.1 name) are none refl))
+          (text, refl, table.1, each.0.1, λ name. some_named table.1 calls name (get table.1 name) are none refl)
       by_text (text ∷ second ∷ texts) each = absurd each.1
 
   pub some_calls : NameNoCall texts → length calls ≡ 0
-  some_calls (only, is, names) = by_calls calls are
+  some_calls (only, is, names, spell, lack) = by_calls calls are
     where
       stated : AllZip SpellsTable (only ∷ []) (table ∷ [])
       stated = rw is at spelled
 
-      same : names.0 ≡ table.1
-      same = let one : Ok names.0 ≡ Ok table.1 = sym names.1 ∙ stated.0.1 in cc
+      same : names ≡ table.1
+      same = let one : Ok names ≡ Ok table.1 = sym spell ∙ stated.0.1 in cc
 
       by_calls : (calls : List NamedCall) → AreCallsOf table.1 calls → length calls ≡ 0
       by_calls [] are = refl
       by_calls (call ∷ calls) are =
           let named = (are.exact call.number).0 (0, omega arith, refl) in
           let has = named.1 in
-          let lacks = rw same at (names.2 named.0) in
+          let lacks = rw same at (lack named.0) in
           absurd (cc)
 
 -- texts that aren't all tables aren't one without a call
-pub not_valid : (texts : List (Architecture × List ℕ)) → (AreCounts texts → ⊥) → NameNoCall texts → ⊥
-not_valid texts invalid (only, is, names) = invalid ((only.0, names.0) ∷ [], rw is ((refl, names.1), tt))
+pub not_valid : (texts : List (Architecture × List ℕ)) → (AreTables texts → ⊥) → NameNoCall texts → ⊥
+not_valid texts invalid (only, is, names, spell, lack) = invalid ((only.0, names) ∷ [], rw is ((refl, spell), tt))

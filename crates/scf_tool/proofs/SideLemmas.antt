@@ -3,8 +3,8 @@ use Rattle.scf_compare.specs.declared.side.Side.{Side}
 use Rattle.scf_compare.specs.declared.side.Side.TheVariants as sides
 use Rattle.scf_compare.specs.Sides.{Behavior, behavior_of, profiles_behavior, stack_behavior}
 use Rattle.scf_profile.specs.Profile.{Profile}
-use Rattle.scf_tool.proofs.Common.{Insn, List, subst}
-use Rattle.scf_tool.specs.Inputs.{HasStackOf, IsSideOf, SideBytes, behavior_of_input}
+use Rattle.scf_tool.proofs.Common.{Insn, List, None, subst}
+use Rattle.scf_tool.specs.Inputs.{IsSideOf, ReadsFilters, SideBytes, behavior_of_input}
 use Rattle.scf_tool.specs.Inputs.SideBytes.{OfFilters, OfProfile}
 use Rattle.scf_tool.specs.declared.sides.OpenSide.{OpenSide}
 use Rattle.scf_tool.specs.declared.sides.OpenSide.TheVariants as opens
@@ -24,7 +24,7 @@ module _ (P : Behavior → Type 0) where
       subst (λ (ps : List Profile). P (profiles_behavior ps)) is holds
 
 -- the filters of a side that is open are a stack
-pub open_has_stack : (bytes : SideBytes) (side : OpenSide) → IsOpen bytes side → HasStackOf bytes
+pub open_has_stack : (bytes : SideBytes) (side : OpenSide) → IsOpen bytes side → ReadsFilters bytes None
 open_has_stack (OfFilters filters) (opens.Stack stack) is = (stack, is)
 open_has_stack (OfFilters filters) (opens.Profile reader) is = absurd is
 open_has_stack (OfProfile profile) side is = tt

@@ -2,7 +2,7 @@
 use Rattle.scf_tool.proofs.Common.{◌≡◌, ℕ, ◌+◌, ◌<◌, ◌≤◌, List, [], ◌∷◌, ◌++◌, length, take, drop, set, get_or, map, Option, Result, Some, Ok, Err, refl, sym, ap, ◌∙◌, arith, add-one, length-drop, drop_more, take_more, take_more_set, set_split, drop-set-lt, take-append-drop, map-append, sum_by_push, AllZip, Insn, max_insns_per_path, IsPush, cost_of, PartReader, HasEnded, IsAcceptedFilter, HasStack, HasNoStack, IsNotPushed, HaveStopped, NoReadFailed, VerifyFault, FilterRead, rest_of}
 use Rattle.std.proofs.lemmas.Slice.Zip.{all_zipped_more}
 use Rattle.std.specs.Prelude.{IfErr}
-use Rattle.scf_tool.specs.declared.verify_fault.VerifyFault.TheVariants.{ProfileRead, TableRead}
+use Rattle.scf_insn.specs.declared.encoding.ReadFault.TheVariants as reads
 use Rattle.scf_tool.specs.FilterStacks.{HaveStoppedBy}
 
 -- the lists hold the same from an index on, and this stands there
@@ -131,10 +131,9 @@ module _ {R : Type 0} (remaining : R → Option (List ℕ)) where
   -- no read of one is why there is no stack
   pub stopped_reads_well : (texts : List (Option (List ℕ))) (fault : VerifyFault) (olds news : List R)
       → HasNoStack texts fault → HaveStopped remaining none fault olds news → NoReadFailed fault
-  stopped_reads_well texts (FilterRead fault) olds news refused stopped = λ is. absurd (omega (arith, stopped.stopped.0 is))
-  stopped_reads_well texts (TableRead fault) olds news refused stopped = absurd refused.why
-  stopped_reads_well texts (ProfileRead fault) olds news refused stopped = absurd refused.why
-  stopped_reads_well texts fault olds news refused stopped = tt
+  stopped_reads_well texts (FilterRead fault) olds news refused stopped = λ is.
+      let failed : fault ≡ reads.Read = cc in absurd (omega (arith, stopped.stopped.0 failed))
+  stopped_reads_well texts fault olds news refused stopped = λ is. absurd (cc)
 
   -- so filters are refused for another reason
   pub refused_well : {T : Type 0} (olds news : List R) (result : Result T VerifyFault)

@@ -14,7 +14,8 @@ use Rattle.scf_request.specs.Contents.{rest_of, rest_of_table, texts_for}
 use Rattle.scf_request.specs.Interpretations.{Interpretation}
 use Rattle.scf_compare.specs.Sides.{Behavior}
 use Rattle.scf_request.specs.declared.request.Comparison.{Comparison}
-use Rattle.scf_tool.specs.Commands.{AreCounts, CantLoadEach}
+use Rattle.scf_tool.specs.Commands.{CantLoadEach}
+use Rattle.scf_tool.specs.internal.Sides.{AreTables}
 use Rattle.scf_request.specs.declared.request.Scopes.TheVariants.{EachCall}
 use Rattle.scf_tool.specs.JointFindings.{AreFindings}
 use Rattle.scf_tool.specs.declared.findings.CallFinding.{CallFinding}
@@ -150,7 +151,7 @@ cant_load by profile texts Memory none = absurd none.why
 
 -- texts of which one is no table aren't counts of calls
 pub not_counts : (texts : List (Architecture × List ℕ)) (fault : VerifyFault) → fault ≢ Table faults.Memory
-    → HasNoTable false texts fault → AreCounts texts → ⊥
+    → HasNoTable false texts fault → AreTables texts → ⊥
 not_counts texts (Table fault) other none counts =
     no_counts none.before none.text none.behind fault counts.0 (none.why.1 (λ is. other (ap Table is)))
     (rw none.whole at counts.1)

@@ -10,12 +10,11 @@ use Rattle.scf_request.specs.declared.request.Detail.TheVariants as details
 use Rattle.scf_request.specs.declared.request.Scopes.{Scopes}
 use Rattle.scf_request.specs.declared.request.Scopes.TheVariants.{AtOnce, EachCall}
 use Rattle.scf_tool.proofs.Common.{Bool, Err, Fault, HasEnded, List, Ok, Option, ReadsUnder, Reply, Result, false, inl, inr, max_input_len, refl, subst, true, ◌≡◌, ◌≢◌, ℕ}
-use Rattle.scf_tool.specs.Commands.{Compiles, EndsOnBundle, EndsOnBytes, GoesOverNone, HasNoInputs, IsRefused, IsTrueOf, RepliesTo, scopes_of, shape_of}
+use Rattle.scf_tool.specs.Commands.{EndsOnBundle, EndsOnBytes, GoesOverNone, HasNoInputs, IsRefused, IsTrueOf, RepliesTo, shape_of}
+use Rattle.scf_request.specs.Requests.{scopes_of}
 use Rattle.scf_tool.specs.Inputs.{Inputs}
 use Rattle.scf_tool.specs.Statuses.{LeavesInput, LeavesWhole}
 use Rattle.scf_tool.specs.declared.fault.Fault.TheVariants as faults
-use Rattle.scf_tool.specs.declared.sides.SideInput.{SideInput}
-use Rattle.scf_tool.specs.declared.sides.SideInput.TheVariants as sides
 use Rattle.scf_tool.specs.declared.sides.SidesInput.{SidesInput}
 use Rattle.scf_tool.specs.internal.Bytes.{TakesWhole}
 
@@ -60,21 +59,16 @@ not_refused over inputs fault (inl none) = not_none inputs.rules.of_each over in
 not_refused over inputs fault (inr (inl memory)) = absurd (cc)
 not_refused over inputs fault (inr (inr (goes, why, is, refused))) = absurd (cc)
 
-not_compiled : (has_left_out : Bool) (side : SideInput) (fault : InputFault)
-    → Compiles has_left_out side (Err (faults.Input fault)) → ⊥
-not_compiled has_left_out (sides.Stack stack) fault replied = absurd (cc)
-not_compiled has_left_out (sides.Profiles loaded) fault replied = absurd (cc)
-
 not_replied : (command : Command) (sides : SidesInput) (fault : InputFault)
     → RepliesTo command sides (Err (faults.Input fault)) → ⊥
-not_replied (commands.Answers comparison has_examples has_differences) sides fault replied = absurd (cc)
-not_replied (commands.Ask call) sides fault replied = absurd (cc)
-not_replied (commands.Compare comparison) sides fault replied = absurd (cc)
-not_replied (commands.Compile has_left_out) sides fault replied = not_compiled has_left_out sides.left fault replied
-not_replied (commands.Decide call details.Paths) sides fault replied = absurd (cc)
-not_replied (commands.Decide call details.Answer) sides fault replied = absurd (cc)
-not_replied (commands.Decide call details.Instruction) sides fault replied = absurd (cc)
-not_replied command sides fault replied = absurd (cc)
+not_replied (commands.Answers comparison has_examples has_differences) sides fault replied = replied
+not_replied (commands.Ask call) sides fault replied = replied
+not_replied (commands.Compare comparison) sides fault replied = replied
+not_replied (commands.Compile has_left_out) sides fault replied = replied
+not_replied (commands.Decide call details.Paths) sides fault replied = replied
+not_replied (commands.Decide call details.Answer) sides fault replied = replied
+not_replied (commands.Decide call details.Instruction) sides fault replied = replied
+not_replied command sides fault replied = replied
 
 module _ (reading : Reading) (form : BundleForm) where
   none_of_bundle : (command : Command) (bytes : List ℕ) (fault : InputFault)

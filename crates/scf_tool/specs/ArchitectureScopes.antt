@@ -25,10 +25,7 @@ abbrev pub HasRecordAmong : List (Architecture × List ℕ) → Scope → Type 0
 HasRecordAmong tables scope = (table : Architecture × List ℕ) × Contains tables table
     × HasRecord (IsInScope (scope_of scope table.0))
 
--- the text is a call table that names no call
-abbrev pub NamesNoCall : List ℕ → Type 0
-NamesNoCall text = (names : Names) × (table_of text ≡ Ok names) × ((name : List ℕ) → get names name ≡ None)
-
--- so is that of the only table
+-- the text of the only table is a call table that names no call
 abbrev pub NameNoCall : List (Architecture × List ℕ) → Type 0
-NameNoCall tables = (table : Architecture × List ℕ) × (tables ≡ table ∷ []) × NamesNoCall table.1
+NameNoCall tables = (table : Architecture × List ℕ) × (tables ≡ table ∷ [])
+    × (names : Names) × (table_of table.1 ≡ Ok names) × ((name : List ℕ) → get names name ≡ None)

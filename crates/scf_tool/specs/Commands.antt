@@ -1,10 +1,9 @@
 -- The replies and faults of each command, by the bytes of standard input. These count where its reader tells them.
-use Rattle.std.specs.Prelude.{◌≡◌, ◌≢◌, ◌⊎◌, ◌+◌, ◌<◌, ◌≤◌, ◌++◌, ℕ, Bool, true, false, List, [], ◌∷◌, length, map, All, Option, None, Some, Result, Ok, Err}
+use Rattle.std.specs.Prelude.{◌≡◌, ◌≢◌, ◌↔◌, ◌⊎◌, ◌+◌, ◌<◌, ◌≤◌, ◌++◌, ℕ, Bool, true, false, List, [], ◌∷◌, length, map, All, Option, None, Some, Result, Ok, Err}
 use Rattle.std.specs.List.{AllZip, flat_map}
 use Rattle.scf_insn.specs.declared.encoding.ReadFault.{ReadFault}
 use Rattle.scf_insn.specs.declared.input.InputFault.{InputFault}
 use Rattle.scf_insn.specs.declared.insn.Insn.{Insn}
-use Rattle.scf_insn.specs.declared.record.CallRecord.{CallRecord}
 use Rattle.scf_insn.specs.Architectures.{architectures}
 use Rattle.scf_insn.specs.declared.architecture.Architecture.{Architecture}
 use Rattle.scf_insn.specs.Kernel.{bpf_maxinsns}
@@ -26,7 +25,6 @@ use Rattle.scf_profile.specs.Reasons.{IsReasonAmong}
 use Rattle.scf_profile.specs.SameAnswers.{SameAnswersAsEach}
 use Rattle.scf_profile.specs.StatedProfile.{Tables}
 use Rattle.scf_profile.specs.Table.{table_of}
-use Rattle.scf_profile.specs.declared.scope.Scope.TheVariants.{All as AllRecords}
 use Rattle.scf_compile.specs.declared.fault.CompileFault.TheVariants as compiles
 use Rattle.scf_compile.specs.SizeBound.{size_bound_of_each}
 use Rattle.scf_tool.specs.declared.fault.Fault.{Fault}
@@ -42,13 +40,11 @@ use Rattle.scf_tool.specs.declared.reply.Reply.TheVariants.{Accepted, Ran, Decid
 use Rattle.scf_tool.specs.declared.sides.SideInput.{SideInput}
 use Rattle.scf_tool.specs.declared.sides.SideInput.TheVariants.{Stack, Profiles}
 use Rattle.scf_tool.specs.declared.sides.SidesInput.{SidesInput}
-use Rattle.scf_request.specs.declared.request.Comparison.{Comparison}
 use Rattle.scf_tool.specs.ArchitectureScopes.{HasRecordAmong, NameNoCall}
 use Rattle.scf_tool.specs.Explorations.{ListsAnswers}
 use Rattle.scf_request.specs.declared.bundle.BundleFault.TheVariants as bundles
 use Rattle.scf_request.specs.declared.request.Command.{Command}
 use Rattle.scf_request.specs.declared.request.Command.TheVariants as commands
-use Rattle.scf_request.specs.declared.request.Detail.{Detail}
 use Rattle.scf_request.specs.declared.request.Detail.TheVariants as details
 use Rattle.scf_request.specs.declared.request.Request.{Request}
 use Rattle.scf_request.specs.declared.request_fault.RequestFault.TheVariants as requests
@@ -61,7 +57,8 @@ use Rattle.scf_request.specs.Bundle.{AreNoParts, Held, IsBundle, kinds_of}
 use Rattle.scf_request.specs.Contents.{texts_for}
 use Rattle.scf_request.specs.declared.bundle.BundleForm.{BundleForm}
 use Rattle.scf_request.specs.declared.bundle.BundleForm.TheVariants as forms
-use Rattle.scf_request.specs.Interpretations.{Interpretation, LoadsEachBy, interpretation_of, stubs_of}
+use Rattle.scf_request.specs.Interpretations.{Interpretation, LoadsEachBy, stubs_of}
+use Rattle.scf_request.specs.Requests.{scopes_of}
 pub use Rattle.scf_tool.specs.FilterStacks.{NoReadFailed}
 use Rattle.scf_tool.specs.Inputs.{AreRead, AreRefused, Inputs, SideBytes, SpellsTable, behavior_of_input, left_out_of_each, left_out_of_input, named_of}
 use Rattle.scf_tool.specs.Inputs.SideBytes.{OfFilters, OfProfile}
@@ -78,29 +75,23 @@ max_input_len = 16777216
 
 -- ---- one filter
 
--- The reply on an accepted filter: of `check` the count of its instructions; of `run` its answer to the call and the
--- length of its run; of `run --path` also the indices of the instructions on the path.
-abbrev pub IsReplyOn : Command → List Insn → Reply → Type 0
-IsReplyOn commands.Check insns (Accepted count) = count ≡ length insns
-IsReplyOn (commands.Run call false) insns (Ran ran) = IsRun insns (words_of call) ran.answer.0 ran.steps
-IsReplyOn (commands.Run call true) insns (Bytes bytes) = (answer : ℕ) × (indices : List ℕ)
-    × IsPathOf insns (words_of call) answer indices × (bytes.items ≡ traced_text answer indices)
-IsReplyOn command insns reply = ⊥
-
--- what these end with: the reply is true of an accepted filter, or it isn't accepted
+-- What the commands on one filter end with. Of an accepted one `check` says the count of its instructions; `run` its
+-- answer to the call and the length of its run; `run --path` also the indices of the instructions on the path. Or it
+-- isn't accepted. `dis` ends with the listing of the instructions whose bytes the input is, accepted or not.
 abbrev pub EndsOnFilter : Command → Option (List ℕ) → Result Reply Fault → Type 0
-EndsOnFilter command input (Ok reply) =
-    (insns : List Insn) × IsAcceptedFilter input insns × IsReplyOn command insns reply
-EndsOnFilter command input (Err (faults.Sides fault)) = (fault.beside ≡ false) × IsNoFilter input fault.why
-EndsOnFilter command input (Err fault) = ⊥
-
--- `dis`: the listing of the instructions whose bytes the input is
-abbrev pub Lists : Option (List ℕ) → Result Reply Fault → Type 0
-Lists input (Ok (Bytes bytes)) =
+EndsOnFilter commands.Check input (Ok (Accepted count)) =
+    (insns : List Insn) × IsAcceptedFilter input insns × (count ≡ length insns)
+EndsOnFilter (commands.Run call false) input (Ok (Ran ran)) =
+    (insns : List Insn) × IsAcceptedFilter input insns × IsRun insns (words_of call) ran.answer.0 ran.steps
+EndsOnFilter (commands.Run call true) input (Ok (Bytes bytes)) =
+    (insns : List Insn) × IsAcceptedFilter input insns × (answer : ℕ) × (indices : List ℕ)
+    × IsPathOf insns (words_of call) answer indices × (bytes.items ≡ traced_text answer indices)
+EndsOnFilter commands.List input (Ok (Bytes bytes)) =
     (insns : List Insn) × ReadsFilter input (Ok insns) × (bytes.items ≡ text_of insns)
-Lists input (Err (faults.Sides fault)) = (why : ReadFault)
+EndsOnFilter commands.List input (Err (faults.Sides fault)) = (why : ReadFault)
     × (fault ≡ record { beside = false; why = verifies.FilterRead why }) × ReadsFilter input (Err why)
-Lists input ending = ⊥
+EndsOnFilter command input (Err (faults.Sides fault)) = (fault.beside ≡ false) × IsNoFilter input fault.why
+EndsOnFilter command input ending = ⊥
 
 -- ---- a text
 
@@ -113,16 +104,6 @@ Assembles text ending = ⊥
 
 -- ---- the parts of a bundle
 
--- whether the form has the tables of several architectures, for each of which a profile is read
-abbrev pub is_of_each : BundleForm → Bool
-is_of_each forms.Architectures = true
-is_of_each form = false
-
--- whether a command takes two sides, whose texts are limited
-abbrev pub takes_sides : Takes → Bool
-takes_sides takes.Sides = true
-takes_sides takes = false
-
 -- With a profile there are one or more tables; just one where it is for x86-64 alone, and call by call.
 abbrev pub IsTableCount : BundleForm → Scopes → ℕ → Type 0
 IsTableCount forms.Architectures (AtOnce scope) count = 1 ≤ count
@@ -133,10 +114,6 @@ abbrev pub ArePartsOfOne : List (Architecture × List ℕ) → List (Architectur
 ArePartsOfOne tables stubs architecture =
     (length (texts_for architecture tables) ≤ 1)
     × (length (texts_for architecture stubs) ≤ length (texts_for architecture tables))
-
--- each list of counts of calls, by name, is written as a table is
-abbrev pub AreCounts : List (Architecture × List ℕ) → Type 0
-AreCounts texts = (counts : Tables) × AllZip SpellsTable texts counts
 
 -- tables with a profile, each with a part for its stub or without one; else none
 abbrev pub HasTables : List (List ℕ) → BundleForm → Scopes → Held → Type 0
@@ -167,16 +144,17 @@ sides_of (forms.Beside has_table) takes held = Some (OfFilters held.filters, OfF
 sides_of form takes held = sides_among takes held.filters held.profiles held.beside_profiles
 
 -- What a command takes of a bundle: two sides and tables, each of the stubs' parts has the number of one, and those of
--- counts have counts. The reading and the stubs are how a profile is read.
+-- counts have counts by name, written as a table is. The reading and the stubs are how a profile is read, for each
+-- architecture if the form has tables of several. The texts of two sides are limited.
 pub record AreInputs (shape : Shape) (reading : Reading) (held : Held) (inputs : Inputs) : Type 0 where
   pub are_sides : sides_of shape.form shape.takes held ≡ Some (inputs.left, inputs.right)
   pub takes_tables : TakesTables shape.form shape.over held
   pub are_stubs : length (stubs_of held.stubs) ≡ length held.stubs
-  pub are_counts : AreCounts held.counts
+  pub are_counts : (counts : Tables) × AllZip SpellsTable held.counts counts
   pub tables : inputs.tables ≡ held.tables
-  pub by : inputs.rules.by ≡ interpretation_of reading held
-  pub of_each : inputs.rules.of_each ≡ is_of_each shape.form
-  pub is_limited : inputs.rules.is_limited ≡ takes_sides shape.takes
+  pub by : inputs.rules.by ≡ record { reading = reading; stubs = stubs_of held.stubs }
+  pub of_each : (inputs.rules.of_each ≡ true) ↔ (shape.form ≡ forms.Architectures)
+  pub is_limited : (inputs.rules.is_limited ≡ true) ↔ (shape.takes ≡ takes.Sides)
 
 -- why bytes have no inputs for a command: they are no bundle, or their parts are others
 abbrev pub HasNoInputs : Shape → Reading → List ℕ → Fault → Type 0
@@ -209,88 +187,62 @@ IsRefused over inputs fault = GoesOverNone inputs.rules.of_each over inputs.tabl
 
 -- ---- the replies
 
--- the fault of a command where memory runs out for its reply; `ask`, and `decide` without paths, need none for it
-abbrev pub memory_fault_of : Command → Option Fault
-memory_fault_of (commands.Answers comparison has_examples has_differences) = Some faults.Answers
-memory_fault_of (commands.Compare comparison) = Some (faults.Sides (record { beside = false; why = verifies.Memory }))
-memory_fault_of (commands.Compile has_left_out) = Some (faults.Compile compiles.Memory)
-memory_fault_of (commands.Decide call details.Paths) = Some faults.Answers
-memory_fault_of command = None
-
--- A reply is true, or none would be of what is read, or memory runs out for it, if this is the fault of that.
-abbrev pub Replies : Option Fault → (Reply → Type 0) → Result Reply Fault → Type 0
-Replies memory_fault IsTrueOf (Ok reply) = IsTrueOf reply
-Replies memory_fault IsTrueOf (Err faults.Parts) = (reply : Reply) → IsTrueOf reply → ⊥
-Replies memory_fault IsTrueOf (Err fault) = memory_fault ≡ Some fault
-
 -- the lines of the runs of filters over a record, one for each, whose ways are shown
 abbrev pub ShowsRuns : List (List Insn) → List ℕ → List ℕ → Type 0
 ShowsRuns stack words text = (runs : List (ℕ × List ℕ))
     × AllZip (λ filter run. IsPathOf filter words run.0 run.1) stack runs
     × (text ≡ flat_map (λ run. traced_text run.0 run.1) runs)
 
--- The reply on a stack: of `decide` its answer to the call; of `decide --at` also the instruction that gives it; of
--- `decide --path` also the run of each filter with the instructions on its path.
-abbrev pub Decides : CallRecord → Detail → SideInput → Reply → Type 0
-Decides call details.Answer (Stack stack) (Decided answer) = StackAnswers stack (words_of call) answer.0
-Decides call details.Instruction (Stack stack) (DecidedBy decision) =
-    IsDecidedBy stack (words_of call) decision.by decision.answer.0
-Decides call details.Paths (Stack stack) (Bytes bytes) = (decision : Decision) × (runs : List ℕ)
-    × IsDecidedBy stack (words_of call) decision.by decision.answer.0 × ShowsRuns stack (words_of call) runs
-    × (bytes.items ≡ decision_text decision.by decision.answer.0 ++ runs)
-Decides call detail side reply = ⊥
-
 -- the bytes of an accepted filter that answers every call record as the profiles do
 abbrev pub IsFilterOfEach : List StatedProfile → List ℕ → Type 0
 IsFilterOfEach profiles bytes =
     (insns : List Insn) × IsAcceptedFilter (Some bytes) insns × SameAnswersAsEach (RunAnswers insns) profiles
 
--- `compile`: the filter of the profiles, and in front of it what is left out of them, if it is asked for
-abbrev pub IsCompiled : Bool → SideInput → Reply → Type 0
-IsCompiled has_left_out (Profiles loaded) (Bytes bytes) = (filter : List ℕ) × IsFilterOfEach loaded.profiles filter
-    × (bytes.items ≡ left_out_front has_left_out (left_out_of_each loaded) ++ filter)
-IsCompiled has_left_out side reply = ⊥
-
--- or it would be too large, or memory runs out for it
-abbrev pub Compiles : Bool → SideInput → Result Reply Fault → Type 0
-Compiles has_left_out (Profiles loaded) (Err (faults.Compile compiles.TooLarge)) =
-    bpf_maxinsns < size_bound_of_each loaded.profiles
-Compiles has_left_out side ending =
-    Replies (memory_fault_of (commands.Compile has_left_out)) (IsCompiled has_left_out side) ending
-
--- `ask`: the answer of a profile to the call, or of that of its architecture, and why
-abbrev pub GivesReason : CallRecord → SideInput → Reply → Type 0
-GivesReason call (Profiles loaded) (Asked answer reason) =
+-- What a command's reply says of its sides, of which one is on the left. Of `answers`: the regions that are listed. Of
+-- `ask`: the answer of a profile to the call, or of that of its architecture, and why. Of `compare`: findings that are
+-- true of both sides, compared as is asked, and their report with its status. Of `compile`: the filter of the profiles,
+-- and in front of it what is left out of them, if it is asked for. Of `decide`: the answer of a stack to the call; with
+-- `--at` also the instruction that gives it; with `--path` also each filter's run with the instructions on its path.
+abbrev pub IsReplyTo : Command → SideInput → SidesInput → Reply → Type 0
+IsReplyTo (commands.Answers comparison has_examples has_differences) left sides reply =
+    ListsAnswers comparison has_examples has_differences sides reply
+IsReplyTo (commands.Ask call) (Profiles loaded) sides (Asked answer reason) =
     ProfilesAnswer loaded.profiles call answer.0 × IsReasonAmong loaded.profiles call reason
-GivesReason call side reply = ⊥
-
--- `compare`: findings that are true of both sides, compared as is asked, and their report with its status
-abbrev pub IsReport : Comparison → SidesInput → Reply → Type 0
-IsReport comparison sides (Compared text status) = (findings : Findings)
-    × AreFindings comparison comparison.scopes sides.of_each (behavior_of_input sides.left) sides.right
+IsReplyTo (commands.Compare comparison) left sides (Compared text status) = (findings : Findings)
+    × AreFindings comparison comparison.scopes sides.of_each (behavior_of_input left) sides.right
     (map named_of sides.tables.items) findings
     × (text.items ≡ report_text comparison.relation (record {
       findings = findings;
-      left_out_of_left = left_out_of_input sides.left;
+      left_out_of_left = left_out_of_input left;
       left_out = left_out_of_input sides.right;
     }))
     × (status ≡ finding_status findings.joint)
-IsReport comparison sides reply = ⊥
+IsReplyTo (commands.Compile has_left_out) (Profiles loaded) sides (Bytes bytes) = (filter : List ℕ)
+    × IsFilterOfEach loaded.profiles filter
+    × (bytes.items ≡ left_out_front has_left_out (left_out_of_each loaded) ++ filter)
+IsReplyTo (commands.Decide call details.Answer) (Stack stack) sides (Decided answer) =
+    StackAnswers stack (words_of call) answer.0
+IsReplyTo (commands.Decide call details.Instruction) (Stack stack) sides (DecidedBy decision) =
+    IsDecidedBy stack (words_of call) decision.by decision.answer.0
+IsReplyTo (commands.Decide call details.Paths) (Stack stack) sides (Bytes bytes) =
+    (decision : Decision) × (runs : List ℕ)
+    × IsDecidedBy stack (words_of call) decision.by decision.answer.0 × ShowsRuns stack (words_of call) runs
+    × (bytes.items ≡ decision_text decision.by decision.answer.0 ++ runs)
+IsReplyTo command left sides reply = ⊥
 
--- what a command's reply says of its sides
-abbrev pub IsReplyTo : Command → SidesInput → Reply → Type 0
-IsReplyTo (commands.Answers comparison has_examples has_differences) sides =
-    ListsAnswers comparison has_examples has_differences sides
-IsReplyTo (commands.Ask call) sides = GivesReason call sides.left
-IsReplyTo (commands.Compare comparison) sides = IsReport comparison sides
-IsReplyTo (commands.Compile has_left_out) sides = IsCompiled has_left_out sides.left
-IsReplyTo (commands.Decide call detail) sides = Decides call detail sides.left
-IsReplyTo command sides = λ reply. ⊥
-
--- what a command ends with on its sides
+-- What a command ends with on its sides: a reply that is true of them; or none would be; or their filter would be too
+-- large; or memory runs out for the reply, for which `ask`, and `decide` without paths, need none.
 abbrev pub RepliesTo : Command → SidesInput → Result Reply Fault → Type 0
-RepliesTo (commands.Compile has_left_out) sides = Compiles has_left_out sides.left
-RepliesTo command sides = Replies (memory_fault_of command) (IsReplyTo command sides)
+RepliesTo command sides (Ok reply) = IsReplyTo command sides.left sides reply
+RepliesTo command sides (Err faults.Parts) = (reply : Reply) → IsReplyTo command sides.left sides reply → ⊥
+RepliesTo (commands.Compile has_left_out) sides (Err (faults.Compile compiles.TooLarge)) = (loaded : LoadedProfiles)
+    × (sides.left ≡ Profiles loaded) × (bpf_maxinsns < size_bound_of_each loaded.profiles)
+RepliesTo (commands.Compile has_left_out) sides (Err (faults.Compile compiles.Memory)) = Unit {0}
+RepliesTo (commands.Answers comparison has_examples has_differences) sides (Err faults.Answers) = Unit {0}
+RepliesTo (commands.Decide call details.Paths) sides (Err faults.Answers) = Unit {0}
+RepliesTo (commands.Compare comparison) sides (Err (faults.Sides fault)) =
+    fault ≡ record { beside = false; why = verifies.Memory }
+RepliesTo command sides (Err fault) = ⊥
 
 -- ---- all commands
 
@@ -304,13 +256,7 @@ takes_of form (commands.Compare comparison) = takes.Sides
 takes_of form (commands.Compile has_left_out) = takes.Profile
 takes_of form command = takes.Filters
 
--- over which records it goes
-abbrev pub scopes_of : Command → Scopes
-scopes_of (commands.Answers comparison has_examples has_differences) = comparison.scopes
-scopes_of (commands.Compare comparison) = comparison.scopes
-scopes_of command = AtOnce AllRecords
-
--- both
+-- the shape of what it takes
 abbrev pub shape_of : BundleForm → Command → Shape
 shape_of form command = record { form = form; takes = takes_of form command; over = scopes_of command }
 
@@ -332,7 +278,7 @@ EndsOnBytes reading form command bytes = EndsOnBundle reading form command bytes
 -- what a command ends with is true of the input
 abbrev pub IsTrueOf : Reading → BundleForm → Command → Option (List ℕ) → Result Reply Fault → Type 0
 IsTrueOf reading form commands.Check input = EndsOnFilter commands.Check input
-IsTrueOf reading form commands.List input = Lists input
+IsTrueOf reading form commands.List input = EndsOnFilter commands.List input
 IsTrueOf reading form (commands.Run call has_path) input = EndsOnFilter (commands.Run call has_path) input
 IsTrueOf reading form command input = λ ending.
     ((fault : InputFault) × (ending ≡ Err (faults.Input fault)) × ReadsUnder max_input_len input (Err fault))

@@ -1,9 +1,8 @@
 -- Findings on two sides over the records of a scope, one or several after another.
-use Rattle.std.specs.Prelude.{◌≡◌, ◌==◌, ◌*◌, ◌-◌, ◌^◌, ℕ, List, [], ◌∷◌, Option, None, Some, min, if◌then◌else◌}
+use Rattle.std.specs.Prelude.{◌≡◌, ◌⊎◌, ◌==◌, ◌*◌, ◌-◌, ◌^◌, ℕ, List, [], ◌∷◌, Option, None, Some, min, if◌then◌else◌}
 use Rattle.std.specs.List.{AllZip}
 use Rattle.scf_facts.specs.Masks.{AreFew}
 use Rattle.scf_compare.specs.declared.budget.Limit.{Limit}
-use Rattle.scf_compare.specs.declared.budget.Splits.{Splits}
 use Rattle.scf_compare.specs.declared.budget.Splits.TheVariants.{AtMost, NoLimit}
 use Rattle.scf_compare.specs.declared.finding.Finding.{Finding}
 use Rattle.scf_compare.specs.Findings.{AllRelated, IsFindingDecided, IsFindingWithin, IsTrueFinding, LeavesFindingSteps, compared_in}
@@ -13,13 +12,12 @@ use Rattle.scf_profile.specs.declared.scope.Scope.{Scope}
 use Rattle.scf_request.specs.declared.request.Limits.{Limits}
 use Rattle.scf_tool.specs.declared.plan.Pairing.{Pairing}
 
--- a number of splits, of which the greatest stands for no limit
-abbrev pub splits_of : ℕ → Splits
-splits_of number = if number == 2 ^ 64 - 1 then NoLimit else AtMost number
-
--- the limit of each comparison
+-- the limit of each comparison; the greatest number of splits stands for no limit of them
 abbrev pub limit_of : Limits → Limit
-limit_of limits = record { steps = limits.each; splits = splits_of limits.splits }
+limit_of limits = record {
+  steps = limits.each;
+  splits = if limits.splits == 2 ^ 64 - 1 then NoLimit else AtMost limits.splits;
+}
 
 -- A finding on a relation is true of two sides over the calls of a scope, and within the limit and the effort. It
 -- decides between sides whose masks have few bits together, as of plain ones, and between any two if there is no limit
@@ -28,10 +26,8 @@ pub record IsFound (relation : Relation) (left right : Behavior) (scope : Scope)
     : Type 0 where
   pub holds : IsTrueFinding (compared_in relation scope left right) finding
   pub within : IsFindingWithin limit.steps (left.size * right.size) finding
-  pub decided : (masks : ℕ) → AreFew masks → left.is_masked masks → right.is_masked masks
-      → IsFindingDecided (AllRelated (compared_in relation scope left right)) limit.steps (left.size * right.size)
-      finding
-  pub settled : limit.splits ≡ NoLimit
+  pub decided : (limit.splits ≡ NoLimit)
+      ⊎ ((masks : ℕ) × AreFew masks × left.is_masked masks × right.is_masked masks)
       → IsFindingDecided (AllRelated (compared_in relation scope left right)) limit.steps (left.size * right.size)
       finding
 

@@ -2,12 +2,11 @@
 use Rattle.std.specs.Prelude.{◌≡◌, ◌≢◌, ◌≤◌, ◌+◌, ◌++◌, ℕ, List, ◌∷◌, Option, Err}
 use Rattle.std.specs.List.{AllZip}
 use Rattle.scf_insn.specs.declared.encoding.ReadFault.TheVariants as reads
-use Rattle.scf_insn.specs.declared.input.InputFault.TheVariants as inputs
 use Rattle.scf_insn.specs.declared.insn.Insn.{Insn}
 use Rattle.scf_insn.specs.Kernel.{max_insns_per_path}
 use Rattle.scf_machine.specs.Stack.{IsPush, cost_of}
 use Rattle.scf_tool.specs.declared.verify_fault.VerifyFault.{VerifyFault}
-use Rattle.scf_tool.specs.declared.verify_fault.VerifyFault.TheVariants.{FilterRead, ProfileRead, Stack, TableRead}
+use Rattle.scf_tool.specs.declared.verify_fault.VerifyFault.TheVariants.{FilterRead, Stack}
 use Rattle.scf_tool.specs.Verifying.{HasEnded, IsAcceptedFilter, IsNoFilter, LeavesFilterReader}
 
 -- ---- the filters
@@ -33,12 +32,9 @@ pub record HasNoStack (filters : List (Option (List ℕ))) (fault : VerifyFault)
   pub has_stack : HasStack before stack
   pub why : IsNotPushed stack filter fault
 
--- No read of a filter, a table or a profile failed: they are parts of a bundle that was read before.
+-- No read of a filter failed: it is a part of a bundle that was read before.
 abbrev pub NoReadFailed : VerifyFault → Type 0
-NoReadFailed (FilterRead fault) = fault ≢ reads.Read
-NoReadFailed (TableRead fault) = fault ≢ inputs.Read
-NoReadFailed (ProfileRead fault) = fault ≢ inputs.Read
-NoReadFailed fault = Unit {0}
+NoReadFailed fault = fault ≢ FilterRead reads.Read
 
 -- ---- the readers
 

@@ -1,5 +1,5 @@
 -- The inputs of a command: two sides, each filters or a profile, and tables, from their bytes.
-use Rattle.std.specs.Prelude.{◌≡◌, ◌≢◌, ◌≤◌, ◌<◌, ◌++◌, ℕ, Bool, true, false, List, [], ◌∷◌, length, map, Option, None, Some, Ok, Err, if◌then◌else◌}
+use Rattle.std.specs.Prelude.{◌≡◌, ◌≢◌, ◌≤◌, ◌<◌, ◌++◌, ℕ, Bool, true, false, List, [], ◌∷◌, length, map, Option, None, Some, Result, Ok, Err, if◌then◌else◌}
 use Rattle.std.specs.List.{AllZip}
 use Rattle.scf_insn.specs.declared.architecture.Architecture.{Architecture}
 use Rattle.scf_insn.specs.declared.input.InputFault.{InputFault}
@@ -82,29 +82,23 @@ named_of owned = (owned.architecture, owned.table)
 
 -- ---- sides
 
--- the filters of a side are a stack; a profile has none
-abbrev pub HasStackOf : SideBytes → Type 0
-HasStackOf (OfFilters filters) = (stack : List (List Insn)) × HasStack (map Some filters) stack
-HasStackOf (OfProfile profile) = Unit {0}
+-- the filters of a side are a stack, which a profile doesn't have, or this is why they are none
+abbrev pub ReadsFilters : SideBytes → Option VerifyFault → Type 0
+ReadsFilters (OfFilters filters) None = (stack : List (List Insn)) × HasStack (map Some filters) stack
+ReadsFilters (OfFilters filters) (Some fault) = NoReadFailed fault × HasNoStack (map Some filters) fault
+ReadsFilters (OfProfile profile) None = Unit {0}
+ReadsFilters (OfProfile profile) (Some fault) = ⊥
 
--- why they are none
-abbrev pub HasNoStackOf : SideBytes → VerifyFault → Type 0
-HasNoStackOf (OfFilters filters) fault = NoReadFailed fault × HasNoStack (map Some filters) fault
-HasNoStackOf (OfProfile profile) fault = ⊥
-
--- the bytes of a side are read as this: a profile states one for each architecture that has a table
-abbrev pub IsSide : TextRules → Tables → SideBytes → SideInput → Type 0
-IsSide rules tables (OfFilters filters) (Stack stack) = HasStack (map Some filters) stack
-IsSide rules tables (OfProfile text) (Profiles loaded) = LoadsEachBy rules.by text tables loaded
-IsSide rules tables bytes input = ⊥
-
--- Why the profile of a side is refused under tables. Under that of x86-64 alone the fault says if this isn't listed.
-abbrev pub IsNoSide : TextRules → Tables → SideBytes → VerifyFault → Type 0
-IsNoSide rules tables (OfProfile text) (ProfileRead fault) = IsTooLong rules.is_limited text fault
-IsNoSide rules tables (OfProfile text) (ProfileFault fault) = IsShort rules.is_limited text
+-- The bytes of a side are read as this: a profile states one for each architecture that has a table. Or the profile is
+-- refused under the tables; under that of x86-64 alone the fault says if this isn't listed.
+abbrev pub ReadsSide : TextRules → Tables → SideBytes → Result SideInput VerifyFault → Type 0
+ReadsSide rules tables (OfFilters filters) (Ok (Stack stack)) = HasStack (map Some filters) stack
+ReadsSide rules tables (OfProfile text) (Ok (Profiles loaded)) = LoadsEachBy rules.by text tables loaded
+ReadsSide rules tables (OfProfile text) (Err (ProfileRead fault)) = IsTooLong rules.is_limited text fault
+ReadsSide rules tables (OfProfile text) (Err (ProfileFault fault)) = IsShort rules.is_limited text
     × (of_each : LoadFault) × RefusesEachAs rules.by.reading text tables of_each
     × (fault ≡ (if rules.of_each then of_each else fault_of_only of_each))
-IsNoSide rules tables bytes fault = ⊥
+ReadsSide rules tables bytes result = ⊥
 
 abbrev pub is_profile : SideBytes → Bool
 is_profile (OfFilters filters) = false
@@ -113,24 +107,25 @@ is_profile (OfProfile profile) = true
 -- The inputs are read as this.
 pub record AreRead (inputs : Inputs) (sides : SidesInput) : Type 0 where
   pub are_tables : AllZip (IsTableOf inputs.rules.is_limited) inputs.tables (map named_of sides.tables.items)
-  pub is_left : IsSide inputs.rules (map named_of sides.tables.items) inputs.left sides.left
-  pub is_right : IsSide inputs.rules (map named_of sides.tables.items) inputs.right sides.right
+  pub is_left : ReadsSide inputs.rules (map named_of sides.tables.items) inputs.left (Ok sides.left)
+  pub is_right : ReadsSide inputs.rules (map named_of sides.tables.items) inputs.right (Ok sides.right)
   pub of_each : sides.of_each ≡ inputs.rules.of_each
 
 -- Why they aren't, the first of these: the filters on the left, those on the right, the tables, the profile on the
 -- left, the one on the right. It is said of the right side where that stands beside another one of its kind.
 pub data AreRefused (inputs : Inputs) : Bool → VerifyFault → Type 0 where
-  by_left_filters : (why : VerifyFault) → HasNoStackOf inputs.left why → AreRefused inputs false why
-  by_right_filters : (why : VerifyFault) → HasStackOf inputs.left → HasNoStackOf inputs.right why
+  by_left_filters : (why : VerifyFault) → ReadsFilters inputs.left (Some why) → AreRefused inputs false why
+  by_right_filters : (why : VerifyFault) → ReadsFilters inputs.left None → ReadsFilters inputs.right (Some why)
       → AreRefused inputs true why
-  by_tables : (why : VerifyFault) → HasStackOf inputs.left → HasStackOf inputs.right
+  by_tables : (why : VerifyFault) → ReadsFilters inputs.left None → ReadsFilters inputs.right None
       → HasNoTable inputs.rules.is_limited inputs.tables why → AreRefused inputs false why
-  by_left_profile : (why : VerifyFault) (tables : Tables) → HasStackOf inputs.left → HasStackOf inputs.right
-      → AllZip (IsTableOf inputs.rules.is_limited) inputs.tables tables → IsNoSide inputs.rules tables inputs.left why
-      → AreRefused inputs false why
-  by_right_profile : (why : VerifyFault) (tables : Tables) (input : SideInput) → HasStackOf inputs.right
-      → AllZip (IsTableOf inputs.rules.is_limited) inputs.tables tables → IsSide inputs.rules tables inputs.left input
-      → IsNoSide inputs.rules tables inputs.right why → AreRefused inputs (is_profile inputs.left) why
+  by_left_profile : (why : VerifyFault) (tables : Tables) → ReadsFilters inputs.left None
+      → ReadsFilters inputs.right None → AllZip (IsTableOf inputs.rules.is_limited) inputs.tables tables
+      → ReadsSide inputs.rules tables inputs.left (Err why) → AreRefused inputs false why
+  by_right_profile : (why : VerifyFault) (tables : Tables) (input : SideInput) → ReadsFilters inputs.right None
+      → AllZip (IsTableOf inputs.rules.is_limited) inputs.tables tables
+      → ReadsSide inputs.rules tables inputs.left (Ok input) → ReadsSide inputs.rules tables inputs.right (Err why)
+      → AreRefused inputs (is_profile inputs.left) why
 
 -- ---- what sides that are read answer
 

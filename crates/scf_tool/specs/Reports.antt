@@ -3,6 +3,7 @@ use Rattle.std.specs.Prelude.{ℕ, Bool, true, false, List, [], ◌++◌, codes,
 use Rattle.std.specs.Global.{Vec}
 use Rattle.std.specs.List.{flat_map, join_by}
 use Rattle.std.specs.Fmt.{decimal, digits}
+use Rattle.scf_insn.specs.declared.answer.Answer.{Answer}
 use Rattle.scf_insn.specs.declared.record.CallRecord.{CallRecord}
 use Rattle.scf_profile.specs.declared.relation.Relation.{Relation}
 use Rattle.scf_profile.specs.declared.relation.Relation.TheVariants as relations
@@ -51,14 +52,17 @@ words_of_sides (Some left) right = (codes "profile", codes "beside")
 words_of_sides None (Some right) = (codes "filter", codes "profile")
 words_of_sides None None = (codes "filter", codes "beside")
 
--- the lines of a finding on a relation of two sides with these names
-abbrev pub finding_text : Relation → List ℕ × List ℕ → Finding → List ℕ
-finding_text relation words (Holds steps) = (said_of relation).0 ++ codes "\n"
-finding_text relation words (Fails call left right) =
-    ((said_of relation).1 ++ codes "\n")
-    ++ (call_line call ++ (answer_line words.0 left.0 ++ answer_line words.1 right.0))
-finding_text relation words (Undecided side at) = codes "undecided at " ++ decimal at ++ codes "\n"
-finding_text relation words Unfinished = codes "unfinished\n"
+-- the lines of a finding on a relation; where this fails, what is shown of that follows the word for it
+abbrev pub finding_text : Relation → (CallRecord → Answer → Answer → List ℕ) → Finding → List ℕ
+finding_text relation shown (Holds steps) = (said_of relation).0 ++ codes "\n"
+finding_text relation shown (Fails call left right) = (said_of relation).1 ++ shown call left right
+finding_text relation shown (Undecided side at) = codes "undecided at " ++ decimal at ++ codes "\n"
+finding_text relation shown Unfinished = codes "unfinished\n"
+
+-- a call, and what two sides with these names answer to it, in lines of their own
+abbrev pub lines_of_call : List ℕ × List ℕ → CallRecord → Answer → Answer → List ℕ
+lines_of_call words call left right =
+    codes "\n" ++ (call_line call ++ (answer_line words.0 left.0 ++ answer_line words.1 right.0))
 
 -- a word and a name
 abbrev pub name_line : List ℕ → List ℕ → List ℕ
@@ -89,34 +93,27 @@ words_of_left_out None = (codes "skipped", codes "other")
 
 -- ---- call by call
 
--- the line of the finding that speaks for several calls
-abbrev pub joint_text : Relation → List ℕ × List ℕ → Finding → List ℕ
-joint_text relation words (Fails call left right) = (said_of relation).1 ++ codes "\n"
-joint_text relation words finding = finding_text relation words finding
-
--- what the line of a call says behind its names: of which arguments and answers a relation doesn't hold
-abbrev pub found_text : Relation → List ℕ × List ℕ → Finding → List ℕ
-found_text relation words (Fails call left right) =
-    ((said_of relation).1 ++ codes " args")
-    ++ (flat_map argument_text call.args
+-- the arguments of a call and both answers, in the rest of its line
+abbrev pub rest_of_line : List ℕ × List ℕ → CallRecord → Answer → Answer → List ℕ
+rest_of_line words call left right =
+    codes " args" ++ (flat_map argument_text call.args
     ++ ((codes " " ++ words.0 ++ codes " ") ++ (answer_text left.0 ++ (codes " " ++ answer_line words.1 right.0))))
-found_text relation words finding = finding_text relation words finding
 
 -- the line of a call: its number and its names, with commas between; nothing where the relation holds
 abbrev pub named_line : Relation → List ℕ × List ℕ → CallFinding → List ℕ
 named_line relation words call =
     if is_holding call.finding then []
     else ((decimal call.number ++ codes " ") ++ (join_by (λ name. name) (codes ",") call.names ++ codes " "))
-    ++ found_text relation words call.finding
+    ++ finding_text relation (rest_of_line words) call.finding
 
 -- ---- a report
 
 -- The lines of what is found: of the finding on a relation; or of the one that speaks for all calls, and one for each
 -- call of which the relation doesn't hold.
 abbrev pub findings_text : Relation → List ℕ × List ℕ → Finding → Option (Vec CallFinding) → List ℕ
-findings_text relation words joint None = finding_text relation words joint
+findings_text relation words joint None = finding_text relation (lines_of_call words) joint
 findings_text relation words joint (Some calls) =
-    joint_text relation words joint ++ flat_map (named_line relation words) calls.items
+    finding_text relation (λ call left right. codes "\n") joint ++ flat_map (named_line relation words) calls.items
 
 -- The lines of an outcome, and those of what was left out of both sides.
 abbrev pub report_text : Relation → ComparisonOutcome → List ℕ

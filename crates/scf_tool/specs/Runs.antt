@@ -43,11 +43,6 @@ pub record IsAnswered {R : Type 0} (words : List Text) (remaining : R → Option
   pub answered : IsTrueOf request.reading request.form request.command (remaining old) ending
   pub input : LeavesInput request.command remaining failures old ending new
 
--- How a run ends: it speaks of its words, before it reads any input, or answers what they ask for.
-abbrev pub Ends : {R : Type 0} → List Text → (R → Option (List ℕ)) → (R → ℕ) → R → Result Reply Fault → R → Type 0
-Ends words remaining failures old ending new =
-    (SpeaksOfWords words ending × (new ≡ old)) ⊎ IsAnswered words remaining failures old ending new
-
 -- The text was written and the status goes with it, or the writer failed after a beginning of the text.
 abbrev pub Prints : {W : Type 0} → (W → Option (List ℕ)) → (W → ℕ) → W → Status × List ℕ → ℕ → W → Type 0
 Prints contents failures old what status new =
@@ -58,13 +53,14 @@ Prints contents failures old what status new =
 abbrev pub printed_of_no_utf8 : Status × List ℕ
 printed_of_no_utf8 = (CommandLine, codes "error: invalid UTF-8 was detected in one or more arguments\n")
 
--- A run of the program: there is something that it ends with, which is true of the words and of standard input, and
--- this is printed, or that memory ran out for its text.
+-- A run of the program: there is something that it ends with, and this is printed, or that memory ran out for its text.
+-- It speaks of its words, before it reads any input, or answers what they ask for.
 pub record IsRunOfProgram {R W : Type 0} (words : List Text)
     (remaining : R → Option (List ℕ)) (input_failures : R → ℕ) (input input_after : R)
     (contents : W → Option (List ℕ)) (out_failures : W → ℕ) (out out_after : W)
     (status : ℕ) : Type 0 where
   pub ending : Result Reply Fault
-  pub ends : Ends words remaining input_failures input ending input_after
+  pub ends : (SpeaksOfWords words ending × (input_after ≡ input))
+      ⊎ IsAnswered words remaining input_failures input ending input_after
   pub prints : Prints contents out_failures out (printed ending) status out_after
       ⊎ Prints contents out_failures out (printed (Err faults.CommandLine)) status out_after

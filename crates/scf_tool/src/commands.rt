@@ -1,8 +1,8 @@
 //! The program's commands.
 
-ghost use Rattle.std.specs.Prelude.{◌≡◌, map, Ok, Err, IfErr, IfOk, OnOk};
+ghost use Rattle.std.specs.Prelude.{◌≡◌, ◌⊎◌, map, Ok, Err, IfErr, IfOk, OnOk};
 ghost use Rattle.scf_tool.specs.Commands.{EndsOnBytes, IsTrueOf, max_input_len};
-ghost use Rattle.scf_tool.specs.Runs.{Ends, IsRunOfProgram};
+ghost use Rattle.scf_tool.specs.Runs.{IsAnswered, IsRunOfProgram, SpeaksOfWords};
 ghost use Rattle.scf_tool.specs.Statuses.{LeavesInput};
 ghost use Rattle.scf_tool.specs.Verifying.{HasEnded, HasFailedWhere, ReadsUnder};
 
@@ -73,7 +73,8 @@ fn answer<R: Source>(alloc: Global, request: &Request, input: &mut R) -> Result<
 
 /// Parses the arguments and runs their request. Everything that allocates is done when it returns.
 fn ending_of<T: AsStr, R: Source>(alloc: Global, words: &[T], input: &mut R) -> Result<Reply, Fault>
-    ensures { Ends (map T.text words.now) R.remaining R.failures input.old result input.new }
+    ensures { (SpeaksOfWords (map T.text words.now) result × (input.new ≡ input.old))
+        ⊎ IsAnswered (map T.text words.now) R.remaining R.failures input.old result input.new }
 {
     match parse(alloc, words) {
         Ok(matches) => answer(alloc, &request_of(&matches)?, input),

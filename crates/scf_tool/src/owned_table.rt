@@ -6,7 +6,7 @@ ghost use Rattle.scf_profile.specs.Loading.{RefusesEachAs};
 ghost use Rattle.scf_profile.specs.Table.{table_of as names_of};
 ghost use Rattle.scf_request.specs.Contents.{rest_of_table};
 ghost use Rattle.scf_request.specs.Interpretations.{LoadsEachBy};
-ghost use Rattle.scf_tool.specs.Commands.{AreCounts};
+ghost use Rattle.scf_tool.specs.internal.Sides.{AreTables};
 ghost use Rattle.scf_tool.specs.Inputs.{HasNoTable, IsNoTableOf, IsShort, IsTableOf, IsTooLong, SpellsTable, named_of};
 
 use crate::verify_fault::VerifyFault;
@@ -78,7 +78,7 @@ pub(crate) fn valid_tables(
     alloc: Global,
     parts: &[TableReader<PartReader<'_>>],
 ) -> Result<Option<Vec<OwnedTable>>, BundleFault>
-    ensures tables { IfOk result (λ tables. MatchOption tables (AreCounts (map rest_of_table parts.now) → ⊥)
+    ensures tables { IfOk result (λ tables. MatchOption tables (AreTables (map rest_of_table parts.now) → ⊥)
         (λ tables. AllZip SpellsTable (map rest_of_table parts.now) (map named_of tables.items))) }
     ensures fault { IfErr result (λ fault. fault ≡ BundleFault.Memory) }
 {

@@ -3,7 +3,7 @@
 ghost use Rattle.std.specs.Prelude.{◌≡◌, IfOk, Some, codes, map, string_bytes};
 ghost use Rattle.std.specs.List.{flat_map, join_by};
 ghost use Rattle.scf_compare.specs.Verdicts.{finding_of};
-ghost use Rattle.scf_tool.specs.Reports.{argument_text, call_line, finding_text, found_text, joint_text};
+ghost use Rattle.scf_tool.specs.Reports.{argument_text, call_line, finding_text, lines_of_call, rest_of_line};
 ghost use Rattle.scf_tool.specs.Reports.{named_line, outcome_of, report_text, said_of};
 ghost use Rattle.scf_tool.specs.Reports as spec;
 ghost use Rattle.scf_tool.specs.internal.Words.{names_in};
@@ -99,7 +99,7 @@ impl Words {
 struct FindingLines(Words, Finding);
 
 impl fmt::Display for FindingLines {
-    ghost output = { λ lines. Some (finding_text lines.0.relation (names_in lines.0) lines.1) };
+    ghost output = { λ lines. Some (finding_text lines.0.relation (lines_of_call (names_in lines.0)) lines.1) };
 
     #[tactic(auto, using(std::proofs::Common::append_assoc))]
     fn fmt<W: fmt::Write>(&self, f: &mut fmt::Formatter<W>) -> fmt::Result {
@@ -147,7 +147,7 @@ fn finding_of(verdict: &Verdict) -> Finding
 struct JointLine(Words, Finding);
 
 impl fmt::Display for JointLine {
-    ghost output = { λ line. Some (joint_text line.0.relation (names_in line.0) line.1) };
+    ghost output = { λ line. Some (finding_text line.0.relation (λ call left right. codes "\n") line.1) };
 
     fn fmt<W: fmt::Write>(&self, f: &mut fmt::Formatter<W>) -> fmt::Result {
         match self.1 {
@@ -180,7 +180,7 @@ impl fmt::Display for Names<'_> {
 struct FoundText(Words, Finding);
 
 impl fmt::Display for FoundText {
-    ghost output = { λ text. Some (found_text text.0.relation (names_in text.0) text.1) };
+    ghost output = { λ text. Some (finding_text text.0.relation (rest_of_line (names_in text.0)) text.1) };
 
     #[tactic(auto, using(std::proofs::Common::append_assoc))]
     fn fmt<W: fmt::Write>(&self, f: &mut fmt::Formatter<W>) -> fmt::Result {

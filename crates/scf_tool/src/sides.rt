@@ -1,15 +1,14 @@
 //! The sides of a command: filters or a profile, read from its inputs.
 
-ghost use Rattle.std.specs.Prelude.{◌≡◌, IfErr, IfOk, IfSome, map};
+ghost use Rattle.std.specs.Prelude.{◌≡◌, IfErr, IfOk, IfSome, Some, map};
 ghost use Rattle.std.specs.List.{AllZip};
 ghost use Rattle.scf_request.specs.Contents.{rest_of_table};
 ghost use Rattle.scf_tool.specs.Inputs.{
   AreRead,
   AreRefused,
-  HasNoStackOf,
-  IsNoSide,
-  IsSide,
   IsSideOf,
+  ReadsFilters,
+  ReadsSide,
   SideBytes,
   SpellsTable,
   left_out_of_input,
@@ -85,7 +84,7 @@ impl SideInput {
 /// Reads the filters of a side.
 fn read_filters<'a>(alloc: Global, side: SideParts<'a>) -> Result<OpenSide<'a>, VerifyFault>
     ensures filters { IfOk result (IsOpen (side_bytes side.entry)) }
-    ensures refused { IfErr result (HasNoStackOf (side_bytes side.entry)) }
+    ensures refused { IfErr result (λ fault. ReadsFilters (side_bytes side.entry) (Some fault)) }
 {
     match side {
         SideParts::Filters(filters) => {
@@ -103,8 +102,7 @@ fn load(
     tables: &[OwnedTable],
     text: &[u8],
 ) -> Result<SideInput, VerifyFault>
-    ensures side { IfOk result (IsSide rules.now (map named_of tables.now) (SideBytes.OfProfile text.now)) }
-    ensures refused { IfErr result (IsNoSide rules.now (map named_of tables.now) (SideBytes.OfProfile text.now)) }
+    ensures { ReadsSide rules.now (map named_of tables.now) (SideBytes.OfProfile text.now) result }
 {
     if is_too_long(rules.is_limited, text) {
         return Err(VerifyFault::ProfileRead(InputFault::TooLong));
@@ -123,10 +121,8 @@ fn read_side(
     tables: &[OwnedTable],
     side: OpenSide<'_>,
 ) -> Result<SideInput, VerifyFault>
-    ensures side { (bytes : SideBytes) → IsOpen bytes side.entry
-        → IfOk result (IsSide rules.now (map named_of tables.now) bytes) }
-    ensures refused { (bytes : SideBytes) → IsOpen bytes side.entry
-        → IfErr result (IsNoSide rules.now (map named_of tables.now) bytes) }
+    ensures { (bytes : SideBytes) → IsOpen bytes side.entry
+        → ReadsSide rules.now (map named_of tables.now) bytes result }
 {
     match side {
         OpenSide::Stack(stack) => Ok(SideInput::Stack(stack)),

@@ -1,14 +1,21 @@
 -- The inputs of a command while they are read.
-use Rattle.std.specs.Prelude.{◌≡◌, map, Some}
+use Rattle.std.specs.Prelude.{◌≡◌, ℕ, List, map, Some}
+use Rattle.std.specs.List.{AllZip}
+use Rattle.scf_insn.specs.declared.architecture.Architecture.{Architecture}
+use Rattle.scf_profile.specs.StatedProfile.{Tables}
 use Rattle.scf_request.specs.Contents.{rest_of, rest_of_table}
 use Rattle.scf_tool.specs.FilterStacks.{HasStack}
-use Rattle.scf_tool.specs.Inputs.{Inputs as ReadInputs, SideBytes}
+use Rattle.scf_tool.specs.Inputs.{Inputs as ReadInputs, SideBytes, SpellsTable}
 use Rattle.scf_tool.specs.Inputs.SideBytes.{OfFilters, OfProfile}
 use Rattle.scf_tool.specs.declared.inputs.Inputs.{Inputs}
 use Rattle.scf_tool.specs.declared.inputs.SideParts.{SideParts}
 use Rattle.scf_tool.specs.declared.inputs.SideParts.TheVariants as parts
 use Rattle.scf_tool.specs.declared.sides.OpenSide.{OpenSide}
 use Rattle.scf_tool.specs.declared.sides.OpenSide.TheVariants as opens
+
+-- each of these texts is a call table
+abbrev pub AreTables : List (Architecture × List ℕ) → Type 0
+AreTables texts = (tables : Tables) × AllZip SpellsTable texts tables
 
 -- what the readers of a side have still to give
 abbrev pub side_bytes : SideParts → SideBytes

@@ -19,7 +19,6 @@ use crate::inputs::{Inputs, Shape, Takes, open};
 use crate::owned_table::{OwnedTable, valid_tables};
 use crate::reply::Reply;
 use crate::sides::{SidesInput, read_sides};
-use scf_profile::Scope;
 use scf_request::{
     BundleFault, BundleForm, Command, PartReader, Request, RequestFault, Scopes, TableReader,
 };
@@ -30,24 +29,23 @@ fn shape_of(request: &Request) -> Shape
     ensures { result ≡ spec.shape_of request.now.form request.now.command }
 {
     let form = request.form;
-    let (takes, over) = match request.command {
+    let takes = match request.command {
         Command::Answers {
-            comparison,
-            has_differences,
+            has_differences: false,
             ..
-        } => {
-            let takes = match (has_differences, form) {
-                (true, _) => Takes::Sides,
-                (false, BundleForm::Architectures) => Takes::Profile,
-                (false, _) => Takes::Either,
-            };
-            (takes, comparison.scopes)
-        }
-        Command::Compare(comparison) => (Takes::Sides, comparison.scopes),
-        Command::Ask(_) | Command::Compile { .. } => (Takes::Profile, Scopes::AtOnce(Scope::All)),
-        _ => (Takes::Filters, Scopes::AtOnce(Scope::All)),
+        } => match form {
+            BundleForm::Architectures => Takes::Profile,
+            _ => Takes::Either,
+        },
+        Command::Answers { .. } | Command::Compare(_) => Takes::Sides,
+        Command::Ask(_) | Command::Compile { .. } => Takes::Profile,
+        _ => Takes::Filters,
     };
-    Shape { form, takes, over }
+    Shape {
+        form,
+        takes,
+        over: request.command.scopes(),
+    }
 }
 
 /// Checks that the only table, if there is one, names a call. Returns the tables, if each of them is one. The error:
@@ -119,10 +117,10 @@ fn reply_to(alloc: Global, command: &Command, sides: SidesInput) -> Result<Reply
             has_examples,
             has_differences,
         } => Ok(list_answers(alloc, &sides, comparison, *has_examples, *has_differences)?),
-        Command::Ask(call) => ask_profile(&sides.left, call),
+        Command::Ask(call) => ask_profile(&sides, call),
         Command::Compare(comparison) => compare_sides(alloc, sides, *comparison),
         Command::Compile { has_left_out } => compile_profile(alloc, &sides, *has_left_out),
-        Command::Decide { call, detail } => decide(alloc, &sides.left, call, *detail),
+        Command::Decide { call, detail } => decide(alloc, &sides, call, *detail),
         Command::Assemble | Command::Check | Command::List | Command::Run { .. } => Err(
             Fault::Parts,
         ),

@@ -2,7 +2,7 @@
 
 ghost use Rattle.std.specs.Prelude.{◌≡◌, IfOk};
 ghost use Rattle.scf_request.specs.declared.request.Command.TheVariants as commands;
-ghost use Rattle.scf_tool.specs.Commands.{IsReport, Replies, memory_fault_of};
+ghost use Rattle.scf_tool.specs.Commands.{IsReplyTo, RepliesTo};
 ghost use Rattle.scf_tool.specs.Reports.{finding_status};
 
 use crate::fault::Fault;
@@ -30,7 +30,7 @@ fn status_of_finding(finding: &Finding) -> Status
 
 /// The report on two sides, compared as is asked.
 fn report_of(alloc: Global, sides: SidesInput, comparison: Comparison) -> Result<Reply, Memory>
-    ensures { IfOk result (IsReport comparison sides) }
+    ensures { IfOk result (IsReplyTo (commands.Compare comparison) sides.left sides) }
 {
     let findings = findings_of(alloc, &sides, comparison)?;
     let status = status_of_finding(&findings.joint);
@@ -49,7 +49,7 @@ pub(super) fn compare_sides(
     sides: SidesInput,
     comparison: Comparison,
 ) -> Result<Reply, Fault>
-    ensures { Replies (memory_fault_of (commands.Compare comparison)) (IsReport comparison sides) result }
+    ensures { RepliesTo (commands.Compare comparison) sides result }
 {
     report_of(alloc, sides, comparison).map_err(|_| Fault::from(VerifyFault::Memory))
 }

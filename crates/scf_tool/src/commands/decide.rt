@@ -5,13 +5,13 @@ ghost use Rattle.scf_insn.specs.Words.{words_of};
 ghost use Rattle.scf_machine.specs.Path.{IsPathOf};
 ghost use Rattle.scf_machine.specs.Precedence.{IsDecidedBy};
 ghost use Rattle.scf_request.specs.declared.request.Command.TheVariants as commands;
-ghost use Rattle.scf_tool.specs.Commands.{Decides, Replies, ShowsRuns, memory_fault_of};
+ghost use Rattle.scf_tool.specs.Commands.{RepliesTo, ShowsRuns};
 ghost use Rattle.scf_tool.specs.Lines.{decision_text, traced_text};
 
 use crate::fault::Fault;
 use crate::lines::{DecisionLine, TraceLines};
 use crate::reply::Reply;
-use crate::sides::SideInput;
+use crate::sides::{SideInput, SidesInput};
 use scf_insn::{CallRecord, Memory};
 use scf_machine::{Decision, FilterStack, Program, trace};
 use scf_request::Detail;
@@ -64,13 +64,13 @@ fn lines_of_runs(alloc: Global, stack: &FilterStack, call: &CallRecord) -> Resul
 /// `decide`: what a stack of filters answers to a call, in the detail that is asked for.
 pub(super) fn decide(
     alloc: Global,
-    side: &SideInput,
+    sides: &SidesInput,
     call: &CallRecord,
     detail: Detail,
 ) -> Result<Reply, Fault>
-    ensures { Replies (memory_fault_of (commands.Decide call.now detail)) (Decides call.now detail side.now) result }
+    ensures { RepliesTo (commands.Decide call.now detail) sides.now result }
 {
-    let SideInput::Stack(stack) = side else {
+    let SideInput::Stack(stack) = &sides.left else {
         return Err(Fault::Parts);
     };
     match detail {

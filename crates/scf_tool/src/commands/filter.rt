@@ -3,7 +3,7 @@
 ghost use Rattle.std.specs.Prelude.{◌≡◌, ℕ, List, IfOk, false, true};
 ghost use Rattle.scf_insn.specs.Words.{words_of};
 ghost use Rattle.scf_machine.specs.Path.{IsPathOf};
-ghost use Rattle.scf_tool.specs.Commands.{EndsOnFilter, Lists};
+ghost use Rattle.scf_tool.specs.Commands.{EndsOnFilter};
 ghost use Rattle.scf_request.specs.declared.request.Command.TheVariants as commands;
 ghost use Rattle.scf_tool.specs.Lines.{traced_text};
 ghost use Rattle.scf_tool.specs.Statuses.{LeavesFilter};
@@ -72,7 +72,7 @@ pub(super) fn trace_filter<R: Source>(
 
 /// `dis`: the listing of a filter, which isn't checked.
 pub(super) fn list_filter<R: Source>(alloc: Global, input: &mut R) -> Result<Reply, Fault>
-    ensures answer { Lists (R.remaining input.old) result }
+    ensures answer { EndsOnFilter commands.List (R.remaining input.old) result }
     ensures input { LeavesFilter R.remaining R.failures input.old result input.new }
 {
     let insns = read_program(alloc, input).map_err(VerifyFault::FilterRead)?;

@@ -1,7 +1,7 @@
 //! Commands on a profile and its tables.
 
-ghost use Rattle.std.specs.Prelude.{None};
-ghost use Rattle.scf_tool.specs.Commands.{Compiles, GivesReason, Replies};
+ghost use Rattle.scf_request.specs.declared.request.Command.TheVariants as commands;
+ghost use Rattle.scf_tool.specs.Commands.{RepliesTo};
 
 use crate::compilation::{behind_left_out, filter_of_each};
 use crate::fault::Fault;
@@ -18,7 +18,7 @@ pub(super) fn compile_profile(
     sides: &SidesInput,
     has_left_out: bool,
 ) -> Result<Reply, Fault>
-    ensures { Compiles has_left_out sides.now.left result }
+    ensures { RepliesTo (commands.Compile has_left_out) sides.now result }
 {
     let SideInput::Profiles(loaded) = &sides.left else {
         return Err(Fault::Parts);
@@ -30,10 +30,10 @@ pub(super) fn compile_profile(
 }
 
 /// `ask`: what a profile answers to a call, or that of its architecture, and why.
-pub(super) fn ask_profile(side: &SideInput, call: &CallRecord) -> Result<Reply, Fault>
-    ensures { Replies None (GivesReason call.now side.now) result }
+pub(super) fn ask_profile(sides: &SidesInput, call: &CallRecord) -> Result<Reply, Fault>
+    ensures { RepliesTo (commands.Ask call.now) sides.now result }
 {
-    let SideInput::Profiles(loaded) = side else {
+    let SideInput::Profiles(loaded) = &sides.left else {
         return Err(Fault::Parts);
     };
     Ok(Reply::Asked {

@@ -27,7 +27,7 @@ returns-in_err-tables-clause-refused c =
 pub returns-in_err-left-clause-refused : goal.returns-in_err-left-clause-refused
 returns-in_err-left-clause-refused c =
     let p = err_from_is_err_and c.from_residual-in_err-left.result c.from_residual-in_err-left.ensures.1 in
-    let refused = c.in_err-left.ensures.refused (side_bytes c.args.inputs.left) c.in_ok-open_left.ensures.filters in
+    let refused = c.in_err-left.ensures (side_bytes c.args.inputs.left) c.in_ok-open_left.ensures.filters in
     rw (p.1, p.2) (by_left_profile _ (map named_of c.in_ok-tables.tables.items)
     (open_has_stack (side_bytes c.args.inputs.left) c.in_ok-open_left.open_left c.in_ok-open_left.ensures.filters)
     (open_has_stack (side_bytes c.args.inputs.right) c.in-Ok.side c.in-Ok.ensures.filters)
@@ -35,8 +35,8 @@ returns-in_err-left-clause-refused c =
 
 pub returns-in-Err-read_side-clause-refused : goal.returns-in-Err-read_side-clause-refused
 returns-in-Err-read_side-clause-refused c =
-    let left = c.in_ok-left.ensures.side (side_bytes c.args.inputs.left) c.in_ok-open_left.ensures.filters in
-    let refused = c.in-Err-read_side.ensures.refused (side_bytes c.args.inputs.right) c.in-Ok.ensures.filters in
+    let left = c.in_ok-left.ensures (side_bytes c.args.inputs.left) c.in_ok-open_left.ensures.filters in
+    let refused = c.in-Err-read_side.ensures (side_bytes c.args.inputs.right) c.in-Ok.ensures.filters in
     rw c.is_profile-is_beside.ensures
     (by_right_profile c.in-Err-read_side.why (map named_of c.in_ok-tables.tables.items) c.in_ok-left.left
     (open_has_stack (side_bytes c.args.inputs.right) c.in-Ok.side c.in-Ok.ensures.filters)
