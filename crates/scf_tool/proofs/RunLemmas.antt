@@ -4,7 +4,7 @@ use Rattle.std.proofs.lemmas.List.{append-nil}
 use Rattle.std.proofs.lemmas.Slice.Zip.{all_zipped_more}
 use Rattle.scf_machine.specs.Path.{IsPathOf}
 use Rattle.scf_tool.proofs.Common.{Insn, List, [], ap, flat_map, get_or, length, sym, take, take_more, ◌++◌, ◌+◌, ◌<◌, ◌∙◌, ◌∷◌, ℕ}
-use Rattle.scf_tool.specs.Commands.{ShowsRuns}
+use Rattle.scf_tool.specs.internal.ShownRuns.{ShowsRuns}
 use Rattle.scf_tool.specs.Lines.{traced_text}
 
 -- one filter more runs

@@ -187,12 +187,6 @@ IsRefused over inputs fault = GoesOverNone inputs.rules.of_each over inputs.tabl
 
 -- ---- the replies
 
--- the lines of the runs of filters over a record, one for each, whose ways are shown
-abbrev pub ShowsRuns : List (List Insn) → List ℕ → List ℕ → Type 0
-ShowsRuns stack words text = (runs : List (ℕ × List ℕ))
-    × AllZip (λ filter run. IsPathOf filter words run.0 run.1) stack runs
-    × (text ≡ flat_map (λ run. traced_text run.0 run.1) runs)
-
 -- the bytes of an accepted filter that answers every call record as the profiles do
 abbrev pub IsFilterOfEach : List StatedProfile → List ℕ → Type 0
 IsFilterOfEach profiles bytes =
@@ -225,9 +219,9 @@ IsReplyTo (commands.Decide call details.Answer) (Stack stack) sides (Decided ans
 IsReplyTo (commands.Decide call details.Instruction) (Stack stack) sides (DecidedBy decision) =
     IsDecidedBy stack (words_of call) decision.by decision.answer.0
 IsReplyTo (commands.Decide call details.Paths) (Stack stack) sides (Bytes bytes) =
-    (decision : Decision) × (runs : List ℕ)
-    × IsDecidedBy stack (words_of call) decision.by decision.answer.0 × ShowsRuns stack (words_of call) runs
-    × (bytes.items ≡ decision_text decision.by decision.answer.0 ++ runs)
+    (decision : Decision) × IsDecidedBy stack (words_of call) decision.by decision.answer.0
+    × (runs : List (ℕ × List ℕ)) × AllZip (λ filter run. IsPathOf filter (words_of call) run.0 run.1) stack runs
+    × (bytes.items ≡ decision_text decision.by decision.answer.0 ++ flat_map (λ run. traced_text run.0 run.1) runs)
 IsReplyTo command left sides reply = ⊥
 
 -- What a command ends with on its sides: a reply that is true of them; or none would be; or their filter would be too

@@ -3,3 +3,4 @@ pub mod Explaining
 pub mod Words
 pub mod Sides
 pub mod Plans
+pub mod ShownRuns

@@ -1,12 +1,14 @@
 //! Commands on a stack of filters.
 
 ghost use Rattle.std.specs.Prelude.{◌≡◌, ◌++◌, ℕ, List, string_bytes, IfOk};
+ghost use Rattle.std.specs.List.{AllZip, flat_map};
 ghost use Rattle.scf_insn.specs.Words.{words_of};
 ghost use Rattle.scf_machine.specs.Path.{IsPathOf};
 ghost use Rattle.scf_machine.specs.Precedence.{IsDecidedBy};
 ghost use Rattle.scf_request.specs.declared.request.Command.TheVariants as commands;
-ghost use Rattle.scf_tool.specs.Commands.{RepliesTo, ShowsRuns};
+ghost use Rattle.scf_tool.specs.Commands.{RepliesTo};
 ghost use Rattle.scf_tool.specs.Lines.{decision_text, traced_text};
+ghost use Rattle.scf_tool.specs.internal.ShownRuns.{ShowsRuns};
 
 use crate::fault::Fault;
 use crate::lines::{DecisionLine, TraceLines};
@@ -51,10 +53,11 @@ fn add_runs(
 
 /// The lines of the answer of a stack to a call, of what gives it, and of the runs of its filters.
 fn lines_of_runs(alloc: Global, stack: &FilterStack, call: &CallRecord) -> Result<Vec<u8>, Memory>
-    ensures { IfOk result (λ text. (decision : Decision) × (runs : List ℕ)
+    ensures { IfOk result (λ text. (decision : Decision)
         × IsDecidedBy stack.now (words_of call.now) decision.by decision.answer.0
-        × ShowsRuns stack.now (words_of call.now) runs
-        × (text.items ≡ decision_text decision.by decision.answer.0 ++ runs)) }
+        × (runs : List (ℕ × List ℕ))
+        × AllZip (λ filter run. IsPathOf filter (words_of call.now) run.0 run.1) stack.now runs
+        × (text.items ≡ decision_text decision.by decision.answer.0 ++ flat_map (λ run. traced_text run.0 run.1) runs)) }
 {
     let mut text = format!(in alloc; "{}", DecisionLine(stack.decision(call)))?;
     add_runs(alloc, &mut text, stack.filters(), call)?;

@@ -1,6 +1,6 @@
 use Rattle.scf_insn.specs.Words.{words_of}
 use Rattle.scf_tool.proofs.Common.{List, string_bytes, take, ◌++◌, ◌≡◌, ℕ}
-use Rattle.scf_tool.specs.Commands.{ShowsRuns}
+use Rattle.scf_tool.specs.internal.ShownRuns.{ShowsRuns}
 use Rattle.scf_tool.proofs.commands.decide.add_runs.Given as goal
 
 abbrev pub invariant-loop-filter : goal.invariant-loop-filter
