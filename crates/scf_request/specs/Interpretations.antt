@@ -1,26 +1,19 @@
 -- How a profile is read: by a reading, and with runc's stub for the calls of some architectures.
-use Rattle.std.specs.Prelude.{◌≡◌, ◌-◌, ◌^◌, ℕ, List, [], map, nat_le, Option, Some, None, if◌then◌else◌}
+use Rattle.std.specs.Prelude.{◌≡◌, ◌-◌, ◌^◌, ℕ, List, map, nat_le, Option, Some, None, if◌then◌else◌}
 use Rattle.std.specs.List.{filter_map, fold}
 use Rattle.std.specs.Option.{option_and_then}
 use Rattle.scf_insn.specs.declared.architecture.Architecture.{Architecture}
 use Rattle.scf_insn.specs.Numbers.{numeral}
-use Rattle.scf_profile.specs.Loading.{LoadsEachAs, as_only, only_table}
+use Rattle.scf_profile.specs.Loading.{LoadsEachAs}
 use Rattle.scf_profile.specs.Profile.{Profile}
 use Rattle.scf_profile.specs.StatedProfile.{Tables, with_stub}
-use Rattle.scf_profile.specs.Table.{Names}
-use Rattle.scf_profile.specs.declared.loaded.Loaded.{Loaded}
 use Rattle.scf_profile.specs.declared.loaded.LoadedProfiles.{LoadedProfiles}
 use Rattle.scf_profile.specs.declared.reading.Reading.{Reading}
-use Rattle.scf_profile.specs.declared.reading.Reading.TheVariants.{Strict}
 use Rattle.scf_request.specs.declared.interpretation.Stub.{Stub}
 
 pub record Interpretation : Type 0 where
   pub reading : Reading
   pub stubs : List Stub
-
--- by its words, and without a stub
-abbrev pub by_words : Interpretation
-by_words = record { reading = Strict; stubs = [] }
 
 -- ---- what is loaded
 
@@ -33,10 +26,6 @@ stubbed stubs profiles =
 abbrev pub LoadsEachBy : Interpretation → List ℕ → Tables → LoadedProfiles → Type 0
 LoadsEachBy by text tables loaded = (stated : LoadedProfiles) × LoadsEachAs by.reading text tables stated
     × (loaded ≡ record stated { profiles = stubbed by.stubs stated.profiles })
-
--- with a table of x86-64 alone
-abbrev pub LoadsBy : Interpretation → List ℕ → Names → Loaded → Type 0
-LoadsBy by text table loaded = LoadsEachBy by text (only_table table) (as_only loaded)
 
 -- ---- the stubs of a bundle
 

@@ -1,17 +1,16 @@
 //! How a profile is read: by its words or as a runtime does, and with which stubs.
 
 ghost use Rattle.std.specs.Prelude.{◌≡◌, length, map, IfErr, IfOk};
-ghost use Rattle.scf_profile.specs.Loading.{RefusesAs, RefusesEachAs};
+ghost use Rattle.scf_profile.specs.Loading.{RefusesEachAs};
 ghost use Rattle.scf_profile.specs.StatedProfile.{tables_of};
-ghost use Rattle.scf_request.specs.Interpretations.{LoadsBy, LoadsEachBy, stubbed, stub_of as stub_stated, stubs_of as stubs_stated, by_words as words_alone};
+ghost use Rattle.scf_request.specs.Interpretations.{LoadsEachBy, stubbed, stub_of as stub_stated, stubs_of as stubs_stated};
 ghost use Rattle.scf_request.specs.Contents.{rest_of_table};
 
 use crate::bundle::BundleFault;
 use crate::contents::{PartReader, TableReader};
 use scf_insn::{Architecture, parse_numeral};
 use scf_profile::{
-    ArchitectureTable, CallTable, LoadFault, Loaded, LoadedProfiles, Profiles, Reading,
-    load_profiles_as,
+    ArchitectureTable, LoadFault, LoadedProfiles, Profiles, Reading, load_profiles_as,
 };
 use std::alloc::{AllocError, Global};
 use std::marker::Model;
@@ -44,13 +43,6 @@ impl Interpretation {
         ensures { result ≡ record { reading = reading; stubs = stubs.items } }
     {
         Interpretation { reading, stubs }
-    }
-
-    /// By the words of the profile, and without a stub.
-    pub fn by_words(alloc: Global) -> Interpretation
-        ensures { result ≡ words_alone }
-    {
-        Interpretation::new(Reading::Strict, Vec::new(alloc))
     }
 
     /// By a reading, and with the stubs of a bundle. The error: out of memory.
@@ -109,21 +101,6 @@ impl Interpretation {
             skipped: stated.skipped,
             other_architectures: stated.other_architectures,
         })
-    }
-
-    /// Loads a profile for x86-64 alone: `load_profiles` under its table. In place of `NotListed` comes `NoX8664`.
-    pub fn load(&self, alloc: Global, text: &[u8], table: &CallTable) -> Result<Loaded, LoadFault>
-        ensures ok { IfOk result (LoadsBy self.now text.now table.now) }
-        ensures err { IfErr result (RefusesAs self.now.reading text.now table.now) }
-    {
-        let tables = [ArchitectureTable {
-            architecture: Architecture::X8664,
-            table,
-        }];
-        match self.load_profiles(alloc, text, &tables) {
-            Ok(loaded) => Ok(loaded.into_only()),
-            Err(fault) => Err(fault.of_only()),
-        }
     }
 }
 

@@ -16,9 +16,8 @@ use Rattle.scf_machine.specs.Rules.{IsValidList, KeepsScratchRule}
 use Rattle.scf_profile.specs.declared.loaded.Loaded.{Loaded}
 use Rattle.scf_profile.specs.declared.table_fault.TableFault.TheVariants as tables
 use Rattle.scf_profile.specs.Limits.{max_text_len}
-use Rattle.scf_profile.specs.Loading.{RefusesAs}
+use Rattle.scf_profile.specs.Loading.{Loads, Refuses}
 use Rattle.scf_profile.specs.Table.{Names, table_of}
-use Rattle.scf_request.specs.Interpretations.{Interpretation, LoadsBy}
 use Rattle.scf_tool.specs.declared.verify_fault.VerifyFault.{VerifyFault}
 use Rattle.scf_tool.specs.declared.verify_fault.VerifyFault.TheVariants.{FilterRead, Check, Stack, TableRead, Table, ProfileRead, Profile, Memory}
 
@@ -86,9 +85,9 @@ ReadsFilter bytes result = IfSome bytes (λ input. IsReading (λ (insns : List I
 abbrev pub IsTable : Option (List ℕ) → Names → Type 0
 IsTable bytes names = IfSome bytes (λ input. (length input ≤ max_text_len) × (table_of input ≡ Ok names))
 
--- a profile: the JSON value of the bytes and the map state it, as it is read, with what is left out of it
-abbrev pub IsLoaded : Interpretation → Option (List ℕ) → Names → Loaded → Type 0
-IsLoaded by bytes names loaded = IfSome bytes (λ input. LoadsBy by input names loaded)
+-- a profile: the JSON value of the bytes and the map state it, with what is left out of it
+abbrev pub IsLoaded : Option (List ℕ) → Names → Loaded → Type 0
+IsLoaded bytes names loaded = IfSome bytes (λ input. Loads input names loaded)
 
 -- ---- a fault
 
@@ -107,14 +106,14 @@ IsNoTable bytes (Table fault) =
 IsNoTable bytes fault = ⊥
 
 -- why it has no profile: the bytes are refused under the map of the table, for this fault first
-abbrev pub IsNoProfile : Interpretation → Names → Option (List ℕ) → VerifyFault → Type 0
-IsNoProfile by names bytes (ProfileRead fault) = ReadsUnder max_text_len bytes (Err fault)
-IsNoProfile by names bytes (Profile fault) =
-    IfSome bytes (λ input. (length input ≤ max_text_len) × RefusesAs by.reading input names fault)
-IsNoProfile by names bytes fault = ⊥
+abbrev pub IsNoProfile : Names → Option (List ℕ) → VerifyFault → Type 0
+IsNoProfile names bytes (ProfileRead fault) = ReadsUnder max_text_len bytes (Err fault)
+IsNoProfile names bytes (Profile fault) =
+    IfSome bytes (λ input. (length input ≤ max_text_len) × Refuses input names fault)
+IsNoProfile names bytes fault = ⊥
 
 -- why a table and a profile state nothing that is compared: the first that isn't read, or out of memory behind both
-abbrev pub IsProfileFault : Interpretation → Option (List ℕ) → Option (List ℕ) → VerifyFault → Type 0
-IsProfileFault by table profile fault =
-    IsNoTable table fault ⊎ ((names : Names) × IsTable table names × (IsNoProfile by names profile fault
-    ⊎ ((loaded : Loaded) × IsLoaded by profile names loaded × (fault ≡ Memory))))
+abbrev pub IsProfileFault : Option (List ℕ) → Option (List ℕ) → VerifyFault → Type 0
+IsProfileFault table profile fault =
+    IsNoTable table fault ⊎ ((names : Names) × IsTable table names × (IsNoProfile names profile fault
+    ⊎ ((loaded : Loaded) × IsLoaded profile names loaded × (fault ≡ Memory))))

@@ -12,21 +12,20 @@ use Rattle.scf_facts.specs.Masks.{AreFew}
 use Rattle.scf_compare.specs.Effort.{effort_of}
 use Rattle.scf_compare.specs.Masked.{IsMaskedProfile, IsMaskedProgram}
 use Rattle.scf_compare.specs.Verdicts.{IsTrueOf, IsWithin, IsDecided}
-use Rattle.scf_request.specs.Interpretations.{by_words}
 use Rattle.scf_tool.specs.declared.verification.Outcome.{Outcome}
 use Rattle.scf_tool.specs.declared.verify_fault.VerifyFault.{VerifyFault}
 use Rattle.scf_tool.specs.Verifying.{IsAcceptedFilter, IsLoaded, IsNoFilter, IsProfileFault, IsTable}
 
 -- The bytes are a filter, a call table and a profile, whose skipped names and other architectures these are. The
--- verdict is true of that filter and that profile, and decides between them where both are plain, or test under masks of
--- few bits together.
+-- verdict is true of that filter and that profile, and decides between them where both are plain, or test under masks
+-- of few bits together.
 pub record IsVerified (filter table profile : Option (List ℕ)) (limit : ℕ) (outcome : Outcome) : Type 0 where
   pub insns : List Insn
   pub names : Names
   pub loaded : Loaded
   pub is_filter : IsAcceptedFilter filter insns
   pub is_table : IsTable table names
-  pub is_loaded : IsLoaded by_words profile names loaded
+  pub is_loaded : IsLoaded profile names loaded
   pub skipped : outcome.skipped ≡ loaded.skipped
   pub other_architectures : outcome.other_architectures ≡ loaded.other_architectures
   pub holds : IsTrueOf insns loaded.profile outcome.verdict
@@ -41,4 +40,4 @@ abbrev pub Verifies : Option (List ℕ) → Option (List ℕ) → Option (List �
 Verifies filter table profile limit (Ok outcome) = IsVerified filter table profile limit outcome
 Verifies filter table profile limit (Err fault) =
     IsNoFilter filter fault
-    ⊎ ((insns : List Insn) × IsAcceptedFilter filter insns × IsProfileFault by_words table profile fault)
+    ⊎ ((insns : List Insn) × IsAcceptedFilter filter insns × IsProfileFault table profile fault)

@@ -15,7 +15,6 @@ use Rattle.scf_facts.specs.Masks.{AreFew}
 use Rattle.scf_compare.specs.Effort.{effort_of_stack}
 use Rattle.scf_compare.specs.Masked.{IsMaskedProfile, IsMaskedProgram}
 use Rattle.scf_compare.specs.Verdicts.{IsTrueOfStack, IsWithin, IsDecided}
-use Rattle.scf_request.specs.Interpretations.{Interpretation, by_words}
 use Rattle.scf_tool.specs.declared.left_out.LeftOut.{LeftOut}
 use Rattle.scf_tool.specs.declared.verification.Outcome.{Outcome}
 use Rattle.scf_tool.specs.declared.verify_fault.VerifyFault.{VerifyFault}
@@ -34,22 +33,21 @@ outcome_left_out outcome =
 
 -- The bytes are a stack of filters, a call table and a profile, of which this is left out, and this holds of that
 -- stack, that table and that profile.
-pub record AreComparedInputs (by : Interpretation) (filters : List (Option (List ℕ))) (table profile : Option (List ℕ))
+pub record AreComparedInputs (filters : List (Option (List ℕ))) (table profile : Option (List ℕ))
     (left_out : Option LeftOut) (holds : List (List Insn) → Names → Profile → Type 0) : Type 0 where
   pub stack : List (List Insn)
   pub names : Names
   pub loaded : Loaded
   pub has_stack : HasStack filters stack
   pub is_table : IsTable table names
-  pub is_loaded : IsLoaded by profile names loaded
+  pub is_loaded : IsLoaded profile names loaded
   pub is_left_out : left_out ≡ Some (left_out_of loaded)
   pub compared : holds stack names loaded.profile
 
 -- Why nothing is compared: the filters are no stack, or they are, and the table and the profile state nothing.
-abbrev pub IsRefusedStack : Interpretation → List (Option (List ℕ)) → Option (List ℕ) → Option (List ℕ) → VerifyFault
-    → Type 0
-IsRefusedStack by filters table profile fault = HasNoStack filters fault
-    ⊎ ((stack : List (List Insn)) × HasStack filters stack × IsProfileFault by table profile fault)
+abbrev pub IsRefusedStack : List (Option (List ℕ)) → Option (List ℕ) → Option (List ℕ) → VerifyFault → Type 0
+IsRefusedStack filters table profile fault = HasNoStack filters fault
+    ⊎ ((stack : List (List Insn)) × HasStack filters stack × IsProfileFault table profile fault)
 
 -- A verdict is true of a stack and a profile over the calls of a scope, and within the limit and the effort. It decides
 -- between plain filters and a plain profile, and those that test under masks of few bits together.
@@ -66,9 +64,9 @@ pub record IsVerdictOn (stack : List (List Insn)) (p : Profile) (scope : Scope) 
 abbrev pub VerifiesStack : List (Option (List ℕ)) → Option (List ℕ) → Option (List ℕ) → Scope → ℕ
     → Result Outcome VerifyFault → Type 0
 VerifiesStack filters table profile scope limit (Ok outcome) =
-    AreComparedInputs by_words filters table profile (Some (outcome_left_out outcome))
+    AreComparedInputs filters table profile (Some (outcome_left_out outcome))
     (λ stack names p. IsVerdictOn stack p scope limit outcome.verdict)
-VerifiesStack filters table profile scope limit (Err fault) = IsRefusedStack by_words filters table profile fault
+VerifiesStack filters table profile scope limit (Err fault) = IsRefusedStack filters table profile fault
 
 -- ---- the readers
 

@@ -11,7 +11,6 @@ use scf_compare::compare_stack;
 use scf_facts::WordSets;
 use scf_insn::Source;
 use scf_profile::Scope;
-use scf_request::Interpretation;
 use std::alloc::Global;
 
 /// Reads a stack of filters, a syscall table and a profile, and compares the stack with the profile over the records of
@@ -40,8 +39,7 @@ pub fn verify_stack<F: Source, P: Source, T: Source>(
 {
     let stack = read_stack(alloc, filter_readers)?;
     let names = read_table(alloc, table_reader)?;
-    let by = Interpretation::by_words(alloc);
-    let loaded = read_profile(alloc, &by, profile_reader, &names)?;
+    let loaded = read_profile(alloc, profile_reader, &names)?;
     let verdict = compare_stack::<WordSets>(alloc, &stack, &loaded.profile, scope, limit)?;
     Ok(Outcome {
         verdict,

@@ -17,8 +17,7 @@ use crate::verify_fault::VerifyFault;
 use scf_compare::{Verdict, compare};
 use scf_facts::WordSets;
 use scf_insn::{Source, read_input};
-use scf_profile::{CallTable, Loaded, MAX_TEXT_LEN, Texts};
-use scf_request::Interpretation;
+use scf_profile::{CallTable, Loaded, MAX_TEXT_LEN, Texts, load};
 use std::alloc::Global;
 
 /// The verdict of a comparison, and what was left out of the profile.
@@ -38,27 +37,21 @@ pub(crate) fn read_table<R: Source>(alloc: Global, reader: &mut R) -> Result<Cal
     ensures reader { LeavesTableReader R.remaining R.failures reader.old result reader.new }
 {
     let text = read_input(alloc, reader, MAX_TEXT_LEN).map_err(VerifyFault::TableRead)?;
-    match CallTable::read(alloc, &text) {
-        Ok(table) => Ok(table),
-        Err(fault) => Err(VerifyFault::Table(fault)),
-    }
+    CallTable::read(alloc, &text).map_err(VerifyFault::Table)
 }
 
 /// Reads a profile under a syscall table.
 pub(crate) fn read_profile<R: Source>(
     alloc: Global,
-    by: &Interpretation,
     reader: &mut R,
     names: &CallTable,
 ) -> Result<Loaded, VerifyFault>
-    ensures loaded { IfOk result (IsLoaded by.now (R.remaining reader.old) names.now) }
-    ensures refused { IfErr result (IsNoProfile by.now names.now (R.remaining reader.old)) }
+    ensures loaded { IfOk result (IsLoaded (R.remaining reader.old) names.now) }
+    ensures refused { IfErr result (IsNoProfile names.now (R.remaining reader.old)) }
     ensures reader { LeavesProfileReader R.remaining R.failures reader.old result reader.new }
 {
-    match read_input(alloc, reader, MAX_TEXT_LEN) {
-        Ok(text) => Ok(by.load(alloc, &text, names)?),
-        Err(fault) => Err(VerifyFault::ProfileRead(fault)),
-    }
+    let text = read_input(alloc, reader, MAX_TEXT_LEN).map_err(VerifyFault::ProfileRead)?;
+    Ok(load(alloc, &text, names)?)
 }
 
 /// Reads a filter, a syscall table and a profile, and compares the filter with the profile over every call record, in
@@ -85,8 +78,7 @@ pub fn verify<F: Source, P: Source, T: Source>(
 {
     let program = read_filter(alloc, filter_reader)?;
     let names = read_table(alloc, table_reader)?;
-    let by = Interpretation::by_words(alloc);
-    let loaded = read_profile(alloc, &by, profile_reader, &names)?;
+    let loaded = read_profile(alloc, profile_reader, &names)?;
     let verdict = compare::<WordSets>(alloc, &program, &loaded.profile, limit)?;
     Ok(Outcome {
         verdict,

@@ -7,7 +7,7 @@ returns-in_err-loaded-clause-answer g c =
     rw (p.1, p.2) (inr (
       c.in_ok-program.program,
       c.in_ok-program.ensures.filter,
-      inr (c.in_ok-names.names, c.in_ok-names.ensures.table, inl (rw c.by_words-by.ensures at c.in_err-loaded.ensures.refused)),
+      inr (c.in_ok-names.names, c.in_ok-names.ensures.table, inl (c.in_err-loaded.ensures.refused)),
     ))
 
 pub returns-in_err-verdict-clause-answer : goal.returns-in_err-verdict-clause-answer
@@ -19,7 +19,7 @@ returns-in_err-verdict-clause-answer g c =
       inr (
         c.in_ok-names.names,
         c.in_ok-names.ensures.table,
-        inr (c.in_ok-loaded.loaded, rw c.by_words-by.ensures at c.in_ok-loaded.ensures.loaded, refl),
+        inr (c.in_ok-loaded.loaded, c.in_ok-loaded.ensures.loaded, refl),
       ),
     ))
 
@@ -30,7 +30,7 @@ returns-clause-answer g c = record {
   loaded = c.in_ok-loaded.loaded;
   is_filter = c.in_ok-program.ensures.filter;
   is_table = c.in_ok-names.ensures.table;
-  is_loaded = rw c.by_words-by.ensures at c.in_ok-loaded.ensures.loaded;
+  is_loaded = c.in_ok-loaded.ensures.loaded;
   skipped = refl;
   other_architectures = refl;
   holds = c.in_ok-verdict.ensures.holds;
